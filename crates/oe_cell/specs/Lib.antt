@@ -1,2 +1,9 @@
+pub mod Cells
+pub mod Exact
 pub mod Fraction
+pub mod Operations
+pub mod Order
+pub mod Rational
+pub mod Record
+pub mod Reduction
 pub mod Spelling

@@ -1,8 +1,14 @@
 // A number of a cell: a fraction in lowest terms.
-ghost use Rattle.std.specs.Prelude.{◌≡◌, ◌↔◌, IsSome, IfSome};
-ghost use Rattle.oe_cell.specs.Fraction.{Fraction, IsNumber};
+ghost use Rattle.std.specs.Prelude.{◌≡◌, ◌↔◌, ◌<◌, IsTrue, IsSome, IfSome, unsigned_abs};
+ghost use Rattle.oe_cell.specs.Fraction.{Fraction, IsNumber, IsCoprime};
+ghost use Rattle.oe_cell.specs.Exact.{cell_of_lowest};
 
+use crate::Cell;
+use crate::gcd::gcd;
 use std::marker::Model;
+
+/// The largest numerator and denominator.
+const LARGEST: u64 = 9223372036854775807;
 
 /// An exact fraction in lowest terms. Its numerator is in −(2^63−1) to 2^63−1, its denominator in 1 to 2^63−1.
 #[derive(Clone, Copy, Debug, PartialEq, Eq)]
@@ -26,6 +32,19 @@ impl Model for Frac {
 }
 
 impl Frac {
+    /// The fraction of this numerator and denominator. None comes exactly where the pair is not in lowest terms or is
+    /// out of range.
+    pub fn new(num: i64, den: u64) -> Option<Frac>
+        ensures number { IsSome result ↔ IsNumber (record { num = num; den = den }) }
+        ensures value { IfSome result (λ q. q ≡ record { num = num; den = den }) }
+    {
+        if is_number(num, den) {
+            Some(Frac { num, den })
+        } else {
+            None
+        }
+    }
+
     /// The numerator, whose sign is the fraction's.
     pub fn num(self) -> i64
         ensures { result ≡ self.num }
@@ -39,4 +58,46 @@ impl Frac {
     {
         self.den
     }
+
+    // Both parts, with what is known of them.
+    pub(crate) fn parts(self) -> (i64, u64)
+        ensures number { IsNumber self }
+        ensures num { result.0 ≡ self.num }
+        ensures den { result.1 ≡ self.den }
+    {
+        (self.num, self.den)
+    }
+
+    // A fraction from parts that are known to be a number of a cell.
+    pub(crate) fn from_parts(num: i64, den: u64) -> Frac
+        requires { IsNumber (record { num = num; den = den }) }
+        ensures { result ≡ record { num = num; den = den } }
+    {
+        Frac { num, den }
+    }
+}
+
+// The cell of a fraction in lowest terms.
+pub(crate) fn lowest(num: i128, den: u128) -> Cell
+    requires some { 0 < den }
+    requires coprime { IsCoprime (unsigned_abs num) den }
+    ensures { result ≡ cell_of_lowest num den }
+{
+    if num.unsigned_abs() > u128::from(LARGEST) || den > u128::from(LARGEST) {
+        return Cell::Over;
+    }
+    Cell::Number(Frac {
+        num: num as i64,
+        den: den as u64,
+    })
+}
+
+fn is_number(num: i64, den: u64) -> bool
+    ensures { IsTrue result ↔ IsNumber (record { num = num; den = den }) }
+{
+    let size = num.unsigned_abs();
+    if size > LARGEST || den == 0 || den > LARGEST {
+        return false;
+    }
+    gcd(size, den) == 1
 }

@@ -80,12 +80,13 @@ fn push_number(number: Frac, into: &mut TextBuf)
     requires { into.old ≡ [] }
     ensures { into.new ≡ number_text number }
 {
+    let num = number.num();
     let mut digits = Buffer::new();
     if number.den() == 1 {
-        into.push(digits.format(number.num()).as_bytes());
+        into.push(digits.format(num).as_bytes());
     } else {
         into.push(b"\"");
-        into.push(digits.format(number.num()).as_bytes());
+        into.push(digits.format(num).as_bytes());
         into.push(b"/");
         into.push(digits.format(number.den()).as_bytes());
         into.push(b"\"");

@@ -1,0 +1,280 @@
+// Arithmetic on cells: add, subtract, multiply, divide, modulo.
+ghost use Rattle.std.specs.Prelude.{◌≡◌, ◌≢◌, ◌+◌, ◌*◌, ◌^◌, ◌<◌, pos, if◌then◌else◌, ◌==◌, neg_ℤ, ◌+ℤ◌, ◌-ℤ◌, ◌*ℤ◌, unsigned_abs};
+ghost use Rattle.std.specs.Int.{int_signum};
+ghost use Rattle.oe_cell.specs.Cells.{IsCell, IfNumbers};
+ghost use Rattle.oe_cell.specs.Exact.{exact, exact_value, IsExactValue};
+ghost use Rattle.oe_cell.specs.Fraction.{Fraction, IsNumber, IsCoprime};
+ghost use Rattle.oe_cell.specs.Operations.{add_of, subtract_of, multiply_of, divide_of, modulo_of};
+ghost use Rattle.oe_cell.specs.Rational.{sum_of, difference_of, product_of, quotient_of, remainder_of};
+ghost use Rattle.oe_cell.specs.Reduction.{floor_quotient};
+
+use crate::frac::lowest;
+use crate::gcd::{cancel, gcd, share};
+use crate::wide::{floor_rest, product, scaled, wide_divided, wide_product};
+use crate::{Cell, Frac};
+
+/// `add` of openEO Processes: the exact sum, and Over where it does not fit. Over in an operand gives Over; otherwise an
+/// operand that is no number gives Empty.
+pub fn add(x: Cell, y: Cell) -> Cell
+    ensures value { result ≡ add_of x y }
+    ensures exact { IfNumbers x y (λ p q. IsExactValue (sum_of p q) result) }
+    ensures operands { IfNumbers x y (λ p q. IsNumber p × IsNumber q) }
+    ensures cell { IsCell result }
+{
+    match x {
+        Cell::Over => Cell::Over,
+        Cell::Number(p) => match y {
+            Cell::Over => Cell::Over,
+            Cell::Number(q) => sum(p, q),
+            _ => Cell::Empty,
+        },
+        _ => match y {
+            Cell::Over => Cell::Over,
+            _ => Cell::Empty,
+        },
+    }
+}
+
+/// `subtract` of openEO Processes: the exact difference, and Over where it does not fit. Over in an operand gives Over;
+/// otherwise an operand that is no number gives Empty.
+pub fn subtract(x: Cell, y: Cell) -> Cell
+    ensures value { result ≡ subtract_of x y }
+    ensures exact { IfNumbers x y (λ p q. IsExactValue (difference_of p q) result) }
+    ensures operands { IfNumbers x y (λ p q. IsNumber p × IsNumber q) }
+    ensures cell { IsCell result }
+{
+    match x {
+        Cell::Over => Cell::Over,
+        Cell::Number(p) => match y {
+            Cell::Over => Cell::Over,
+            Cell::Number(q) => difference(p, q),
+            _ => Cell::Empty,
+        },
+        _ => match y {
+            Cell::Over => Cell::Over,
+            _ => Cell::Empty,
+        },
+    }
+}
+
+/// `multiply` of openEO Processes: the exact product, and Over where it does not fit. Over in an operand gives Over;
+/// otherwise an operand that is no number gives Empty.
+pub fn multiply(x: Cell, y: Cell) -> Cell
+    ensures value { result ≡ multiply_of x y }
+    ensures exact { IfNumbers x y (λ p q. IsExactValue (product_of p q) result) }
+    ensures operands { IfNumbers x y (λ p q. IsNumber p × IsNumber q) }
+    ensures cell { IsCell result }
+{
+    match x {
+        Cell::Over => Cell::Over,
+        Cell::Number(p) => match y {
+            Cell::Over => Cell::Over,
+            Cell::Number(q) => times(p, q),
+            _ => Cell::Empty,
+        },
+        _ => match y {
+            Cell::Over => Cell::Over,
+            _ => Cell::Empty,
+        },
+    }
+}
+
+/// `divide` of openEO Processes: the exact quotient, and Over where it does not fit. Over in an operand gives Over;
+/// otherwise an operand that is no number gives Empty, and so does a divisor of 0.
+pub fn divide(x: Cell, y: Cell) -> Cell
+    ensures value { result ≡ divide_of x y }
+    ensures exact { IfNumbers x y (λ p q. 0 < unsigned_abs q.num → IsExactValue (quotient_of p q) result) }
+    ensures operands { IfNumbers x y (λ p q. IsNumber p × IsNumber q) }
+    ensures cell { IsCell result }
+{
+    match x {
+        Cell::Over => Cell::Over,
+        Cell::Number(p) => match y {
+            Cell::Over => Cell::Over,
+            Cell::Number(q) => divided_numbers(p, q),
+            _ => Cell::Empty,
+        },
+        _ => match y {
+            Cell::Over => Cell::Over,
+            _ => Cell::Empty,
+        },
+    }
+}
+
+/// `mod` of openEO Processes: x − y·floor(x / y), which has the sign of y, and Over where it does not fit. Over in an
+/// operand gives Over; otherwise an operand that is no number gives Empty, and so does a divisor of 0.
+pub fn modulo(x: Cell, y: Cell) -> Cell
+    ensures value { result ≡ modulo_of x y }
+    ensures exact { IfNumbers x y (λ p q. 0 < unsigned_abs q.num → IsExactValue (remainder_of p q) result) }
+    ensures operands { IfNumbers x y (λ p q. IsNumber p × IsNumber q) }
+    ensures cell { IsCell result }
+{
+    match x {
+        Cell::Over => Cell::Over,
+        Cell::Number(p) => match y {
+            Cell::Over => Cell::Over,
+            Cell::Number(q) => remainder_or_empty(p, q),
+            _ => Cell::Empty,
+        },
+        _ => match y {
+            Cell::Over => Cell::Over,
+            _ => Cell::Empty,
+        },
+    }
+}
+
+fn sum(p: Frac, q: Frac) -> Cell
+    ensures value { result ≡ exact_value (sum_of p q) }
+    ensures exact { IsExactValue (sum_of p q) result }
+    ensures operands { IsNumber p × IsNumber q }
+    ensures cell { IsCell result }
+{
+    let (a, b) = p.parts();
+    let (c, d) = q.parts();
+    if b == 1 && d == 1 {
+        return whole_sum(a, c);
+    }
+    let shared = share(b, d);
+    let total = crossed_sum(a, shared.right, c, shared.left);
+    reduced(
+        total,
+        wide_product(shared.left, shared.right),
+        shared.common,
+    )
+}
+
+fn crossed_sum(a: i64, d: u64, c: i64, b: u64) -> i128
+    requires a_fits { unsigned_abs a < 2 ^ 63 }
+    requires c_fits { unsigned_abs c < 2 ^ 63 }
+    requires d_fits { d < 2 ^ 63 }
+    requires b_fits { b < 2 ^ 63 }
+    ensures { result ≡ a *ℤ pos d +ℤ c *ℤ pos b }
+{
+    scaled(a, d) + scaled(c, b)
+}
+
+fn whole_sum(a: i64, c: i64) -> Cell
+    ensures { result ≡ exact (a +ℤ c) 1 }
+{
+    lowest(i128::from(a) + i128::from(c), 1)
+}
+
+// The exact value of num / (rest · part), where only the part may have a divisor in common with the numerator.
+fn reduced(num: i128, rest: u128, part: u64) -> Cell
+    requires den_fits { rest * part < 2 ^ 128 }
+    requires rest_some { 0 < rest }
+    requires part_some { 0 < part }
+    requires coprime { IsCoprime (unsigned_abs num) rest }
+    ensures { result ≡ exact num (rest * part) }
+{
+    if part == 1 {
+        return lowest(num, rest);
+    }
+    let common = gcd(part, (num.unsigned_abs() % u128::from(part)) as u64);
+    lowest(wide_divided(num, common), rest * u128::from(part / common))
+}
+
+fn difference(p: Frac, q: Frac) -> Cell
+    ensures value { result ≡ exact_value (difference_of p q) }
+    ensures exact { IsExactValue (difference_of p q) result }
+    ensures operands { IsNumber p × IsNumber q }
+    ensures cell { IsCell result }
+{
+    sum(p, negative(q))
+}
+
+fn negative(p: Frac) -> Frac
+    ensures value { result ≡ record { num = neg_ℤ p.num; den = p.den } }
+    ensures number { IsNumber p }
+{
+    let (num, den) = p.parts();
+    Frac::from_parts(-num, den)
+}
+
+// Cancelled crosswise first, so that the product is in lowest terms.
+fn times(p: Frac, q: Frac) -> Cell
+    ensures value { result ≡ exact_value (product_of p q) }
+    ensures exact { IsExactValue (product_of p q) result }
+    ensures operands { IsNumber p × IsNumber q }
+    ensures cell { IsCell result }
+{
+    let (a, b) = p.parts();
+    let (c, d) = q.parts();
+    let first = cancel(a, d);
+    let second = cancel(c, b);
+    lowest(
+        product(first.num, second.num),
+        wide_product(second.den, first.den),
+    )
+}
+
+fn divided_numbers(p: Frac, q: Frac) -> Cell
+    ensures value { result ≡ (if unsigned_abs q.num == 0 then Cell.Empty else exact_value (quotient_of p q)) }
+    ensures exact { 0 < unsigned_abs q.num → IsExactValue (quotient_of p q) result }
+    ensures operands { IsNumber p × IsNumber q }
+    ensures cell { IsCell result }
+{
+    if q.num() == 0 {
+        Cell::Empty
+    } else {
+        quotient(p, q)
+    }
+}
+
+fn quotient(p: Frac, q: Frac) -> Cell
+    requires { 0 < unsigned_abs q.num }
+    ensures value { result ≡ exact_value (quotient_of p q) }
+    ensures exact { IsExactValue (quotient_of p q) result }
+    ensures operands { IsNumber p × IsNumber q }
+    ensures cell { IsCell result }
+{
+    times(p, reciprocal(q))
+}
+
+fn reciprocal(p: Frac) -> Frac
+    requires { 0 < unsigned_abs p.num }
+    ensures value { result ≡ record { num = int_signum p.num *ℤ pos p.den; den = unsigned_abs p.num } }
+    ensures number { IsNumber p }
+{
+    let (num, den) = p.parts();
+    Frac::from_parts(num.signum() * den as i64, num.unsigned_abs())
+}
+
+fn remainder_or_empty(p: Frac, q: Frac) -> Cell
+    ensures value { result ≡ (if unsigned_abs q.num == 0 then Cell.Empty else exact_value (remainder_of p q)) }
+    ensures exact { 0 < unsigned_abs q.num → IsExactValue (remainder_of p q) result }
+    ensures operands { IsNumber p × IsNumber q }
+    ensures cell { IsCell result }
+{
+    if q.num() == 0 {
+        Cell::Empty
+    } else {
+        remainder(p, q)
+    }
+}
+
+// Over the least common denominator, where only the second one may have a divisor in common with the numerator.
+fn remainder(p: Frac, q: Frac) -> Cell
+    requires { 0 < unsigned_abs q.num }
+    ensures value { result ≡ exact_value (remainder_of p q) }
+    ensures exact { IsExactValue (remainder_of p q) result }
+    ensures operands { IsNumber p × IsNumber q }
+    ensures cell { IsCell result }
+{
+    let (a, b) = p.parts();
+    let (c, d) = q.parts();
+    let shared = share(b, d);
+    let rest = crossed_rest(a, shared.right, c, shared.left);
+    reduced(rest, u128::from(shared.left), d)
+}
+
+fn crossed_rest(a: i64, d: u64, c: i64, b: u64) -> i128
+    requires a_fits { unsigned_abs a < 2 ^ 63 }
+    requires c_fits { unsigned_abs c < 2 ^ 63 }
+    requires d_fits { d < 2 ^ 63 }
+    requires b_fits { b < 2 ^ 63 }
+    requires some { 0 < unsigned_abs c * b }
+    ensures { result ≡ a *ℤ pos d -ℤ floor_quotient (a *ℤ pos d) (c *ℤ pos b) *ℤ (c *ℤ pos b) }
+{
+    floor_rest(scaled(a, d), scaled(c, b))
+}
