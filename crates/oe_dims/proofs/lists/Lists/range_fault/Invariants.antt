@@ -1,0 +1,9 @@
+use Rattle.std.proofs.Common.{◌≡◌, drop}
+use Rattle.oe_dims.specs.Dimensions.{first_failing, is_in_range, all_kinds}
+use Rattle.oe_dims.specs.Lists.{dimensions_of}
+use Rattle.oe_dims.specs.declared.shape.ShapeFault.TheVariants.{OutOfRange}
+use Rattle.oe_dims.proofs.lists.Lists.range_fault.Given as goal
+
+abbrev pub invariant-loop-kind : goal.invariant-loop-kind
+invariant-loop-kind l =
+    (l.kind-items ≡ all_kinds) × (first_failing (is_in_range (dimensions_of l.self)) OutOfRange all_kinds ≡ first_failing (is_in_range (dimensions_of l.self)) OutOfRange (drop l.kind-index all_kinds))

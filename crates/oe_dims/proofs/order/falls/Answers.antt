@@ -1,0 +1,7 @@
+use Rattle.std.proofs.Common.{sym, ◌∙◌, ◌-◌, arith}
+use Rattle.oe_dims.proofs.OrderLemmas.{falls_all}
+use Rattle.oe_dims.proofs.order.falls.Goals as goal
+
+pub returns : goal.returns
+returns c =
+    sym (c.loop-place.invariant ∙ falls_all c.args.labels.now (c.loop-place.place - 1) (omega arith))

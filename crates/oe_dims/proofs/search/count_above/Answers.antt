@@ -1,0 +1,9 @@
+use Rattle.std.proofs.Common.{rules}
+use Rattle.std.specs.Int.Signed.{lt_z}
+use Rattle.std.proofs.lemmas.List.Sorted.{IsPartitionPoint-from_clause}
+use Rattle.oe_dims.proofs.RunLemmas.{above_stand_first}
+use Rattle.oe_dims.proofs.search.count_above.Goals as goal
+
+pub returns-clause-point : goal.returns-clause-point
+returns-clause-point c =
+    IsPartitionPoint-from_clause (λ l. lt_z c.args.bound l) _ _ c.partition_point.ensures.partitioned (above_stand_first c.args.labels.now c.args.bound c.requires) (λ a r f h. search rules)

@@ -1,0 +1,51 @@
+// The dimensions of several collections.
+ghost use Rattle.std.specs.Prelude.{◌≡◌, IfOk};
+
+use crate::{CellKind, Shape, Text};
+use oe_memory::OutOfMemory;
+
+/// A collection by its id, with its shape and the kind of its cells.
+#[derive(Debug, Drop)]
+pub struct DimsRow {
+    /// The id of the collection.
+    pub id: Text,
+    /// Its dimensions.
+    pub shape: Shape,
+    /// What its cells are, besides empty.
+    pub kind: CellKind,
+}
+
+impl DimsRow {
+    /// A copy with equal contents.
+    pub fn copy(&self) -> Result<DimsRow, OutOfMemory>
+        ensures { IfOk result (λ r. r ≡ self.now) }
+    {
+        Ok(DimsRow {
+            id: self.id.copy()?,
+            shape: self.shape.copy()?,
+            kind: self.kind,
+        })
+    }
+}
+
+/// The dimensions of several collections, a row each. Whoever takes them asks that the ids rise in byte order.
+#[derive(Debug, Drop)]
+pub struct Dims {
+    /// A row for each collection.
+    pub rows: Vec<DimsRow>,
+}
+
+impl Dims {
+    ghost use Rattle.oe_dims.specs.Plain.{plain_rows};
+
+    /// A copy with equal contents.
+    pub fn copy(&self) -> Result<Dims, OutOfMemory>
+        ensures { IfOk result (λ d. plain_rows d ≡ plain_rows self.now) }
+    {
+        let mut rows = Vec::with_capacity(*self.rows.allocator(), self.rows.len())?;
+        for row in &self.rows {
+            rows.push(row.copy()?)?;
+        }
+        Ok(Dims { rows })
+    }
+}

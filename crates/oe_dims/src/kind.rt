@@ -1,0 +1,35 @@
+// Kinds of cells and of dimensions, and lists of labels.
+use crate::Text;
+
+/// What the cells of a cube are, besides empty.
+#[derive(Clone, Copy, Debug, PartialEq, Eq)]
+pub enum CellKind {
+    /// Exact numbers.
+    Numbers,
+    /// Truth values.
+    Flags,
+}
+
+/// The dimensions that a cube may have, in their order.
+#[derive(Clone, Copy, Debug, PartialEq, Eq)]
+pub enum Kind {
+    /// `t`, whose labels are instants.
+    Time,
+    /// `bands`, whose labels are names.
+    Bands,
+    /// `y`, whose labels are places that fall.
+    Y,
+    /// `x`, whose labels are places that rise.
+    X,
+}
+
+/// The labels of one dimension.
+#[derive(Debug, Drop)]
+pub enum Labels {
+    /// Whole seconds since 1970-01-01T00:00:00Z.
+    Instants(Vec<i64>),
+    /// Names of bands.
+    Names(Vec<Text>),
+    /// Whole numbers in the unit of the reference system.
+    Places(Vec<i64>),
+}

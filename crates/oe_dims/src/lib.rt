@@ -1,0 +1,28 @@
+//! The dimensions of a datacube: texts, labels, instants and shapes, and the definition of a cube.
+//!
+//! A [`Shape`] has at most one dimension each of time, bands, `y` and `x`, each with its labels in order, and every
+//! shape that exists is valid. Contracts see it as its [`Dimensions`](specs) record. The definition of a cube over any
+//! type of cell stands here too: its shape and one cell for each tuple of labels, found by the labels and never by
+//! position. The layers above use that the readers of a shape are exact, and that tuples and row-major places
+//! correspond one to one.
+#![tactic(auto)]
+
+mod dims;
+mod distinct;
+mod instant;
+mod kind;
+mod lists;
+mod name;
+mod order;
+mod search;
+mod shape;
+#[cfg(test)]
+mod tests;
+mod text;
+
+pub use dims::{Dims, DimsRow};
+pub use instant::{InstantFault, print_instant, read_instant};
+pub use kind::{CellKind, Kind, Labels};
+pub use name::is_name;
+pub use shape::{Shape, ShapeFault};
+pub use text::Text;

@@ -1,0 +1,358 @@
+// Lists of labels that may become a shape.
+ghost use Rattle.std.specs.Prelude.{◌≡◌, ◌<◌, ◌≤◌, ◌^◌, length, SomeIff, None, filter, IfSome, IfOk};
+ghost use Rattle.std.specs.List.{slice_range};
+ghost use Rattle.std.specs.Option.{option_map};
+ghost use Rattle.oe_dims.specs.Dimensions.{Dimensions, shape_fault, order_fault, range_fault, limit_fault, epsg_fault, cells_fault, is_ordered, is_in_range, is_within_limit, has_fitting_epsg, label_count, cell_count, extent, most_labels, most_cells, number_labels, band_names, of_labels, rises, falls, all_differ, all_between};
+ghost use Rattle.oe_dims.specs.Names.{same_name};
+ghost use Rattle.oe_dims.specs.Places.{same_number, place_where, count_before, is_inside, IsRun};
+ghost use Rattle.oe_dims.specs.Lists.{listed, dimensions_of};
+
+use crate::distinct::all_differ;
+use crate::order::{all_between, all_names, falls, place_of_name, rises};
+use crate::search::{place_in_falling, place_in_rising, run_in_falling, run_in_rising};
+use crate::{Kind, ShapeFault, Text};
+use oe_memory::OutOfMemory;
+
+/// The dimensions in their order.
+const ALL_KINDS: [Kind; 4] = [Kind::Time, Kind::Bands, Kind::Y, Kind::X];
+
+/// The first second of the year 1.
+const FIRST_INSTANT: i64 = -62135596800;
+
+/// The last second of the year 9999.
+const LAST_INSTANT: i64 = 253402300799;
+
+/// How far a place may be from 0.
+const FARTHEST_PLACE: i64 = 1000000000;
+
+/// The most labels of one dimension.
+const MOST_LABELS: usize = 65536;
+
+/// The most cells of a cube.
+const MOST_CELLS: u64 = 1 << 40;
+
+/// Dimensions with their labels, which need not keep any rule.
+#[derive(Debug, Drop)]
+pub struct Lists {
+    pub epsg: u32,
+    pub t: Option<Vec<i64>>,
+    pub bands: Option<Vec<Text>>,
+    pub y: Option<Vec<i64>>,
+    pub x: Option<Vec<i64>>,
+}
+
+/// How many labels a dimension has, if it is there.
+fn count_of<T>(labels: &Option<Vec<T>>) -> Option<usize>
+    ensures { result ≡ option_map length (option_map listed labels.now) }
+{
+    match labels {
+        None => None,
+        Some(labels) => Some(labels.len()),
+    }
+}
+
+/// How many places a dimension gives.
+fn extent_of<T>(labels: &Option<Vec<T>>) -> usize
+    ensures { result ≡ extent (option_map listed labels.now) }
+{
+    match labels {
+        None => 1,
+        Some(labels) => labels.len(),
+    }
+}
+
+/// A copy of labels, if the dimension is there.
+fn copied_numbers(labels: &Option<Vec<i64>>) -> Result<Option<Vec<i64>>, OutOfMemory>
+    ensures { IfOk result (λ c. option_map listed c ≡ option_map listed labels.now) }
+{
+    match labels {
+        None => Ok(None),
+        Some(labels) => Ok(Some(Vec::from_slice(*labels.allocator(), labels.as_slice())?)),
+    }
+}
+
+/// A copy of names.
+fn copied_texts(names: &Vec<Text>) -> Result<Vec<Text>, OutOfMemory>
+    ensures { IfOk result (λ c. c.items ≡ names.now.items) }
+{
+    let mut copies = Vec::with_capacity(*names.allocator(), names.len())?;
+    for name in names {
+        copies.push(name.copy()?)?;
+    }
+    Ok(copies)
+}
+
+/// A copy of names, if the dimension is there.
+fn copied_names(names: &Option<Vec<Text>>) -> Result<Option<Vec<Text>>, OutOfMemory>
+    ensures { IfOk result (λ c. option_map listed c ≡ option_map listed names.now) }
+{
+    match names {
+        None => Ok(None),
+        Some(names) => Ok(Some(copied_texts(names)?)),
+    }
+}
+
+impl Lists {
+    /// A copy with equal contents.
+    pub fn copy(&self) -> Result<Lists, OutOfMemory>
+        ensures { IfOk result (λ c. dimensions_of c ≡ dimensions_of self.now) }
+    {
+        Ok(Lists {
+            epsg: self.epsg,
+            t: copied_numbers(&self.t)?,
+            bands: copied_names(&self.bands)?,
+            y: copied_numbers(&self.y)?,
+            x: copied_numbers(&self.x)?,
+        })
+    }
+
+    /// The number of labels of a dimension.
+    pub fn count(&self, kind: Kind) -> Option<usize>
+        ensures { result ≡ label_count (dimensions_of self.now) kind }
+    {
+        match kind {
+            Kind::Time => count_of(&self.t),
+            Kind::Bands => count_of(&self.bands),
+            Kind::Y => count_of(&self.y),
+            Kind::X => count_of(&self.x),
+        }
+    }
+
+    /// The labels of `t`, `y` or `x`, none where the dimension is missing.
+    pub fn numbers(&self, kind: Kind) -> &[i64]
+        ensures { result.now ≡ number_labels (dimensions_of self.now) kind }
+    {
+        let labels = match kind {
+            Kind::Time => &self.t,
+            Kind::Bands => return &[],
+            Kind::Y => &self.y,
+            Kind::X => &self.x,
+        };
+        match labels {
+            None => &[],
+            Some(labels) => labels.as_slice(),
+        }
+    }
+
+    /// The names of the bands, none where the dimension is missing.
+    pub fn names(&self) -> &[Text]
+        ensures { result.now ≡ band_names (dimensions_of self.now) }
+    {
+        match &self.bands {
+            None => &[],
+            Some(names) => names.as_slice(),
+        }
+    }
+
+    /// The place of a label of `t`, `y` or `x`.
+    pub fn position_of(&self, kind: Kind, label: i64) -> Option<usize>
+        requires { shape_fault (dimensions_of self.now) ≡ None }
+        ensures value { result ≡ place_where (same_number label) (number_labels (dimensions_of self.now) kind) }
+        ensures most { IfSome result (λ place. place < most_labels) }
+    {
+        let labels = self.numbers(kind);
+        match kind {
+            Kind::Y => place_in_falling(labels, label),
+            _ => place_in_rising(labels, label),
+        }
+    }
+
+    /// The place of a band.
+    pub fn band_position(&self, name: &Text) -> Option<usize>
+        requires { shape_fault (dimensions_of self.now) ≡ None }
+        ensures value { result ≡ place_where (same_name name.now) (band_names (dimensions_of self.now)) }
+        ensures most { IfSome result (λ place. place < most_labels) }
+    {
+        place_of_name(name, self.names())
+    }
+
+    /// The places of the labels of `t`, `y` or `x` from `from` to `to`, both inside, as the first and the end.
+    pub fn range_of(&self, kind: Kind, from: i64, to: i64) -> (usize, usize)
+        requires { shape_fault (dimensions_of self.now) ≡ None }
+        ensures first { result.0 ≡ count_before kind from to (number_labels (dimensions_of self.now) kind) }
+        ensures run { IsRun from to (number_labels (dimensions_of self.now) kind) result.0 result.1 }
+        ensures kept { slice_range (number_labels (dimensions_of self.now) kind) result.0 result.1 ≡ filter (is_inside from to) (number_labels (dimensions_of self.now) kind) }
+        ensures most { result.1 ≤ most_labels }
+    {
+        let labels = self.numbers(kind);
+        match kind {
+            Kind::Y => run_in_falling(labels, from, to),
+            _ => run_in_rising(labels, from, to),
+        }
+    }
+
+    /// How many cells there are.
+    pub fn cells(&self) -> u64
+        requires { shape_fault (dimensions_of self.now) ≡ None }
+        ensures value { result ≡ cell_count (dimensions_of self.now) }
+        ensures most { result ≤ most_cells }
+    {
+        extent_of(&self.t) as u64
+            * extent_of(&self.bands) as u64
+            * extent_of(&self.y) as u64
+            * extent_of(&self.x) as u64
+    }
+
+    /// The labels stand in the order that the dimension asks for; names differ.
+    fn is_ordered(&self, kind: Kind) -> bool
+        ensures { result ≡ is_ordered (dimensions_of self.now) kind }
+    {
+        match kind {
+            Kind::Time => match &self.t {
+                None => true,
+                Some(labels) => rises(labels),
+            },
+            Kind::Bands => match &self.bands {
+                None => true,
+                Some(names) => all_differ(names),
+            },
+            Kind::Y => match &self.y {
+                None => true,
+                Some(labels) => falls(labels),
+            },
+            Kind::X => match &self.x {
+                None => true,
+                Some(labels) => rises(labels),
+            },
+        }
+    }
+
+    /// Each label is one that the dimension may have.
+    fn is_in_range(&self, kind: Kind) -> bool
+        ensures { result ≡ is_in_range (dimensions_of self.now) kind }
+    {
+        match kind {
+            Kind::Time => match &self.t {
+                None => true,
+                Some(labels) => all_between(FIRST_INSTANT, LAST_INSTANT, labels),
+            },
+            Kind::Bands => match &self.bands {
+                None => true,
+                Some(names) => all_names(names),
+            },
+            Kind::Y => match &self.y {
+                None => true,
+                Some(labels) => all_between(-FARTHEST_PLACE, FARTHEST_PLACE, labels),
+            },
+            Kind::X => match &self.x {
+                None => true,
+                Some(labels) => all_between(-FARTHEST_PLACE, FARTHEST_PLACE, labels),
+            },
+        }
+    }
+
+    /// There are not too many labels.
+    fn is_within_limit(&self, kind: Kind) -> bool
+        ensures { result ≡ is_within_limit (dimensions_of self.now) kind }
+    {
+        match self.count(kind) {
+            None => true,
+            Some(count) => count <= MOST_LABELS,
+        }
+    }
+
+    /// The code is one that goes with the dimensions.
+    fn has_fitting_epsg(&self) -> bool
+        ensures { result ≡ has_fitting_epsg (dimensions_of self.now) }
+    {
+        if self.y.is_some() || self.x.is_some() {
+            1 <= self.epsg && self.epsg <= 999999
+        } else {
+            self.epsg == 0
+        }
+    }
+
+    /// The first dimension whose labels stand in the wrong order.
+    #[tactic(auto, unfolding(crate::specs::Dimensions::order_fault))]
+    fn order_fault(&self) -> Option<ShapeFault>
+        ensures { result ≡ order_fault (dimensions_of self.now) }
+    {
+        for kind in ALL_KINDS {
+            if !self.is_ordered(kind) {
+                return Some(ShapeFault::OrderWrong(kind));
+            }
+        }
+        None
+    }
+
+    /// The first dimension with a label that it may not have.
+    #[tactic(auto, unfolding(crate::specs::Dimensions::range_fault))]
+    fn range_fault(&self) -> Option<ShapeFault>
+        ensures { result ≡ range_fault (dimensions_of self.now) }
+    {
+        for kind in ALL_KINDS {
+            if !self.is_in_range(kind) {
+                return Some(ShapeFault::OutOfRange(kind));
+            }
+        }
+        None
+    }
+
+    /// The first dimension with too many labels.
+    #[tactic(auto, unfolding(crate::specs::Dimensions::limit_fault))]
+    fn limit_fault(&self) -> Option<ShapeFault>
+        ensures { result ≡ limit_fault (dimensions_of self.now) }
+    {
+        for kind in ALL_KINDS {
+            if !self.is_within_limit(kind) {
+                return Some(ShapeFault::TooMany(kind));
+            }
+        }
+        None
+    }
+
+    /// A code that does not go with the dimensions.
+    #[tactic(auto, unfolding(crate::specs::Dimensions::epsg_fault))]
+    fn epsg_fault(&self) -> Option<ShapeFault>
+        ensures { result ≡ epsg_fault (dimensions_of self.now) }
+    {
+        if self.has_fitting_epsg() {
+            None
+        } else {
+            Some(ShapeFault::EpsgWrong)
+        }
+    }
+
+    /// How many cells there are, where they fit 64 bits.
+    fn cells_within_word(&self) -> Option<u64>
+        requires { limit_fault (dimensions_of self.now) ≡ None }
+        ensures { SomeIff result (cell_count (dimensions_of self.now) < 2 ^ 64) (cell_count (dimensions_of self.now)) }
+    {
+        let rows = extent_of(&self.t) as u64
+            * extent_of(&self.bands) as u64
+            * extent_of(&self.y) as u64;
+        rows.checked_mul(extent_of(&self.x) as u64)
+    }
+
+    /// More cells than a cube may have.
+    #[tactic(auto, unfolding(crate::specs::Dimensions::cells_fault))]
+    fn cells_fault(&self) -> Option<ShapeFault>
+        requires { limit_fault (dimensions_of self.now) ≡ None }
+        ensures { result ≡ cells_fault (dimensions_of self.now) }
+    {
+        match self.cells_within_word() {
+            Some(cells) if cells <= MOST_CELLS => None,
+            _ => Some(ShapeFault::TooManyCells),
+        }
+    }
+
+    /// The first rule that the lists break.
+    #[tactic(auto, unfolding(crate::specs::Dimensions::shape_fault))]
+    pub fn fault(&self) -> Option<ShapeFault>
+        ensures { result ≡ shape_fault (dimensions_of self.now) }
+    {
+        if let Some(fault) = self.order_fault() {
+            return Some(fault);
+        }
+        if let Some(fault) = self.range_fault() {
+            return Some(fault);
+        }
+        if let Some(fault) = self.limit_fault() {
+            return Some(fault);
+        }
+        if let Some(fault) = self.epsg_fault() {
+            return Some(fault);
+        }
+        self.cells_fault()
+    }
+}
