@@ -7,10 +7,39 @@
 //! real ones.
 #![tactic(auto)]
 
+mod clock;
+mod count_sink;
+mod door;
 mod failed;
+mod fixed_clock;
+mod gate;
+mod last_dial;
+mod link;
+mod memory_link;
+mod memory_sink;
+mod memory_source;
+mod memory_store;
+mod pieces;
+mod script;
+mod script_door;
 mod sink;
 mod source;
+mod store;
+#[cfg(test)]
+mod tests;
 
+pub use clock::Clock;
+pub use count_sink::CountSink;
+pub use door::{Door, Next};
 pub use failed::Failed;
+pub use fixed_clock::FixedClock;
+pub use gate::{Gate, NoGate};
+pub use link::Link;
+pub use memory_link::MemoryLink;
+pub use memory_sink::MemorySink;
+pub use memory_source::MemorySource;
+pub use memory_store::MemoryStore;
+pub use script_door::ScriptDoor;
 pub use sink::Sink;
 pub use source::Source;
+pub use store::Store;

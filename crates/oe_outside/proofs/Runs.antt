@@ -1,0 +1,53 @@
+-- How the clauses on told bytes add up over calls.
+use Rattle.std.proofs.Common.{◌≡◌, ℕ, ◌+◌, List, [], ◌++◌, take, Option, Some, None, IfSome, refl, ap, sym, ◌∙◌, append_assoc, append-nil, arith}
+use Rattle.std.specs.Option.{option_map}
+use Rattle.std.proofs.lemmas.List.{take-append-drop}
+use Rattle.std.proofs.lemmas.Grind.{common_steps}
+use Rattle.oe_outside.specs.Told.{TakesFront, Gave, Appends, AddsBytes}
+
+-- over no read nothing was given
+pub Gave-none : (left : Option (List ℕ)) → Gave left [] left
+Gave-none None = refl
+Gave-none (Some bytes) = refl
+
+-- one read gives the front of its buffer
+pub Gave-read : (before after : Option (List ℕ)) (n : ℕ) (buffer : List ℕ) → TakesFront before n buffer after → Gave before (take n buffer) after
+Gave-read None None n buffer taken = refl
+Gave-read None (Some rest) n buffer taken = cc
+Gave-read (Some bytes) None n buffer taken = absurd taken
+Gave-read (Some bytes) (Some rest) n buffer taken =
+    ap Some (sym (rw (taken.given, taken.rest_is) (take-append-drop n bytes)))
+
+-- some reads and then some more
+pub Gave-more : (a b c : Option (List ℕ)) (first second : List ℕ) → Gave a first b → Gave b second c → Gave a (first ++ second) c
+Gave-more a b None first second one two = cc
+Gave-more a b (Some rest) first second one two =
+    one ∙ ap (option_map (λ tail. first ++ tail)) two ∙ ap Some (sym (append_assoc first second rest))
+
+-- where nothing is left, what was given is what was there
+pub Gave-all : (before after : Option (List ℕ)) (given : List ℕ) → Gave before given after → IfSome after (λ rest. rest ≡ []) → IfSome before (λ bytes. bytes ≡ given)
+Gave-all before None given gave ended = rw gave tt
+Gave-all before (Some rest) given gave ended = rw gave (ap (λ tail. given ++ tail) ended ∙ append-nil given)
+
+-- over no write nothing was appended
+pub Appends-none : (written : Option (List ℕ)) → Appends written [] written
+Appends-none None = refl
+Appends-none (Some held) = grind (arith, common_steps)
+
+-- some writes and then some more
+pub Appends-more : (a b c : Option (List ℕ)) (first second : List ℕ) → Appends a first b → Appends b second c → Appends a (first ++ second) c
+Appends-more None b c first second one two = rw (two, one) refl
+Appends-more (Some held) b c first second one two = rw (two, one) (ap Some (append_assoc held first second))
+
+-- over no write nothing was counted
+pub AddsBytes-none : (size : Option ℕ) → AddsBytes size 0 size
+AddsBytes-none None = refl
+AddsBytes-none (Some n) = grind arith
+
+-- some writes and then some more
+pub AddsBytes-more : (a b c : Option ℕ) (first second : ℕ) → AddsBytes a first b → AddsBytes b second c → AddsBytes a (first + second) c
+AddsBytes-more None None c first second one two = two
+AddsBytes-more None (Some m) c first second one two = cc
+AddsBytes-more (Some n) None c first second one two = absurd one
+AddsBytes-more (Some n) (Some m) None first second one two = absurd two
+AddsBytes-more (Some n) (Some m) (Some k) first second one two = omega arith
