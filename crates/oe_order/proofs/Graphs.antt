@@ -1,0 +1,18 @@
+-- The nodes of a list of links.
+use Rattle.std.proofs.Common.{◌≡◌, ℕ, zero, suc, ◌<◌, List, [], ◌∷◌, length, get_or, refl, sym, ap, arith}
+use Rattle.oe_order.specs.Graph.{graph_of, arguments, is_load}
+use Rattle.oe_order.specs.declared.Links.{Links}
+
+pub length-graph_of : (xs : List Links) → length (graph_of xs) ≡ length xs
+length-graph_of [] = refl
+length-graph_of (x ∷ xs) = ap suc (length-graph_of xs)
+
+pub arguments-graph_of : (xs : List Links) (n : ℕ) (x : Links) → n < length xs → x ≡ get_or xs n x → arguments (graph_of xs) n ≡ x.arguments.items
+arguments-graph_of [] n x h e = absurd (omega arith)
+arguments-graph_of (y ∷ ys) zero x h e = sym (ap (λ (z : Links). z.arguments.items) e)
+arguments-graph_of (y ∷ ys) (suc n) x h e = arguments-graph_of ys n x (omega arith) e
+
+pub is_load-graph_of : (xs : List Links) (n : ℕ) (x : Links) → n < length xs → x ≡ get_or xs n x → is_load (graph_of xs) n ≡ x.load
+is_load-graph_of [] n x h e = absurd (omega arith)
+is_load-graph_of (y ∷ ys) zero x h e = sym (ap (λ (z : Links). z.load) e)
+is_load-graph_of (y ∷ ys) (suc n) x h e = is_load-graph_of ys n x (omega arith) e

@@ -1,0 +1,11 @@
+pub mod Lists
+pub mod Gets
+pub mod Graphs
+pub mod Pools
+pub mod Lives
+pub mod Kept
+pub mod Queues
+pub mod Nexts
+pub mod Steps
+pub mod Reach
+pub mod Ranks

@@ -1,0 +1,7 @@
+pub mod Marks
+pub mod Graph
+pub mod Order
+pub mod Live
+pub mod Waiting
+pub mod Pool
+pub mod Worked
