@@ -1,0 +1,65 @@
+-- Collections: a cube with the kind of its cells, and how often reading it failed.
+use Rattle.std.specs.Prelude.{◌≡◌, ℕ, zero, suc, Bool, true, false, List, [], ◌∷◌, length, map, Option, unwrap_or}
+use Rattle.std.specs.List.{list_all, find}
+use Rattle.oe_cell.specs.declared.cell.Cell.{Cell}
+use Rattle.oe_cell.specs.declared.cell.Cell.TheVariants.{Empty, Flag, Number, Over}
+use Rattle.oe_dims.specs.Cube.{Cube, at, tabulate}
+use Rattle.oe_dims.specs.Dimensions.{Dimensions, IsShape, cell_count}
+use Rattle.oe_dims.specs.Names.{same_name}
+use Rattle.oe_dims.specs.declared.kind.CellKind.{CellKind}
+use Rattle.oe_dims.specs.declared.kind.CellKind.TheVariants.{Numbers, Flags}
+use Rattle.oe_outside.specs.Faults.{NeverFalls}
+
+-- a shape, the cells in row-major order and their kind
+pub record Collection : Type 0 where
+  pub shape : Dimensions
+  pub cells : List Cell
+  pub kind : CellKind
+
+-- the cell is empty or of the kind, and so never Over
+abbrev pub is_of_kind : CellKind → Cell → Bool
+is_of_kind kind Empty = true
+is_of_kind Numbers (Flag b) = false
+is_of_kind Numbers (Number q) = true
+is_of_kind Flags (Flag b) = true
+is_of_kind Flags (Number q) = false
+is_of_kind kind Over = false
+
+-- the shape is valid, there is one cell for each position, and each is of the kind
+pub record IsCollection (c : Collection) : Type 0 where
+  pub valid : IsShape c.shape
+  pub counted : length c.cells ≡ cell_count c.shape
+  pub of_kind : list_all (is_of_kind c.kind) c.cells ≡ true
+
+-- a collection that is read, and how often that failed
+pub record Readable : Type 0 where
+  pub collection : Collection
+  pub faults : ℕ
+
+-- a collection under its id
+pub record Row : Type 0 where
+  pub id : List ℕ
+  pub source : Readable
+
+-- the row of an id
+abbrev pub row_of : List Row → List ℕ → Option Row
+row_of rows id = find (λ row. same_name row.id id) rows
+
+-- how often reading failed, of the row at a place
+abbrev pub faults_at : List Row → ℕ → ℕ
+faults_at [] place = 0
+faults_at (row ∷ rows) zero = row.source.faults
+faults_at (row ∷ rows) (suc place) = faults_at rows place
+
+-- a row but for its count of faults
+abbrev pub shown : Row → List ℕ × Collection
+shown row = (row.id, row.source.collection)
+
+-- reading changes no collection, and no count of faults falls
+pub record OnlyRead (before after : List Row) : Type 0 where
+  pub same : map shown after ≡ map shown before
+  pub counts : (place : ℕ) → NeverFalls (faults_at before place) (faults_at after place)
+
+-- the cube of a load without extents: every label is kept, and each tuple has the collection's cell
+abbrev pub loaded : Collection → Cube Cell
+loaded c = tabulate c.shape (λ tuple. unwrap_or (at (record { shape = c.shape; cells = c.cells }) tuple) Empty)

@@ -1,0 +1,9 @@
+pub mod Answer
+pub mod Catalogue
+pub mod Collection
+pub mod Form
+pub mod Input
+pub mod MemoryCube
+pub mod Stream
+pub mod Text
+pub mod Words

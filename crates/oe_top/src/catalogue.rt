@@ -1,0 +1,171 @@
+// The collections that graphs may load.
+ghost use Rattle.std.specs.Prelude.{◌≡◌, ◌≢◌, ◌+◌, ◌<◌, ◌↔◌, List, [], ◌∷◌, ◌++◌, length, true, All, IsNone, IfSome, IfNone, IfOk, OnOk, OnErr, IsErr, slice_get, Some, None};
+ghost use Rattle.std.specs.List.{list_all};
+ghost use Rattle.oe_dims.specs.Dimensions.{cell_count};
+ghost use Rattle.oe_outside.specs.Faults.{HasCause, Rose};
+ghost use Rattle.oe_top.specs.Collection.{Collection, IsCollection, OnlyRead, Row, faults_at, is_of_kind, row_of};
+
+use oe_cell::Cell;
+use oe_dims::{CellKind, Shape, Text};
+use oe_memory::OutOfMemory;
+use oe_outside::Failed;
+use std::alloc::Global;
+use std::marker::Model;
+
+/// A collection in memory.
+#[derive(Drop)]
+pub struct MemoryCube {
+    shape: Shape,
+    kind: CellKind,
+    cells: Vec<Cell>,
+    failing: Vec<u64>,
+    reads: u64,
+    faults: u64,
+}
+
+impl Model for MemoryCube {
+    ghost use Rattle.oe_top.specs.Collection.{Readable};
+
+    ghost Value = { Readable };
+
+    ghost use Rattle.oe_top.specs.Collection.{IsCollection};
+    ghost use Rattle.oe_top.specs.MemoryCube.{collection_of, readable_of};
+
+    ghost view = { readable_of };
+
+    ghost invariant = { λ m. IsCollection (collection_of m) };
+}
+
+impl MemoryCube {
+    /// A collection of these cells, in row-major order. `failing` has the numbers of the reads that fail, counted from 0.
+    pub fn new(shape: Shape, kind: CellKind, cells: Vec<Cell>, failing: Vec<u64>) -> MemoryCube
+        requires counted { length cells.items ≡ cell_count shape }
+        requires of_kind { list_all (is_of_kind kind) cells.items ≡ true }
+        ensures { result ≡ record { collection = record { shape = shape; cells = cells.items; kind = kind }; faults = 0 } }
+    {
+        let _epsg = shape.epsg();
+        MemoryCube {
+            shape,
+            kind,
+            cells,
+            failing,
+            reads: 0,
+            faults: 0,
+        }
+    }
+
+    // Makes the cells ready to be looked at, which is one read.
+    fn read(&mut self) -> Result<(), Failed>
+        ensures same { self.new.collection ≡ self.old.collection }
+        ensures cause { HasCause self.old.faults self.new.faults result }
+    {
+        let fails = self.failing.contains(&self.reads);
+        self.reads = self.reads.saturating_add(1);
+        if fails {
+            self.faults = self.faults.saturating_add(1);
+            return Err(Failed);
+        }
+        Ok(())
+    }
+
+    fn shape(&self) -> &Shape
+        ensures value { result.now ≡ self.now.collection.shape }
+        ensures sound { IsCollection self.now.collection }
+    {
+        &self.shape
+    }
+
+    fn cells(&self) -> &[Cell]
+        ensures value { result.now ≡ self.now.collection.cells }
+        ensures sound { IsCollection self.now.collection }
+    {
+        self.cells.as_slice()
+    }
+}
+
+#[derive(Drop)]
+struct Mounted {
+    id: Text,
+    cube: MemoryCube,
+}
+
+/// The collections by their ids. Contracts see the rows in the order in which they were mounted.
+#[derive(Drop)]
+pub struct Catalogue {
+    rows: Vec<Mounted>,
+}
+
+impl Model for Catalogue {
+    ghost use Rattle.std.specs.Prelude.{List};
+    ghost use Rattle.oe_top.specs.Collection.{Row};
+
+    ghost Value = { List Row };
+
+    ghost use Rattle.oe_top.specs.Catalogue.{rows_of};
+
+    ghost view = { rows_of };
+}
+
+impl Catalogue {
+    /// A catalogue without collections. It takes no memory before the first one is mounted.
+    pub fn new(alloc: Global) -> Catalogue
+        ensures { result ≡ [] }
+    {
+        Catalogue {
+            rows: Vec::new(alloc),
+        }
+    }
+
+    /// Adds a collection under an id that is not mounted. After want of memory the catalogue is as before.
+    pub fn mount(&mut self, id: Text, cube: MemoryCube) -> Result<(), OutOfMemory>
+        requires { row_of self.old id ≡ None }
+        ensures ok { OnOk result (self.new ≡ self.old ++ record { id = id; source = cube } ∷ []) }
+        ensures err { OnErr result (self.new ≡ self.old) }
+    {
+        match self.rows.push(Mounted { id, cube }) {
+            Ok(()) => Ok(()),
+            Err(_) => Err(OutOfMemory),
+        }
+    }
+
+    /// The place of the collection with this id, `None` exactly where none is mounted under it.
+    pub fn place(&self, id: &str) -> Option<usize>
+        ensures found { IfSome result (λ place. slice_get self.now place ≡ row_of self.now id.now) }
+        ensures within { IfSome result (λ place. place < length self.now) }
+        ensures none { IfNone result (row_of self.now id.now ≡ None) }
+    {
+        for (place, row) in self.rows.iter().enumerate() {
+            if row.id.as_str() == id {
+                return Some(place);
+            }
+        }
+        None
+    }
+
+    // Reads the collection at a place, so that its cells may be looked at.
+    pub(crate) fn read(&mut self, place: usize) -> Result<(), Failed>
+        requires { place < length self.old }
+        ensures only { OnlyRead self.old self.new }
+        ensures failed { IsErr result → Rose (faults_at self.old place) (faults_at self.new place) }
+    {
+        let row = &mut self.rows[place];
+        row.cube.read()
+    }
+
+    // The shape of the collection at a place.
+    pub(crate) fn shape(&self, place: usize) -> &Shape
+        requires { place < length self.now }
+        ensures { IfSome (slice_get self.now place) (λ row. result.now ≡ row.source.collection.shape) }
+    {
+        self.rows[place].cube.shape()
+    }
+
+    // The cells of the collection at a place, in row-major order.
+    pub(crate) fn cells(&self, place: usize) -> &[Cell]
+        requires { place < length self.now }
+        ensures value { IfSome (slice_get self.now place) (λ row. result.now ≡ row.source.collection.cells) }
+        ensures sound { IfSome (slice_get self.now place) (λ row. IsCollection row.source.collection) }
+    {
+        self.rows[place].cube.cells()
+    }
+}

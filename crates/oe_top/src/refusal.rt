@@ -1,0 +1,67 @@
+// Why a command did not finish.
+ghost use Rattle.std.specs.Prelude.{◌≡◌};
+ghost use Rattle.oe_top.specs.declared.refusal.Refusal.TheVariants as variant;
+
+use oe_memory::OutOfMemory;
+use std::alloc::AllocError;
+
+/// The endings of a command other than success, each with its status and its line.
+#[derive(Clone, Copy, Debug, PartialEq, Eq)]
+pub enum Refusal {
+    /// The words name no command.
+    Usage,
+    /// The graph is of a form that is not built.
+    NotBuilt,
+    /// The input or a collection could not be read.
+    ReadFault,
+    /// The output could not be written.
+    WriteFault,
+    /// An allocation was refused.
+    OutOfMemory,
+}
+
+impl Refusal {
+    ghost use Rattle.oe_top.specs.Answer.{line_of, status_of_refusal};
+
+    /// The exit status.
+    pub fn status(self) -> u8
+        ensures { result ≡ status_of_refusal self }
+    {
+        match self {
+            Refusal::Usage => 1,
+            Refusal::NotBuilt => 2,
+            Refusal::ReadFault => 5,
+            Refusal::WriteFault => 8,
+            Refusal::OutOfMemory => 9,
+        }
+    }
+
+    /// The line that goes to standard error.
+    pub fn line(self) -> &'static [u8]
+        ensures { result.now ≡ line_of (status_of_refusal self) }
+    {
+        match self {
+            Refusal::Usage => b"openeo: Usage\n",
+            Refusal::NotBuilt => b"openeo: NotBuilt\n",
+            Refusal::ReadFault => b"openeo: ReadFault\n",
+            Refusal::WriteFault => b"openeo: WriteFault\n",
+            Refusal::OutOfMemory => b"openeo: OutOfMemory\n",
+        }
+    }
+}
+
+impl From<OutOfMemory> for Refusal {
+    ghost from_gives = { λ _ e. e ≡ variant.OutOfMemory };
+
+    fn from(_error: OutOfMemory) -> Refusal {
+        Refusal::OutOfMemory
+    }
+}
+
+impl From<AllocError> for Refusal {
+    ghost from_gives = { λ _ e. e ≡ variant.OutOfMemory };
+
+    fn from(_error: AllocError) -> Refusal {
+        Refusal::OutOfMemory
+    }
+}
