@@ -1,0 +1,4 @@
+pub mod Function
+pub mod Kinds
+pub mod Progress
+pub mod Reduction
