@@ -1,0 +1,75 @@
+-- How a grid parts a shape into chunks.
+use Rattle.std.specs.Prelude.{◌≡◌, ℕ, ◌+◌, ◌-◌, ◌*◌, ◌/◌, ◌%◌, ◌<◌, ◌≤◌, ◌==◌, min, if◌then◌else◌}
+use Rattle.oe_dims.specs.Dimensions.{Dimensions, extent, most_labels}
+use Rattle.oe_window.specs.Windows.{Position, span_below, span_length}
+use Rattle.oe_window.specs.declared.window.Span.{Span}
+use Rattle.oe_window.specs.declared.window.Window.{Window}
+
+-- the places that a shape gives along each dimension, and the sides of its chunks; bands are never cut
+pub record Tiling : Type 0 where
+  pub t : ℕ
+  pub bands : ℕ
+  pub y : ℕ
+  pub x : ℕ
+  pub side_t : ℕ
+  pub side_y : ℕ
+  pub side_x : ℕ
+
+-- a side that a chunk may have
+abbrev pub most_side : ℕ
+most_side = 4096
+
+abbrev pub IsSide : ℕ → Type 0
+IsSide side = (1 ≤ side) × (side ≤ most_side)
+
+-- what every grid keeps
+pub record IsTiling (g : Tiling) : Type 0 where
+  pub t : g.t ≤ most_labels
+  pub bands : g.bands ≤ most_labels
+  pub y : g.y ≤ most_labels
+  pub x : g.x ≤ most_labels
+  pub side_t : IsSide g.side_t
+  pub side_y : IsSide g.side_y
+  pub side_x : IsSide g.side_x
+
+-- a position of the shape
+pub record IsInside (g : Tiling) (p : Position) : Type 0 where
+  pub t : p.t < g.t
+  pub bands : p.band < g.bands
+  pub y : p.y < g.y
+  pub x : p.x < g.x
+
+-- how many parts of a side cover so many places: their quotient, rounded up
+abbrev pub part_count : ℕ → ℕ → ℕ
+part_count places side = (places + side - 1) / side
+
+-- how many chunks a grid has: none where a dimension has no labels
+abbrev pub chunk_count : Tiling → ℕ
+chunk_count g =
+    if g.bands == 0 then 0
+    else part_count g.t g.side_t * part_count g.y g.side_y * part_count g.x g.side_x
+
+-- the number of the chunk in which a position lies: x runs fastest, then y, then t
+abbrev pub chunk_number : Tiling → Position → ℕ
+chunk_number g p =
+    (p.t / g.side_t * part_count g.y g.side_y + p.y / g.side_y) * part_count g.x g.side_x + p.x / g.side_x
+
+-- the places of one part, which the end of the dimension may cut
+abbrev pub part_span : ℕ → ℕ → ℕ → Span
+part_span places side part = record { from = part * side; to = min (part * side + side) places }
+
+-- the chunk of a number
+abbrev pub chunk_window : Tiling → ℕ → Window
+chunk_window g k = record {
+  t = part_span g.t g.side_t (k / part_count g.x g.side_x / part_count g.y g.side_y);
+  bands = span_below g.bands;
+  y = part_span g.y g.side_y (k / part_count g.x g.side_x % part_count g.y g.side_y);
+  x = part_span g.x g.side_x (k % part_count g.x g.side_x);
+}
+
+-- no side of the window is longer than a chunk's, and no band is cut
+pub record FitsSides (g : Tiling) (window : Window) : Type 0 where
+  pub t : span_length window.t ≤ g.side_t
+  pub bands : window.bands ≡ span_below g.bands
+  pub y : span_length window.y ≤ g.side_y
+  pub x : span_length window.x ≤ g.side_x

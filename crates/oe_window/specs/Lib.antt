@@ -1,0 +1,4 @@
+pub mod Chunks
+pub mod Layouts
+pub mod Runs
+pub mod Windows

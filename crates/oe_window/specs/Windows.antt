@@ -1,0 +1,80 @@
+-- Windows of a cube, as sets of positions.
+use Rattle.std.specs.Prelude.{◌≡◌, ℕ, ◌+◌, ◌-◌, ◌*◌, ◌<◌, ◌≤◌, List, map}
+use Rattle.std.specs.List.{flat_map, range_with_len}
+use Rattle.oe_dims.specs.Dimensions.{Dimensions, extent}
+use Rattle.oe_dims.specs.declared.kind.Kind.{Kind}
+use Rattle.oe_dims.specs.declared.kind.Kind.TheVariants.{Time, Bands, Y, X}
+use Rattle.oe_window.specs.declared.window.Span.{Span}
+use Rattle.oe_window.specs.declared.window.Window.{Window}
+
+-- a position of a cube, by its places along the four dimensions
+pub record Position : Type 0 where
+  pub t : ℕ
+  pub band : ℕ
+  pub y : ℕ
+  pub x : ℕ
+
+-- a place lies in a span: from its first place on, and before its end
+pub record IsAlong (span : Span) (place : ℕ) : Type 0 where
+  pub begun : span.from ≤ place
+  pub before : place < span.to
+
+-- a position lies in a window: in each of its four spans
+pub record IsIn (window : Window) (p : Position) : Type 0 where
+  pub t : IsAlong window.t p.t
+  pub bands : IsAlong window.bands p.band
+  pub y : IsAlong window.y p.y
+  pub x : IsAlong window.x p.x
+
+-- no position lies in the window
+abbrev pub IsEmpty : Window → Type 0
+IsEmpty window = (p : Position) → ¬ IsIn window p
+
+-- each position of the second window lies in the first
+abbrev pub Holds : Window → Window → Type 0
+Holds a b = (p : Position) → IsIn b p → IsIn a p
+
+-- how many places a dimension gives: its labels, or one where it is missing
+abbrev pub extent_along : Dimensions → Kind → ℕ
+extent_along d Time = extent d.t
+extent_along d Bands = extent d.bands
+extent_along d Y = extent d.y
+extent_along d X = extent d.x
+
+-- the places from 0 to before an end
+abbrev pub span_below : ℕ → Span
+span_below end = record { from = 0; to = end }
+
+-- all positions of a cube of these dimensions
+abbrev pub whole_window : Dimensions → Window
+whole_window d = record {
+  t = span_below (extent d.t);
+  bands = span_below (extent d.bands);
+  y = span_below (extent d.y);
+  x = span_below (extent d.x);
+}
+
+-- how many places a span has
+abbrev pub span_length : Span → ℕ
+span_length span = span.to - span.from
+
+-- the places of a span, in order
+abbrev pub span_places : Span → List ℕ
+span_places span = range_with_len span.from (span_length span)
+
+-- the positions of a window in row-major order: t, bands, y, x, the last running fastest
+abbrev pub positions : Window → List Position
+positions window =
+    flat_map (λ t. flat_map (λ band. flat_map (λ y. map (λ x. record { t = t; band = band; y = y; x = x })
+    (span_places window.x)) (span_places window.y)) (span_places window.bands)) (span_places window.t)
+
+-- how many positions a window has
+abbrev pub position_count : Window → ℕ
+position_count window =
+    span_length window.t * span_length window.bands * span_length window.y * span_length window.x
+
+-- the number of a position among those of a window, in row-major order from 0
+abbrev pub number_in : Window → Position → ℕ
+number_in window p =
+    (((p.t - window.t.from) * span_length window.bands + (p.band - window.bands.from)) * span_length window.y
+    + (p.y - window.y.from)) * span_length window.x + (p.x - window.x.from)
