@@ -1,0 +1,5 @@
+pub mod BorderLemmas
+pub mod SumLemmas
+mod TotalLemmas
+pub mod WindowLemmas
+mod Worked

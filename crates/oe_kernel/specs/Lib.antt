@@ -1,0 +1,5 @@
+pub mod Borders
+pub mod Convolution
+pub mod Kernels
+pub mod Rows
+pub mod Totals

@@ -1,0 +1,131 @@
+// One row of the window: its products, added from the left.
+ghost use Rattle.std.specs.Prelude.{◌≡◌, ◌<◌, ◌≤◌, ◌+◌, length, IfSome};
+ghost use Rattle.oe_kernel.specs.Kernels.{largest};
+ghost use Rattle.oe_kernel.specs.Convolution.{number_of, border_number, row_added, reach, Holds, IsFromTo, longest};
+ghost use Rattle.oe_kernel.specs.Rows.{beside, bordered, placed, pixel_in};
+ghost use Rattle.oe_kernel.specs.Totals.{total_of};
+
+use crate::Border;
+use crate::border::index_of;
+use crate::total::{Total, whole, with_product};
+use oe_cell::{Cell, Frac};
+
+// Where a place of a window of this size stands, whose middle is at a position.
+pub(crate) fn reach(at: u32, place: usize, size: usize) -> i64
+    requires within { place < size }
+    requires most { size ≤ largest }
+    ensures { result ≡ reach at place size }
+{
+    i64::from(at) + place as i64 - ((size - 1) / 2) as i64
+}
+
+fn as_number(pixel: Cell, replace: Frac) -> Cell
+    ensures { result ≡ number_of replace pixel }
+{
+    match pixel {
+        Cell::Empty => Cell::Number(replace),
+        Cell::Flag(flag) => whole(i64::from(flag)),
+        _ => pixel,
+    }
+}
+
+// The pixels that stand beside the values.
+fn with_slice(total: Total, values: &[Frac], pixels: &[Cell], replace: Frac) -> Total
+    requires { length values.now ≡ length pixels.now }
+    ensures { total_of result ≡ row_added (beside values.now pixels.now replace) (length values.now) (total_of total) }
+{
+    let mut sum = total;
+    for i in 0..values.len() {
+        sum = with_product(sum, values[i], as_number(pixels[i], replace));
+    }
+    sum
+}
+
+// Every pixel of the row is outside.
+pub(crate) fn with_border(total: Total, values: &[Frac], border: &Border) -> Total
+    ensures { total_of result ≡ row_added (bordered values.now border.now) (length values.now) (total_of total) }
+{
+    let mut sum = total;
+    for i in 0..values.len() {
+        sum = with_product(sum, values[i], border_cell(border));
+    }
+    sum
+}
+
+// Each pixel by the border rule.
+fn with_placed(
+    total: Total,
+    values: &[Frac],
+    border: &Border,
+    replace: Frac,
+    pixels: &[Cell],
+    from: u32,
+    side: u32,
+    x: u32,
+) -> Total
+    requires some { 0 < length values.now }
+    requires most { length values.now ≤ largest }
+    requires side { side ≤ longest }
+    requires x { x < side }
+    requires held { Holds border.now x (length values.now) side from (from + length pixels.now) }
+    ensures { total_of result ≡ row_added (placed values.now border.now replace pixels.now from side x) (length values.now) (total_of total) }
+{
+    let mut sum = total;
+    for i in 0..values.len() {
+        let at = reach(x, i, values.len());
+        let pixel = placed_pixel(border, replace, pixels, from, index_of(border, at, side));
+        sum = with_product(sum, values[i], pixel);
+    }
+    sum
+}
+
+fn placed_pixel(
+    border: &Border,
+    replace: Frac,
+    pixels: &[Cell],
+    from: u32,
+    column: Option<u32>,
+) -> Cell
+    requires { IfSome column (IsFromTo from (from + length pixels.now)) }
+    ensures { result ≡ pixel_in border.now replace pixels.now from column }
+{
+    match column {
+        Some(column) => as_number(pixels[(column - from) as usize], replace),
+        None => border_cell(border),
+    }
+}
+
+fn border_cell(border: &Border) -> Cell
+    ensures { result ≡ border_number border.now }
+{
+    match border {
+        Border::Value(number) => Cell::Number(*number),
+        _ => Cell::Empty,
+    }
+}
+
+// A row of the box, which begins at a column: as a slice where the window lies within the side.
+pub(crate) fn with_row(
+    total: Total,
+    values: &[Frac],
+    border: &Border,
+    replace: Frac,
+    pixels: &[Cell],
+    from: u32,
+    side: u32,
+    x: u32,
+) -> Total
+    requires some { 0 < length values.now }
+    requires most { length values.now ≤ largest }
+    requires side { side ≤ longest }
+    requires x { x < side }
+    requires held { Holds border.now x (length values.now) side from (from + length pixels.now) }
+    ensures { total_of result ≡ row_added (placed values.now border.now replace pixels.now from side x) (length values.now) (total_of total) }
+{
+    let radius = (values.len() as u32 - 1) / 2;
+    if x < radius || side - x < values.len() as u32 - radius {
+        return with_placed(total, values, border, replace, pixels, from, side, x);
+    }
+    let first = (x - radius - from) as usize;
+    with_slice(total, values, &pixels[first..first + values.len()], replace)
+}
