@@ -13,6 +13,12 @@ pub on_from : (i : ℤ) (n : ℕ) → pos 0 ≤ℤ i → i <ℤ pos n → is_on 
 on_from (pos i) n low high = (Decides-ltb i n).1 (omega (arith, ints))
 on_from (negsuc i) n low high = absurd (omega (arith, ints))
 
+pub on_within : (i : ℤ) (n : ℕ) → is_on i n ≡ true → (pos 0 ≤ℤ i) × (i <ℤ pos n)
+on_within (pos i) n h =
+    let below : i < n = (Decides-ltb i n).0 h in
+    (omega (arith, ints), omega (arith, ints))
+on_within (negsuc i) n h = cc
+
 pub off_below : (i : ℤ) (n : ℕ) → i <ℤ pos 0 → is_on i n ≡ false
 off_below (pos i) n h = absurd (omega (arith, ints))
 off_below (negsuc i) n h = refl

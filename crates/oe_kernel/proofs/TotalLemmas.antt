@@ -14,8 +14,8 @@ pub total_of-zero : cell_of_lowest (pos 0) 1 ≡ Number (whole_of (pos 0))
 unfolding cell_of_lowest
 total_of-zero = refl
 
-pub lowest-whole : (n : ℤ) → unsigned_abs n < 2 ^ 63 → cell_of_lowest n 1 ≡ Number (whole_of n)
-lowest-whole n h = cell_of_lowest-number n 1 (record { num_fits = h; den_fits = omega arith })
+pub lowest_whole : (n : ℤ) → unsigned_abs n < 2 ^ 63 → cell_of_lowest n 1 ≡ Number (whole_of n)
+lowest_whole n h = cell_of_lowest-number n 1 (record { num_fits = h; den_fits = omega arith })
 
 whole-same : (q : Fraction) → q.den ≡ 1 → q ≡ whole_of q.num
 whole-same q h = λ i. record { num = q.num; den = h i }
@@ -24,9 +24,9 @@ whole-same q h = λ i. record { num = q.num; den = h i }
 pub whole_sum : (sum next : ℤ) (value number : Fraction) → value.den ≡ 1 → number.den ≡ 1 → unsigned_abs sum < 2 ^ 63 → unsigned_abs (value.num *ℤ number.num) < 2 ^ 63 → next ≡ sum +ℤ value.num *ℤ number.num → cell_of_lowest next 1 ≡ add_of (cell_of_lowest sum 1) (multiply_of (Number value) (Number number))
 whole_sum sum next value number left right sum_fits product_fits e =
     let product : ℤ = value.num *ℤ number.num in
-    let both : multiply_of (Number value) (Number number) ≡ Number (whole_of product) = ap (λ (q : Fraction). multiply_of (Number q) (Number number)) (whole-same value left) ∙ ap (λ (q : Fraction). multiply_of (Number (whole_of value.num)) (Number q)) (whole-same number right) ∙ multiply_of-whole value.num number.num ∙ lowest-whole product product_fits in
-    ap (λ (z : ℤ). cell_of_lowest z 1) e ∙ sym (ap (λ (c : Cell). add_of c (multiply_of (Number value) (Number number))) (lowest-whole sum sum_fits) ∙ ap (λ (c : Cell). add_of (Number (whole_of sum)) c) both ∙ add_of-whole sum product)
+    let both : multiply_of (Number value) (Number number) ≡ Number (whole_of product) = ap (λ (q : Fraction). multiply_of (Number q) (Number number)) (whole-same value left) ∙ ap (λ (q : Fraction). multiply_of (Number (whole_of value.num)) (Number q)) (whole-same number right) ∙ multiply_of-whole value.num number.num ∙ lowest_whole product product_fits in
+    ap (λ (z : ℤ). cell_of_lowest z 1) e ∙ sym (ap (λ (c : Cell). add_of c (multiply_of (Number value) (Number number))) (lowest_whole sum sum_fits) ∙ ap (λ (c : Cell). add_of (Number (whole_of sum)) c) both ∙ add_of-whole sum product)
 
 -- the least machine number is no number of a cell
-pub lowest-over : (n : ℤ) → 2 ^ 63 ≤ unsigned_abs n → cell_of_lowest n 1 ≡ Over
-lowest-over n h = cell_of_lowest-over n 1 (λ fits. let size : unsigned_abs n < 2 ^ 63 = fits.num_fits in omega arith)
+pub lowest_over : (n : ℤ) → 2 ^ 63 ≤ unsigned_abs n → cell_of_lowest n 1 ≡ Over
+lowest_over n h = cell_of_lowest-over n 1 (λ fits. let size : unsigned_abs n < 2 ^ 63 = fits.num_fits in omega arith)

@@ -1,7 +1,8 @@
 -- Windows: the pixels that lie beside a kernel's values, in a row, in a box and in the whole plane.
-use Rattle.std.proofs.Common.{◌≡◌, ℕ, ◌+◌, ◌-◌, ◌*◌, ◌<◌, ◌≤◌, List, length, get_or, drop, refl, ap, ◌∙◌, subst, sym, arith}
-use Rattle.std.specs.Prelude.{pos, ◌≤ℤ◌, ◌<ℤ◌, unsigned_abs, Option, Some, None, IfSome}
+use Rattle.std.proofs.Common.{◌≡◌, ℕ, ◌+◌, ◌-◌, ◌*◌, ◌<◌, ◌≤◌, List, length, get_or, drop, inl, inr, refl, ap, ◌∙◌, subst, sym, arith}
+use Rattle.std.specs.Prelude.{ℤ, pos, ◌≤ℤ◌, ◌<ℤ◌, unsigned_abs, min, Option, Some, None, IfSome}
 use Rattle.std.specs.List.{slice_range}
+use Rattle.std.proofs.lemmas.Bool.{cases_Bool}
 use Rattle.std.proofs.lemmas.Int.{ints}
 use Rattle.std.proofs.lemmas.List.{get_or-take, get_or-drop}
 use Rattle.oe_cell.specs.Fraction.{Fraction}
@@ -9,13 +10,14 @@ use Rattle.oe_cell.specs.Operations.{multiply_of}
 use Rattle.oe_cell.specs.Rational.{whole_of}
 use Rattle.oe_cell.specs.declared.cell.Cell.{Cell}
 use Rattle.oe_cell.specs.declared.cell.Cell.TheVariants.{Empty, Number}
-use Rattle.oe_kernel.specs.Borders.{position_of}
+use Rattle.oe_kernel.specs.Borders.{is_on, position_of}
 use Rattle.oe_kernel.specs.Kernels.{KernelValues, radius_of}
 use Rattle.oe_kernel.specs.Convolution.{WholePlane, number_of, border_number, pixel_of, reach, value_of, weighted, cell_in, IsPartOf, IsFromTo, Holds}
 use Rattle.oe_kernel.specs.Rows.{shown, value_at, beside, bordered, pixel_in, placed}
 use Rattle.oe_kernel.specs.declared.border.Border.{Border}
+use Rattle.oe_kernel.specs.declared.border.Border.TheVariants.{Value}
 use Rattle.oe_kernel.specs.declared.plane.Plane.{Plane}
-use Rattle.oe_kernel.proofs.BorderLemmas.{on_from, position_of-on, position_of-within}
+use Rattle.oe_kernel.proofs.BorderLemmas.{on_from, on_within, position_of-on, position_of-off, position_of-within}
 
 -- a part of a list, item by item
 pub get_or-slice_range : {A : Type 0} (xs : List A) (from end j : ℕ) (d : A) → j < end - from → get_or (slice_range xs from end) j d ≡ get_or xs (from + j) d
@@ -109,4 +111,19 @@ Holds-whole border at size side some = record {
 pub Holds-inside : (border : Border) (x size side first end : ℕ) → radius_of size ≤ x → size - radius_of size ≤ side - x → x < side → first ≤ x - radius_of size → x - radius_of size + size ≤ end → Holds border x size side first end
 Holds-inside border x size side first end low high within from to = record {
   each = λ k h. subst (λ (o : Option ℕ). IfSome o (IsFromTo first end)) (sym (position_of-inside border x k size side low high within h)) (omega arith, omega arith);
+}
+
+number_held : (q : Fraction) (i : ℤ) (side first end : ℕ) → (pos 0 ≤ℤ i → i <ℤ pos side → IsFromTo first end (unsigned_abs i)) → IfSome (position_of (Value q) i side) (IsFromTo first end)
+number_held q i side first end h =
+    elim (cases_Bool (is_on i side)) [
+      | inl t ↦
+          subst (λ (o : Option ℕ). IfSome o (IsFromTo first end)) (sym (position_of-on (Value q) i side t)) (h (on_within i side t).0 (on_within i side t).1)
+      | inr f ↦
+          subst (λ (o : Option ℕ). IfSome o (IsFromTo first end)) (sym (position_of-off (Value q) i side f)) tt
+    ]
+
+-- under a number, a box that holds what a window has of the side holds each position of it
+pub Holds-number : (q : Fraction) (x size side first end : ℕ) → first ≤ x - radius_of size → min side (x + size - radius_of size) ≤ end → Holds (Value q) x size side first end
+Holds-number q x size side first end from to = record {
+  each = λ k h. number_held q (reach x k size) side first end (λ low high. (omega (arith, ints), omega (arith, ints)));
 }

@@ -1,5 +1,5 @@
 -- Worked values of the definitions.
-use Rattle.std.specs.Prelude.{◌≡◌, ℕ, List, [], ◌∷◌, pos, negsuc, false, true, Some, None, refl}
+use Rattle.std.specs.Prelude.{◌≡◌, ℕ, ◌+◌, ◌*◌, List, [], ◌∷◌, pos, negsuc, false, true, Some, None, refl}
 use Rattle.std.specs.List.{slice_index_or}
 use Rattle.oe_cell.specs.Exact.{gcd_within, gcd_of, cell_of_lowest, exact}
 use Rattle.oe_cell.specs.Fraction.{Fraction}
@@ -102,3 +102,19 @@ zero_times_over = refl
 over_on_the_way : convolved (row_of (number 1) (number 1) (number 1)) (number 1) Replicate (number 5) (line (cell 9223372036854775807 ∷ cell 1 ∷ Number (whole_of (negsuc 4)) ∷ []) 3) 0 1 ≡ Over
 unfolding convolved rows_added row_added position_of exact gcd_of gcd_within cell_of_lowest
 over_on_the_way = refl
+
+-- ---- cells: a plane of three rows, a kernel of nine ones, and the pixel in the middle
+
+abbrev around_all : List Cell → Cell
+around_all cells =
+    convolved (record { width = 3; height = 3; values = number 1 ∷ number 1 ∷ number 1 ∷ number 1 ∷ number 1 ∷ number 1 ∷ number 1 ∷ number 1 ∷ number 1 ∷ [] }) (number 1) Replicate (number 5) (record { side_y = 3; side_x = 3; cell = λ y x. slice_index_or cells (y * 3 + x) Empty }) 1 1
+
+-- column by column, the total would be over the limit at the second cell
+fits_by_rows : around_all (cell 9223372036854775807 ∷ Number (whole_of (negsuc 9223372036854775806)) ∷ cell 2 ∷ cell 1 ∷ cell 3 ∷ cell 4 ∷ cell 5 ∷ cell 6 ∷ cell 7 ∷ []) ≡ cell 28
+unfolding convolved rows_added row_added position_of exact gcd_of gcd_within cell_of_lowest
+fits_by_rows = refl
+
+-- column by column, no total would be over the limit
+over_by_rows : around_all (cell 9223372036854775807 ∷ cell 1 ∷ cell 5 ∷ Number (whole_of (negsuc 9223372036854775806)) ∷ cell 3 ∷ cell 6 ∷ cell 2 ∷ cell 4 ∷ cell 7 ∷ []) ≡ Over
+unfolding convolved rows_added row_added position_of exact gcd_of gcd_within cell_of_lowest
+over_by_rows = refl

@@ -34,7 +34,7 @@ pub fn border_index(border: Border, at: i64, side: u32) -> Option<u32>
     index_of(&border, at, side)
 }
 
-// The position on a side that stands for any position.
+/// The position on a side that stands for any position.
 pub(crate) fn index_of(border: &Border, at: i64, side: u32) -> Option<u32>
     requires some { 0 < side }
     requires low { pos 0 ≤ℤ (at +ℤ pos 1048576) }
@@ -48,6 +48,7 @@ pub(crate) fn index_of(border: &Border, at: i64, side: u32) -> Option<u32>
     outside_index(border, at, side)
 }
 
+/// The position that the rule puts in place of one outside the side.
 fn outside_index(border: &Border, at: i64, side: u32) -> Option<u32>
     requires { 0 < side }
     ensures value { result ≡ outside border.now at side }
@@ -63,6 +64,7 @@ fn outside_index(border: &Border, at: i64, side: u32) -> Option<u32>
     }
 }
 
+/// The position of the side that is nearest.
 fn nearest_index(at: i64, side: u32) -> u32
     requires { 0 < side }
     ensures value { result ≡ nearest at side }
@@ -80,6 +82,7 @@ fn nearest_index(at: i64, side: u32) -> u32
     }
 }
 
+/// The position in the mirror images whose pixel at the edge comes once.
 fn reflected_at_pixel(at: i64, side: u32) -> u32
     requires { 0 < side }
     ensures value { result ≡ reflected_at_pixel at side }
@@ -92,7 +95,7 @@ fn reflected_at_pixel(at: i64, side: u32) -> u32
     folded_index(at, side, turn, turn)
 }
 
-// Up the side and back again, within a period.
+/// Up the side and back again, within a period.
 fn folded_index(at: i64, side: u32, turn: u64, period: u64) -> u32
     requires some { 0 < period }
     requires back { period ≤ turn + 1 }
@@ -108,6 +111,7 @@ fn folded_index(at: i64, side: u32, turn: u64, period: u64) -> u32
     }
 }
 
+/// The position modulo the period, which is never negative.
 fn modulo_index(at: i64, period: u64) -> u64
     requires some { 0 < period }
     requires most { period < 2 ^ 63 }

@@ -43,6 +43,7 @@ pub fn convolve_at(
     multiply(cell_of(total), Cell::Number(factor))
 }
 
+/// The total and the products of the kernel's row `i`, added from the left.
 fn with_kernel_row(
     total: Total,
     kernel: &Kernel,

@@ -106,7 +106,7 @@ impl Kernel {
         self.values[(row * self.width + column) as usize]
     }
 
-    // The values of a row.
+    /// The values of a row.
     pub(crate) fn row(&self, row: u32) -> &[Frac]
         requires { row < self.now.height }
         ensures value { result.now ≡ slice_range self.now.values (row * self.now.width) (row * self.now.width + self.now.width) }

@@ -26,7 +26,7 @@ pub struct Plane<'a> {
     pub side_y: u32,
 }
 
-// The part of a row that the box has.
+/// The part of a row that the box has.
 pub(crate) fn box_row<'a>(plane: &Plane<'a>, row: u32) -> &'a [Cell]
     requires plane { IsPlane plane.now }
     requires row { IsFromTo plane.now.from_y plane.now.to_y row }

@@ -10,7 +10,7 @@ use crate::border::index_of;
 use crate::total::{Total, whole, with_product};
 use oe_cell::{Cell, Frac};
 
-// Where a place of a window of this size stands, whose middle is at a position.
+/// Where a place of a window of this size stands, whose middle is at a position.
 pub(crate) fn reach(at: u32, place: usize, size: usize) -> i64
     requires within { place < size }
     requires most { size ≤ largest }
@@ -19,6 +19,7 @@ pub(crate) fn reach(at: u32, place: usize, size: usize) -> i64
     i64::from(at) + place as i64 - ((size - 1) / 2) as i64
 }
 
+/// What a pixel counts as: a null as the replacement, true as 1 and false as 0.
 fn as_number(pixel: Cell, replace: Frac) -> Cell
     ensures { result ≡ number_of replace pixel }
 {
@@ -29,7 +30,7 @@ fn as_number(pixel: Cell, replace: Frac) -> Cell
     }
 }
 
-// The pixels that stand beside the values.
+/// The pixels that stand beside the values.
 fn with_slice(total: Total, values: &[Frac], pixels: &[Cell], replace: Frac) -> Total
     requires { length values.now ≡ length pixels.now }
     ensures { total_of result ≡ row_added (beside values.now pixels.now replace) (length values.now) (total_of total) }
@@ -41,7 +42,7 @@ fn with_slice(total: Total, values: &[Frac], pixels: &[Cell], replace: Frac) -> 
     sum
 }
 
-// Every pixel of the row is outside.
+/// Every pixel of the row is outside.
 pub(crate) fn with_border(total: Total, values: &[Frac], border: &Border) -> Total
     ensures { total_of result ≡ row_added (bordered values.now border.now) (length values.now) (total_of total) }
 {
@@ -52,7 +53,7 @@ pub(crate) fn with_border(total: Total, values: &[Frac], border: &Border) -> Tot
     sum
 }
 
-// Each pixel by the border rule.
+/// Each pixel by the border rule.
 fn with_placed(
     total: Total,
     values: &[Frac],
@@ -79,6 +80,7 @@ fn with_placed(
     sum
 }
 
+/// The pixel of the column that a border rule gave, or what stands outside where it gave none.
 fn placed_pixel(
     border: &Border,
     replace: Frac,
@@ -95,6 +97,7 @@ fn placed_pixel(
     }
 }
 
+/// The number that stands for each pixel outside. The rules that give a position for each have none.
 fn border_cell(border: &Border) -> Cell
     ensures { result ≡ border_number border.now }
 {
@@ -104,7 +107,7 @@ fn border_cell(border: &Border) -> Cell
     }
 }
 
-// A row of the box, which begins at a column: as a slice where the window lies within the side.
+/// A row of the box, which begins at a column: as a slice where the window lies within the side.
 pub(crate) fn with_row(
     total: Total,
     values: &[Frac],

@@ -8,15 +8,15 @@ ghost use Rattle.oe_kernel.specs.Totals.{total_of};
 
 use oe_cell::{Cell, Frac, add, multiply};
 
-// A sum so far.
+/// A sum so far.
 pub(crate) enum Total {
-    // The exact value of a whole number, which is Over for −2^63.
+    /// The exact value of a whole number, which is Over for −2^63.
     Whole(i64),
-    // Any cell.
+    /// Any cell.
     Other(Cell),
 }
 
-// A whole number as a cell.
+/// A whole number as a cell.
 pub(crate) fn whole(number: i64) -> Cell
     requires { unsigned_abs number < 2 ^ 63 }
     ensures { result ≡ Number (whole_of number) }
@@ -27,6 +27,7 @@ pub(crate) fn whole(number: i64) -> Cell
     }
 }
 
+/// A whole number as a cell, which is Over for −2^63.
 fn whole_or_over(number: i64) -> Cell
     ensures { result ≡ cell_of_lowest number 1 }
 {
@@ -36,7 +37,7 @@ fn whole_or_over(number: i64) -> Cell
     whole(number)
 }
 
-// The cell of a total.
+/// The cell of a total.
 pub(crate) fn cell_of(total: Total) -> Cell
     ensures { result ≡ total_of total }
 {
@@ -46,7 +47,7 @@ pub(crate) fn cell_of(total: Total) -> Cell
     }
 }
 
-// The total and one product more.
+/// The total and one product more.
 pub(crate) fn with_product(total: Total, value: Frac, pixel: Cell) -> Total
     ensures { total_of result ≡ add_of (total_of total) (multiply_of (Number value) pixel) }
 {
@@ -59,13 +60,14 @@ pub(crate) fn with_product(total: Total, value: Frac, pixel: Cell) -> Total
     }
 }
 
+/// The sum and one product more, as cells.
 fn cell_sum(sum: Cell, value: Frac, pixel: Cell) -> Cell
     ensures { result ≡ add_of sum (multiply_of (Number value) pixel) }
 {
     add(sum, multiply(Cell::Number(value), pixel))
 }
 
-// The sum and one product more, where all of them are whole and fit: no divisor is looked for.
+/// The sum and one product more, where all of them are whole and fit: no divisor is looked for.
 fn whole_sum(sum: i64, value: Frac, pixel: &Cell) -> Option<i64>
     ensures { IfSome result (λ next. cell_of_lowest next 1 ≡ add_of (cell_of_lowest sum 1) (multiply_of (Number value) pixel.now)) }
 {
