@@ -1,5 +1,5 @@
 -- Tuples of labels and row-major numbers correspond one to one, and a cube is what it is at each tuple.
-use Rattle.std.proofs.Common.{◌≡◌, ℕ, zero, suc, ◌+◌, ◌-◌, ◌*◌, ◌<◌, ◌≤◌, Bool, true, false, ◌&&◌, not, List, [], ◌∷◌, ◌++◌, length, map, get_or, refl, sym, ap, ◌∙◌, subst, arith, rules, Option, Some, None, ℤ, pos, ◌<ℤ◌, inl, inr}
+use Rattle.std.proofs.Common.{◌≡◌, ℕ, zero, suc, ◌+◌, ◌-◌, ◌*◌, ◌<◌, Bool, true, false, List, [], ◌∷◌, ◌++◌, length, map, get_or, refl, sym, ap, ◌∙◌, subst, arith, Option, Some, None, ℤ, inl, inr}
 use Rattle.std.specs.List.{slice_get, flat_map, list_any}
 use Rattle.std.specs.Option.{option_map, option_and_then}
 use Rattle.std.proofs.lemmas.Bool.{cases_lt, cases_Bool, and_parts, not-true, or_parts, false≢true}
@@ -7,12 +7,11 @@ use Rattle.std.proofs.lemmas.List.{length-append, length-map}
 use Rattle.std.proofs.lemmas.Nat.{rows}
 use Rattle.std.proofs.lemmas.Option.{same_Some, slice_get-map, slice_get_within, slice_get_past, get_or_from_slice_get, slice_get-get_or, option_and_then_some}
 use Rattle.oe_dims.specs.Names.{same_name}
-use Rattle.oe_dims.specs.Dimensions.{Dimensions, IsShape, extent, cell_count, rises, falls, all_differ, number_labels, band_names}
-use Rattle.oe_dims.specs.Places.{same_number, place_where}
+use Rattle.oe_dims.specs.Dimensions.{Dimensions, IsShape, extent, cell_count, rises, falls, all_differ}
+use Rattle.oe_dims.specs.Places.{same_number}
 use Rattle.oe_dims.specs.Cube.{Tuple, Cube, choices, tuples, place_along, row_major, at, tabulate, IsCube}
-use Rattle.oe_dims.specs.declared.kind.Kind.TheVariants.{Time, Bands, Y, X}
 use Rattle.oe_dims.proofs.OrderLemmas.{same_name_is, same_name_refl}
-use Rattle.oe_dims.proofs.PlacesLemmas.{place_where_found, place_where_passes, place_where_within, slice_get-place_where, slice_get-place_of_name, same_number_refl, same_number_is, same_number_below, same_number_above, rises_lt, falls_lt}
+use Rattle.oe_dims.proofs.PlacesLemmas.{place_where_found, place_where_passes, same_number_refl, same_number_is, same_number_below, same_number_above, rises_lt, falls_lt}
 use Rattle.oe_dims.proofs.ShapeLemmas.{t_rises, y_falls, x_rises, bands_differ}
 
 -- ---- lists of lists of one length

@@ -1,5 +1,5 @@
 -- Sorted names differ where each stands before the next, and names differ in any order or in none.
-use Rattle.std.proofs.Common.{◌≡◌, ℕ, zero, suc, ◌+◌, ◌-◌, ◌<◌, ◌≤◌, Bool, true, false, ◌&&◌, ◌||◌, not, List, [], ◌∷◌, length, map, get_or, drop, refl, sym, ap, ◌∙◌, subst, arith, rules, inl, inr, Ordering}
+use Rattle.std.proofs.Common.{◌≡◌, ℕ, suc, ◌+◌, ◌<◌, ◌≤◌, Bool, true, false, List, [], ◌∷◌, length, get_or, drop, refl, sym, ap, ◌∙◌, arith, inl, inr, Ordering}
 use Rattle.std.specs.declared.cmp.Ordering.TheVariants.{Less, Equal, Greater}
 use Rattle.std.specs.List.{list_any, slice_index_or, AllByRecursion, IsDistinct}
 use Rattle.std.specs.List.Sorted.{IsPermutation, IsSortedBy}
@@ -7,11 +7,11 @@ use Rattle.std.specs.Cmp.{both_ways, IsStrictWeakOrder}
 use Rattle.std.specs.Cmp.Lexicographic.{slice_cmp}
 use Rattle.std.specs.FinMap.{slice_cmp-IsAntisymmetric, nat_cmp-IsAntisymmetric}
 use Rattle.std.specs.Ordering.{nat_cmp, is_lt, ordering_reverse}
-use Rattle.std.proofs.lemmas.Bool.{cases_Bool, and_parts, and_from, not-true, or_parts, or_from, false≢true, ltb-true}
+use Rattle.std.proofs.lemmas.Bool.{cases_Bool, and_parts, not-true, or_parts, or_from, false≢true}
 use Rattle.std.proofs.lemmas.Cmp.{nat_list_cmp_total, tied_itself}
-use Rattle.std.proofs.lemmas.List.{drop_more, drop_all, length-map, length-drop, get_or-map, drop-map, same_lists, get_or_default}
+use Rattle.std.proofs.lemmas.List.{length-map, length-drop, get_or-map, same_lists, get_or_default}
 use Rattle.std.proofs.lemmas.List.MinMax.{ranks_by}
-use Rattle.std.proofs.lemmas.List.Sorted.{sorted_far, IsPermutation-map, IsPermutation-sym}
+use Rattle.std.proofs.lemmas.List.Sorted.{list_any-IsPermutation, sorted_far, IsPermutation-map, IsPermutation-sym}
 use Rattle.std.proofs.lemmas.Map.Keys.{IsDistinct-IsPermutation}
 use Rattle.oe_dims.specs.Dimensions.{all_differ}
 use Rattle.oe_dims.specs.Names.{same_name, is_name_before, names_rise, names_at}
@@ -49,7 +49,7 @@ sorted_tail a names h k d low high =
     let next : suc k + 1 ≡ suc (k + 1) = omega arith in
     rw next at (h (suc k) d (omega arith) (omega arith))
 
-none_among : (name : List ℕ) (names : List (List ℕ)) → ((k : ℕ) → k < length names → same_name name (get_or names k []) ≡ false) → list_any (same_name name) names ≡ false
+pub none_among : (name : List ℕ) (names : List (List ℕ)) → ((k : ℕ) → k < length names → same_name name (get_or names k []) ≡ false) → list_any (same_name name) names ≡ false
 none_among name [] h = refl
 none_among name (a ∷ names) h =
     or_from _ _ (h 0 (omega arith)) (none_among name names (λ k l. h (suc k) (omega arith)))
@@ -151,3 +151,10 @@ differ_by_sort names numbered sorted long each moved order =
     names_rise-sorted (names_at names sorted) (names_at-sorted names sorted order)
     ∙ sym (all_differ-permutation (names_at names numbered) (names_at names sorted) (IsPermutation-map f numbered sorted moved))
     ∙ ap all_differ (names_at-numbered names numbered long each)
+
+-- and a test that a name passes at some place is one that some name passes
+pub same_at_places : (test : List ℕ → Bool) (names : List (List ℕ)) (numbered moved : List ℕ) → length numbered ≡ length names → ((k : ℕ) → k < length numbered → get_or numbered k 0 ≡ k) → IsPermutation numbered moved → list_any test (names_at names moved) ≡ list_any test names
+same_at_places test names numbered moved long each permuted =
+    let f = λ (place : ℕ). slice_index_or names place [] in
+    sym (list_any-IsPermutation test (names_at names numbered) (names_at names moved) (IsPermutation-map f numbered moved permuted))
+    ∙ ap (list_any test) (names_at-numbered names numbered long each)

@@ -1,3 +1,4 @@
+mod BlockLemmas
 mod CivilLemmas
 mod InstantLemmas
 pub mod CubeLemmas

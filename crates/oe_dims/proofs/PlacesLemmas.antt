@@ -1,6 +1,6 @@
 -- Labels in order, and where they stand.
-use Rattle.std.proofs.Common.{◌≡◌, ◌↔◌, ℕ, zero, suc, ◌+◌, ◌-◌, ◌<◌, ◌≤◌, Bool, true, false, ◌&&◌, not, cond, List, [], ◌∷◌, length, get_or, take, drop, count_by, refl, sym, ap, ◌∙◌, subst, arith, rules, Option, Some, None, ℤ, pos, ◌<ℤ◌, ◌≤ℤ◌, inl, inr}
-use Rattle.std.specs.Int.Signed.{lt_z, le_z}
+use Rattle.std.proofs.Common.{◌≡◌, ℕ, zero, suc, ◌+◌, ◌<◌, Bool, true, false, List, [], ◌∷◌, length, get_or, count_by, refl, ap, ◌∙◌, arith, Option, Some, None, ℤ, ◌<ℤ◌, inl, inr}
+use Rattle.std.specs.Int.Signed.{lt_z}
 use Rattle.std.specs.List.{slice_get}
 use Rattle.std.specs.Option.{option_map}
 use Rattle.std.proofs.lemmas.Int.{ints}

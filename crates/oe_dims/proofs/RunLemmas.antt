@@ -1,13 +1,13 @@
 -- The run of labels in an extent, found by two searches.
-use Rattle.std.proofs.Common.{◌≡◌, ◌↔◌, ℕ, zero, suc, ◌+◌, ◌-◌, ◌<◌, ◌≤◌, max, Bool, true, false, ◌&&◌, not, cond, List, [], ◌∷◌, length, get_or, take, drop, filter, count_by, refl, sym, ap, ◌∙◌, subst, arith, rules, Option, Some, None, ℤ, pos, ◌<ℤ◌, ◌⊎◌, inl, inr, FitsSigned, w64, of_z, to_z}
+use Rattle.std.proofs.Common.{◌≡◌, ◌↔◌, ℕ, zero, suc, ◌-◌, ◌<◌, ◌≤◌, max, Bool, true, false, ◌&&◌, not, List, [], ◌∷◌, length, get_or, filter, count_by, refl, sym, ap, ◌∙◌, arith, Some, None, ℤ, pos, ◌<ℤ◌, inl, inr, FitsSigned, w64, of_z, to_z}
 use Rattle.std.specs.Int.Signed.{lt_z, le_z}
-use Rattle.std.specs.List.{slice_get, slice_range, AllWithin}
+use Rattle.std.specs.List.{slice_range}
 use Rattle.std.specs.List.Sorted.{IsPartitionPoint, IsPartitionedBy}
 use Rattle.std.proofs.lemmas.Int.{ints, to_z-of_z}
 use Rattle.std.proofs.lemmas.List.{length-take-le}
 use Rattle.std.proofs.lemmas.List.Sums.{length-filter}
-use Rattle.std.proofs.lemmas.Option.{slice_get_within, get_or_from_slice_get, slice_get-get_or}
-use Rattle.std.proofs.lemmas.Bool.{and_parts, and_from, and_left, and_right, not_from_true, not_from_false, false≢true, cases_lt, cases_Bool}
+use Rattle.std.proofs.lemmas.Option.{slice_get_within, get_or_from_slice_get}
+use Rattle.std.proofs.lemmas.Bool.{and_from, and_left, and_right, not_from_true, not_from_false, false≢true, cases_lt, cases_Bool}
 use Rattle.oe_dims.specs.Dimensions.{rises, falls}
 use Rattle.oe_dims.specs.Places.{same_number, place_where, is_inside, IsFromTo, IsRun}
 use Rattle.oe_dims.proofs.PlacesLemmas.{rises_lt, falls_lt, lt_from, place_where_found, place_where_none, same_number_refl, same_number_below, same_number_above}

@@ -1,5 +1,5 @@
 -- What every shape keeps, rule by rule.
-use Rattle.std.proofs.Common.{◌≡◌, ℕ, ◌<◌, length, ◌≤◌, nat_le, Bool, true, false, List, [], refl, Option, Some, None, unwrap_or, cond, pos, neg_ℤ, arith}
+use Rattle.std.proofs.Common.{◌≡◌, ℕ, length, ◌≤◌, nat_le, Bool, true, false, List, [], refl, Option, Some, None, unwrap_or, cond, pos, neg_ℤ, arith}
 use Rattle.std.specs.List.{list_all}
 use Rattle.std.specs.Option.{option_map_or}
 use Rattle.std.proofs.lemmas.Bool.{leb-true}

@@ -1,6 +1,6 @@
 -- Names of bands, collections and nodes: 1 to 64 bytes of letters, digits, `_`, `-` and `.`.
-use Rattle.std.specs.Prelude.{ℕ, ◌&&◌, ◌||◌, ◌==◌, nat_le, Bool, true, false, List, [], ◌∷◌, length, map}
-use Rattle.std.specs.List.{list_all, slice_index_or}
+use Rattle.std.specs.Prelude.{ℕ, ◌&&◌, ◌||◌, ◌==◌, not, nat_le, Bool, true, false, List, [], ◌∷◌, length, map}
+use Rattle.std.specs.List.{list_all, list_any, slice_index_or}
 use Rattle.std.specs.Cmp.Lexicographic.{slice_cmp}
 use Rattle.std.specs.Ordering.{nat_cmp, is_lt}
 
@@ -36,3 +36,7 @@ names_rise (a ∷ b ∷ names) = is_name_before a b && names_rise (b ∷ names)
 -- the names that stand at these places
 abbrev pub names_at : List (List ℕ) → List ℕ → List (List ℕ)
 names_at names places = map (λ place. slice_index_or names place []) places
+
+-- none of the others is one of the names
+abbrev pub are_apart : List (List ℕ) → List (List ℕ) → Bool
+are_apart names others = list_all (λ other. not (list_any (same_name other) names)) others

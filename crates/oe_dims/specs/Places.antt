@@ -1,5 +1,5 @@
 -- Where a label stands along a dimension, and which labels an extent takes in.
-use Rattle.std.specs.Prelude.{◌≡◌, ◌↔◌, ℕ, ◌+◌, ◌<◌, ◌≤◌, ◌&&◌, Bool, true, false, cond, IsTrue, ℤ, int_le, int_lt, List, [], ◌∷◌, length, count_by, slice_get, Option, Some, None}
+use Rattle.std.specs.Prelude.{◌≡◌, ◌↔◌, ℕ, ◌+◌, ◌<◌, ◌≤◌, ◌&&◌, Bool, true, cond, ℤ, int_le, int_lt, List, [], ◌∷◌, length, count_by, slice_get, Option, Some, None}
 use Rattle.std.specs.Option.{option_map}
 use Rattle.oe_dims.specs.declared.kind.Kind.{Kind}
 use Rattle.oe_dims.specs.declared.kind.Kind.TheVariants.{Time, Bands, Y, X}

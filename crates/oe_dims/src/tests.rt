@@ -34,12 +34,21 @@ fn steps(
     Ok(Some(labels))
 }
 
+/// A band name for a place, unlike that of any other place.
+fn name_at(alloc: Global, place: u32) -> Result<Text, OutOfMemory> {
+    if place < 65536 {
+        let number = place.wrapping_mul(40503) % 65536;
+        Text::of(alloc, format!(in alloc; "band_{number}")?.as_str())
+    } else {
+        Text::of(alloc, format!(in alloc; "more_{place}")?.as_str())
+    }
+}
+
 /// `count` band names that differ, in an order that is neither rising nor falling.
 fn many_names(alloc: Global, count: u32) -> Result<Vec<Text>, OutOfMemory> {
     let mut texts = Vec::with_capacity(alloc, count as usize)?;
     for place in 0..count {
-        let number = place.wrapping_mul(40503) % 65536;
-        texts.push(Text::of(alloc, format!(in alloc; "band_{number}")?.as_str())?)?;
+        texts.push(name_at(alloc, place)?)?;
     }
     Ok(texts)
 }
@@ -48,67 +57,76 @@ fn fault(made: Result<Shape, ShapeFault>) -> Option<ShapeFault> {
     made.err()
 }
 
-// Labels out of order, equal, at both ends of their ranges and one past them.
+// Instants out of order, equal, at both ends of their range and one past them.
 #[test]
-fn judges_numbers(rt: HostRuntime) -> Result<(), Fail> {
-    let instants: [(&[i64], Option<ShapeFault>); 7] = [
+fn judges_instants(rt: HostRuntime) -> Result<(), Fail> {
+    let order = Some(ShapeFault::OrderWrong(Kind::Time));
+    let range = Some(ShapeFault::OutOfRange(Kind::Time));
+    let table: [(&[i64], Option<ShapeFault>); 7] = [
         (&[], None),
         (&[-62135596800, 253402300799], None),
-        (&[2, 1], Some(ShapeFault::OrderWrong(Kind::Time))),
-        (&[5, 5], Some(ShapeFault::OrderWrong(Kind::Time))),
-        (&[-62135596801], Some(ShapeFault::OutOfRange(Kind::Time))),
-        (&[253402300800], Some(ShapeFault::OutOfRange(Kind::Time))),
-        (&[253402300800, 0], Some(ShapeFault::OrderWrong(Kind::Time))),
+        (&[2, 1], order),
+        (&[5, 5], order),
+        (&[-62135596801], range),
+        (&[253402300800], range),
+        (&[253402300800, 0], order),
     ];
-    for (labels, want) in instants {
+    for (labels, want) in table {
         let t = numbers(rt.alloc(), labels)?;
         assert_eq!(rt;
             fault(Shape::new(0, t, None, None, None)),
             want,
-            "t {labels:?}"
+            "{labels:?}"
         );
     }
-    let places: [(&[i64], Option<ShapeFault>, Option<ShapeFault>); 7] = [
-        (&[], None, None),
-        (&[7], None, None),
-        (
-            &[-1000000000, 1000000000],
-            Some(ShapeFault::OrderWrong(Kind::Y)),
-            None,
-        ),
-        (
-            &[1000000000, -1000000000],
-            None,
-            Some(ShapeFault::OrderWrong(Kind::X)),
-        ),
-        (
-            &[3, 3],
-            Some(ShapeFault::OrderWrong(Kind::Y)),
-            Some(ShapeFault::OrderWrong(Kind::X)),
-        ),
-        (
-            &[-1000000001],
-            Some(ShapeFault::OutOfRange(Kind::Y)),
-            Some(ShapeFault::OutOfRange(Kind::X)),
-        ),
-        (
-            &[1000000001],
-            Some(ShapeFault::OutOfRange(Kind::Y)),
-            Some(ShapeFault::OutOfRange(Kind::X)),
-        ),
+    Ok(())
+}
+
+// Places along x out of order, equal, at both ends of their range and one past them.
+#[test]
+fn judges_columns(rt: HostRuntime) -> Result<(), Fail> {
+    let order = Some(ShapeFault::OrderWrong(Kind::X));
+    let range = Some(ShapeFault::OutOfRange(Kind::X));
+    let table: [(&[i64], Option<ShapeFault>); 7] = [
+        (&[], None),
+        (&[7], None),
+        (&[-1000000000, 1000000000], None),
+        (&[1000000000, -1000000000], order),
+        (&[3, 3], order),
+        (&[-1000000001], range),
+        (&[1000000001], range),
     ];
-    for (labels, along_y, along_x) in places {
-        let y = numbers(rt.alloc(), labels)?;
-        assert_eq!(rt;
-            fault(Shape::new(4326, None, None, y, None)),
-            along_y,
-            "y {labels:?}"
-        );
+    for (labels, want) in table {
         let x = numbers(rt.alloc(), labels)?;
         assert_eq!(rt;
             fault(Shape::new(4326, None, None, None, x)),
-            along_x,
-            "x {labels:?}"
+            want,
+            "{labels:?}"
+        );
+    }
+    Ok(())
+}
+
+// Places along y, which fall.
+#[test]
+fn judges_rows(rt: HostRuntime) -> Result<(), Fail> {
+    let order = Some(ShapeFault::OrderWrong(Kind::Y));
+    let range = Some(ShapeFault::OutOfRange(Kind::Y));
+    let table: [(&[i64], Option<ShapeFault>); 7] = [
+        (&[], None),
+        (&[7], None),
+        (&[1000000000, -1000000000], None),
+        (&[-1000000000, 1000000000], order),
+        (&[3, 3], order),
+        (&[-1000000001], range),
+        (&[1000000001], range),
+    ];
+    for (labels, want) in table {
+        let y = numbers(rt.alloc(), labels)?;
+        assert_eq!(rt;
+            fault(Shape::new(4326, None, None, y, None)),
+            want,
+            "{labels:?}"
         );
     }
     Ok(())
@@ -179,36 +197,37 @@ fn judges_codes(rt: HostRuntime) -> Result<(), Fail> {
     Ok(())
 }
 
-// 65536 labels and one more, 2^40 cells and one more row, and two faults at once.
+// 65536 labels, and one more.
 #[test]
-fn judges_limits_and_order(rt: HostRuntime) -> Result<(), Fail> {
+fn limits_labels(rt: HostRuntime) -> Result<(), Fail> {
     let alloc = rt.alloc();
     let most = steps(alloc, 0, 1, 65536)?;
     assert_eq!(rt; fault(Shape::new(1, None, None, None, most)), None);
     let past = steps(alloc, 0, 1, 65537)?;
     assert_eq!(rt;
-        fault(Shape::new(0, None, None, None, past)),
+        fault(Shape::new(1, None, None, None, past)),
         Some(ShapeFault::TooMany(Kind::X))
     );
-    let full = Shape::new(
-        1,
-        steps(alloc, 0, 1, 256)?,
-        None,
-        steps(alloc, 0, -1, 65536)?,
-        steps(alloc, 0, 1, 65536)?,
-    );
-    match full {
+    Ok(())
+}
+
+/// A shape of 65536 rows and columns, and of this many instants.
+fn wide(alloc: Global, epsg: u32, instants: u32) -> Result<Result<Shape, ShapeFault>, OutOfMemory> {
+    let t = steps(alloc, 0, 1, instants)?;
+    let y = steps(alloc, 0, -1, 65536)?;
+    let x = steps(alloc, 0, 1, 65536)?;
+    Ok(Shape::new(epsg, t, None, y, x))
+}
+
+// 2^40 cells, one row of planes more, and 2^64.
+#[test]
+fn limits_cells(rt: HostRuntime) -> Result<(), Fail> {
+    let alloc = rt.alloc();
+    match wide(alloc, 1, 256)? {
         Ok(shape) => assert_eq!(rt; shape.cells(), 1 << 40),
         Err(fault) => assert!(rt; false, "{fault:?}"),
     }
-    let over = Shape::new(
-        1,
-        steps(alloc, 0, 1, 257)?,
-        None,
-        steps(alloc, 0, -1, 65536)?,
-        steps(alloc, 0, 1, 65536)?,
-    );
-    assert_eq!(rt; fault(over), Some(ShapeFault::TooManyCells));
+    assert_eq!(rt; fault(wide(alloc, 1, 257)?), Some(ShapeFault::TooManyCells));
     let widest = Shape::new(
         1,
         steps(alloc, 0, 1, 65536)?,
@@ -217,15 +236,25 @@ fn judges_limits_and_order(rt: HostRuntime) -> Result<(), Fail> {
         steps(alloc, 0, 1, 65536)?,
     );
     assert_eq!(rt; fault(widest), Some(ShapeFault::TooManyCells));
-    let order_last = Shape::new(
+    Ok(())
+}
+
+// Of two faults the one whose rule comes first, whichever dimension has it.
+#[test]
+fn names_the_first_rule(rt: HostRuntime) -> Result<(), Fail> {
+    let alloc = rt.alloc();
+    let order_and_range = Shape::new(
         0,
         numbers(alloc, &[253402300800])?,
         None,
         None,
         numbers(alloc, &[1, 1])?,
     );
-    assert_eq!(rt; fault(order_last), Some(ShapeFault::OrderWrong(Kind::X)));
-    let range_last = Shape::new(
+    assert_eq!(rt;
+        fault(order_and_range),
+        Some(ShapeFault::OrderWrong(Kind::X))
+    );
+    let range_and_limit = Shape::new(
         7,
         steps(alloc, 0, 1, 65537)?,
         names(alloc, &["a b"])?,
@@ -233,17 +262,43 @@ fn judges_limits_and_order(rt: HostRuntime) -> Result<(), Fail> {
         None,
     );
     assert_eq!(rt;
-        fault(range_last),
+        fault(range_and_limit),
         Some(ShapeFault::OutOfRange(Kind::Bands))
     );
-    let code_before_cells = Shape::new(
-        0,
-        steps(alloc, 0, 1, 257)?,
+    let limit_and_code = Shape::new(0, None, None, None, steps(alloc, 0, 1, 65537)?);
+    assert_eq!(rt; fault(limit_and_code), Some(ShapeFault::TooMany(Kind::X)));
+    assert_eq!(rt; fault(wide(alloc, 0, 257)?), Some(ShapeFault::EpsgWrong));
+    Ok(())
+}
+
+// Of two dimensions that break the same rule the first.
+#[test]
+fn names_the_first_dimension(rt: HostRuntime) -> Result<(), Fail> {
+    let alloc = rt.alloc();
+    let orders = Shape::new(
+        1,
         None,
-        steps(alloc, 0, -1, 65536)?,
-        steps(alloc, 0, 1, 65536)?,
+        names(alloc, &["B4", "B4"])?,
+        numbers(alloc, &[1, 2])?,
+        numbers(alloc, &[2, 1])?,
     );
-    assert_eq!(rt; fault(code_before_cells), Some(ShapeFault::EpsgWrong));
+    assert_eq!(rt; fault(orders), Some(ShapeFault::OrderWrong(Kind::Bands)));
+    let ranges = Shape::new(
+        1,
+        numbers(alloc, &[253402300800])?,
+        None,
+        numbers(alloc, &[1000000001])?,
+        None,
+    );
+    assert_eq!(rt; fault(ranges), Some(ShapeFault::OutOfRange(Kind::Time)));
+    let limits = Shape::new(
+        1,
+        None,
+        None,
+        steps(alloc, 0, -1, 65537)?,
+        steps(alloc, 0, 1, 65537)?,
+    );
+    assert_eq!(rt; fault(limits), Some(ShapeFault::TooMany(Kind::Y)));
     Ok(())
 }
 
@@ -262,6 +317,27 @@ fn tells_many_names_apart(rt: HostRuntime) -> Result<(), Fail> {
     Ok(())
 }
 
+// More names than a dimension may have: that they differ is judged before that they are too many.
+#[test]
+fn tells_too_many_names_apart(rt: HostRuntime) -> Result<(), Fail> {
+    let alloc = rt.alloc();
+    let apart = many_names(alloc, 66000)?;
+    assert_eq!(rt;
+        fault(Shape::new(0, None, Some(apart), None, None)),
+        Some(ShapeFault::TooMany(Kind::Bands))
+    );
+    for name in ["band_50066", "more_65999"] {
+        let mut twice = many_names(alloc, 66000)?;
+        twice.push(Text::of(alloc, name)?)?;
+        assert_eq!(rt;
+            fault(Shape::new(0, None, Some(twice), None, None)),
+            Some(ShapeFault::OrderWrong(Kind::Bands)),
+            "{name}"
+        );
+    }
+    Ok(())
+}
+
 /// Two instants, two bands, three rows and no column.
 fn sample(alloc: Global) -> Result<Option<Shape>, OutOfMemory> {
     let t = numbers(alloc, &[0, 86400])?;
@@ -270,24 +346,34 @@ fn sample(alloc: Global) -> Result<Option<Shape>, OutOfMemory> {
     Ok(Shape::new(32631, t, bands, y, Some(Vec::new(alloc))).ok())
 }
 
-// What a shape tells of itself, in two threads at once; one without dimensions has one cell.
+// A dimension without labels gives no cell, and a shape without dimensions one.
 #[test]
 fn counts_labels_and_cells(rt: HostRuntime) -> Result<(), Fail> {
     let Some(shape) = sample(rt.alloc())? else {
         panic!(rt; "a shape was refused");
     };
-    let (cells, rows) = thread::join(&rt, || shape.cells(), || shape.count(Kind::Y));
-    assert_eq!(rt; cells, 0);
-    assert_eq!(rt; rows, Some(3));
+    assert_eq!(rt; shape.epsg(), 32631);
+    assert_eq!(rt; shape.count(Kind::Y), Some(3));
+    assert_eq!(rt; shape.count(Kind::X), Some(0));
+    assert_eq!(rt; shape.cells(), 0);
     let Ok(empty) = Shape::new(0, None, None, None, None) else {
         panic!(rt; "a shape was refused");
     };
-    assert_eq!(rt; empty.cells(), 1);
+    assert_eq!(rt; empty.epsg(), 0);
     assert_eq!(rt; empty.count(Kind::Time), None);
+    assert_eq!(rt; empty.cells(), 1);
     Ok(())
 }
 
-// Labels and runs of labels, found by what they are.
+/// The label that stands where a label is found.
+fn label_found(shape: &Shape, kind: Kind, label: i64) -> Option<i64> {
+    match shape.position_of(kind, label) {
+        Some(place) => Some(shape.label_at(kind, place)),
+        None => None,
+    }
+}
+
+// Labels and runs of labels, found by what they are, and read where they are.
 #[test]
 fn finds_labels(rt: HostRuntime) -> Result<(), Fail> {
     let Some(shape) = sample(rt.alloc())? else {
@@ -295,10 +381,64 @@ fn finds_labels(rt: HostRuntime) -> Result<(), Fail> {
     };
     assert_eq!(rt; shape.position_of(Kind::Y, 20), Some(1));
     assert_eq!(rt; shape.position_of(Kind::Time, 1), None);
+    assert_eq!(rt; label_found(&shape, Kind::Y, 10), Some(10));
+    assert_eq!(rt; label_found(&shape, Kind::Time, 86400), Some(86400));
+    assert_eq!(rt; label_found(&shape, Kind::X, 0), None);
     assert_eq!(rt; shape.range_of(Kind::Y, 10, 20), (1, 3));
     assert_eq!(rt; shape.range_of(Kind::Time, 1, 0), (1, 1));
+    Ok(())
+}
+
+/// The name of the band that stands where a band is found.
+fn band_found<'a>(shape: &'a Shape, name: &Text) -> Option<&'a str> {
+    match shape.band_position(name) {
+        Some(place) => Some(shape.band_at(place).as_str()),
+        None => None,
+    }
+}
+
+// Bands, found by their names.
+#[test]
+fn finds_bands(rt: HostRuntime) -> Result<(), Fail> {
+    let Some(shape) = sample(rt.alloc())? else {
+        panic!(rt; "a shape was refused");
+    };
     let name = Text::of(rt.alloc(), "B03")?;
     assert_eq!(rt; shape.band_position(&name), Some(1));
+    assert_eq!(rt; band_found(&shape, &name), Some("B03"));
+    let name = Text::of(rt.alloc(), "b03")?;
+    assert_eq!(rt; shape.band_position(&name), None);
+    assert_eq!(rt; band_found(&shape, &name), None);
+    Ok(())
+}
+
+// Threads may share a shape and a text.
+#[test]
+fn is_shared_by_threads(rt: HostRuntime) -> Result<(), Fail> {
+    let Some(shape) = sample(rt.alloc())? else {
+        panic!(rt; "a shape was refused");
+    };
+    let name = Text::of(rt.alloc(), "B03")?;
+    let (cells, length) = thread::join(&rt, || shape.cells(), || name.as_str().len());
+    assert_eq!(rt; (cells, length), (0, 3));
+    let (place, same) = thread::join(
+        &rt,
+        || shape.band_position(&name),
+        || name.as_str() == "B03",
+    );
+    assert_eq!(rt; (place, same), (Some(1), true));
+    Ok(())
+}
+
+// A thread may take a shape and a text for its own.
+#[test]
+fn moves_to_threads(rt: HostRuntime) -> Result<(), Fail> {
+    let Some(shape) = sample(rt.alloc())? else {
+        panic!(rt; "a shape was refused");
+    };
+    let name = Text::of(rt.alloc(), "B03")?;
+    let (place, length) = thread::join(&rt, move || shape.band_position(&name), || "B03".len());
+    assert_eq!(rt; (place, length), (Some(1), 3));
     Ok(())
 }
 
@@ -317,6 +457,10 @@ fn copies(rt: HostRuntime) -> Result<(), Fail> {
     rows.push(row)?;
     let copy = Dims { rows }.copy()?;
     assert_eq!(rt; copy.rows.len(), 1);
+    for row in &copy.rows {
+        assert_eq!(rt; row.id.as_str(), "ONE");
+        assert_eq!(rt; row.shape.count(Kind::Bands), Some(2));
+    }
     Ok(())
 }
 

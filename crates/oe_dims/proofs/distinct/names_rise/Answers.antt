@@ -1,4 +1,4 @@
-use Rattle.std.proofs.Common.{sym, ◌∙◌, ◌+◌, ◌-◌, ◌≤◌, length, arith}
+use Rattle.std.proofs.Common.{sym, ◌∙◌, ◌-◌, arith}
 use Rattle.oe_dims.proofs.DistinctLemmas.{names_rise_all}
 use Rattle.oe_dims.proofs.distinct.names_rise.Goals as goal
 

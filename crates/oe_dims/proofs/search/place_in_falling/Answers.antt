@@ -1,4 +1,4 @@
-use Rattle.std.proofs.Common.{◌≡◌, ap, sym, arith, rules, get_or, pos, FitsSigned, w64, of_z}
+use Rattle.std.proofs.Common.{ap, sym, arith, rules, get_or, pos, FitsSigned, w64, of_z}
 use Rattle.std.proofs.lemmas.Int.{to_z-of_z}
 use Rattle.oe_dims.proofs.RunLemmas.{found_falling, absent_falling, same_bits}
 use Rattle.oe_dims.proofs.search.place_in_falling.Goals as goal

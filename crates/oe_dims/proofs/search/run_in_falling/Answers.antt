@@ -1,4 +1,4 @@
-use Rattle.std.proofs.Common.{◌≡◌, sym, ap, FitsSigned, w64}
+use Rattle.std.proofs.Common.{sym, FitsSigned, w64}
 use Rattle.std.specs.Int.Signed.{lt_z, le_z}
 use Rattle.std.proofs.lemmas.Int.{to_z-of_z}
 use Rattle.oe_dims.proofs.RunLemmas.{IsSplit, IsRun-from_split, filter_from_split, count_from_point, inside_falling}

@@ -1,4 +1,4 @@
-use Rattle.std.proofs.Common.{◌≡◌, ℕ, ◌<◌, Option, Some, None, IfSome, sym, ap, ◌∙◌, arith, FitsSigned, w64, length, List, ℤ}
+use Rattle.std.proofs.Common.{◌≡◌, ℕ, ◌<◌, Option, Some, None, IfSome, sym, arith, FitsSigned, w64, ℤ}
 use Rattle.std.proofs.lemmas.Int.{to_z-of_z}
 use Rattle.oe_dims.specs.Dimensions.{number_labels, most_labels, IsShape, Dimensions}
 use Rattle.oe_dims.specs.Lists.{dimensions_of}

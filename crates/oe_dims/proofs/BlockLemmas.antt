@@ -1,0 +1,106 @@
+-- Names that rise at their places are found by a binary search, and names differ where each block of them does.
+use Rattle.std.proofs.Common.{◌≡◌, ℕ, zero, suc, ◌+◌, ◌<◌, Bool, true, false, ◌&&◌, ◌||◌, not, List, [], ◌∷◌, ◌++◌, length, get_or, refl, sym, ap, ◌∙◌, arith, inl, inr, Ordering, Result, Ok, Err}
+use Rattle.std.specs.declared.cmp.Ordering.TheVariants.{Less, Equal, Greater}
+use Rattle.std.specs.List.{list_any, slice_index_or}
+use Rattle.std.specs.List.Sorted.{IsSortedBy, IsSearchInRange, IsBinarySearchResult}
+use Rattle.std.specs.Cmp.Lexicographic.{slice_cmp}
+use Rattle.std.specs.FinMap.{slice_cmp-IsAntisymmetric, nat_cmp-IsAntisymmetric}
+use Rattle.std.specs.Ordering.{nat_cmp, is_lt, is_eq, ordering_reverse}
+use Rattle.std.specs.Result.{is_ok}
+use Rattle.std.proofs.lemmas.Bool.{cases_Bool, cases_lt, and_parts, false≢true}
+use Rattle.std.proofs.lemmas.Cmp.{nat_list_cmp_total, tied_itself}
+use Rattle.std.proofs.lemmas.List.{length-map, get_or-map}
+use Rattle.std.proofs.lemmas.List.Folds.{list_any-append, list_any_at}
+use Rattle.std.proofs.lemmas.List.Sorted.{searchable_from_sorted}
+use Rattle.oe_dims.specs.Dimensions.{all_differ}
+use Rattle.oe_dims.specs.Names.{same_name, is_name_before, names_rise, names_at, are_apart}
+use Rattle.oe_dims.proofs.OrderLemmas.{same_name_is, same_name_refl}
+use Rattle.oe_dims.proofs.DistinctLemmas.{none_among, same_name-comm}
+
+-- ---- a search among names that rise
+
+before_not_after : (o p : Ordering) → p ≡ ordering_reverse o → is_lt o ≡ true → is_lt p ≡ false
+before_not_after Less p e h = ap is_lt e
+before_not_after Equal p e h = absurd (false≢true h)
+before_not_after Greater p e h = absurd (false≢true h)
+
+pub places_sorted : (names : List (List ℕ)) (places : List ℕ) → names_rise (names_at names places) ≡ true → IsSortedBy (λ p q. is_name_before (slice_index_or names p []) (slice_index_or names q [])) places
+places_sorted names [] h k d low high = absurd (omega arith)
+places_sorted names (p ∷ []) h k d low high = absurd (omega arith)
+places_sorted names (p ∷ q ∷ places) h zero d low high =
+    let a = slice_index_or names p [] in
+    let b = slice_index_or names q [] in
+    before_not_after (slice_cmp nat_cmp a b) (slice_cmp nat_cmp b a) (nat_list_cmp_total.antisymm b a) (and_parts _ _ h).0
+places_sorted names (p ∷ q ∷ places) h (suc k) d low high =
+    let next : suc k + 1 ≡ suc (k + 1) = omega arith in
+    rw next (places_sorted names (q ∷ places) (and_parts _ _ h).1 k d (omega arith) (omega arith))
+
+not_same : (name other : List ℕ) (o : Ordering) → slice_cmp nat_cmp other name ≡ o → is_eq o ≡ false → same_name name other ≡ false
+not_same name other o e h =
+    elim (cases_Bool (same_name name other)) [
+      | inl t ↦ absurd (false≢true (sym h ∙ ap is_eq (sym e ∙ sym (ap (slice_cmp nat_cmp other) (same_name_is name other t)) ∙ tied_itself nat_list_cmp_total other)))
+      | inr f ↦ f
+    ]
+
+-- a binary search for a name tells whether it is there
+pub found_at_places : (name : List ℕ) (names : List (List ℕ)) (places : List ℕ) (r : Result ℕ ℕ) → names_rise (names_at names places) ≡ true → IsSearchInRange r (length places) → IsBinarySearchResult (λ p. slice_cmp nat_cmp (slice_index_or names p []) name) places r → is_ok r ≡ list_any (same_name name) (names_at names places)
+found_at_places name names places (Ok i) rise within found =
+    let at = λ (p : ℕ). slice_index_or names p [] in
+    let mapped = length-map places at in
+    let is : at (get_or places i 0) ≡ name = slice_cmp-IsAntisymmetric nat_cmp-IsAntisymmetric _ _ (found 0) in
+    let here : get_or (names_at names places) i [] ≡ name = get_or-map at places i 0 [] within ∙ is in
+    sym (list_any_at (same_name name) (names_at names places) i [] (omega arith) (ap (same_name name) here ∙ same_name_refl name))
+found_at_places name names places (Err i) rise within parted =
+    let at = λ (p : ℕ). slice_index_or names p [] in
+    let mapped = length-map places at in
+    let halves = parted (searchable_from_sorted nat_list_cmp_total at places name (places_sorted names places rise)) in
+    sym (none_among name (names_at names places) (λ k l.
+    let inside : k < length places = omega arith in
+    let here : get_or (names_at names places) k [] ≡ at (get_or places k 0) = get_or-map at places k 0 [] inside in
+    ap (same_name name) here ∙ elim (cases_lt k i) [
+      | inl t ↦ not_same name (at (get_or places k 0)) Less (halves.0 k 0 (omega arith) t) refl
+      | inr f ↦ not_same name (at (get_or places k 0)) Greater (halves.1 k 0 (omega arith) inside) refl
+    ]))
+
+-- ---- blocks of names
+
+pub are_apart-same : (names other : List (List ℕ)) (others : List (List ℕ)) → ((name : List ℕ) → list_any (same_name name) names ≡ list_any (same_name name) other) → are_apart names others ≡ are_apart other others
+are_apart-same names other [] same = refl
+are_apart-same names other (a ∷ others) same =
+    rw (same a, are_apart-same names other others same) refl
+
+apart_from_none : (others : List (List ℕ)) → are_apart [] others ≡ true
+apart_from_none [] = refl
+apart_from_none (a ∷ others) = apart_from_none others
+
+-- a name more is apart from the others where it is none of them
+other_order : (c d e f : Bool) → (not (c || d) && (not e && f)) ≡ (not (c || e) && (not d && f))
+other_order true d e f = refl
+other_order false true true f = refl
+other_order false true false f = refl
+other_order false false e f = refl
+
+apart_more : (name : List ℕ) (names others : List (List ℕ)) → are_apart (name ∷ names) others ≡ (not (list_any (same_name name) others) && are_apart names others)
+apart_more name names [] = refl
+apart_more name names (a ∷ others) =
+    rw (apart_more name names others, same_name-comm name a)
+    (other_order (same_name a name) (list_any (same_name a) names) (list_any (same_name name) others) (are_apart names others))
+
+regrouped : (c d e f g : Bool) → (not (c || d) && ((e && f) && g)) ≡ (((not c && e) && (not d && f)) && g)
+regrouped true d e f g = refl
+regrouped false true true f g = refl
+regrouped false true false f g = refl
+regrouped false false true f g = refl
+regrouped false false false f g = refl
+
+-- a block and the others differ where no name of the block occurs twice in it, or again among the others
+pub differ_in_parts : (block others : List (List ℕ)) → all_differ (block ++ others) ≡ ((all_differ block && are_apart block others) && all_differ others)
+differ_in_parts [] others = rw (apart_from_none others) refl
+differ_in_parts (a ∷ block) others =
+    rw (list_any-append (same_name a) block others, differ_in_parts block others, apart_more a block others)
+    (regrouped (list_any (same_name a) block) (list_any (same_name a) others) (all_differ block) (are_apart block others) (all_differ others))
+
+-- so the test of a block leaves what the names after it give
+pub rest_decides : (names block others : List (List ℕ)) (differs : Bool) → names ≡ block ++ others → differs ≡ (all_differ block && are_apart block others) → all_differ names ≡ (differs && all_differ others)
+rest_decides names block others differs parts test =
+    ap all_differ parts ∙ differ_in_parts block others ∙ ap (λ (b : Bool). b && all_differ others) (sym test)
