@@ -130,11 +130,11 @@ fn gives_sizes_and_signs(rt: HostRuntime) {
 #[test]
 fn refuses_pairs_not_in_lowest_terms(rt: HostRuntime) {
     assert_eq!(rt; Frac::new(2, 4), None);
-    assert_eq!(rt; Frac::new(1, 0), None);
 }
 
 #[test]
 fn refuses_pairs_out_of_range(rt: HostRuntime) {
+    assert_eq!(rt; Frac::new(1, 0), None);
     assert_eq!(rt; Frac::new(1, WIDE + 1), None);
     assert_eq!(rt; Frac::new(-LIMIT - 1, 1), None);
 }
