@@ -1,18 +1,17 @@
+//! Worked values from outside: each reducer on short lists, Over at every place of a list, and lists of 65536 cells.
+ghost use Rattle.std.specs.Prelude.{◌≤◌, length};
+
 use super::*;
 use oe_cell::{Cell, Frac};
-
-// Cells by pairs: a pair with a denominator is a number, and these stand for the others. A row of cells ends at END.
-const OVER: (i64, u64) = (0, 0);
-
-const NULL: (i64, u64) = (1, 0);
-
-const TRUE: (i64, u64) = (2, 0);
-
-const FALSE: (i64, u64) = (3, 0);
-
-const END: (i64, u64) = (4, 0);
+use std::test::Fail;
 
 const LIMIT: i64 = 9223372036854775807;
+
+const NULL: Cell = Cell::Empty;
+
+const TRUE: Cell = Cell::Flag(true);
+
+const FALSE: Cell = Cell::Flag(false);
 
 const REDUCERS: [Reducer; 12] = [
     Reducer::Sum,
@@ -29,222 +28,204 @@ const REDUCERS: [Reducer; 12] = [
     Reducer::CountAll,
 ];
 
-fn cell(pair: (i64, u64)) -> Cell {
-    if pair.1 > 0 {
-        return match Frac::new(pair.0, pair.1) {
-            Some(number) => Cell::Number(number),
-            None => Cell::Over,
-        };
-    }
-    match pair.0 {
-        1 => Cell::Empty,
-        2 => Cell::Flag(true),
-        3 => Cell::Flag(false),
-        _ => Cell::Over,
+// The number of a numerator and a denominator, or Over where they are none.
+fn number(num: i64, den: u64) -> Cell {
+    match Frac::new(num, den) {
+        Some(number) => Cell::Number(number),
+        None => Cell::Over,
     }
 }
 
-fn is_cell(cell: Cell, pair: (i64, u64)) -> bool {
-    match cell {
-        Cell::Number(number) => pair.1 > 0 && number.num() == pair.0 && number.den() == pair.1,
-        Cell::Empty => pair.1 == 0 && pair.0 == 1,
-        Cell::Flag(true) => pair.1 == 0 && pair.0 == 2,
-        Cell::Flag(false) => pair.1 == 0 && pair.0 == 3,
-        Cell::Over => pair.1 == 0 && pair.0 == 0,
-    }
+fn whole(num: i64) -> Cell {
+    number(num, 1)
 }
 
-fn reduced(reducer: Reducer, ignore: bool, row: [(i64, u64); 5]) -> Cell {
-    let mut cells = [Cell::Empty; 5];
-    let mut scratch = [Cell::Empty; 5];
-    let mut n: usize = 0;
-    for pair in row {
-        if n < 5 && (pair.1 > 0 || pair.0 != 4) {
-            cells[n] = cell(pair);
-            n += 1;
-        }
-    }
-    if n > 5 {
-        return Cell::Over;
-    }
-    fold(reducer, ignore, &cells[..n], &mut scratch)
+// The fold of a short list, without its nulls where `ignore` is true.
+fn reduced(reducer: Reducer, ignore: bool, cells: &[Cell]) -> Cell
+    requires { length cells.now ≤ 4 }
+{
+    let mut scratch = [Cell::Empty; 4];
+    fold(reducer, ignore, cells, &mut scratch)
 }
 
 #[test]
-fn arithmetic(rt: HostRuntime) {
-    for (reducer, ignore, row, want) in [
-        (Reducer::Mean, true, [(1, 1), (2, 1), END, END, END], (3, 2)),
-        (Reducer::Mean, true, [NULL, NULL, END, END, END], NULL),
-        (Reducer::Mean, false, [(1, 1), NULL, END, END, END], NULL),
-        (
-            Reducer::Mean,
-            true,
-            [(1, 1), NULL, (2, 1), END, END],
-            (3, 2),
-        ),
-        (
-            Reducer::Sum,
-            true,
-            [(LIMIT, 1), (1, 1), (-1, 1), END, END],
-            OVER,
-        ),
-        (Reducer::Sum, true, [(1, 2), NULL, (1, 3), END, END], (5, 6)),
-        (
-            Reducer::Sum,
-            false,
-            [(LIMIT, 1), (1, 1), NULL, END, END],
-            NULL,
-        ),
-        (Reducer::Sum, true, [END, END, END, END, END], NULL),
-        (
-            Reducer::Product,
-            true,
-            [(2, 3), (3, 4), (-5, 1), END, END],
-            (-5, 2),
-        ),
-        (Reducer::Count, false, [NULL, NULL, END, END, END], (0, 1)),
-        (Reducer::CountAll, true, [NULL, NULL, END, END, END], (2, 1)),
-        (Reducer::Count, true, [END, END, END, END, END], (0, 1)),
-        (
-            Reducer::Count,
-            false,
-            [TRUE, NULL, (1, 1), END, END],
-            (2, 1),
-        ),
-    ] {
-        assert!(rt; is_cell(reduced(reducer, ignore, row), want));
-    }
+fn takes_means(rt: HostRuntime) {
+    let mean = Reducer::Mean;
+    assert_eq!(rt; reduced(mean, true, &[whole(1), whole(2)]), number(3, 2));
+    assert_eq!(rt;
+        reduced(mean, true, &[whole(1), NULL, whole(2)]),
+        number(3, 2)
+    );
+    assert_eq!(rt; reduced(mean, true, &[NULL, NULL]), NULL);
+    assert_eq!(rt; reduced(mean, false, &[whole(1), NULL]), NULL);
 }
 
 #[test]
-fn order_and_logic(rt: HostRuntime) {
-    for (reducer, ignore, row, want) in [
-        (
-            Reducer::Median,
-            true,
-            [(5, 1), (1, 1), (3, 1), END, END],
-            (3, 1),
-        ),
-        (
-            Reducer::Median,
-            true,
-            [(4, 1), (1, 1), (2, 1), (8, 1), END],
-            (3, 1),
-        ),
-        (
-            Reducer::Median,
-            true,
-            [(2, 1), (2, 1), (2, 1), (2, 1), END],
-            (2, 1),
-        ),
-        (
-            Reducer::Median,
-            true,
-            [(-1, 2), (-1, 3), (1, 4), NULL, END],
-            (-1, 3),
-        ),
-        (Reducer::Median, true, [(7, 1), END, END, END, END], (7, 1)),
-        (Reducer::Median, true, [NULL, END, END, END, END], NULL),
-        (
-            Reducer::Median,
-            false,
-            [(1, 1), NULL, (2, 1), END, END],
-            NULL,
-        ),
-        (
-            Reducer::Min,
-            true,
-            [(2, 1), (-1, 3), NULL, (-1, 2), END],
-            (-1, 2),
-        ),
-        (
-            Reducer::Max,
-            true,
-            [(1, 3), (1, 2), NULL, (-4, 1), END],
-            (1, 2),
-        ),
-        (Reducer::Min, true, [(1, 1), TRUE, END, END, END], NULL),
-        (
-            Reducer::First,
-            true,
-            [NULL, (1, 1), (2, 1), END, END],
-            (1, 1),
-        ),
-        (
-            Reducer::First,
-            false,
-            [NULL, (1, 1), (2, 1), END, END],
-            NULL,
-        ),
-        (
-            Reducer::Last,
-            true,
-            [(1, 1), (2, 1), NULL, END, END],
-            (2, 1),
-        ),
-        (Reducer::Last, false, [(1, 1), (2, 1), NULL, END, END], NULL),
-        (Reducer::Any, false, [TRUE, NULL, END, END, END], TRUE),
-        (Reducer::Any, true, [FALSE, NULL, FALSE, END, END], FALSE),
-        (Reducer::Any, true, [TRUE, (1, 1), END, END, END], NULL),
-        (Reducer::All, false, [TRUE, NULL, END, END, END], NULL),
-        (Reducer::All, false, [NULL, FALSE, END, END, END], FALSE),
-        (Reducer::All, true, [NULL, NULL, END, END, END], NULL),
-    ] {
-        assert!(rt; is_cell(reduced(reducer, ignore, row), want));
-    }
-}
-
-#[test]
-fn over_anywhere(rt: HostRuntime) {
-    for reducer in REDUCERS {
-        for row in [
-            [OVER, TRUE, NULL, TRUE, END],
-            [(1, 1), OVER, NULL, (3, 1), END],
-            [FALSE, NULL, TRUE, OVER, END],
-        ] {
-            assert!(rt; is_cell(reduced(reducer, true, row), OVER));
-            assert!(rt; is_cell(reduced(reducer, false, row), OVER));
-        }
-    }
-}
-
-// The fold of a list in a slice that may be long enough.
-fn folded(reducer: Reducer, cells: &[Cell], scratch: &mut [Cell]) -> Cell {
-    if cells.len() <= scratch.len() {
-        fold(reducer, true, cells, scratch)
-    } else {
+fn sums_up(rt: HostRuntime) {
+    let sum = Reducer::Sum;
+    assert_eq!(rt;
+        reduced(sum, true, &[number(1, 2), NULL, number(1, 3)]),
+        number(5, 6)
+    );
+    assert_eq!(rt;
+        reduced(sum, true, &[whole(LIMIT), whole(1), whole(-1)]),
         Cell::Over
+    );
+    assert_eq!(rt; reduced(sum, false, &[whole(LIMIT), whole(1), NULL]), NULL);
+    assert_eq!(rt; reduced(sum, true, &[]), NULL);
+}
+
+#[test]
+fn multiplies(rt: HostRuntime) {
+    let cells = [number(2, 3), number(3, 4), whole(-5)];
+    assert_eq!(rt; reduced(Reducer::Product, true, &cells), number(-5, 2));
+}
+
+#[test]
+fn counts(rt: HostRuntime) {
+    assert_eq!(rt; reduced(Reducer::Count, false, &[NULL, NULL]), whole(0));
+    assert_eq!(rt; reduced(Reducer::Count, true, &[]), whole(0));
+    assert_eq!(rt;
+        reduced(Reducer::Count, false, &[TRUE, NULL, whole(1)]),
+        whole(2)
+    );
+    assert_eq!(rt; reduced(Reducer::CountAll, true, &[NULL, NULL]), whole(2));
+}
+
+#[test]
+fn takes_medians_of_odd_counts(rt: HostRuntime) {
+    let median = Reducer::Median;
+    assert_eq!(rt;
+        reduced(median, true, &[whole(5), whole(1), whole(3)]),
+        whole(3)
+    );
+    let fractions = [number(-1, 2), number(-1, 3), number(1, 4), NULL];
+    assert_eq!(rt; reduced(median, true, &fractions), number(-1, 3));
+    assert_eq!(rt; reduced(median, true, &[whole(7)]), whole(7));
+}
+
+#[test]
+fn takes_medians_of_even_counts(rt: HostRuntime) {
+    let apart = [whole(4), whole(1), whole(2), whole(8)];
+    assert_eq!(rt; reduced(Reducer::Median, true, &apart), whole(3));
+    let same = [whole(2), whole(2), whole(2), whole(2)];
+    assert_eq!(rt; reduced(Reducer::Median, true, &same), whole(2));
+}
+
+#[test]
+fn takes_null_for_a_median(rt: HostRuntime) {
+    assert_eq!(rt; reduced(Reducer::Median, true, &[NULL]), NULL);
+    assert_eq!(rt;
+        reduced(Reducer::Median, false, &[whole(1), NULL, whole(2)]),
+        NULL
+    );
+}
+
+#[test]
+fn finds_the_least_and_the_greatest(rt: HostRuntime) {
+    let low = [whole(2), number(-1, 3), NULL, number(-1, 2)];
+    assert_eq!(rt; reduced(Reducer::Min, true, &low), number(-1, 2));
+    let high = [number(1, 3), number(1, 2), NULL, whole(-4)];
+    assert_eq!(rt; reduced(Reducer::Max, true, &high), number(1, 2));
+    assert_eq!(rt; reduced(Reducer::Min, true, &[whole(1), TRUE]), NULL);
+}
+
+#[test]
+fn finds_the_first_and_the_last(rt: HostRuntime) {
+    let null_first = [NULL, whole(1), whole(2)];
+    assert_eq!(rt; reduced(Reducer::First, true, &null_first), whole(1));
+    assert_eq!(rt; reduced(Reducer::First, false, &null_first), NULL);
+    let null_last = [whole(1), whole(2), NULL];
+    assert_eq!(rt; reduced(Reducer::Last, true, &null_last), whole(2));
+    assert_eq!(rt; reduced(Reducer::Last, false, &null_last), NULL);
+}
+
+#[test]
+fn finds_any_and_all(rt: HostRuntime) {
+    assert_eq!(rt; reduced(Reducer::Any, false, &[TRUE, NULL]), TRUE);
+    assert_eq!(rt; reduced(Reducer::Any, true, &[FALSE, NULL, FALSE]), FALSE);
+    assert_eq!(rt; reduced(Reducer::Any, true, &[TRUE, whole(1)]), NULL);
+    assert_eq!(rt; reduced(Reducer::All, false, &[TRUE, NULL]), NULL);
+    assert_eq!(rt; reduced(Reducer::All, false, &[NULL, FALSE]), FALSE);
+    assert_eq!(rt; reduced(Reducer::All, true, &[NULL, NULL]), NULL);
+}
+
+#[test]
+fn gives_over_for_over_anywhere(rt: HostRuntime) {
+    let first = [Cell::Over, TRUE, NULL, TRUE];
+    let middle = [whole(1), Cell::Over, NULL, whole(3)];
+    let last = [FALSE, NULL, TRUE, Cell::Over];
+    for reducer in REDUCERS {
+        for ignore in [true, false] {
+            assert_eq!(rt; reduced(reducer, ignore, &first), Cell::Over, "{reducer:?}");
+            assert_eq!(rt;
+                reduced(reducer, ignore, &middle),
+                Cell::Over,
+                "{reducer:?}"
+            );
+            assert_eq!(rt; reduced(reducer, ignore, &last), Cell::Over, "{reducer:?}");
+        }
     }
 }
 
 #[test]
-fn long_lists(rt: HostRuntime) {
-    let mut falling = vec![in rt.alloc(); Cell::Empty; 65536].expect(&rt, "memory");
-    let mut repeated = vec![in rt.alloc(); Cell::Empty; 65536].expect(&rt, "memory");
-    let mut scratch = vec![in rt.alloc(); Cell::Empty; 65536].expect(&rt, "memory");
-    for i in 0..65536 {
-        if i < falling.len() && i < repeated.len() {
-            falling[i] = cell((65536 - i as i64, 1));
-            repeated[i] = cell(((i % 7) as i64, 1));
-        }
+fn reduces_a_long_falling_list(rt: HostRuntime) -> Result<(), Fail> {
+    let mut cells = Vec::with_capacity(rt.alloc(), 65536)?;
+    for place in 0..65536_u32 {
+        cells.push(whole(65536 - i64::from(place)))?;
     }
-    for (reducer, of_falling, of_repeated) in [
-        (Reducer::Sum, (2147516416, 1), (196603, 1)),
-        (Reducer::Product, OVER, (0, 1)),
-        (Reducer::Mean, (65537, 2), (196603, 65536)),
-        (Reducer::Min, (1, 1), (0, 1)),
-        (Reducer::Max, (65536, 1), (6, 1)),
-        (Reducer::Median, (65537, 2), (3, 1)),
-        (Reducer::First, (65536, 1), (0, 1)),
-        (Reducer::Last, (1, 1), (1, 1)),
-        (Reducer::Any, NULL, NULL),
-        (Reducer::All, NULL, NULL),
-        (Reducer::Count, (65536, 1), (65536, 1)),
-        (Reducer::CountAll, (65536, 1), (65536, 1)),
+    let mut scratch = vec![in rt.alloc(); Cell::Empty; 65536]?;
+    for (reducer, want) in [
+        (Reducer::Sum, whole(2147516416)),
+        (Reducer::Product, Cell::Over),
+        (Reducer::Mean, number(65537, 2)),
+        (Reducer::Min, whole(1)),
+        (Reducer::Max, whole(65536)),
+        (Reducer::Median, number(65537, 2)),
+        (Reducer::First, whole(65536)),
+        (Reducer::Last, whole(1)),
+        (Reducer::Any, NULL),
+        (Reducer::All, NULL),
+        (Reducer::Count, whole(65536)),
+        (Reducer::CountAll, whole(65536)),
     ] {
-        let first = folded(reducer, &falling, &mut scratch);
-        assert!(rt; is_cell(first, of_falling));
-        let second = folded(reducer, &repeated, &mut scratch);
-        assert!(rt; is_cell(second, of_repeated));
+        assert!(rt; cells.len() <= scratch.len());
+        assert_eq!(rt;
+            fold(reducer, true, &cells, &mut scratch),
+            want,
+            "{reducer:?}"
+        );
     }
+    Ok(())
+}
+
+#[test]
+fn reduces_a_long_repeating_list(rt: HostRuntime) -> Result<(), Fail> {
+    let mut cells = Vec::with_capacity(rt.alloc(), 65536)?;
+    for place in 0..65536 {
+        cells.push(whole(place % 7))?;
+    }
+    let mut scratch = vec![in rt.alloc(); Cell::Empty; 65536]?;
+    for (reducer, want) in [
+        (Reducer::Sum, whole(196603)),
+        (Reducer::Product, whole(0)),
+        (Reducer::Mean, number(196603, 65536)),
+        (Reducer::Min, whole(0)),
+        (Reducer::Max, whole(6)),
+        (Reducer::Median, whole(3)),
+        (Reducer::First, whole(0)),
+        (Reducer::Last, whole(1)),
+        (Reducer::Any, NULL),
+        (Reducer::All, NULL),
+        (Reducer::Count, whole(65536)),
+        (Reducer::CountAll, whole(65536)),
+    ] {
+        assert!(rt; cells.len() <= scratch.len());
+        assert_eq!(rt;
+            fold(reducer, true, &cells, &mut scratch),
+            want,
+            "{reducer:?}"
+        );
+    }
+    Ok(())
 }
