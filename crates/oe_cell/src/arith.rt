@@ -159,7 +159,7 @@ fn whole_sum(a: i64, c: i64) -> Cell
     lowest(i128::from(a) + i128::from(c), 1)
 }
 
-// The exact value of num / (rest · part), where only the part may have a divisor in common with the numerator.
+/// The exact value of num / (rest · part), where only the part may have a divisor in common with the numerator.
 fn reduced(num: i128, rest: u128, part: u64) -> Cell
     requires den_fits { rest * part < 2 ^ 128 }
     requires rest_some { 0 < rest }
@@ -191,7 +191,7 @@ fn negative(p: Frac) -> Frac
     Frac::from_parts(-num, den)
 }
 
-// Cancelled crosswise first, so that the product is in lowest terms.
+/// Cancelled crosswise first, so that the product is in lowest terms.
 fn times(p: Frac, q: Frac) -> Cell
     ensures value { result ≡ exact_value (product_of p q) }
     ensures exact { IsExactValue (product_of p q) result }
@@ -253,7 +253,7 @@ fn remainder_or_empty(p: Frac, q: Frac) -> Cell
     }
 }
 
-// Over the least common denominator, where only the second one may have a divisor in common with the numerator.
+/// Over the least common denominator, where only the second one may have a divisor in common with the numerator.
 fn remainder(p: Frac, q: Frac) -> Cell
     requires { 0 < unsigned_abs q.num }
     ensures value { result ≡ exact_value (remainder_of p q) }

@@ -59,7 +59,7 @@ impl Frac {
         self.den
     }
 
-    // Both parts, with what is known of them.
+    /// Both parts, with what is known of them.
     pub(crate) fn parts(self) -> (i64, u64)
         ensures number { IsNumber self }
         ensures num { result.0 ≡ self.num }
@@ -68,7 +68,7 @@ impl Frac {
         (self.num, self.den)
     }
 
-    // A fraction from parts that are known to be a number of a cell.
+    /// A fraction from parts that are known to be a number of a cell.
     pub(crate) fn from_parts(num: i64, den: u64) -> Frac
         requires { IsNumber (record { num = num; den = den }) }
         ensures { result ≡ record { num = num; den = den } }
@@ -77,7 +77,7 @@ impl Frac {
     }
 }
 
-// The cell of a fraction in lowest terms.
+/// The cell of a fraction in lowest terms.
 pub(crate) fn lowest(num: i128, den: u128) -> Cell
     requires some { 0 < den }
     requires coprime { IsCoprime (unsigned_abs num) den }

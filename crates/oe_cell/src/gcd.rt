@@ -5,7 +5,7 @@ ghost use Rattle.oe_cell.specs.Reduction.{Expands};
 
 use crate::wide::divided;
 
-// The other number where one is 0.
+/// The other number where one is 0.
 pub(crate) fn gcd(a: u64, b: u64) -> u64
     ensures gcd { IsGcd a b result }
     ensures some { 0 < b → 0 < result }
@@ -20,7 +20,7 @@ pub(crate) fn gcd(a: u64, b: u64) -> u64
     x
 }
 
-// Two denominators as coprime multiples of their common part.
+/// Two denominators as coprime multiples of their common part.
 #[derive(Clone, Copy)]
 pub(crate) struct Shared {
     pub(crate) common: u64,
@@ -28,7 +28,7 @@ pub(crate) struct Shared {
     pub(crate) right: u64,
 }
 
-// A denominator of 1 does not come to Euclid's method.
+/// A denominator of 1 does not come to Euclid's method.
 pub(crate) fn share(b: u64, d: u64) -> Shared
     requires left_some { 0 < b }
     requires right_some { 0 < d }
@@ -52,7 +52,7 @@ pub(crate) fn share(b: u64, d: u64) -> Shared
     }
 }
 
-// A numerator and a denominator after a division by their greatest common divisor.
+/// A numerator and a denominator after a division by their greatest common divisor.
 #[derive(Clone, Copy)]
 pub(crate) struct Cancelled {
     pub(crate) num: i64,
@@ -60,7 +60,7 @@ pub(crate) struct Cancelled {
     pub(crate) common: u64,
 }
 
-// A denominator of 1 does not come to Euclid's method.
+/// A denominator of 1 does not come to Euclid's method.
 pub(crate) fn cancel(num: i64, den: u64) -> Cancelled
     requires some { 0 < den }
     requires fits { den < 2 ^ 63 }

@@ -21,7 +21,7 @@ pub fn compare(x: Frac, y: Frac) -> Ordering
     scaled(a, d).cmp(&scaled(c, b))
 }
 
-// Two numbers are the same rational exactly where they are the same pair.
+/// Two numbers are the same rational exactly where they are the same pair.
 fn is_equal(x: Frac, y: Frac) -> bool
     ensures value { result ≡ is_eq (compare_of x y) }
     ensures same { IsTrue result ↔ (x ≡ y) }

@@ -49,7 +49,7 @@ impl TextBuf {
         self.len = 0;
     }
 
-    // Appends a piece that fits.
+    /// Appends a piece that fits.
     fn push(&mut self, piece: &[u8])
         requires { length self.old + length piece.now ≤ 48 }
         ensures { self.new ≡ self.old ++ piece.now }

@@ -5,10 +5,10 @@ const LIMIT: i64 = 9223372036854775807;
 
 const WIDE: u64 = 9223372036854775807;
 
-// A pair that is no number, and so stands for Over.
+/// A pair that is no number, and so stands for Over.
 const OVER: (i64, u64) = (0, 0);
 
-// The number of a numerator and a denominator, or Over where they are none.
+/// The number of a numerator and a denominator, or Over where they are none.
 fn number(pair: (i64, u64)) -> Cell {
     match Frac::new(pair.0, pair.1) {
         Some(number) => Cell::Number(number),
@@ -139,7 +139,7 @@ fn refuses_pairs_out_of_range(rt: HostRuntime) {
     assert_eq!(rt; Frac::new(-LIMIT - 1, 1), None);
 }
 
-// A cell by a letter: the flags, null, Over, a half and a third.
+/// A cell by a letter: the flags, null, Over, a half and a third.
 fn cell(letter: char) -> Cell {
     match letter {
         'f' => Cell::Flag(false),
@@ -223,7 +223,7 @@ fn writes_and_reads_a_number(rt: HostRuntime) {
     assert_eq!(rt; read_record(&negative), Some(number((-3, 2))));
 }
 
-// Bytes of a tag, zeros and a last byte.
+/// Bytes of a tag, zeros and a last byte.
 fn bytes_of(tag: u8, last: u8) -> [u8; 17] {
     let mut bytes = [0; 17];
     bytes[0] = tag;

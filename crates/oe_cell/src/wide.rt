@@ -30,7 +30,7 @@ pub(crate) fn wide_product(a: u64, b: u64) -> u128
     u128::from(a) * u128::from(b)
 }
 
-// The number that by goes into it, which is a whole one.
+/// The number that by goes into it, which is a whole one.
 pub(crate) fn divided(num: i64, by: u64) -> i64
     requires fits { by < 2 ^ 63 }
     requires some { 0 < by }
@@ -49,7 +49,7 @@ pub(crate) fn wide_divided(num: i128, by: u64) -> i128
     num / i128::from(by)
 }
 
-// What rounding the quotient down leaves of x; it has the sign of y.
+/// What rounding the quotient down leaves of x; it has the sign of y.
 pub(crate) fn floor_rest(x: i128, y: i128) -> i128
     requires x_fits { unsigned_abs x < 2 ^ 126 }
     requires y_fits { unsigned_abs y < 2 ^ 126 }
