@@ -47,14 +47,16 @@ impl Frac {
 
     /// The numerator, whose sign is the fraction's.
     pub fn num(self) -> i64
-        ensures { result ≡ self.num }
+        ensures value { result ≡ self.num }
+        ensures number { IsNumber self }
     {
         self.num
     }
 
     /// The denominator, which is at least 1.
     pub fn den(self) -> u64
-        ensures { result ≡ self.den }
+        ensures value { result ≡ self.den }
+        ensures number { IsNumber self }
     {
         self.den
     }
