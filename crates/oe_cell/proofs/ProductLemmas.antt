@@ -1,13 +1,18 @@
 -- Why a product that was cancelled crosswise is in lowest terms.
-use Rattle.std.proofs.Common.{◌≡◌, ℕ, ◌*◌, sym, ap, ◌∙◌, subst, ℤ, pos, ◌*ℤ◌}
+use Rattle.std.proofs.Common.{◌≡◌, ℕ, ◌*◌, sym, refl, ap, ◌∙◌, subst, ℤ, pos, ◌*ℤ◌}
 use Rattle.std.specs.Prelude.{unsigned_abs}
 use Rattle.std.specs.Int.{◌∣◌}
 use Rattle.std.proofs.Math.Nat.{mul-pos, dvd-mul_right, mul_comm, mul-mul-mul_comm}
-use Rattle.std.proofs.Math.IntN.{*ℤ_comm}
+use Rattle.std.proofs.Math.IntN.{*ℤ_comm, zero-*ℤ}
 use Rattle.std.proofs.lemmas.Int.{unsigned_abs-mul}
-use Rattle.oe_cell.specs.Fraction.{IsCoprime}
+use Rattle.oe_cell.specs.Exact.{exact, exact_value, IsExactValue}
+use Rattle.oe_cell.specs.Fraction.{Fraction, IsNumber, IsCoprime}
+use Rattle.oe_cell.specs.Rational.{product_of}
 use Rattle.oe_cell.specs.Reduction.{Expands}
+use Rattle.oe_cell.specs.declared.cell.Cell.{Cell}
+use Rattle.oe_cell.specs.declared.cell.Cell.TheVariants.{Number}
 use Rattle.oe_cell.proofs.Coprime.{IsCoprime-swap, IsCoprime-part, IsCoprime-product}
+use Rattle.oe_cell.proofs.ExactLemmas.{IsExactValue-exact, cell_of_lowest-number, exact-lowest, exact-scale}
 use Rattle.oe_cell.proofs.Scale.{abs-scale, scales-product, scale-product}
 
 num_divides : {r : ℤ} {s : ℕ} {n : ℤ} {d k : ℕ} → Expands r s n d k → unsigned_abs n ∣ unsigned_abs r
@@ -38,3 +43,30 @@ Expands-product a c m n b d e f j k p q left right = record {
 pub reciprocal-product : (a s : ℤ) (d : ℕ) → a *ℤ (s *ℤ pos d) ≡ a *ℤ pos d *ℤ s
 reciprocal-product a s d =
     *ℤ_comm a (s *ℤ pos d) ∙ scale-product s a d ∙ ap (λ (z : ℤ). z *ℤ pos d) (*ℤ_comm s a) ∙ sym (scale-product a s d)
+
+-- a product whose other factor does what its denominator undoes is the first factor
+pub product-first : (p q : Fraction) → IsNumber p → IsNumber q → p.num *ℤ q.num ≡ p.num *ℤ pos q.den → exact_value (product_of p q) ≡ Number p
+product-first p q p_number q_number same =
+    ap (λ (z : ℤ). exact z (p.den * q.den)) same
+    ∙ exact-scale p.num p.den q.den p_number.den_positive q_number.den_positive
+    ∙ exact-lowest p.num p.den p_number.reduced
+    ∙ cell_of_lowest-number p.num p.den (record { num_fits = p_number.num_fits; den_fits = p_number.den_fits })
+
+-- as where it is 0
+pub product-zero : (p q : Fraction) → IsNumber p → IsNumber q → p.num ≡ pos 0 → exact_value (product_of p q) ≡ Number p
+product-zero p q p_number q_number zero =
+    product-first p q p_number q_number (rw zero (zero-*ℤ q.num ∙ sym (zero-*ℤ (pos q.den))))
+
+-- or where the other is 1
+pub product-one : (p q : Fraction) → IsNumber p → IsNumber q → q.num ≡ pos 1 → q.den ≡ 1 → exact_value (product_of p q) ≡ Number p
+product-one p q p_number q_number num den =
+    product-first p q p_number q_number (rw (num, den) refl)
+
+pub product-comm : (p q : Fraction) → product_of q p ≡ product_of p q
+product-comm p q = λ i. record { num = *ℤ_comm q.num p.num i; den = mul_comm q.den p.den i }
+
+-- a cell that is the exact product is what the exact product means
+pub product-means : (p q : Fraction) (c : Cell) → IsNumber p → IsNumber q → exact_value (product_of p q) ≡ c → IsExactValue (product_of p q) c
+product-means p q c p_number q_number same =
+    subst (λ (x : Cell). IsExactValue (product_of p q) x) same
+    (IsExactValue-exact _ _ (mul-pos p_number.den_positive q_number.den_positive))

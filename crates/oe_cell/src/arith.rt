@@ -1,5 +1,5 @@
 // Arithmetic on cells: add, subtract, multiply, divide, modulo.
-ghost use Rattle.std.specs.Prelude.{◌≡◌, ◌≢◌, ◌+◌, ◌*◌, ◌^◌, ◌<◌, pos, if◌then◌else◌, ◌==◌, neg_ℤ, ◌+ℤ◌, ◌-ℤ◌, ◌*ℤ◌, unsigned_abs};
+ghost use Rattle.std.specs.Prelude.{◌≡◌, IsTrue, ◌≢◌, ◌+◌, ◌*◌, ◌^◌, ◌<◌, pos, if◌then◌else◌, ◌==◌, neg_ℤ, ◌+ℤ◌, ◌-ℤ◌, ◌*ℤ◌, unsigned_abs};
 ghost use Rattle.std.specs.Int.{int_signum};
 ghost use Rattle.oe_cell.specs.Cells.{IsCell, IfNumbers};
 ghost use Rattle.oe_cell.specs.Exact.{exact, exact_value, IsExactValue};
@@ -69,7 +69,7 @@ pub fn multiply(x: Cell, y: Cell) -> Cell
         Cell::Over => Cell::Over,
         Cell::Number(p) => match y {
             Cell::Over => Cell::Over,
-            Cell::Number(q) => times(p, q),
+            Cell::Number(q) => exact_product(p, q),
             _ => Cell::Empty,
         },
         _ => match y {
@@ -189,6 +189,32 @@ fn negative(p: Frac) -> Frac
 {
     let (num, den) = p.parts();
     Frac::from_parts(-num, den)
+}
+
+/// The product is the first number, since it is 0 or the second one is 1.
+fn is_first(p: Frac, q: Frac) -> bool
+    ensures value { IsTrue result → exact_value (product_of p q) ≡ Cell.Number p }
+    ensures operands { IsNumber p × IsNumber q }
+{
+    let (a, _) = p.parts();
+    let (c, d) = q.parts();
+    a == 0 || (c == 1 && d == 1)
+}
+
+/// A factor of 0 or 1 takes no multiplication.
+fn exact_product(p: Frac, q: Frac) -> Cell
+    ensures value { result ≡ exact_value (product_of p q) }
+    ensures exact { IsExactValue (product_of p q) result }
+    ensures operands { IsNumber p × IsNumber q }
+    ensures cell { IsCell result }
+{
+    if is_first(p, q) {
+        return Cell::Number(p);
+    }
+    if is_first(q, p) {
+        return Cell::Number(q);
+    }
+    times(p, q)
 }
 
 /// Cancelled crosswise first, so that the product is in lowest terms.

@@ -16,7 +16,7 @@ fn signed(n: usize) -> i64
     n as i64
 }
 
-// A whole number as a cell.
+/// A whole number as a cell.
 pub(crate) fn whole(n: usize) -> Cell
     requires { n < 2 ^ 63 }
     ensures { result ≡ whole_cell n }
@@ -27,14 +27,14 @@ pub(crate) fn whole(n: usize) -> Cell
     }
 }
 
-// Whether a cell counts.
+/// Whether a cell counts.
 fn counts(ignore: bool, cell: Cell) -> bool
     ensures { result ≡ is_kept ignore cell }
 {
     !(ignore && matches!(cell, Cell::Empty))
 }
 
-// Copies the cells that count to the front of the slice, and says how many they are.
+/// Copies the cells that count to the front of the slice, and says how many they are.
 fn gather(ignore: bool, cells: &[Cell], scratch: &mut [Cell]) -> usize
     requires { length cells.now ≤ length scratch.old }
     ensures within { result ≤ length scratch.new }
@@ -50,7 +50,7 @@ fn gather(ignore: bool, cells: &[Cell], scratch: &mut [Cell]) -> usize
     n
 }
 
-// The middle of a list in order.
+/// The middle of a list in order.
 fn middle(cells: &[Cell]) -> Cell
     requires { 0 < length cells.now }
     ensures { result ≡ middle_of cells.now }
@@ -62,7 +62,7 @@ fn middle(cells: &[Cell]) -> Cell
     divide(add(cells[half - 1], cells[half]), whole(2))
 }
 
-// Puts the cells in order.
+/// Puts the cells in order.
 fn sort(cells: &mut [Cell])
     ensures same { IsPermutation cells.old cells.new }
     ensures sorted { IsSortedBy is_before cells.new }
@@ -70,7 +70,7 @@ fn sort(cells: &mut [Cell])
     cells.sort_unstable_by(|x, y| order(*x, *y));
 }
 
-// The middle of the cells, after they are put in order.
+/// The middle of the cells, after they are put in order.
 fn middle_in_order(cells: &mut [Cell]) -> Cell
     requires { 0 < length cells.old }
     ensures same { IsPermutation cells.old cells.new }
@@ -81,7 +81,7 @@ fn middle_in_order(cells: &mut [Cell]) -> Cell
     middle(cells)
 }
 
-// The median of the cells that count.
+/// The median of the cells that count.
 pub(crate) fn median(ignore: bool, cells: &[Cell], scratch: &mut [Cell]) -> Cell
     requires some { 0 < length (kept ignore cells.now) }
     requires room { length cells.now ≤ length scratch.old }

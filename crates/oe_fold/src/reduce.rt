@@ -38,7 +38,7 @@ pub fn fold(reducer: Reducer, ignore: bool, cells: &[Cell], scratch: &mut [Cell]
     }
 }
 
-// The number of the cells that count, or Over where one is Over.
+/// The number of the cells that count, or Over where one is Over.
 fn number_of(cells: &[Cell], ignore: bool) -> Cell
     ensures known { All IsCell cells.now }
     ensures value { MatchBool (list_any is_over cells.now) (result ≡ Cell.Over) (result ≡ whole_cell (length (kept ignore cells.now))) }
@@ -50,7 +50,7 @@ fn number_of(cells: &[Cell], ignore: bool) -> Cell
     whole(pass.count)
 }
 
-// What a reducer makes of a list without Over, after the pass over it.
+/// What a reducer makes of a list without Over, after the pass over it.
 fn settle(reducer: Reducer, ignore: bool, pass: Pass, cells: &[Cell], scratch: &mut [Cell]) -> Cell
     requires seen { IsSeen reducer ignore cells.now pass }
     requires fits { list_any is_over cells.now ≡ false }

@@ -9,8 +9,8 @@ use crate::Reducer;
 use oe_cell::{Cell, add, and, compare, multiply, or};
 use std::cmp::Ordering;
 
-// What a pass knows of the cells that it saw: whether one was Over, and of those that count whether one makes the
-// result null, how many there are, and what they come to.
+/// What a pass knows of the cells that it saw: whether one was Over, and of those that count whether one makes the
+/// result null, how many there are, and what they come to.
 #[derive(Clone, Copy)]
 pub(crate) struct Pass {
     pub over: bool,
@@ -19,7 +19,7 @@ pub(crate) struct Pass {
     pub value: Option<Cell>,
 }
 
-// Numbers by value, and every other cell before them.
+/// Numbers by value, and every other cell before them.
 pub(crate) fn order(x: Cell, y: Cell) -> Ordering
     ensures { is_lt result ≡ is_before x y }
 {
@@ -35,14 +35,14 @@ pub(crate) fn order(x: Cell, y: Cell) -> Ordering
     }
 }
 
-// Whether the first stands before the second in that order.
+/// Whether the first stands before the second in that order.
 fn precedes(x: &Cell, y: &Cell) -> bool
     ensures { result ≡ is_before x.now y.now }
 {
     order(*x, *y).is_lt()
 }
 
-// Whether a cell that counts makes the result null.
+/// Whether a cell that counts makes the result null.
 fn refuses(reducer: Reducer, cell: &Cell) -> bool
     ensures { result ≡ is_refused reducer cell.now }
 {
@@ -56,21 +56,21 @@ fn refuses(reducer: Reducer, cell: &Cell) -> bool
     }
 }
 
-// The second where the first is after it, else the first.
+/// The second where the first is after it, else the first.
 fn lesser(x: Cell, y: Cell) -> Cell
     ensures { result ≡ cond (is_before y x) y x }
 {
     if precedes(&y, &x) { y } else { x }
 }
 
-// The second where the first is before it, else the first.
+/// The second where the first is before it, else the first.
 fn greater(x: Cell, y: Cell) -> Cell
     ensures { result ≡ cond (is_before x y) y x }
 {
     if precedes(&x, &y) { y } else { x }
 }
 
-// What stands for two cells, the first of which stands for all before.
+/// What stands for two cells, the first of which stands for all before.
 fn join(reducer: Reducer, x: Cell, y: Cell) -> Cell
     ensures { result ≡ joined reducer x y }
 {
@@ -86,7 +86,7 @@ fn join(reducer: Reducer, x: Cell, y: Cell) -> Cell
     }
 }
 
-// The same, where there may be none before.
+/// The same, where there may be none before.
 fn join_to(reducer: Reducer, before: Option<Cell>, cell: Cell) -> Cell
     ensures { Some result ≡ joined_to reducer before cell }
 {
@@ -96,7 +96,7 @@ fn join_to(reducer: Reducer, before: Option<Cell>, cell: Cell) -> Cell
     }
 }
 
-// The pass with one more cell.
+/// The pass with one more cell.
 fn step(reducer: Reducer, ignore: bool, pass: Pass, cell: Cell) -> Pass
     requires { pass.count + 1 < 2 ^ 64 }
     ensures value { result ≡ stepped reducer ignore pass cell }
@@ -125,7 +125,7 @@ fn step(reducer: Reducer, ignore: bool, pass: Pass, cell: Cell) -> Pass
     }
 }
 
-// The pass over all cells.
+/// The pass over all cells.
 pub(crate) fn scan(reducer: Reducer, ignore: bool, cells: &[Cell]) -> Pass
     ensures seen { IsSeen reducer ignore cells.now result }
     ensures cells { All IsCell cells.now }

@@ -28,7 +28,7 @@ const REDUCERS: [Reducer; 12] = [
     Reducer::CountAll,
 ];
 
-// The number of a numerator and a denominator, or Over where they are none.
+/// The number of a numerator and a denominator, or Over where they are none.
 fn number(num: i64, den: u64) -> Cell {
     match Frac::new(num, den) {
         Some(number) => Cell::Number(number),
@@ -40,7 +40,7 @@ fn whole(num: i64) -> Cell {
     number(num, 1)
 }
 
-// The fold of a short list, without its nulls where `ignore` is true.
+/// The fold of a short list, without its nulls where `ignore` is true.
 fn reduced(reducer: Reducer, ignore: bool, cells: &[Cell]) -> Cell
     requires { length cells.now ≤ 4 }
 {
