@@ -1,14 +1,18 @@
 -- Whole numbers: a total, a product and their sum that are in range are those of the cells.
-use Rattle.std.proofs.Common.{◌≡◌, ◌<◌, ◌≤◌, ◌^◌, refl, ap, ◌∙◌, sym, arith, ℤ, pos, ◌+ℤ◌, ◌*ℤ◌}
+use Rattle.std.proofs.Common.{◌≡◌, ◌<◌, ◌≤◌, ◌^◌, refl, ap, ◌∙◌, sym, subst, inl, inr, arith, ℤ, pos, ◌+ℤ◌, ◌*ℤ◌}
 use Rattle.std.specs.Prelude.{unsigned_abs}
-use Rattle.oe_cell.specs.Fraction.{Fraction}
+use Rattle.std.specs.Int.{◌∣◌}
+use Rattle.std.proofs.Math.IntN.{+ℤ_idr}
+use Rattle.std.proofs.lemmas.Nat.Gcd.{dvd-zero, dvd_refl}
+use Rattle.oe_cell.specs.Fraction.{Fraction, IsNumber}
 use Rattle.oe_cell.specs.Exact.{cell_of_lowest}
 use Rattle.oe_cell.specs.Operations.{add_of, multiply_of}
 use Rattle.oe_cell.specs.Rational.{whole_of}
 use Rattle.oe_cell.specs.declared.cell.Cell.{Cell}
 use Rattle.oe_cell.specs.declared.cell.Cell.TheVariants.{Number, Over}
 use Rattle.oe_cell.proofs.CellLemmas.{add_of-whole, multiply_of-whole}
-use Rattle.oe_cell.proofs.ExactLemmas.{cell_of_lowest-number, cell_of_lowest-over}
+use Rattle.oe_cell.proofs.ProductLemmas.{product-zero}
+use Rattle.oe_cell.proofs.ExactLemmas.{cases_InRange, cell_of_lowest-number, cell_of_lowest-over}
 
 pub total_of-zero : cell_of_lowest (pos 0) 1 ≡ Number (whole_of (pos 0))
 unfolding cell_of_lowest
@@ -30,3 +34,19 @@ whole_sum sum next value number left right sum_fits product_fits e =
 -- the least machine number is no number of a cell
 pub lowest_over : (n : ℤ) → 2 ^ 63 ≤ unsigned_abs n → cell_of_lowest n 1 ≡ Over
 lowest_over n h = cell_of_lowest-over n 1 (λ fits. let size : unsigned_abs n < 2 ^ 63 = fits.num_fits in omega arith)
+
+-- a number with the numerator 0 is the whole number 0
+zero-whole : (q : Fraction) → IsNumber q → q.num ≡ pos 0 → q ≡ whole_of (pos 0)
+zero-whole q number zero =
+    let den : q.den ≡ 1 = number.reduced q.den (subst (λ (z : ℤ). q.den ∣ unsigned_abs z) (sym zero) (dvd-zero q.den)) (dvd_refl q.den) in
+    λ i. record { num = zero i; den = den i }
+
+-- and a product with it leaves a total
+pub sum_kept : (sum : ℤ) (value number : Fraction) → IsNumber value → IsNumber number → value.num ≡ pos 0 → cell_of_lowest sum 1 ≡ add_of (cell_of_lowest sum 1) (multiply_of (Number value) (Number number))
+sum_kept sum value number value_number number_number zero =
+    let none : multiply_of (Number value) (Number number) ≡ Number (whole_of (pos 0)) = product-zero value number value_number number_number zero ∙ ap Number (zero-whole value value_number zero) in
+    let added : cell_of_lowest sum 1 ≡ add_of (cell_of_lowest sum 1) (Number (whole_of (pos 0))) = elim (cases_InRange sum 1) [
+      | inl fits ↦ ap (λ (z : ℤ). cell_of_lowest z 1) (sym (+ℤ_idr sum)) ∙ sym (ap (λ (c : Cell). add_of c (Number (whole_of (pos 0)))) (cell_of_lowest-number sum 1 fits) ∙ add_of-whole sum (pos 0))
+      | inr none ↦ let over = cell_of_lowest-over sum 1 none in over ∙ sym (ap (λ (c : Cell). add_of c (Number (whole_of (pos 0)))) over)
+    ] in
+    added ∙ ap (λ (c : Cell). add_of (cell_of_lowest sum 1) c) (sym none)

@@ -348,6 +348,18 @@ fn fractions_stay_exact(rt: HostRuntime) -> Result<(), Fail> {
     Ok(())
 }
 
+// With values 1, 0 and 2: 0 + 0 + 2/3, then 3 + 0 + 8, then 1/3 + 0 + 0.
+#[test]
+fn a_value_of_zero_leaves_the_sum(rt: HostRuntime) -> Result<(), Fail> {
+    let kernel = kernel(rt.alloc(), 3, 1, &[1, 0, 2])?;
+    let third = Cell::Number(fraction(1, 3)?);
+    let cells = [whole(3), third, whole(4)];
+    let found = applied(&rt, rt.alloc(), &kernel, number(0)?, loaded(3, 1, &cells))?;
+    let wanted = [Cell::Number(fraction(2, 3)?), whole(11), third];
+    assert_eq!(rt; found.as_slice(), wanted.as_slice());
+    Ok(())
+}
+
 /// One pixel of a plane of which a part is loaded, under a border that is a number and with 5 in place of a null.
 fn pixel_of_part(
     rt: &impl Abort,

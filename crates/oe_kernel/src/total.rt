@@ -67,14 +67,19 @@ fn cell_sum(sum: Cell, value: Frac, pixel: Cell) -> Cell
     add(sum, multiply(Cell::Number(value), pixel))
 }
 
-/// The sum and one product more, where all of them are whole and fit: no divisor is looked for.
+/// The sum and one product more, where the value is 0, which leaves the sum beside a number, or where all of them are
+/// whole and fit: no divisor is looked for.
 fn whole_sum(sum: i64, value: Frac, pixel: &Cell) -> Option<i64>
     ensures { IfSome result (λ next. cell_of_lowest next 1 ≡ add_of (cell_of_lowest sum 1) (multiply_of (Number value) pixel.now)) }
 {
     let Cell::Number(number) = pixel else {
         return None;
     };
-    if value.den() != 1 || number.den() != 1 || sum == i64::MIN {
+    let den = number.den();
+    if value.num() == 0 {
+        return Some(sum);
+    }
+    if value.den() != 1 || den != 1 || sum == i64::MIN {
         return None;
     }
     let product = value.num().checked_mul(number.num())?;
