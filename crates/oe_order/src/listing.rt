@@ -11,22 +11,22 @@ use std::alloc::Global;
 use std::cmp::Reverse;
 use std::collections::BinaryHeap;
 
-// The steps so far, and the nodes that are to come.
+/// The steps so far, and the nodes that are to come.
 #[derive(Drop)]
 struct Queue {
     members: Vec<bool>,
     steps: Vec<u32>,
     standing: Vec<bool>,
-    // The first node that waits for a node, and the one that waits for the same node behind it.
+    /// The first node that waits for a node, and the one that waits for the same node behind it.
     first: Vec<Option<u32>>,
     next: Vec<Option<u32>>,
-    // How many arguments of a node, from the front, are known to stand.
+    /// How many arguments of a node, from the front, are known to stand.
     passed: Vec<usize>,
     ready: BinaryHeap<Reverse<u32>>,
 }
 
 impl Queue {
-    // Takes all memory that the work needs.
+    /// Takes all memory that the work needs.
     fn new(alloc: Global, members: Vec<bool>) -> Result<Queue, OutOfMemory>
         ensures members { IfOk result (λ q. q.members.items ≡ members.items) }
         ensures none { IfOk result (λ q. q.steps.items ≡ []) }
@@ -46,7 +46,7 @@ impl Queue {
         })
     }
 
-    // The node waits for the argument that it lacks, ahead of the others that do, or is ready if it lacks none.
+    /// The node waits for the argument that it lacks, ahead of the others that do, or is ready if it lacks none.
     fn park(&mut self, node: u32, named: &[u32]) -> Result<(), OutOfMemory>
         requires passes { node < length self.old.passed.items }
         requires nexts { node < length self.old.next.items }
@@ -74,7 +74,7 @@ impl Queue {
         Ok(())
     }
 
-    // Each node that waits for this one, which stands, goes on to wait for another or is ready.
+    /// Each node that waits for this one, which stands, goes on to wait for another or is ready.
     fn release(&mut self, nodes: &[Links], node: u32) -> Result<(), OutOfMemory>
         requires few { length nodes.now < 2 ^ 32 }
         requires named { RefersWithin (graph_of nodes.now) }
@@ -108,7 +108,7 @@ impl Queue {
         Ok(())
     }
 
-    // Puts the node behind those that stand.
+    /// Puts the node behind those that stand.
     fn place(&mut self, nodes: &[Links], node: u32) -> Result<(), OutOfMemory>
         requires few { length nodes.now < 2 ^ 32 }
         requires named { RefersWithin (graph_of nodes.now) }
@@ -135,7 +135,7 @@ impl Queue {
         self.release(nodes, node)
     }
 
-    // Parks each node of the run that is no load.
+    /// Parks each node of the run that is no load.
     fn park_all(&mut self, nodes: &[Links]) -> Result<(), OutOfMemory>
         requires few { length nodes.now < 2 ^ 32 }
         requires named { RefersWithin (graph_of nodes.now) }
@@ -159,7 +159,7 @@ impl Queue {
         Ok(())
     }
 
-    // Places the load nodes of the run, by index.
+    /// Places the load nodes of the run, by index.
     fn place_loads(&mut self, nodes: &[Links]) -> Result<(), OutOfMemory>
         requires few { length nodes.now < 2 ^ 32 }
         requires named { RefersWithin (graph_of nodes.now) }
@@ -186,7 +186,7 @@ impl Queue {
         Ok(())
     }
 
-    // Places the least ready node until none is ready.
+    /// Places the least ready node until none is ready.
     fn place_ready(&mut self, nodes: &[Links]) -> Result<(), OutOfMemory>
         requires few { length nodes.now < 2 ^ 32 }
         requires named { RefersWithin (graph_of nodes.now) }
@@ -212,7 +212,7 @@ impl Queue {
     }
 }
 
-// The place of the first argument that does not stand, from this place on; the number of arguments if all do.
+/// The place of the first argument that does not stand, from this place on; the number of arguments if all do.
 fn passed_from(arguments: &[u32], standing: &[bool], passed: usize) -> usize
     requires within { (n : ℕ) → contains arguments.now n ≡ true → n < length standing.now }
     ensures onwards { passed ≤ result }
@@ -227,7 +227,7 @@ fn passed_from(arguments: &[u32], standing: &[bool], passed: usize) -> usize
     at
 }
 
-// The order of the run of `last`.
+/// The order of the run of `last`.
 pub fn steps_of(alloc: Global, nodes: &[Links], last: u32) -> Result<Vec<u32>, OutOfMemory>
     requires few { length nodes.now < 2 ^ 32 }
     requires last_named { last < length nodes.now }

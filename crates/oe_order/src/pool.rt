@@ -9,14 +9,14 @@ use crate::Links;
 use oe_memory::OutOfMemory;
 use std::alloc::Global;
 
-// The slot of each step, and how many slots there are.
+/// The slot of each step, and how many slots there are.
 #[derive(Drop)]
 pub struct Slotting {
     pub slots: Vec<u32>,
     pub width: u32,
 }
 
-// Which steps hold a slot, the slot of each, and the slots that none holds.
+/// Which steps hold a slot, the slot of each, and the slots that none holds.
 #[derive(Drop)]
 struct Pool {
     held: Vec<bool>,
@@ -40,7 +40,7 @@ impl Pool {
         })
     }
 
-    // Gives the step a slot, a free one where there is one, unless it holds one.
+    /// Gives the step a slot, a free one where there is one, unless it holds one.
     fn hold(&mut self, step: usize)
         requires pool { IsPool self.old.held.items self.old.slots.items self.old.free.items self.old.count }
         requires step { step < length self.old.held.items }
@@ -65,7 +65,7 @@ impl Pool {
         }
     }
 
-    // Gives a slot to each step before this one whose node is an argument.
+    /// Gives a slot to each step before this one whose node is an argument.
     fn hold_arguments(&mut self, arguments: &[u32], places: &[u32], step: usize)
         requires pool { IsPool self.old.held.items self.old.slots.items self.old.free.items self.old.count }
         requires step { step < length self.old.held.items }
@@ -88,7 +88,7 @@ impl Pool {
         }
     }
 
-    // Takes back the slot of a step that holds one.
+    /// Takes back the slot of a step that holds one.
     fn give_up(&mut self, step: usize) -> Result<(), OutOfMemory>
         requires pool { IsPool self.old.held.items self.old.slots.items self.old.free.items self.old.count }
         requires held { slice_index_or self.old.held.items step false ≡ true }
@@ -103,7 +103,7 @@ impl Pool {
     }
 }
 
-// The step of each node that stands, for so many nodes.
+/// The step of each node that stands, for so many nodes.
 fn places_of(alloc: Global, nodes: usize, steps: &[u32]) -> Result<Vec<u32>, OutOfMemory>
     requires few { length steps.now < 2 ^ 32 }
     requires within { (n : ℕ) → IsTrue (contains steps.now n) → n < nodes }
@@ -119,8 +119,8 @@ fn places_of(alloc: Global, nodes: usize, steps: &[u32]) -> Result<Vec<u32>, Out
     Ok(places)
 }
 
-// From the last step back to the first, a node takes a slot where it is first met, at its last consumer, and gives it
-// up once its own step is done.
+/// From the last step back to the first, a node takes a slot where it is first met, at its last consumer, and gives it
+/// up once its own step is done.
 pub fn assign(
     alloc: Global,
     nodes: &[Links],

@@ -8,7 +8,7 @@ use crate::Links;
 use oe_memory::OutOfMemory;
 use std::alloc::Global;
 
-// The mark of each node is whether it belongs to the run of `last`.
+/// The mark of each node is whether it belongs to the run of `last`.
 pub fn members(alloc: Global, nodes: &[Links], last: u32) -> Result<Vec<bool>, OutOfMemory>
     requires last_named { last < length nodes.now }
     requires named { RefersWithin (graph_of nodes.now) }
@@ -29,7 +29,7 @@ pub fn members(alloc: Global, nodes: &[Links], last: u32) -> Result<Vec<bool>, O
     Ok(marks)
 }
 
-// Marks the nodes that have no mark yet, and notes them behind those found before.
+/// Marks the nodes that have no mark yet, and notes them behind those found before.
 fn find(named: &[u32], marks: &mut Vec<bool>, found: &mut Vec<u32>) -> Result<(), OutOfMemory>
     requires within { (n : ℕ) → IsTrue (contains named.now n) → n < length marks.old.items }
     requires marked { IsMarked marks.old.items found.old.items }

@@ -7,7 +7,7 @@ use oe_memory::OutOfMemory;
 use std::alloc::{AllocError, Global};
 use std::test::Fail;
 
-// A graph with a rank for each node that falls along references, and what is expected of it.
+/// A graph with a rank for each node that falls along references, and what is expected of it.
 #[derive(Clone, Copy)]
 struct Row {
     nodes: &'static [(bool, &'static [u32])],
@@ -96,7 +96,7 @@ static ROWS: [Row; 8] = [
     },
 ];
 
-// Whether each of these nodes has a rank below this one.
+/// Whether each of these nodes has a rank below this one.
 fn all_below(arguments: &[u32], ranks: &[u32], rank: u32) -> bool
     ensures { IsTrue result → (a : ℕ) → IsTrue (contains arguments.now a) →
         (a < length ranks.now) × (slice_index ranks.now a < rank) }
@@ -109,7 +109,7 @@ fn all_below(arguments: &[u32], ranks: &[u32], rank: u32) -> bool
     true
 }
 
-// Whether the ranks fall along each reference, so that none leads back to its node.
+/// Whether the ranks fall along each reference, so that none leads back to its node.
 fn is_ranked(nodes: &[Links], ranks: &[u32]) -> bool
     ensures named { IsTrue result → RefersWithin (graph_of nodes.now) }
     ensures acyclic { IsTrue result → IsAcyclic (graph_of nodes.now) }
@@ -125,7 +125,7 @@ fn is_ranked(nodes: &[Links], ranks: &[u32]) -> bool
     true
 }
 
-// The order of a graph whose ranks show that it has no cycle.
+/// The order of a graph whose ranks show that it has no cycle.
 fn ordered(
     alloc: Global,
     nodes: &[Links],
@@ -150,7 +150,7 @@ fn links_of(alloc: Global, rows: &[(bool, &[u32])]) -> Result<Vec<Links>, AllocE
     Ok(nodes)
 }
 
-// A load, and so many nodes each of which takes the one before.
+/// A load, and so many nodes each of which takes the one before.
 fn chain(alloc: Global, count: u32) -> Result<Vec<Links>, AllocError> {
     let mut nodes = Vec::new(alloc);
     for node in 0..count {
@@ -166,17 +166,17 @@ fn chain(alloc: Global, count: u32) -> Result<Vec<Links>, AllocError> {
     Ok(nodes)
 }
 
-// The node that stands at a step of the scattered graph.
+/// The node that stands at a step of the scattered graph.
 fn scattered_node(step: u32) -> u32 {
     (step % 256 * 97 + 13) % 256
 }
 
-// The step at which a node of the scattered graph stands: 97 times 161 is 1 in steps of 256.
+/// The step at which a node of the scattered graph stands: 97 times 161 is 1 in steps of 256.
 fn scattered_step(node: u32) -> u32 {
     (node % 256 + 243) * 161 % 256
 }
 
-// 256 nodes: that of step k takes those of step k - 1 and of step k / 2, so only one order is possible.
+/// 256 nodes: that of step k takes those of step k - 1 and of step k / 2, so only one order is possible.
 fn scattered(alloc: Global) -> Result<Vec<Links>, AllocError> {
     let mut nodes = Vec::new(alloc);
     for node in 0..256 {

@@ -82,7 +82,7 @@ impl MemoryLink {
 
 #[cfg(test)]
 impl MemoryLink {
-    // How many reads and writes have failed.
+    /// How many reads and writes have failed.
     pub(crate) fn faults(&self) -> u64 {
         self.faults
     }

@@ -60,7 +60,7 @@ impl MemorySink {
 
 #[cfg(test)]
 impl MemorySink {
-    // How many writes have failed.
+    /// How many writes have failed.
     pub(crate) fn faults(&self) -> u64 {
         self.faults
     }

@@ -49,7 +49,7 @@ impl MemorySource {
 
 #[cfg(test)]
 impl MemorySource {
-    // How many reads have failed.
+    /// How many reads have failed.
     pub(crate) fn faults(&self) -> u64 {
         self.faults
     }

@@ -65,7 +65,7 @@ impl MemoryStore {
 
 #[cfg(test)]
 impl MemoryStore {
-    // How many calls have failed.
+    /// How many calls have failed.
     pub(crate) fn faults(&self) -> u64 {
         self.faults
     }

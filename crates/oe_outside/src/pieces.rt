@@ -26,7 +26,7 @@ pub(crate) fn append(bytes: &mut Vec<u8>, capacity: usize, piece: &[u8]) -> usiz
     count
 }
 
-// Fills up with zeros to a length.
+/// Fills up with zeros to a length.
 fn pad(bytes: &mut Vec<u8>, len: usize)
     requires { len ≤ vec_capacity bytes.old }
     ensures items { bytes.new.items ≡ bytes.old.items ++ replicate (len - vec_len bytes.old) 0 }
@@ -37,7 +37,7 @@ fn pad(bytes: &mut Vec<u8>, len: usize)
     }
 }
 
-// Writes the piece over what stands at the offset, and behind the end.
+/// Writes the piece over what stands at the offset, and behind the end.
 fn overwrite(bytes: &mut Vec<u8>, at: usize, piece: &[u8])
     requires within { at ≤ vec_len bytes.old }
     requires room { at + length piece.now ≤ vec_capacity bytes.old }

@@ -96,7 +96,7 @@ impl ScriptDoor {
 
 #[cfg(test)]
 impl ScriptDoor {
-    // The counts of faults, of dial faults and of link faults.
+    /// The counts of faults, of dial faults and of link faults.
     pub(crate) fn counts(&self) -> (u64, u64, u64) {
         (self.faults, self.dial_faults, self.link_faults)
     }

@@ -206,7 +206,7 @@ const COPIES: [CopyRow<'static>; 13] = [
     },
 ];
 
-// Tries a copy as often as there are answers, and compares each.
+/// Tries a copy as often as there are answers, and compares each.
 fn try_copies(
     rt: &impl Abort,
     source: &mut MemorySource,
@@ -385,7 +385,7 @@ const WRITES: [WriteRow<'static>; 11] = [
     },
 ];
 
-// One write, through the bound.
+/// One write, through the bound.
 fn write_once<S: Store>(store: &mut S, at: u64, piece: &[u8]) -> Result<(), Failed> {
     store.write_at(at, piece)
 }
@@ -439,7 +439,7 @@ fn reads_at_offsets(rt: HostRuntime) -> Result<(), Fail> {
     Ok(())
 }
 
-// One read and one write, through the bound.
+/// One read and one write, through the bound.
 fn read_once<L: Link>(link: &mut L, into: &mut [u8]) -> Result<usize, Failed> {
     link.read(into)
 }
@@ -471,7 +471,7 @@ fn links_by_pieces(rt: HostRuntime) -> Result<(), Fail> {
     Ok(())
 }
 
-// A link that holds nothing, and whose calls with these numbers fail.
+/// A link that holds nothing, and whose calls with these numbers fail.
 fn silent(alloc: Global, failing: &[u64]) -> Result<MemoryLink, OutOfMemory>
     ensures { IfOk result (λ link. link.faults ≡ 0) }
 {
@@ -495,7 +495,7 @@ enum Found {
     Nothing,
 }
 
-// Takes a step; a connection is written to once, so that one of a script that lists call 0 gets a fault.
+/// Takes a step; a connection is written to once, so that one of a script that lists call 0 gets a fault.
 fn take_step<D: Door>(door: &mut D, held: &mut Option<D::Conn>, step: Step, mark: u8) -> Found
 where
     D::Conn: Drop,
@@ -590,7 +590,7 @@ fn keeps_what_it_did_not_give(rt: HostRuntime) -> Result<(), Fail> {
     Ok(())
 }
 
-// The moment that a clock gives, and a gate that is entered, through the bounds.
+/// The moment that a clock gives, and a gate that is entered, through the bounds.
 fn passes<C: Clock, G: Gate>(clock: &mut C, gate: &G) -> i64 {
     gate.enter(0);
     clock.now_seconds()

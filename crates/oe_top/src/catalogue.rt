@@ -54,7 +54,7 @@ impl MemoryCube {
         }
     }
 
-    // Makes the cells ready to be looked at, which is one read.
+    /// Makes the cells ready to be looked at, which is one read.
     fn read(&mut self) -> Result<(), Failed>
         ensures same { self.new.collection ≡ self.old.collection }
         ensures cause { HasCause self.old.faults self.new.faults result }
@@ -142,7 +142,7 @@ impl Catalogue {
         None
     }
 
-    // Reads the collection at a place, so that its cells may be looked at.
+    /// Reads the collection at a place, so that its cells may be looked at.
     pub(crate) fn read(&mut self, place: usize) -> Result<(), Failed>
         requires { place < length self.old }
         ensures only { OnlyRead self.old self.new }
@@ -152,7 +152,7 @@ impl Catalogue {
         row.cube.read()
     }
 
-    // The shape of the collection at a place.
+    /// The shape of the collection at a place.
     pub(crate) fn shape(&self, place: usize) -> &Shape
         requires { place < length self.now }
         ensures { IfSome (slice_get self.now place) (λ row. result.now ≡ row.source.collection.shape) }
@@ -160,7 +160,7 @@ impl Catalogue {
         self.rows[place].cube.shape()
     }
 
-    // The cells of the collection at a place, in row-major order.
+    /// The cells of the collection at a place, in row-major order.
     pub(crate) fn cells(&self, place: usize) -> &[Cell]
         requires { place < length self.now }
         ensures value { IfSome (slice_get self.now place) (λ row. result.now ≡ row.source.collection.cells) }

@@ -68,7 +68,7 @@ fn run<I: Source, O: Sink>(
     }
 }
 
-// The place of the collection that the input loads.
+/// The place of the collection that the input loads.
 fn find_place<I: Source>(
     alloc: Global,
     input: &mut I,
@@ -90,7 +90,7 @@ fn find_place<I: Source>(
     }
 }
 
-// Writes the text of the collection at a place.
+/// Writes the text of the collection at a place.
 fn load<O: Sink>(catalogue: &mut Catalogue, place: usize, out: &mut O) -> Result<(), Refusal>
     requires { place < length catalogue.old }
     ensures { Loading place catalogue.old (O.written out.old) (O.faults out.old) catalogue.new (O.written out.new) (O.faults out.new) result }

@@ -33,7 +33,7 @@ pub fn read_form(alloc: Global, bytes: &[u8]) -> Result<Text, Refusal>
     }
 }
 
-// The id that an input of the form loads.
+/// The id that an input of the form loads.
 fn form_id(input: &Value) -> Option<&str>
     ensures { option_map (λ id. id.now) result ≡ spec.form_id (view input.now) }
 {
@@ -42,7 +42,7 @@ fn form_id(input: &Value) -> Option<&str>
     if is_name(name) { node_id(node) } else { None }
 }
 
-// The id that a node of the form loads.
+/// The id that a node of the form loads.
 fn node_id(node: &Value) -> Option<&str>
     ensures { option_map (λ id. id.now) result ≡ spec.node_id (view node.now) }
 {
@@ -69,7 +69,7 @@ fn arguments_id(arguments: &Value) -> Option<&str>
     }
 }
 
-// The name and the value of the member of an object that has just one.
+/// The name and the value of the member of an object that has just one.
 fn only_member(value: &Value) -> Option<(&str, &Value)>
     ensures { option_map (λ m. (m.0.now, view m.1.now)) result ≡ spec.only_member (view value.now) }
 {

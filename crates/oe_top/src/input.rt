@@ -32,7 +32,7 @@ pub fn read_input<I: Source>(alloc: Global, input: &mut I) -> Result<Vec<u8>, Re
     Ok(bytes)
 }
 
-// Appends what one read gives, and answers how many bytes that were.
+/// Appends what one read gives, and answers how many bytes that were.
 fn read_more<I: Source>(
     input: &mut I,
     piece: &mut [u8],

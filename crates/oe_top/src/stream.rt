@@ -53,7 +53,7 @@ impl Pending {
         self.len = 0;
     }
 
-    // Appends a piece that fits.
+    /// Appends a piece that fits.
     fn push(&mut self, piece: &[u8])
         requires { length self.old + length piece.now ≤ 8192 }
         ensures { self.new ≡ self.old ++ piece.now }
@@ -86,7 +86,7 @@ pub fn send<O: Sink>(out: &mut O, pending: &mut Pending, piece: &[u8]) -> Result
     send_flushed(out, pending, piece)
 }
 
-// Sends a piece where nothing is pending. A piece that is longer than the room is written at once.
+/// Sends a piece where nothing is pending. A piece that is longer than the room is written at once.
 fn send_flushed<O: Sink>(out: &mut O, pending: &mut Pending, piece: &[u8]) -> Result<(), Failed>
     requires { pending.old ≡ [] }
     ensures { HasSent O.written O.faults out.old [] piece.now out.new pending.new result }

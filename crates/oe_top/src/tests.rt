@@ -8,7 +8,7 @@ use oe_outside::{MemorySink, MemorySource};
 use std::alloc::Global;
 use std::test::Fail;
 
-// A graph of the form that is built, the same with blanks and members in another order, and one with one more member.
+/// A graph of the form that is built, the same with blanks and members in another order, and one with one more member.
 const LOAD: &str =
     "{\"process_graph\":{\"a\":{\"process_id\":\"load_collection\",\"arguments\":{\"id\":\"ONE\",\"spatial_extent\":null,\"temporal_extent\":null},\"result\":true}}}";
 
@@ -50,7 +50,7 @@ fn list<T: Drop>(alloc: Global, item: T) -> Result<Vec<T>, Fail>
     }
 }
 
-// One cell 7 on 2024-01-01 in band B1, at y 0 and x 0.
+/// One cell 7 on 2024-01-01 in band B1, at y 0 and x 0.
 fn one(alloc: Global, failing: Vec<u64>) -> Result<MemoryCube, Fail> {
     let seven = Frac::new(7, 1).ok_or("7 is a number")?;
     let t = list(alloc, 1704067200i64)?;
@@ -64,7 +64,7 @@ fn one(alloc: Global, failing: Vec<u64>) -> Result<MemoryCube, Fail> {
     }
 }
 
-// A cube without dimensions, whose one cell is -3/2.
+/// A cube without dimensions, whose one cell is -3/2.
 fn bare(alloc: Global) -> Result<MemoryCube, Fail> {
     let fraction = Frac::new(-3, 2).ok_or("-3/2 is a number")?;
     let cells = list(alloc, Cell::Number(fraction))?;
@@ -74,7 +74,7 @@ fn bare(alloc: Global) -> Result<MemoryCube, Fail> {
     }
 }
 
-// Runs the words on the graph, where these reads of the collection and these writes of the output fail.
+/// Runs the words on the graph, where these reads of the collection and these writes of the output fail.
 fn run_over(
     alloc: Global,
     line: &str,

@@ -45,7 +45,7 @@ fn send_text<O: Sink>(
     send_end(out, pending)
 }
 
-// The end of the text, and what is still held.
+/// The end of the text, and what is still held.
 fn send_end<O: Sink>(out: &mut O, pending: &mut Pending) -> Result<(), Failed>
     ensures sent { HasSent O.written O.faults out.old pending.old (codes "]}") out.new pending.new result }
     ensures empty { OnOk result (pending.new ≡ []) }
@@ -72,7 +72,7 @@ fn send_dimensions<O: Sink>(out: &mut O, pending: &mut Pending, shape: &Shape) -
     Ok(())
 }
 
-// A dimension that the shape has, after those that were sent. Answers how many were sent by then.
+/// A dimension that the shape has, after those that were sent. Answers how many were sent by then.
 fn send_present<O: Sink>(
     out: &mut O,
     pending: &mut Pending,
@@ -259,7 +259,7 @@ fn send_cell<O: Sink>(
     send(out, pending, spelled.bytes())
 }
 
-// A comma before each part but the first.
+/// A comma before each part but the first.
 fn send_separator<O: Sink>(out: &mut O, pending: &mut Pending, place: usize) -> Result<(), Failed>
     ensures { HasSent O.written O.faults out.old pending.old (spec.separator place) out.new pending.new result }
 {

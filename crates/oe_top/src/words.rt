@@ -37,7 +37,7 @@ fn is_side(word: &Text) -> bool
     is_number(word, 1, 4096)
 }
 
-// Whether the word is the decimal spelling, with no sign and no leading zero, of a number from `low` to `high`.
+/// Whether the word is the decimal spelling, with no sign and no leading zero, of a number from `low` to `high`.
 fn is_number(word: &Text, low: u32, high: u32) -> bool
     ensures { IsTrue result ↔ IsNumberWord low high word.now }
 {
@@ -53,7 +53,7 @@ fn is_within(number: u32, low: u32, high: u32) -> bool
     low <= number && number <= high
 }
 
-// Whether the word is the decimal spelling of the number.
+/// Whether the word is the decimal spelling of the number.
 fn is_spelling(word: &Text, number: u32) -> bool
     ensures { IsTrue result ↔ word.now ≡ decimal number }
 {

@@ -1,5 +1,5 @@
 // Standard input, output and error as the top call sees them. They tell nothing of the bytes that pass.
-ghost use Rattle.std.specs.Prelude.{None};
+ghost use Rattle.std.specs.Prelude.{◌≡◌, None};
 
 use oe_outside::{Failed, Sink, Source};
 use std::io::{Read, Write};
@@ -13,7 +13,9 @@ pub struct Reader<R> {
 
 impl<R: Read> Reader<R> {
     /// A reader that has not failed yet.
-    pub fn new(from: R) -> Self {
+    pub fn new(from: R) -> Self
+        ensures { result.faults ≡ 0 }
+    {
         Reader { from, faults: 0 }
     }
 }
@@ -43,7 +45,9 @@ pub struct Writer<W> {
 
 impl<W: Write> Writer<W> {
     /// A writer that has not failed yet.
-    pub fn new(to: W) -> Self {
+    pub fn new(to: W) -> Self
+        ensures { result.faults ≡ 0 }
+    {
         Writer { to, faults: 0 }
     }
 }
@@ -63,7 +67,7 @@ impl<W: Write> Sink for Writer<W> {
     }
 }
 
-// Writes the whole piece, and says whether it could.
+/// Writes the whole piece, and says whether it could.
 fn write_whole<W: Write>(to: &mut W, piece: &[u8]) -> bool {
     let mut rest = piece;
     while !rest.is_empty() {
