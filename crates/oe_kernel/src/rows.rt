@@ -1,5 +1,7 @@
 // One row of the window: its products, added from the left.
 ghost use Rattle.std.specs.Prelude.{◌≡◌, ◌<◌, ◌≤◌, ◌+◌, length, IfSome};
+ghost use Rattle.oe_cell.specs.Exact.{cell_of_lowest};
+ghost use Rattle.oe_cell.specs.declared.cell.Cell.{Cell};
 ghost use Rattle.oe_kernel.specs.Kernels.{largest};
 ghost use Rattle.oe_kernel.specs.Convolution.{number_of, border_number, row_added, reach, Holds, IsFromTo, longest};
 ghost use Rattle.oe_kernel.specs.Rows.{beside, bordered, placed, pixel_in};
@@ -7,7 +9,7 @@ ghost use Rattle.oe_kernel.specs.Totals.{total_of};
 
 use crate::Border;
 use crate::border::index_of;
-use crate::total::{Total, whole, with_product};
+use crate::total::{Total, whole, whole_sum, with_product};
 use oe_cell::{Cell, Frac};
 
 /// Where a place of a window of this size stands, whose middle is at a position.
@@ -30,16 +32,48 @@ fn as_number(pixel: Cell, replace: Frac) -> Cell
     }
 }
 
-/// The pixels that stand beside the values.
+/// The sum of the products from the first on, as long as it is whole, and how many of them it has.
+fn whole_run(sum: i64, values: &[Frac], pixels: &[Cell], replace: Frac) -> (i64, usize)
+    requires { length values.now ≡ length pixels.now }
+    ensures within { result.1 ≤ length values.now }
+    ensures value { cell_of_lowest result.0 1 ≡ row_added (beside values.now pixels.now replace) result.1 (cell_of_lowest sum 1) }
+{
+    let mut total = sum;
+    for i in 0..values.len() {
+        match whole_sum(total, values[i], &as_number(pixels[i], replace)) {
+            Some(next) => total = next,
+            None => return (total, i),
+        }
+    }
+    (total, values.len())
+}
+
+/// The total of the products before a place, and those from there on.
+fn with_rest(total: Total, values: &[Frac], pixels: &[Cell], replace: Frac, place: usize) -> Total
+    requires same_length { length values.now ≡ length pixels.now }
+    requires within { place ≤ length values.now }
+    ensures { (start : Cell) → total_of total ≡ row_added (beside values.now pixels.now replace) place start
+        → total_of result ≡ row_added (beside values.now pixels.now replace) (length values.now) start }
+{
+    let mut sum = total;
+    for i in place..values.len() {
+        sum = with_product(sum, values[i], as_number(pixels[i], replace));
+    }
+    sum
+}
+
+/// The pixels that stand beside the values: as machine numbers as long as they and their sum are whole.
 fn with_slice(total: Total, values: &[Frac], pixels: &[Cell], replace: Frac) -> Total
     requires { length values.now ≡ length pixels.now }
     ensures { total_of result ≡ row_added (beside values.now pixels.now replace) (length values.now) (total_of total) }
 {
-    let mut sum = total;
-    for i in 0..values.len() {
-        sum = with_product(sum, values[i], as_number(pixels[i], replace));
+    match total {
+        Total::Whole(sum) => {
+            let (sum, place) = whole_run(sum, values, pixels, replace);
+            with_rest(Total::Whole(sum), values, pixels, replace, place)
+        }
+        Total::Other(sum) => with_rest(Total::Other(sum), values, pixels, replace, 0),
     }
-    sum
 }
 
 /// Every pixel of the row is outside.

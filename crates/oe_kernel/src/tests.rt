@@ -121,7 +121,7 @@ fn applied(
 }
 
 #[test]
-fn ones_add_the_window(rt: HostRuntime) -> Result<(), Fail> {
+fn adds_the_window(rt: HostRuntime) -> Result<(), Fail> {
     let kernel = kernel(rt.alloc(), 3, 3, &[1; 9])?;
     let cells = wholes(rt.alloc(), &[1, 2, 3, 4])?;
     let found = applied(&rt, rt.alloc(), &kernel, number(0)?, loaded(2, 2, &cells))?;
@@ -130,7 +130,7 @@ fn ones_add_the_window(rt: HostRuntime) -> Result<(), Fail> {
 }
 
 #[test]
-fn each_border_stands_for_pixels_outside(rt: HostRuntime) -> Result<(), Fail> {
+fn takes_each_border(rt: HostRuntime) -> Result<(), Fail> {
     let kernel = kernel(rt.alloc(), 3, 1, &[1; 3])?;
     let cells = wholes(rt.alloc(), &[1, 2, 4])?;
     for (border, wanted) in [
@@ -148,7 +148,7 @@ fn each_border_stands_for_pixels_outside(rt: HostRuntime) -> Result<(), Fail> {
 }
 
 #[test]
-fn one_pixel_is_its_own_mirror_image(rt: HostRuntime) -> Result<(), Fail> {
+fn mirrors_one_pixel(rt: HostRuntime) -> Result<(), Fail> {
     let kernel = kernel(rt.alloc(), 5, 5, &[1; 25])?;
     let cells = [whole(2)];
     let found = applied(
@@ -164,7 +164,7 @@ fn one_pixel_is_its_own_mirror_image(rt: HostRuntime) -> Result<(), Fail> {
 
 // Around a single 1 the values of the kernel come out turned about; those of a flipped one would stand as they are.
 #[test]
-fn the_kernel_is_not_flipped(rt: HostRuntime) -> Result<(), Fail> {
+fn does_not_flip_the_kernel(rt: HostRuntime) -> Result<(), Fail> {
     let along_x = kernel(rt.alloc(), 3, 1, &[1, 10, 100])?;
     let along_y = kernel(rt.alloc(), 1, 3, &[1, 10, 100])?;
     let cells = wholes(rt.alloc(), &[1, 2, 4])?;
@@ -182,7 +182,7 @@ fn the_kernel_is_not_flipped(rt: HostRuntime) -> Result<(), Fail> {
 }
 
 #[test]
-fn a_kernel_may_be_wider_than_high(rt: HostRuntime) -> Result<(), Fail> {
+fn takes_kernels_that_are_not_square(rt: HostRuntime) -> Result<(), Fail> {
     let kernel = kernel(
         rt.alloc(),
         5,
@@ -197,7 +197,7 @@ fn a_kernel_may_be_wider_than_high(rt: HostRuntime) -> Result<(), Fail> {
 }
 
 #[test]
-fn the_factor_multiplies_each_total(rt: HostRuntime) -> Result<(), Fail> {
+fn multiplies_by_the_factor(rt: HostRuntime) -> Result<(), Fail> {
     let kernel = kernel(rt.alloc(), 3, 1, &[1, 10, 100])?;
     let cells = wholes(rt.alloc(), &[1, 2, 4])?;
     let plane = loaded(3, 1, &cells);
@@ -230,7 +230,7 @@ fn line(rt: &impl Abort, alloc: Global, border: Border, cells: &[Cell]) -> Resul
 
 // Each row: the border, the result on a side of one cell, and that on a side of two.
 #[test]
-fn borders_reach_past_both_ends_of_a_short_side(rt: HostRuntime) -> Result<(), Fail> {
+fn reaches_past_both_ends_of_a_short_side(rt: HostRuntime) -> Result<(), Fail> {
     for (border, one, two) in [
         (number(7)?, [176], [187, 190]),
         (Border::Replicate, [56], [190, 226]),
@@ -248,7 +248,7 @@ fn borders_reach_past_both_ends_of_a_short_side(rt: HostRuntime) -> Result<(), F
 
 // A null counts as 5 here, true as 1 and false as 0. The border's number is never replaced.
 #[test]
-fn nulls_and_flags_count_as_numbers(rt: HostRuntime) -> Result<(), Fail> {
+fn counts_nulls_and_flags_as_numbers(rt: HostRuntime) -> Result<(), Fail> {
     let ones = kernel(rt.alloc(), 3, 1, &[1; 3])?;
     let mixed = [TRUE, NULL, FALSE];
     let found = applied(&rt, rt.alloc(), &ones, number(0)?, loaded(3, 1, &mixed))?;
@@ -264,7 +264,7 @@ fn nulls_and_flags_count_as_numbers(rt: HostRuntime) -> Result<(), Fail> {
 }
 
 #[test]
-fn over_counts_in_the_window_alone(rt: HostRuntime) -> Result<(), Fail> {
+fn counts_over_in_the_window_alone(rt: HostRuntime) -> Result<(), Fail> {
     let kernel = kernel(rt.alloc(), 3, 1, &[1; 3])?;
     let cells = [OVER, whole(1), whole(1), whole(1), whole(1)];
     let found = applied(&rt, rt.alloc(), &kernel, number(0)?, loaded(5, 1, &cells))?;
@@ -274,7 +274,7 @@ fn over_counts_in_the_window_alone(rt: HostRuntime) -> Result<(), Fail> {
 }
 
 #[test]
-fn zero_times_over_is_over(rt: HostRuntime) -> Result<(), Fail> {
+fn gives_over_for_zero_times_over(rt: HostRuntime) -> Result<(), Fail> {
     let kernel = kernel(rt.alloc(), 3, 1, &[0; 3])?;
     let cells = [OVER, whole(1), whole(1)];
     let found = applied(&rt, rt.alloc(), &kernel, number(0)?, loaded(3, 1, &cells))?;
@@ -285,7 +285,7 @@ fn zero_times_over_is_over(rt: HostRuntime) -> Result<(), Fail> {
 
 // Past the limit by one on the way, although the last cell would bring the total back.
 #[test]
-fn a_sum_over_the_limit_on_the_way_is_over(rt: HostRuntime) -> Result<(), Fail> {
+fn gives_over_for_a_sum_past_the_limit_on_the_way(rt: HostRuntime) -> Result<(), Fail> {
     let ones = kernel(rt.alloc(), 3, 1, &[1; 3])?;
     let first = wholes(rt.alloc(), &[LIMIT, 1, -5])?;
     let found = applied(&rt, rt.alloc(), &ones, number(0)?, loaded(3, 1, &first))?;
@@ -298,7 +298,7 @@ fn a_sum_over_the_limit_on_the_way_is_over(rt: HostRuntime) -> Result<(), Fail> 
 }
 
 #[test]
-fn a_product_over_the_limit_is_over(rt: HostRuntime) -> Result<(), Fail> {
+fn gives_over_for_a_product_past_the_limit(rt: HostRuntime) -> Result<(), Fail> {
     let kernel = kernel(rt.alloc(), 1, 1, &[2])?;
     let half = 4611686018427387904;
     let cells = [whole(LIMIT), whole(half), whole(half - 1)];
@@ -311,7 +311,7 @@ fn a_product_over_the_limit_is_over(rt: HostRuntime) -> Result<(), Fail> {
 // Row by row the first plane comes to LIMIT, 0, 2, 3, 6, 10, 15, 21 and 28. Its columns, and the rows of the second
 // plane, begin with LIMIT and 1.
 #[test]
-fn cells_are_added_row_by_row(rt: HostRuntime) -> Result<(), Fail> {
+fn adds_row_by_row(rt: HostRuntime) -> Result<(), Fail> {
     let kernel = kernel(rt.alloc(), 3, 3, &[1; 9])?;
     for (cells, wanted) in [
         ([LIMIT, -LIMIT, 2, 1, 3, 4, 5, 6, 7], whole(28)),
@@ -328,7 +328,7 @@ fn cells_are_added_row_by_row(rt: HostRuntime) -> Result<(), Fail> {
 // With pixels 1/2, 1/3 and 4 and values 1/2, 1 and 1/3: 1/2 + 1/9, then 1/4 + 1/3 + 4/3, then 1/6 + 4. A border of 1/2
 // adds 1/4 at the first and 1/6 at the last.
 #[test]
-fn fractions_stay_exact(rt: HostRuntime) -> Result<(), Fail> {
+fn keeps_fractions_exact(rt: HostRuntime) -> Result<(), Fail> {
     let half = fraction(1, 2)?;
     let third = fraction(1, 3)?;
     let values = Vec::from_array(rt.alloc(), [half, fraction(1, 1)?, third])?;
@@ -350,7 +350,7 @@ fn fractions_stay_exact(rt: HostRuntime) -> Result<(), Fail> {
 
 // With values 1, 0 and 2: 0 + 0 + 2/3, then 3 + 0 + 8, then 1/3 + 0 + 0.
 #[test]
-fn a_value_of_zero_leaves_the_sum(rt: HostRuntime) -> Result<(), Fail> {
+fn leaves_the_sum_at_a_value_of_zero(rt: HostRuntime) -> Result<(), Fail> {
     let kernel = kernel(rt.alloc(), 3, 1, &[1, 0, 2])?;
     let third = Cell::Number(fraction(1, 3)?);
     let cells = [whole(3), third, whole(4)];
@@ -394,7 +394,7 @@ fn pixel_of_part(
 
 // The windows lie in the loaded part and meet its first and its last column and row.
 #[test]
-fn the_border_does_not_begin_where_the_part_ends(rt: HostRuntime) -> Result<(), Fail> {
+fn begins_no_border_where_the_part_ends(rt: HostRuntime) -> Result<(), Fail> {
     let kernel = kernel(rt.alloc(), 3, 3, &[1; 9])?;
     let cells = wholes(rt.alloc(), &[1, 2, 3, 4, 5, 6, 7, 8, 9, 10, 11, 12])?;
     let plane = Plane {
@@ -416,7 +416,7 @@ fn the_border_does_not_begin_where_the_part_ends(rt: HostRuntime) -> Result<(), 
 
 // Two parts of two columns and two rows, at the plane's first pixel and at its last one.
 #[test]
-fn the_border_begins_where_the_plane_ends(rt: HostRuntime) -> Result<(), Fail> {
+fn begins_the_border_where_the_plane_ends(rt: HostRuntime) -> Result<(), Fail> {
     let kernel = kernel(rt.alloc(), 3, 3, &[1, 2, 3, 4, 5, 6, 7, 8, 9])?;
     let cells = wholes(rt.alloc(), &[1, 2, 3, 4])?;
     let first = Plane {
@@ -460,7 +460,7 @@ fn index(rt: &impl Abort, border: Border, at: i64, side: u32) -> Option<u32> {
 
 // 2^20 is 4 modulo 6, 0 modulo 4 and 1 modulo 3.
 #[test]
-fn borders_put_far_positions_on_the_side(rt: HostRuntime) {
+fn puts_far_positions_on_the_side(rt: HostRuntime) {
     for (border, at, side, wanted) in [
         (Border::Replicate, -1048576, 3, 0),
         (Border::Replicate, 1048576, 3, 2),
@@ -479,7 +479,7 @@ fn borders_put_far_positions_on_the_side(rt: HostRuntime) {
 }
 
 #[test]
-fn a_number_stands_for_no_position(rt: HostRuntime) -> Result<(), Fail> {
+fn gives_no_position_for_a_number(rt: HostRuntime) -> Result<(), Fail> {
     for (at, wanted) in [
         (-1048576, None),
         (-1, None),
@@ -494,7 +494,7 @@ fn a_number_stands_for_no_position(rt: HostRuntime) -> Result<(), Fail> {
 }
 
 #[test]
-fn values_that_are_no_kernel_are_refused(rt: HostRuntime) -> Result<(), Fail> {
+fn refuses_values_that_are_no_kernel(rt: HostRuntime) -> Result<(), Fail> {
     for (width, height, count, fault) in [
         (2, 3, 5, KernelFault::LengthDiffers),
         (2, 3, 6, KernelFault::Uneven),
@@ -515,7 +515,7 @@ fn values_that_are_no_kernel_are_refused(rt: HostRuntime) -> Result<(), Fail> {
 }
 
 #[test]
-fn a_kernel_tells_its_sizes_and_values(rt: HostRuntime) -> Result<(), Fail> {
+fn tells_sizes_and_values(rt: HostRuntime) -> Result<(), Fail> {
     let values = [1, 2, 3, 4, 5, 6, 7, 8, 9, 10, 11, 12, 13, 14, 15];
     let kernel = kernel(rt.alloc(), 5, 3, &values)?;
     assert_eq!(rt; (kernel.width(), kernel.height()), (5, 3));
@@ -530,7 +530,7 @@ fn a_kernel_tells_its_sizes_and_values(rt: HostRuntime) -> Result<(), Fail> {
 }
 
 #[test]
-fn threads_share_a_kernel(rt: HostRuntime) -> Result<(), Fail> {
+fn is_shared_by_threads(rt: HostRuntime) -> Result<(), Fail> {
     let kernel = kernel(rt.alloc(), 3, 1, &[4, 5, 6])?;
     let sizes = thread::join(&rt, || kernel.width(), || kernel.height());
     assert_eq!(rt; sizes, (3, 1));
@@ -538,7 +538,7 @@ fn threads_share_a_kernel(rt: HostRuntime) -> Result<(), Fail> {
 }
 
 #[test]
-fn threads_own_a_kernel_each(rt: HostRuntime) -> Result<(), Fail> {
+fn moves_to_threads(rt: HostRuntime) -> Result<(), Fail> {
     let wide = kernel(rt.alloc(), 3, 1, &[4, 5, 6])?;
     let high = kernel(rt.alloc(), 1, 5, &[4, 5, 6, 7, 8])?;
     let sizes = thread::join(&rt, move || wide.width(), move || high.height());
