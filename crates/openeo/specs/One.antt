@@ -1,5 +1,5 @@
 -- The collection that the program has.
-use Rattle.std.specs.Prelude.{ℕ, pos, List, [], ◌∷◌, Some, codes}
+use Rattle.std.specs.Prelude.{pos, [], ◌∷◌, Some, codes}
 use Rattle.oe_cell.specs.declared.cell.Cell.TheVariants.{Number}
 use Rattle.oe_dims.specs.declared.kind.CellKind.TheVariants.{Numbers}
 use Rattle.oe_top.specs.Collection.{Row}

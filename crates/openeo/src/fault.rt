@@ -1,4 +1,7 @@
 // Why the program ended before its command began.
+ghost use Rattle.std.specs.Prelude.{◌≡◌};
+ghost use Rattle.openeo.specs.Ends.{status_of};
+
 use oe_memory::OutOfMemory;
 use thiserror::Error;
 
@@ -18,7 +21,9 @@ pub enum Fault {
 
 impl Fault {
     /// The exit status.
-    pub fn status(self) -> u8 {
+    pub fn status(self) -> u8
+        ensures { result ≡ status_of self }
+    {
         match self {
             Fault::Setup(_) => 14,
             Fault::Write => 8,

@@ -1,4 +1,7 @@
 // What `--help` and `--version` print.
+ghost use Rattle.std.specs.Prelude.{◌≡◌, ◌↔◌, ◌⊎◌, IsSome, codes};
+ghost use Rattle.openeo.specs.Ends.{AsksForText};
+
 use oe_dims::Text;
 
 const HELP: &str = "\
@@ -23,14 +26,18 @@ Exit status: 0 the whole text was written; 1 Usage, the words are no command; 2 
 const VERSION: &str = "openeo 0.1.0 (openEO API 1.2)\n";
 
 /// The text that the words ask for, if they ask for one.
-pub fn text_of(words: &[Text]) -> Option<&'static str> {
+pub fn text_of(words: &[Text]) -> Option<&'static str>
+    ensures { IsSome result ↔ AsksForText words.now }
+{
     match words {
         [word] => text_of_word(word.as_str()),
         _ => None,
     }
 }
 
-fn text_of_word(word: &str) -> Option<&'static str> {
+fn text_of_word(word: &str) -> Option<&'static str>
+    ensures { IsSome result ↔ ((word.now ≡ codes "--help") ⊎ (word.now ≡ codes "--version")) }
+{
     if word == "--help" {
         Some(HELP)
     } else if word == "--version" {
