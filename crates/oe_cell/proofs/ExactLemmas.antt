@@ -8,7 +8,7 @@ use Rattle.std.proofs.lemmas.Bool.{and_parts, and_from, cond-true, cond-false, c
 use Rattle.oe_cell.specs.Fraction.{Fraction, IsNumber, IsCoprime}
 use Rattle.oe_cell.specs.Cells.{IsCell}
 use Rattle.oe_cell.specs.Exact.{gcd_of, exact, cell_of_lowest, IsExactValue, IsSameRational}
-use Rattle.oe_cell.specs.Reduction.{Expands}
+use Rattle.oe_cell.specs.LowestTerms.{Expands}
 use Rattle.oe_cell.specs.declared.cell.Cell.{Cell}
 use Rattle.oe_cell.specs.declared.cell.Cell.TheVariants.{Empty, Flag, Number, Over}
 use Rattle.oe_cell.proofs.Coprime.{IsGcd-gcd_of, gcd_of-scale, IsCoprime-quotients, IsCoprime-swap, IsCoprime-part, IsCoprime-product, dvd_from_product}

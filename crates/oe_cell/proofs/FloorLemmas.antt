@@ -6,7 +6,7 @@ use Rattle.std.proofs.Math.Nat.{div-add-mod', mul-div-mul_right, div-div-eq-div-
 use Rattle.std.proofs.lemmas.Int.{ints, by_lt_z}
 use Rattle.oe_cell.specs.Fraction.{Fraction}
 use Rattle.oe_cell.specs.Rational.{floor_int, ceil_int, truncated_int, IsFloor, IsCeil, IsTruncated}
-use Rattle.oe_cell.specs.Reduction.{floor_quotient}
+use Rattle.oe_cell.specs.LowestTerms.{floor_quotient}
 use Rattle.oe_cell.proofs.Scale.{scale-add, scale-neg, at_most_scale}
 
 -- the quotient and the remainder of a division by a positive number

@@ -29,7 +29,8 @@ compare_of_antisymm p q = int_cmp_total.antisymm (p.num *ℤ pos q.den) (q.num *
 below_from_less : (p q : Fraction) → compare_of p q ≡ Less → (p.num *ℤ pos q.den) <ℤ (q.num *ℤ pos p.den)
 below_from_less p q e = int_ranked _ _ Less (sym e)
 
-scale_swap : (z : ℤ) (a b : ℕ) → z *ℤ pos a *ℤ pos b ≡ z *ℤ pos b *ℤ pos a
+-- two factors change places
+pub scale_swap : (z : ℤ) (a b : ℕ) → z *ℤ pos a *ℤ pos b ≡ z *ℤ pos b *ℤ pos a
 scale_swap z a b = scale-scale z a b ∙ ap (λ (n : ℕ). z *ℤ pos n) (mul_comm a b) ∙ sym (scale-scale z b a)
 
 -- what is less than a lesser number is less

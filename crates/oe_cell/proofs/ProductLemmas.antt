@@ -8,7 +8,7 @@ use Rattle.std.proofs.lemmas.Int.{unsigned_abs-mul}
 use Rattle.oe_cell.specs.Exact.{exact, exact_value, IsExactValue}
 use Rattle.oe_cell.specs.Fraction.{Fraction, IsNumber, IsCoprime}
 use Rattle.oe_cell.specs.Rational.{product_of}
-use Rattle.oe_cell.specs.Reduction.{Expands}
+use Rattle.oe_cell.specs.LowestTerms.{Expands}
 use Rattle.oe_cell.specs.declared.cell.Cell.{Cell}
 use Rattle.oe_cell.specs.declared.cell.Cell.TheVariants.{Number}
 use Rattle.oe_cell.proofs.Coprime.{IsCoprime-swap, IsCoprime-part, IsCoprime-product}

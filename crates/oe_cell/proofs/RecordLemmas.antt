@@ -174,7 +174,7 @@ parts_are t front back front_len back_len front_bytes back_bytes =
     let n = from_be_bytes w64 back in
     ap (λ (k : ℕ). t ∷ to_be_bytes w64 k ++ to_be_bytes w64 n) (of_z-to_z w64 m (from_bytes_below front front_bytes)) ∙ ap (λ (xs : List ℕ). t ∷ xs ++ to_be_bytes w64 n) (be_bytes_8 front m front_len front_bytes refl) ∙ ap (λ (xs : List ℕ). t ∷ front ++ xs) (be_bytes_8 back n back_len back_bytes refl)
 
-take_below : (n : ℕ) (bs : List ℕ) → ((k : ℕ) → get_or bs k 0 < 256) → (k : ℕ) → get_or (take n bs) k 0 < 256
+pub take_below : (n : ℕ) (bs : List ℕ) → ((k : ℕ) → get_or bs k 0 < 256) → (k : ℕ) → get_or (take n bs) k 0 < 256
 take_below n bs h k =
     elim (cases_lt k n) [
       | inl below ↦ rw (get_or-take n bs k 0 below) (h k)

@@ -8,14 +8,14 @@ use Rattle.std.proofs.lemmas.Int.{ints, unsigned_abs-mul}
 use Rattle.oe_cell.specs.Fraction.{IsCoprime}
 use Rattle.oe_cell.specs.Exact.{exact, exact_value}
 use Rattle.oe_cell.specs.Rational.{remainder_of}
-use Rattle.oe_cell.specs.Reduction.{Expands, floor_quotient}
+use Rattle.oe_cell.specs.LowestTerms.{Expands, floor_quotient}
 use Rattle.oe_cell.proofs.Coprime.{IsCoprime-swap, IsCoprime-part}
 use Rattle.oe_cell.proofs.ExactLemmas.{exact-scale}
 use Rattle.oe_cell.proofs.FloorLemmas.{div_euclid-scale}
 use Rattle.oe_cell.proofs.Scale.{abs-scale, scale-scale, scale-add, scale-neg, scale-product}
 use Rattle.oe_cell.proofs.SumLemmas.{left_is, left_some, left_divides, IsCoprime-sum}
 
-signum-scale : (z : ℤ) (k : ℕ) → 0 < k → int_signum (z *ℤ pos k) ≡ int_signum z
+pub signum-scale : (z : ℤ) (k : ℕ) → 0 < k → int_signum (z *ℤ pos k) ≡ int_signum z
 signum-scale (pos zero) k some = rw zero-mul refl
 signum-scale (pos (suc a)) k some =
     let product : 0 < suc a * k = mul-pos (omega arith) some in

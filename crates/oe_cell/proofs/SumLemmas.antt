@@ -2,14 +2,17 @@
 use Rattle.std.proofs.Common.{◌≡◌, ℕ, ◌+◌, ◌*◌, ◌<◌, ◌⊎◌, inl, inr, sym, ap, ◌∙◌, subst, arith, ℤ, pos, ◌+ℤ◌, ◌*ℤ◌}
 use Rattle.std.specs.Prelude.{unsigned_abs}
 use Rattle.std.specs.Int.{◌∣◌}
-use Rattle.std.proofs.Math.Nat.{dvd-add, dvd-add_iff_left, dvd-add_iff_right, dvd-mul_left, dvd-mul_right, dvd_trans, mul-pos, mul_assoc, mul-mul-mul_comm, pos_of_dvd_of_pos}
-use Rattle.std.proofs.Math.IntN.{+ℤ_comm}
+use Rattle.std.proofs.Math.Nat.{dvd-add, dvd-add_iff_left, dvd-add_iff_right, dvd-mul_left, dvd-mul_right, dvd_trans, mul-pos, mul_assoc, mul_comm, mul-mul-mul_comm, pos_of_dvd_of_pos}
+use Rattle.std.proofs.Math.IntN.{+ℤ_comm, zero-*ℤ}
 use Rattle.std.proofs.lemmas.Int.{ints}
-use Rattle.oe_cell.specs.Fraction.{IsCoprime}
-use Rattle.oe_cell.specs.Exact.{exact}
-use Rattle.oe_cell.specs.Reduction.{Expands}
+use Rattle.oe_cell.specs.Fraction.{Fraction, IsNumber, IsCoprime}
+use Rattle.oe_cell.specs.Exact.{exact, exact_value, IsExactValue}
+use Rattle.oe_cell.specs.Rational.{sum_of}
+use Rattle.oe_cell.specs.LowestTerms.{Expands}
 use Rattle.oe_cell.proofs.Coprime.{IsCoprime-swap, IsCoprime-part, IsCoprime-product}
-use Rattle.oe_cell.proofs.ExactLemmas.{exact-scale, Expands-den_positive}
+use Rattle.oe_cell.specs.declared.cell.Cell.{Cell}
+use Rattle.oe_cell.specs.declared.cell.Cell.TheVariants.{Number}
+use Rattle.oe_cell.proofs.ExactLemmas.{IsExactValue-exact, exact-scale, exact-lowest, cell_of_lowest-number, Expands-den_positive}
 use Rattle.oe_cell.proofs.Scale.{abs-scale, scale-scale, scale-add}
 
 abs_cases : (x y : ℤ) → (unsigned_abs (x +ℤ y) ≡ unsigned_abs x + unsigned_abs y) ⊎ ((unsigned_abs x ≡ unsigned_abs (x +ℤ y) + unsigned_abs y) ⊎ (unsigned_abs y ≡ unsigned_abs (x +ℤ y) + unsigned_abs x))
@@ -59,3 +62,29 @@ exact-total a c b d left right common h some_b some_d =
     let nums : t *ℤ pos common ≡ a *ℤ pos d +ℤ c *ℤ pos b = rw (left_is h, h.den_is) (scale-add (a *ℤ pos right) (c *ℤ pos left) common ∙ ap (λ (z : ℤ). z +ℤ c *ℤ pos left *ℤ pos common) (scale-scale a right common) ∙ ap (λ (z : ℤ). a *ℤ pos (right * common) +ℤ z) (scale-scale c left common)) in
     let dens : left * right * common * common ≡ b * d = rw (left_is h, h.den_is) (mul_assoc (left * right) common common ∙ sym (mul-mul-mul_comm left common right common)) in
     sym (exact-scale t (left * right * common) common some h.by_some) ∙ ap (λ (z : ℤ). exact z (left * right * common * common)) nums ∙ ap (λ (n : ℕ). exact (a *ℤ pos d +ℤ c *ℤ pos b) n) dens
+
+pub sum-comm : (p q : Fraction) → sum_of q p ≡ sum_of p q
+sum-comm p q = λ i. record {
+  num = +ℤ_comm (q.num *ℤ pos p.den) (p.num *ℤ pos q.den) i;
+  den = mul_comm q.den p.den i;
+}
+
+-- a number and 0 add up to that number
+pub sum-zero_right : (p q : Fraction) → IsNumber p → IsNumber q → q.num ≡ pos 0 → exact_value (sum_of p q) ≡ Number p
+sum-zero_right p q p_number q_number zero =
+    let last : q.num *ℤ pos p.den ≡ pos 0 = ap (λ (z : ℤ). z *ℤ pos p.den) zero ∙ zero-*ℤ (pos p.den) in
+    let alone : p.num *ℤ pos q.den +ℤ q.num *ℤ pos p.den ≡ p.num *ℤ pos q.den = omega (arith, ints, last) in
+    ap (λ (z : ℤ). exact z (p.den * q.den)) alone
+    ∙ exact-scale p.num p.den q.den p_number.den_positive q_number.den_positive
+    ∙ exact-lowest p.num p.den p_number.reduced
+    ∙ cell_of_lowest-number p.num p.den (record { num_fits = p_number.num_fits; den_fits = p_number.den_fits })
+
+pub sum-zero_left : (p q : Fraction) → IsNumber p → IsNumber q → p.num ≡ pos 0 → exact_value (sum_of p q) ≡ Number q
+sum-zero_left p q p_number q_number zero =
+    ap exact_value (sum-comm q p) ∙ sum-zero_right q p q_number p_number zero
+
+-- a cell that is the exact sum is what the exact sum means
+pub sum-means : (p q : Fraction) (c : Cell) → IsNumber p → IsNumber q → c ≡ exact_value (sum_of p q) → IsExactValue (sum_of p q) c
+sum-means p q c p_number q_number same =
+    subst (λ (x : Cell). IsExactValue (sum_of p q) x) (sym same)
+    (IsExactValue-exact _ _ (mul-pos p_number.den_positive q_number.den_positive))

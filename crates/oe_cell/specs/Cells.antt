@@ -1,5 +1,5 @@
 -- Cells as operands: the cases that all operations share, tried from the first to the last.
-use Rattle.std.specs.Prelude.{⊤}
+use Rattle.std.specs.Prelude.{⊤, ◌<◌, unsigned_abs}
 use Rattle.oe_cell.specs.Fraction.{Fraction, IsNumber}
 use Rattle.oe_cell.specs.declared.cell.Cell.{Cell}
 use Rattle.oe_cell.specs.declared.cell.Cell.TheVariants.{Empty, Flag, Number, Over}
@@ -22,7 +22,11 @@ IfNumber Over P = ⊤
 abbrev pub IfNumbers : Cell → Cell → (Fraction → Fraction → Type 0) → Type 0
 IfNumbers x y P = IfNumber x (λ p. IfNumber y (λ q. P p q))
 
--- an operation on two numbers: Over before all else, Empty at another kind, Empty at no value, and then what f makes of the numbers
+-- the same, where the second number may divide
+abbrev pub IfDivided : Cell → Cell → (Fraction → Fraction → Type 0) → Type 0
+IfDivided x y P = IfNumbers x y (λ p q. 0 < unsigned_abs q.num → P p q)
+
+-- an operation on two numbers: Over before all else, null at a flag or a null, and then what f makes of the numbers
 abbrev pub on_numbers : (Fraction → Fraction → Cell) → Cell → Cell → Cell
 on_numbers f Over y = Over
 on_numbers f x Over = Over

@@ -1,9 +1,11 @@
 pub mod Cells
 pub mod Exact
 pub mod Fraction
+pub mod Kinds
+pub mod LowestTerms
+pub mod Operands
 pub mod Operations
 pub mod Order
 pub mod Rational
 pub mod Record
-pub mod Reduction
 pub mod Spelling

@@ -22,19 +22,19 @@ subtract_of x y = on_numbers (λ p q. exact_value (difference_of p q)) x y
 abbrev pub multiply_of : Cell → Cell → Cell
 multiply_of x y = on_numbers (λ p q. exact_value (product_of p q)) x y
 
--- Empty where the divisor is 0
+-- null where the divisor is 0
 abbrev pub divide_of : Cell → Cell → Cell
 divide_of x y =
     on_numbers (λ p q. if unsigned_abs q.num == 0 then Empty else exact_value (quotient_of p q)) x y
 
--- x - y floor(x / y), and Empty where the divisor is 0
+-- x - y floor(x / y), and null where the divisor is 0
 abbrev pub modulo_of : Cell → Cell → Cell
 modulo_of x y =
     on_numbers (λ p q. if unsigned_abs q.num == 0 then Empty else exact_value (remainder_of p q)) x y
 
 -- ---- comparisons
 
--- of two flags or of two numbers; a flag beside a number gives Empty
+-- of two flags or of two numbers; a flag beside a number gives null
 abbrev pub eq_of : Cell → Cell → Cell
 eq_of Over y = Over
 eq_of x Over = Over

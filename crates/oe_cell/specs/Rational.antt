@@ -1,5 +1,5 @@
 -- Rational arithmetic on fractions, which are not reduced here. All denominators are above 0.
-use Rattle.std.specs.Prelude.{◌*◌, ℤ, pos, ◌+ℤ◌, ◌-ℤ◌, ◌*ℤ◌, neg_ℤ, ◌≤ℤ◌, int_div, unsigned_abs}
+use Rattle.std.specs.Prelude.{◌≡◌, ◌⊎◌, ◌*◌, ℤ, pos, ◌+ℤ◌, ◌-ℤ◌, ◌*ℤ◌, neg_ℤ, ◌≤ℤ◌, int_div, unsigned_abs}
 use Rattle.std.specs.Int.{int_signum, int_div_euclid}
 use Rattle.oe_cell.specs.Fraction.{Fraction}
 
@@ -51,3 +51,7 @@ pub record IsCeil (q : Fraction) (k : ℤ) : Type 0 where
 pub record IsTruncated (q : Fraction) (k : ℤ) : Type 0 where
   pub down : pos 0 ≤ℤ q.num → IsFloor q k
   pub up : q.num ≤ℤ pos 0 → IsCeil q k
+
+-- r is 0, or both are above 0, or both are below 0
+abbrev pub HasSignOf : Fraction → Fraction → Type 0
+HasSignOf q r = (r.num ≡ pos 0) ⊎ (int_signum r.num ≡ int_signum q.num)

@@ -1,7 +1,9 @@
 // A number of a cell: a fraction in lowest terms.
-ghost use Rattle.std.specs.Prelude.{◌≡◌, ◌↔◌, ◌<◌, IsTrue, IsSome, IfSome, unsigned_abs};
+ghost use Rattle.std.specs.Prelude.{◌≡◌, ◌↔◌, ◌<◌, IsTrue, IsSome, IfSome, unsigned_abs, ◌^◌};
 ghost use Rattle.oe_cell.specs.Fraction.{Fraction, IsNumber, IsCoprime};
 ghost use Rattle.oe_cell.specs.Exact.{cell_of_lowest};
+ghost use Rattle.oe_cell.specs.Rational.{whole_of};
+ghost use Rattle.oe_cell.specs.declared.cell.Cell.TheVariants.{Number};
 
 use crate::Cell;
 use crate::gcd::gcd;
@@ -32,8 +34,10 @@ impl Model for Frac {
 }
 
 impl Frac {
-    /// The fraction of this numerator and denominator. None comes exactly where the pair is not in lowest terms or is
-    /// out of range.
+    /// The fraction of a numerator and a denominator.
+    ///
+    /// Refuses: exactly a pair that is not in lowest terms or is out of range.
+    #[inline(always)]
     pub fn new(num: i64, den: u64) -> Option<Frac>
         ensures number { IsSome result ↔ IsNumber (record { num = num; den = den }) }
         ensures value { IfSome result (λ q. q ≡ record { num = num; den = den }) }
@@ -43,6 +47,14 @@ impl Frac {
         } else {
             None
         }
+    }
+
+    /// A whole number, from −(2^63−1) to 2^63−1.
+    pub fn whole(num: i64) -> Frac
+        requires { unsigned_abs num < 2 ^ 63 }
+        ensures { result ≡ whole_of num }
+    {
+        Frac { num, den: 1 }
     }
 
     /// The numerator, whose sign is the fraction's.
@@ -80,6 +92,7 @@ impl Frac {
 }
 
 /// The cell of a fraction in lowest terms.
+#[inline(always)]
 pub(crate) fn lowest(num: i128, den: u128) -> Cell
     requires some { 0 < den }
     requires coprime { IsCoprime (unsigned_abs num) den }
@@ -94,6 +107,7 @@ pub(crate) fn lowest(num: i128, den: u128) -> Cell
     })
 }
 
+#[inline(always)]
 fn is_number(num: i64, den: u64) -> bool
     ensures { IsTrue result ↔ IsNumber (record { num = num; den = den }) }
 {
@@ -101,5 +115,16 @@ fn is_number(num: i64, den: u64) -> bool
     if size > LARGEST || den == 0 || den > LARGEST {
         return false;
     }
+    if den == 1 {
+        return true;
+    }
     gcd(size, den) == 1
+}
+
+/// A whole number, from −(2^63−1) to 2^63−1, as a cell.
+pub fn whole_cell(num: i64) -> Cell
+    requires { unsigned_abs num < 2 ^ 63 }
+    ensures { result ≡ Number (whole_of num) }
+{
+    Cell::Number(Frac::whole(num))
 }

@@ -1,13 +1,15 @@
 // Logic of three values on cells: and, or, xor, not, and the choice of openEO's `if`.
 ghost use Rattle.std.specs.Prelude.{◌≡◌};
+ghost use Rattle.oe_cell.specs.Kinds.{IsNumeric, IsLogical, HasCommonFacts};
 ghost use Rattle.oe_cell.specs.Operations.{and_of, or_of, xor_of, not_of, choose_of};
 
 use crate::Cell;
 
-/// `and` of openEO Processes: `false` beside null is `false`, any other case with a null is Empty. Over in an operand
-/// gives Over; otherwise a number gives Empty.
+/// `and` of openEO Processes: `false` beside null is `false`, any other case with a null is null. Over in an operand
+/// gives Over; otherwise a number gives null.
 pub fn and(x: Cell, y: Cell) -> Cell
-    ensures { result ≡ and_of x y }
+    ensures value { result ≡ and_of x y }
+    ensures kind { IsLogical result }
 {
     match (x, y) {
         (Cell::Over, _) => Cell::Over,
@@ -21,10 +23,11 @@ pub fn and(x: Cell, y: Cell) -> Cell
     }
 }
 
-/// `or` of openEO Processes: `true` beside null is `true`, any other case with a null is Empty. Over in an operand
-/// gives Over; otherwise a number gives Empty.
+/// `or` of openEO Processes: `true` beside null is `true`, any other case with a null is null. Over in an operand
+/// gives Over; otherwise a number gives null.
 pub fn or(x: Cell, y: Cell) -> Cell
-    ensures { result ≡ or_of x y }
+    ensures value { result ≡ or_of x y }
+    ensures kind { IsLogical result }
 {
     match (x, y) {
         (Cell::Over, _) => Cell::Over,
@@ -38,10 +41,11 @@ pub fn or(x: Cell, y: Cell) -> Cell
     }
 }
 
-/// `xor` of openEO Processes: true where exactly one operand is, and Empty where one is null. Over in an operand gives
-/// Over; otherwise a number gives Empty.
+/// `xor` of openEO Processes: true where exactly one operand is, and null where one is null. Over in an operand gives
+/// Over; otherwise a number gives null.
 pub fn xor(x: Cell, y: Cell) -> Cell
-    ensures { result ≡ xor_of x y }
+    ensures value { result ≡ xor_of x y }
+    ensures kind { IsLogical result }
 {
     match (x, y) {
         (Cell::Over, _) | (_, Cell::Over) => Cell::Over,
@@ -50,9 +54,10 @@ pub fn xor(x: Cell, y: Cell) -> Cell
     }
 }
 
-/// `not` of openEO Processes: the opposite of a flag. Over gives Over, null and a number give Empty.
+/// `not` of openEO Processes: the opposite of a flag. Over gives Over, null and a number give null.
 pub fn not(x: Cell) -> Cell
-    ensures { result ≡ not_of x }
+    ensures value { result ≡ not_of x }
+    ensures kind { IsLogical result }
 {
     match x {
         Cell::Over => Cell::Over,
@@ -62,9 +67,12 @@ pub fn not(x: Cell) -> Cell
 }
 
 /// `if` of openEO Processes: `accept` where the value is `true`, `reject` where it is `false` or null. An Over value
-/// gives Over, a number gives Empty. The branch that is not chosen does not count.
+/// gives Over, a number gives null. The branch that is not chosen does not count.
 pub fn choose(value: Cell, accept: Cell, reject: Cell) -> Cell
-    ensures { result ≡ choose_of value accept reject }
+    ensures value { result ≡ choose_of value accept reject }
+    ensures keeps { HasCommonFacts accept reject result }
+    ensures numeric { IsNumeric accept → IsNumeric reject → IsNumeric result }
+    ensures logical { IsLogical accept → IsLogical reject → IsLogical result }
 {
     match value {
         Cell::Over => Cell::Over,

@@ -3,14 +3,17 @@ ghost use Rattle.std.specs.Prelude.{◌≡◌, ◌↔◌, IsTrue, true};
 ghost use Rattle.std.specs.Ordering.{is_eq};
 ghost use Rattle.oe_cell.specs.Cells.{IsCell, IfNumbers};
 ghost use Rattle.oe_cell.specs.Fraction.{Fraction, IsNumber};
+ghost use Rattle.oe_cell.specs.Kinds.{IsLogical};
 ghost use Rattle.oe_cell.specs.Operations.{eq_of, neq_of, gt_of, gte_of, lt_of, lte_of};
 ghost use Rattle.oe_cell.specs.Order.{compare_of};
 
+use crate::operands::{Operands, operands_of};
 use crate::wide::scaled;
 use crate::{Cell, Frac, not};
 use std::cmp::Ordering;
 
 /// How two numbers stand to one another as rational numbers. They are equal exactly where their parts are.
+#[inline(always)]
 pub fn compare(x: Frac, y: Frac) -> Ordering
     ensures value { result ≡ compare_of x y }
     ensures same { (result ≡ Ordering.Equal) ↔ (x ≡ y) }
@@ -18,6 +21,9 @@ pub fn compare(x: Frac, y: Frac) -> Ordering
 {
     let (a, b) = x.parts();
     let (c, d) = y.parts();
+    if b == 1 && d == 1 {
+        return a.cmp(&c);
+    }
     scaled(a, d).cmp(&scaled(c, b))
 }
 
@@ -36,10 +42,11 @@ fn is_same(x: Frac, y: Frac) -> bool
 }
 
 /// `eq` of openEO Processes, of two flags or of two numbers. Over in an operand gives Over; otherwise a flag beside a
-/// number gives Empty, and so does a null.
+/// number gives null, and so does a null.
 pub fn eq(x: Cell, y: Cell) -> Cell
     ensures value { result ≡ eq_of x y }
     ensures same { IfNumbers x y (λ p q. (result ≡ Cell.Flag true) ↔ (p ≡ q)) }
+    ensures kind { IsLogical result }
 {
     match x {
         Cell::Over => Cell::Over,
@@ -62,83 +69,60 @@ pub fn eq(x: Cell, y: Cell) -> Cell
 
 /// `neq` of openEO Processes: the opposite of `eq`.
 pub fn neq(x: Cell, y: Cell) -> Cell
-    ensures { result ≡ neq_of x y }
+    ensures value { result ≡ neq_of x y }
+    ensures kind { IsLogical result }
 {
     not(eq(x, y))
 }
 
-/// `gt` of openEO Processes: whether x is greater than y. Over in an operand gives Over; otherwise an operand that is no number
-/// gives Empty.
+/// `gt` of openEO Processes: whether x is greater than y.
+/// Over in an operand gives Over; otherwise an operand that is no number gives null.
+#[inline(always)]
 pub fn gt(x: Cell, y: Cell) -> Cell
-    ensures { result ≡ gt_of x y }
+    ensures value { result ≡ gt_of x y }
+    ensures kind { IsLogical result }
 {
-    match x {
-        Cell::Over => Cell::Over,
-        Cell::Number(p) => match y {
-            Cell::Over => Cell::Over,
-            Cell::Number(q) => Cell::Flag(compare(p, q).is_gt()),
-            _ => Cell::Empty,
-        },
-        _ => match y {
-            Cell::Over => Cell::Over,
-            _ => Cell::Empty,
-        },
+    match operands_of(x, y) {
+        Operands::Numbers(p, q) => Cell::Flag(compare(p, q).is_gt()),
+        Operands::Neither(lack) => lack.cell(),
     }
 }
 
-/// `gte` of openEO Processes: whether x is greater than y or equal to it. Over in an operand gives Over; otherwise an operand that is no number
-/// gives Empty.
+/// `gte` of openEO Processes: whether x is greater than y or equal to it.
+/// Over in an operand gives Over; otherwise an operand that is no number gives null.
+#[inline(always)]
 pub fn gte(x: Cell, y: Cell) -> Cell
-    ensures { result ≡ gte_of x y }
+    ensures value { result ≡ gte_of x y }
+    ensures kind { IsLogical result }
 {
-    match x {
-        Cell::Over => Cell::Over,
-        Cell::Number(p) => match y {
-            Cell::Over => Cell::Over,
-            Cell::Number(q) => Cell::Flag(compare(p, q).is_ge()),
-            _ => Cell::Empty,
-        },
-        _ => match y {
-            Cell::Over => Cell::Over,
-            _ => Cell::Empty,
-        },
+    match operands_of(x, y) {
+        Operands::Numbers(p, q) => Cell::Flag(compare(p, q).is_ge()),
+        Operands::Neither(lack) => lack.cell(),
     }
 }
 
-/// `lt` of openEO Processes: whether x is less than y. Over in an operand gives Over; otherwise an operand that is no number
-/// gives Empty.
+/// `lt` of openEO Processes: whether x is less than y.
+/// Over in an operand gives Over; otherwise an operand that is no number gives null.
+#[inline(always)]
 pub fn lt(x: Cell, y: Cell) -> Cell
-    ensures { result ≡ lt_of x y }
+    ensures value { result ≡ lt_of x y }
+    ensures kind { IsLogical result }
 {
-    match x {
-        Cell::Over => Cell::Over,
-        Cell::Number(p) => match y {
-            Cell::Over => Cell::Over,
-            Cell::Number(q) => Cell::Flag(compare(p, q).is_lt()),
-            _ => Cell::Empty,
-        },
-        _ => match y {
-            Cell::Over => Cell::Over,
-            _ => Cell::Empty,
-        },
+    match operands_of(x, y) {
+        Operands::Numbers(p, q) => Cell::Flag(compare(p, q).is_lt()),
+        Operands::Neither(lack) => lack.cell(),
     }
 }
 
-/// `lte` of openEO Processes: whether x is less than y or equal to it. Over in an operand gives Over; otherwise an operand that is no number
-/// gives Empty.
+/// `lte` of openEO Processes: whether x is less than y or equal to it.
+/// Over in an operand gives Over; otherwise an operand that is no number gives null.
+#[inline(always)]
 pub fn lte(x: Cell, y: Cell) -> Cell
-    ensures { result ≡ lte_of x y }
+    ensures value { result ≡ lte_of x y }
+    ensures kind { IsLogical result }
 {
-    match x {
-        Cell::Over => Cell::Over,
-        Cell::Number(p) => match y {
-            Cell::Over => Cell::Over,
-            Cell::Number(q) => Cell::Flag(compare(p, q).is_le()),
-            _ => Cell::Empty,
-        },
-        _ => match y {
-            Cell::Over => Cell::Over,
-            _ => Cell::Empty,
-        },
+    match operands_of(x, y) {
+        Operands::Numbers(p, q) => Cell::Flag(compare(p, q).is_le()),
+        Operands::Neither(lack) => lack.cell(),
     }
 }

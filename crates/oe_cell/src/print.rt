@@ -1,6 +1,9 @@
 // The spelling of a cell, in a buffer of fixed size.
 ghost use Rattle.std.specs.Prelude.{◌≡◌, ◌≢◌, ◌+◌, ◌≤◌, ℕ, List, [], ◌++◌, length, take};
+ghost use Rattle.oe_cell.specs.Fraction.{IsNumber};
 ghost use Rattle.oe_cell.specs.Spelling.{cell_text, number_text};
+ghost use Rattle.oe_cell.specs.Cells.{IsCell};
+ghost use Rattle.oe_cell.specs.declared.cell.Cell.{Cell};
 ghost use Rattle.oe_cell.specs.declared.cell.Cell.TheVariants.{Over};
 
 use crate::{Cell, Frac};
@@ -38,7 +41,8 @@ impl TextBuf {
 
     /// The bytes of the text.
     pub fn bytes(&self) -> &[u8]
-        ensures { result.now ≡ self.now }
+        ensures value { result.now ≡ self.now }
+        ensures room { length result.now ≤ 48 }
     {
         &self.bytes[..self.len]
     }
@@ -64,7 +68,8 @@ impl TextBuf {
 /// whole number in decimal, any other number as `"n/d"` in quotes.
 pub fn print_cell(cell: Cell, into: &mut TextBuf)
     requires { cell ≢ Over }
-    ensures { into.new ≡ cell_text cell }
+    ensures text { into.new ≡ cell_text cell }
+    ensures one_spelling { (other : Cell) → IsCell other → other ≢ Over → cell_text other ≡ into.new → other ≡ cell }
 {
     into.clear();
     match cell {
@@ -78,7 +83,8 @@ pub fn print_cell(cell: Cell, into: &mut TextBuf)
 
 fn push_number(number: Frac, into: &mut TextBuf)
     requires { into.old ≡ [] }
-    ensures { into.new ≡ number_text number }
+    ensures text { into.new ≡ number_text number }
+    ensures number { IsNumber number }
 {
     let num = number.num();
     let mut digits = Buffer::new();

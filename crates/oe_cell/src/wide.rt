@@ -1,7 +1,7 @@
 // Products of 64 bits by 64 bits, and exact quotients.
 ghost use Rattle.std.specs.Prelude.{◌≡◌, ◌*◌, ◌^◌, ◌<◌, ◌≤◌, pos, ◌-ℤ◌, ◌*ℤ◌, unsigned_abs};
 ghost use Rattle.std.specs.Int.{◌∣◌};
-ghost use Rattle.oe_cell.specs.Reduction.{floor_quotient};
+ghost use Rattle.oe_cell.specs.LowestTerms.{floor_quotient};
 
 pub(crate) fn scaled(num: i64, by: u64) -> i128
     requires num_fits { unsigned_abs num < 2 ^ 63 }
@@ -30,18 +30,8 @@ pub(crate) fn wide_product(a: u64, b: u64) -> u128
     u128::from(a) * u128::from(b)
 }
 
-/// The number that by goes into it, which is a whole one.
-pub(crate) fn divided(num: i64, by: u64) -> i64
-    requires fits { by < 2 ^ 63 }
-    requires some { 0 < by }
-    requires divides { by ∣ unsigned_abs num }
-    ensures value { result *ℤ pos by ≡ num }
-    ensures bound { unsigned_abs result ≤ unsigned_abs num }
-{
-    if by == 1 { num } else { num / by as i64 }
-}
-
-pub(crate) fn wide_divided(num: i128, by: u64) -> i128
+/// The number that by goes into without a rest.
+pub(crate) fn wide_quotient(num: i128, by: u64) -> i128
     requires some { 0 < by }
     requires divides { by ∣ unsigned_abs num }
     ensures value { result *ℤ pos by ≡ num }

@@ -1,14 +1,15 @@
-use Rattle.std.proofs.Common.{◌∙◌, sym, ap, refl}
+use Rattle.std.proofs.Common.{◌≡◌, sym, arith}
+use Rattle.std.proofs.lemmas.Grind.{common_steps}
 use Rattle.oe_cell.specs.Exact.{exact_value}
-use Rattle.oe_cell.proofs.ProductLemmas.{product-comm, product-means}
+use Rattle.oe_cell.specs.Rational.{product_of}
+use Rattle.oe_cell.proofs.ProductLemmas.{product-means}
 use Rattle.oe_cell.proofs.arith.exact_product.Goals as goal
 
-pub returns-then-is_first-clause-exact : goal.returns-then-is_first-clause-exact
-returns-then-is_first-clause-exact c =
-    let numbers = c.is_first.ensures.operands in
-    product-means c.args.p c.args.q _ numbers.0 numbers.1 (c.if-is_first.ensures.value refl)
+pub returns-then-d-eq1-clause-exact : goal.returns-then-d-eq1-clause-exact
+returns-then-d-eq1-clause-exact c =
+    let value : c.whole_product.result ≡ exact_value (product_of c.args.p c.args.q) = grind (arith, common_steps) in
+    product-means c.args.p c.args.q c.whole_product.result c.parts-a.ensures.number c.parts-c.ensures.number (sym value)
 
-pub returns-then-is_first-2-clause-exact : goal.returns-then-is_first-2-clause-exact
-returns-then-is_first-2-clause-exact c =
-    let numbers = c.is_first.ensures.operands in
-    product-means c.args.p c.args.q _ numbers.0 numbers.1 (ap exact_value (sym (product-comm c.args.p c.args.q)) ∙ c.if-is_first-2.ensures.value refl)
+pub returns-clause-exact : goal.returns-clause-exact
+returns-clause-exact c =
+    product-means c.args.p c.args.q c.fraction_product.result c.parts-a.ensures.number c.parts-c.ensures.number (sym c.fraction_product.ensures)

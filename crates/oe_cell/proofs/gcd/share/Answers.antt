@@ -13,8 +13,8 @@ returns-then-b-eq1-clause-parts c =
 
 pub returns-clause-parts : goal.returns-clause-parts
 returns-clause-parts c =
-    Expands-gcd (pos c.args.b) (pos (c.args.b / c.gcd-common.result)) c.args.d c.gcd-common.result c.requires.right_some c.gcd-common.ensures.gcd
+    Expands-gcd (pos c.args.b) (pos (c.args.b / c.gcd-common.result)) c.args.d c.gcd-common.result c.requires c.gcd-common.ensures.gcd
     (ap pos (div-mul_cancel c.gcd-common.result c.gcd-common.ensures.gcd.0))
 
 pub returns-clause-common : goal.returns-clause-common
-returns-clause-common c = gcd_le c.args.b c.args.d c.gcd-common.result c.gcd-common.ensures.gcd c.requires.right_some
+returns-clause-common c = gcd_le c.args.b c.args.d c.gcd-common.result c.gcd-common.ensures.gcd c.requires

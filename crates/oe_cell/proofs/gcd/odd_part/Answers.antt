@@ -1,0 +1,10 @@
+use Rattle.std.proofs.Common.{arith, w64}
+use Rattle.std.proofs.lemmas.Nat.Bits.{bit_at-trailing_zeros}
+use Rattle.oe_cell.proofs.HalvingLemmas.{halved}
+use Rattle.oe_cell.proofs.gcd.odd_part.Goals as goal
+
+pub returns-clause-odd : goal.returns-clause-odd
+returns-clause-odd c = (bit_at-trailing_zeros w64 c.args.n (omega arith) (omega arith)).1
+
+pub returns-clause-power : goal.returns-clause-power
+returns-clause-power c = (_, halved _ c.args.n (bit_at-trailing_zeros w64 c.args.n (omega arith) (omega arith)).2)

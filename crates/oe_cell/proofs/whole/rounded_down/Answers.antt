@@ -1,5 +1,0 @@
-use Rattle.oe_cell.proofs.FloorLemmas.{IsFloor-floor_int}
-use Rattle.oe_cell.proofs.whole.rounded_down.Goals as goal
-
-pub returns-clause-meaning : goal.returns-clause-meaning
-returns-clause-meaning c = IsFloor-floor_int c.args.q c.parts-num.ensures.number.den_positive

@@ -1,7 +1,0 @@
-use Rattle.std.proofs.Common.{w64}
-use Rattle.std.proofs.lemmas.Int.{to_z-of_z}
-use Rattle.oe_cell.proofs.OppositeLemmas.{IsNumber-whole}
-use Rattle.oe_cell.proofs.whole.whole.Goals as goal
-
-pub from_parts-requires : goal.from_parts-requires
-from_parts-requires c = rw (to_z-of_z w64 c.args.num c.ranges.num) (IsNumber-whole c.args.num c.requires)
