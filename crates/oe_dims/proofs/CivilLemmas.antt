@@ -57,7 +57,7 @@ in_years_is (suc most) year days hy last h =
     subst (λ n. IsDay n (in_years most (year + 1) (days - days_in_year (pos year)))) same
     (in_years_is most (year + 1) (days - days_in_year (pos year)) (omega arith) (omega arith) (omega (arith, before))))
 
-day_count-first_of_year_1 : day_count (pos 1) 1 1 ≡ 3_652_791
+pub day_count-first_of_year_1 : day_count (pos 1) 1 1 ≡ 3_652_791
 day_count-first_of_year_1 = day_count-early (pos 1) 10000 1 1 refl (omega arith) (omega arith) (omega arith)
 
 pub civil_date_is : (days : ℕ) → days ≤ 3_652_058 → IsDay (3_652_791 + days) (civil_date days)

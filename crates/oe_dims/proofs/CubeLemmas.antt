@@ -1,83 +1,29 @@
--- Tuples of labels and row-major numbers correspond one to one, and a cube is what it is at each tuple.
-use Rattle.std.proofs.Common.{◌≡◌, ℕ, zero, suc, ◌+◌, ◌-◌, ◌*◌, ◌<◌, Bool, true, false, List, [], ◌∷◌, ◌++◌, length, map, get_or, refl, sym, ap, ◌∙◌, subst, arith, Option, Some, None, ℤ, inl, inr}
-use Rattle.std.specs.List.{slice_get, flat_map, list_any}
+-- Positions, tuples of labels and row-major numbers correspond one to one, and a cube is what it is at each tuple.
+use Rattle.std.proofs.Common.{◌≡◌, ◌↔◌, IsTrue, nat_eq, eq-eqb, ℕ, zero, suc, ◌+◌, ◌*◌, ◌/◌, ◌%◌, ◌<◌, Bool, true, List, [], ◌∷◌, length, map, get_or, refl, sym, ap, ◌∙◌, subst, arith, Option, Some, None, unwrap_or, ℤ, inl, inr}
+use Rattle.std.specs.List.{slice_get, flat_map, Contains}
 use Rattle.std.specs.Option.{option_map, option_and_then}
-use Rattle.std.proofs.lemmas.Bool.{cases_lt, cases_Bool, and_parts, not-true, or_parts, false≢true}
-use Rattle.std.proofs.lemmas.List.{length-append, length-map}
-use Rattle.std.proofs.lemmas.Nat.{rows}
+use Rattle.std.proofs.Math.Arith.{digits_div, digits_mod}
+use Rattle.std.proofs.lemmas.Bool.{eqb-true, cases_lt}
+use Rattle.std.proofs.lemmas.List.{length-map}
+use Rattle.std.proofs.lemmas.List.Elements.{Contains-get_or}
 use Rattle.std.proofs.lemmas.Option.{same_Some, slice_get-map, slice_get_within, slice_get_past, get_or_from_slice_get, slice_get-get_or, option_and_then_some}
 use Rattle.oe_dims.specs.Names.{same_name}
-use Rattle.oe_dims.specs.Dimensions.{Dimensions, IsShape, extent, cell_count, rises, falls, all_differ}
-use Rattle.oe_dims.specs.Places.{same_number}
-use Rattle.oe_dims.specs.Cube.{Tuple, Cube, choices, tuples, place_along, row_major, at, tabulate, IsCube}
+use Rattle.oe_dims.specs.Dimensions.{Dimensions, IsShape, extent, cell_count}
+use Rattle.oe_dims.specs.Indices.{same_number}
+use Rattle.oe_dims.specs.Cube.{Tuple, IsLabelOf, IsTuple, Cube, choices, tuples, index_along, row_major, at, tabulate, IsCube, cell_or}
+use Rattle.oe_dims.specs.Positions.{Position, IsPosition, label_of, tuple_of, number_of, IsNumberedBy, MatchOneToOne, AreTabulations}
+use Rattle.oe_dims.proofs.FlatMapLemmas.{length-flat_map, slice_get-flat_map, from_part, below_product, value_inside, value_at, same_gets}
 use Rattle.oe_dims.proofs.OrderLemmas.{same_name_is, same_name_refl}
-use Rattle.oe_dims.proofs.PlacesLemmas.{place_where_found, place_where_passes, same_number_refl, same_number_is, same_number_below, same_number_above, rises_lt, falls_lt}
+use Rattle.oe_dims.proofs.IndexLemmas.{index_where_passes, same_number_refl, same_number_is}
+use Rattle.oe_dims.proofs.ReaderLemmas.{IsUnrepeated, IsUnrepeated-rising, IsUnrepeated-falling, IsUnrepeated-names, found_there}
+use Rattle.oe_dims.proofs.RuleLemmas.{IsRising-rises, IsFalling-falls}
 use Rattle.oe_dims.proofs.ShapeLemmas.{t_rises, y_falls, x_rises, bands_differ}
 
--- ---- lists of lists of one length
+-- ---- a dimension: its choices, and the index of a label among them
 
-slice_get-append_left : {X : Type 0} (xs ys : List X) (k : ℕ) → k < length xs → slice_get (xs ++ ys) k ≡ slice_get xs k
-slice_get-append_left [] ys k h = absurd (omega arith)
-slice_get-append_left (x ∷ xs) ys zero h = refl
-slice_get-append_left (x ∷ xs) ys (suc k) h = slice_get-append_left xs ys k (omega arith)
-
-slice_get-append_right : {X : Type 0} (xs ys : List X) (k : ℕ) → slice_get (xs ++ ys) (length xs + k) ≡ slice_get ys k
-slice_get-append_right [] ys k = let same : 0 + k ≡ k = omega arith in rw same refl
-slice_get-append_right (x ∷ xs) ys k =
-    let next : suc (length xs) + k ≡ suc (length xs + k) = omega arith in rw next (slice_get-append_right xs ys k)
-
-length-flat_map : {A B : Type 0} (f : A → List B) (n : ℕ) (each : (a : A) → length (f a) ≡ n) (xs : List A) → length (flat_map f xs) ≡ length xs * n
-length-flat_map f n each [] = omega arith
-length-flat_map f n each (a ∷ xs) =
-    let rest = length-flat_map f n each xs in
-    let here = each a in
-    length-append (f a) (flat_map f xs) ∙ omega arith
-
--- the element at a place of a part
-slice_get-flat_map : {A B : Type 0} (f : A → List B) (n : ℕ) (each : (a : A) → length (f a) ≡ n) (xs : List A) (i j : ℕ) (a : A) → slice_get xs i ≡ Some a → j < n → slice_get (flat_map f xs) (i * n + j) ≡ slice_get (f a) j
-slice_get-flat_map f n each [] i j a e h = cc
-slice_get-flat_map f n each (b ∷ xs) zero j a e h =
-    let same : b ≡ a = same_Some b a e in
-    let first : 0 * n + j ≡ j = omega arith in
-    let here = each b in
-    let short : j < length (f b) = omega arith in
-    rw first (slice_get-append_left (f b) (flat_map f xs) j short ∙ ap (λ c. slice_get (f c) j) same)
-slice_get-flat_map f n each (b ∷ xs) (suc i) j a e h =
-    let here = each b in
-    let next : suc i * n + j ≡ length (f b) + (i * n + j) = omega arith in
-    rw next (slice_get-append_right (f b) (flat_map f xs) (i * n + j) ∙ slice_get-flat_map f n each xs i j a e h)
-
--- and which part and place an element is from
-record IsFromPart {A B : Type 0} (f : A → List B) (n : ℕ) (xs : List A) (k : ℕ) (v : B) : Type 0 where
-  part : ℕ
-  place : ℕ
-  item : A
-  at_part : slice_get xs part ≡ Some item
-  at_place : slice_get (f item) place ≡ Some v
-  number : k ≡ part * n + place
-
-from_part : {A B : Type 0} (f : A → List B) (n : ℕ) (each : (a : A) → length (f a) ≡ n) (xs : List A) (k : ℕ) (v : B) → slice_get (flat_map f xs) k ≡ Some v → IsFromPart f n xs k v
-from_part f n each [] k v e = cc
-from_part f n each (a ∷ xs) k v e =
-    let here = each a in
-    elim (cases_lt k (length (f a))) [
-      | inl lt ↦ record { part = 0; place = k; item = a; at_part = refl; at_place = sym (slice_get-append_left (f a) (flat_map f xs) k lt) ∙ e; number = omega arith }
-      | inr ge ↦ let back : k ≡ length (f a) + (k - length (f a)) = omega arith in
-          let later : slice_get (flat_map f xs) (k - length (f a)) ≡ Some v = sym (slice_get-append_right (f a) (flat_map f xs) (k - length (f a))) ∙ ap (slice_get (f a ++ flat_map f xs)) (sym back) ∙ e in
-          let rest = from_part f n each xs (k - length (f a)) v later in
-          let counted = rest.number in
-          record { part = suc rest.part; place = rest.place; item = rest.item; at_part = rest.at_part; at_place = rest.at_place; number = omega arith }
-    ]
-
--- ---- a dimension: its choices, and the place of a label among them
-
--- each label has the place at which it stands among the choices
-abbrev HasPlaces : {L : Type 0} → (L → L → Bool) → Option (List L) → Type 0
-HasPlaces {L} same labels = (p : ℕ) (l : Option L) → slice_get (choices labels) p ≡ Some l → place_along same labels l ≡ Some p
-
--- no two labels are the same
-abbrev AreDistinct : {L : Type 0} → (L → L → Bool) → List L → Type 0
-AreDistinct {L} same labels = (i j : ℕ) (d : L) → i < j → j < length labels → same (get_or labels j d) (get_or labels i d) ≡ false
+-- each label has the index at which it stands among the choices
+abbrev HasIndices : {L : Type 0} → (L → L → Bool) → Option (List L) → Type 0
+HasIndices {L} same labels = (p : ℕ) (l : Option L) → slice_get (choices labels) p ≡ Some l → index_along same labels l ≡ Some p
 
 length-choices : {L : Type 0} (labels : Option (List L)) → length (choices labels) ≡ extent labels
 length-choices None = refl
@@ -87,71 +33,33 @@ some_inside : {L : Type 0} (o : Option L) (l : Option L) → option_map Some o �
 some_inside None l e = cc
 some_inside (Some x) l e = (x, refl, sym (same_Some (Some x) l e))
 
-has_places_none : {L : Type 0} (same : L → L → Bool) → HasPlaces same None
-has_places_none same zero l e = let none : None ≡ l = same_Some None l e in rw (← none) refl
-has_places_none same (suc p) l e = cc
+has_indices_none : {L : Type 0} (same : L → L → Bool) → HasIndices same None
+has_indices_none same zero l e = let none : None ≡ l = same_Some None l e in rw (← none) refl
+has_indices_none same (suc p) l e = cc
 
-has_places_some : {L : Type 0} (same : L → L → Bool) (itself : (a : L) → same a a ≡ true) (labels : List L) → AreDistinct same labels → HasPlaces same (Some labels)
-has_places_some same itself labels distinct p l e =
+has_indices_some : {L : Type 0} (same : L → L → Bool) (itself : (a : L) → same a a ≡ true) (is : (a b : L) → same a b ≡ true → b ≡ a) (labels : List L) → IsUnrepeated labels → HasIndices same (Some labels)
+has_indices_some same itself is labels alone p l e =
     let at_p = some_inside (slice_get labels p) l (sym (slice_get-map Some labels p) ∙ e) in
-    let x = at_p.0 in
-    let within = slice_get_within labels p x at_p.1 in
-    let here = get_or_from_slice_get labels p x x at_p.1 in
-    let before = λ (k : ℕ) (lt : k < p). ap (λ z. same z (get_or labels k x)) (sym here) ∙ distinct k p x lt within in
-    rw at_p.2 (place_where_found (same x) labels p x within before (ap (same x) here ∙ itself x))
+    rw at_p.2 (found_there same itself is labels alone at_p.0 p _ refl at_p.1)
 
--- what has a place is a choice
-choice_at : {L : Type 0} (same : L → L → Bool) (is : (a b : L) → same a b ≡ true → b ≡ a) (labels : Option (List L)) (l : Option L) (p : ℕ) → place_along same labels l ≡ Some p → slice_get (choices labels) p ≡ Some l
+-- what has an index is a choice
+choice_at : {L : Type 0} (same : L → L → Bool) (is : (a b : L) → same a b ≡ true → b ≡ a) (labels : Option (List L)) (l : Option L) (p : ℕ) → index_along same labels l ≡ Some p → slice_get (choices labels) p ≡ Some l
 choice_at same is None None p e = let zero_is : 0 ≡ p = same_Some 0 p e in rw (← zero_is) refl
 choice_at same is None (Some l) p e = cc
 choice_at same is (Some labels) None p e = cc
 choice_at same is (Some labels) (Some l) p e =
-    let found = place_where_passes (same l) labels p e in
+    let found = index_where_passes (same l) labels p e in
     slice_get-map Some labels p ∙ ap (option_map Some) (found.1 ∙ ap Some (is l found.0 found.2))
 
--- ---- the labels of a shape are distinct
+numbers_have_indices : (labels : Option (List ℤ)) → ((list : List ℤ) → labels ≡ Some list → IsUnrepeated list) → HasIndices same_number labels
+numbers_have_indices None h = has_indices_none same_number
+numbers_have_indices (Some labels) h = has_indices_some same_number same_number_refl same_number_is labels (h labels refl)
 
-rising_distinct : (labels : List ℤ) → rises labels ≡ true → AreDistinct same_number labels
-rising_distinct labels h i j d lt within =
-    same_number_below (get_or labels j d) (get_or labels i d) (rises_lt labels i j d h lt within)
-
-falling_distinct : (labels : List ℤ) → falls labels ≡ true → AreDistinct same_number labels
-falling_distinct labels h i j d lt within =
-    same_number_above (get_or labels j d) (get_or labels i d) (falls_lt labels i j d h lt within)
-
-not_among : (name : List ℕ) (names : List (List ℕ)) (k : ℕ) (d : List ℕ) → list_any (same_name name) names ≡ false → k < length names → same_name name (get_or names k d) ≡ false
-not_among name [] k d h lt = absurd (omega arith)
-not_among name (a ∷ names) zero d h lt = (or_parts _ _ h).0
-not_among name (a ∷ names) (suc k) d h lt = not_among name names k d (or_parts _ _ h).1 (omega arith)
-
-same_name-comm : (a b : List ℕ) → same_name a b ≡ false → same_name b a ≡ false
-same_name-comm a b h =
-    elim (cases_Bool (same_name b a)) [
-      | inl t ↦ absurd (false≢true (sym h ∙ ap (same_name a) (sym (same_name_is b a t)) ∙ same_name_refl a))
-      | inr f ↦ f
-    ]
-
-names_distinct : (names : List (List ℕ)) → all_differ names ≡ true → AreDistinct same_name names
-names_distinct [] h i j d lt within = absurd (omega arith)
-names_distinct (a ∷ names) h i zero d lt within = absurd (omega arith)
-names_distinct (a ∷ names) h zero (suc j) d lt within =
-    same_name-comm a (get_or names j d) (not_among a names j d (not-true _ (and_parts _ _ h).0) (omega arith))
-names_distinct (a ∷ names) h (suc i) (suc j) d lt within =
-    names_distinct names (and_parts _ _ h).1 i j d (omega arith) (omega arith)
-
-numbers_have_places : (labels : Option (List ℤ)) → ((list : List ℤ) → labels ≡ Some list → AreDistinct same_number list) → HasPlaces same_number labels
-numbers_have_places None h = has_places_none same_number
-numbers_have_places (Some labels) h = has_places_some same_number same_number_refl labels (h labels refl)
-
-names_have_places : (labels : Option (List (List ℕ))) → ((list : List (List ℕ)) → labels ≡ Some list → AreDistinct same_name list) → HasPlaces same_name labels
-names_have_places None h = has_places_none same_name
-names_have_places (Some labels) h = has_places_some same_name same_name_refl labels (h labels refl)
+names_have_indices : (labels : Option (List (List ℕ))) → ((list : List (List ℕ)) → labels ≡ Some list → IsUnrepeated list) → HasIndices same_name labels
+names_have_indices None h = has_indices_none same_name
+names_have_indices (Some labels) h = has_indices_some same_name same_name_refl same_name_is labels (h labels refl)
 
 -- ---- tuples and row-major numbers
-
--- the row-major number of four places
-abbrev pub row_number : Dimensions → ℕ → ℕ → ℕ → ℕ → ℕ
-row_number d t b y x = ((t * extent d.bands + b) * extent d.y + y) * extent d.x + x
 
 abbrev row_of : Dimensions → Option ℤ → Option (List ℕ) → Option ℤ → List Tuple
 row_of d t band y = map (λ x. record { t = t; band = band; y = y; x = x }) (choices d.x)
@@ -179,94 +87,119 @@ length-tuples d =
     length-flat_map (λ t. bands_of d t) (extent d.bands * (extent d.y * extent d.x)) (length-bands_of d) (choices d.t)
     ∙ ap (λ n. n * (extent d.bands * (extent d.y * extent d.x))) (length-choices d.t) ∙ omega arith
 
--- the labels that stand at four places
-pub record StandAt (d : Dimensions) (tuple : Tuple) (t b y x : ℕ) : Type 0 where
-  pub at_t : slice_get (choices d.t) t ≡ Some tuple.t
-  pub at_band : slice_get (choices d.bands) b ≡ Some tuple.band
-  pub at_y : slice_get (choices d.y) y ≡ Some tuple.y
-  pub at_x : slice_get (choices d.x) x ≡ Some tuple.x
+choice_within : {L : Type 0} (labels : Option (List L)) (i : ℕ) (l : Option L) → slice_get (choices labels) i ≡ Some l → i < extent labels
+choice_within labels i l e = let long = length-choices labels in omega (arith, slice_get_within (choices labels) i l e)
 
-choice_within : {L : Type 0} (labels : Option (List L)) (p : ℕ) (l : Option L) → slice_get (choices labels) p ≡ Some l → p < extent labels
-choice_within labels p l e = let long = length-choices labels in omega (arith, slice_get_within (choices labels) p l e)
+-- at an index stands its label among the choices, and only its label
+choice_of : {L : Type 0} (labels : Option (List L)) (i : ℕ) → i < extent labels → slice_get (choices labels) i ≡ Some (label_of labels i)
+choice_of None i h = let first : i ≡ 0 = omega arith in rw first refl
+choice_of (Some []) i h = absurd (omega arith)
+choice_of (Some (l ∷ labels)) i h =
+    let e = slice_get-get_or (l ∷ labels) i l h in
+    slice_get-map Some (l ∷ labels) i ∙ ap (option_map Some) e ∙ ap Some (sym e)
 
-below_product : (a m b n : ℕ) → a < m → b < n → a * n + b < m * n
-below_product a m b n ha hb = grind (arith, rows)
+label_there : {L : Type 0} (labels : Option (List L)) (i : ℕ) (l : Option L) → slice_get (choices labels) i ≡ Some l → label_of labels i ≡ l
+label_there labels i l e = same_Some _ l (sym (choice_of labels i (choice_within labels i l e)) ∙ e)
 
-slice_get-tuples : (d : Dimensions) (tuple : Tuple) (t b y x : ℕ) → StandAt d tuple t b y x → slice_get (tuples d) (row_number d t b y x) ≡ Some tuple
-slice_get-tuples d tuple t b y x s =
+-- at the number of a position stands its tuple
+pub slice_get-tuples : (d : Dimensions) (p : Position) → IsPosition d p → slice_get (tuples d) (number_of d p) ≡ Some (tuple_of d p)
+slice_get-tuples d p h =
     let nx = extent d.x in
     let ny = extent d.y in
     let nb = extent d.bands in
-    let hx = choice_within d.x x _ s.at_x in
-    let hy = choice_within d.y y _ s.at_y in
-    let hb = choice_within d.bands b _ s.at_band in
-    let lx = below_product y ny x nx hy hx in
-    let lb = below_product b nb (y * nx + x) (ny * nx) hb lx in
-    let number : row_number d t b y x ≡ t * (nb * (ny * nx)) + (b * (ny * nx) + (y * nx + x)) = omega arith in
+    let tuple = tuple_of d p in
+    let hb : p.band < nb = h.band in
+    let hy : p.y < ny = h.y in
+    let hx : p.x < nx = h.x in
+    let lx = below_product p.y ny p.x nx hy hx in
+    let lb = below_product p.band nb (p.y * nx + p.x) (ny * nx) hb lx in
+    let number : number_of d p ≡ p.t * (nb * (ny * nx)) + (p.band * (ny * nx) + (p.y * nx + p.x)) = omega arith in
     ap (slice_get (tuples d)) number
-    ∙ slice_get-flat_map (λ l. bands_of d l) (nb * (ny * nx)) (length-bands_of d) (choices d.t) t (b * (ny * nx) + (y * nx + x)) tuple.t s.at_t lb
-    ∙ slice_get-flat_map (λ l. rows_of d tuple.t l) (ny * nx) (length-rows_of d tuple.t) (choices d.bands) b (y * nx + x) tuple.band s.at_band lx
-    ∙ slice_get-flat_map (λ l. row_of d tuple.t tuple.band l) nx (length-row_of d tuple.t tuple.band) (choices d.y) y x tuple.y s.at_y hx
-    ∙ slice_get-map _ (choices d.x) x ∙ ap (option_map (λ l. record { t = tuple.t; band = tuple.band; y = tuple.y; x = l })) s.at_x
+    ∙ slice_get-flat_map (λ l. bands_of d l) (nb * (ny * nx)) (length-bands_of d) (choices d.t) p.t (p.band * (ny * nx) + (p.y * nx + p.x)) tuple.t (choice_of d.t p.t h.t) lb
+    ∙ slice_get-flat_map (λ l. rows_of d tuple.t l) (ny * nx) (length-rows_of d tuple.t) (choices d.bands) p.band (p.y * nx + p.x) tuple.band (choice_of d.bands p.band hb) lx
+    ∙ slice_get-flat_map (λ l. row_of d tuple.t tuple.band l) nx (length-row_of d tuple.t tuple.band) (choices d.y) p.y p.x tuple.y (choice_of d.y p.y hy) hx
+    ∙ slice_get-map _ (choices d.x) p.x ∙ ap (option_map (λ l. record { t = tuple.t; band = tuple.band; y = tuple.y; x = l })) (choice_of d.x p.x hx)
 
--- the places of a tuple's labels, by its row-major number
-pub record Placed (d : Dimensions) (tuple : Tuple) (k : ℕ) : Type 0 where
-  pub t : ℕ
-  pub b : ℕ
-  pub y : ℕ
-  pub x : ℕ
-  pub stand : StandAt d tuple t b y x
-  pub number : k ≡ row_number d t b y x
+same_tuple : (t t' : Option ℤ) (b b' : Option (List ℕ)) (y y' x x' : Option ℤ) → t ≡ t' → b ≡ b' → y ≡ y' → x ≡ x' → ◌≡◌ {A = Tuple} (record { t = t; band = b; y = y; x = x }) (record { t = t'; band = b'; y = y'; x = x' })
+same_tuple t t' b b' y y' x x' et eb ey ex = rw (et, eb, ey, ex) refl
 
-label_inside : {L M : Type 0} (f : L → M) (o : Option L) (m : M) → option_map f o ≡ Some m → (l : L) × (o ≡ Some l) × (f l ≡ m)
-label_inside f None m e = cc
-label_inside f (Some l) m e = (l, refl, same_Some (f l) m e)
+same_position : (t t' b b' y y' x x' : ℕ) → t ≡ t' → b ≡ b' → y ≡ y' → x ≡ x' → ◌≡◌ {A = Position} (record { t = t; band = b; y = y; x = x }) (record { t = t'; band = b'; y = y'; x = x' })
+same_position t t' b b' y y' x x' et eb ey ex = rw (et, eb, ey, ex) refl
 
-pub placed_tuple : (d : Dimensions) (tuple : Tuple) (k : ℕ) → slice_get (tuples d) k ≡ Some tuple → Placed d tuple k
-placed_tuple d tuple k e =
+-- the position at which a tuple of the dimensions stands
+pub record StandsAt (d : Dimensions) (tuple : Tuple) (k : ℕ) : Type 0 where
+  pub position : Position
+  pub inside : IsPosition d position
+  pub labels : tuple_of d position ≡ tuple
+  pub number : number_of d position ≡ k
+
+-- choices at four indices make a tuple that stands at that position
+stands_at : (d : Dimensions) (tuple : Tuple) (p : Position) → slice_get (choices d.t) p.t ≡ Some tuple.t → slice_get (choices d.bands) p.band ≡ Some tuple.band → slice_get (choices d.y) p.y ≡ Some tuple.y → slice_get (choices d.x) p.x ≡ Some tuple.x → StandsAt d tuple (number_of d p)
+stands_at d tuple p et eb ey ex = record {
+  position = p;
+  inside = record {
+    t = choice_within d.t p.t tuple.t et;
+    band = choice_within d.bands p.band tuple.band eb;
+    y = choice_within d.y p.y tuple.y ey;
+    x = choice_within d.x p.x tuple.x ex;
+  };
+  labels = same_tuple _ tuple.t _ tuple.band _ tuple.y _ tuple.x (label_there d.t p.t tuple.t et) (label_there d.bands p.band tuple.band eb) (label_there d.y p.y tuple.y ey) (label_there d.x p.x tuple.x ex);
+  number = refl;
+}
+
+stands_at_parts : (d : Dimensions) (tuple : Tuple) (k : ℕ) (p : Position) (lt : Option ℤ) (lb : Option (List ℕ)) (ly lx : Option ℤ) → slice_get (choices d.t) p.t ≡ Some lt → slice_get (choices d.bands) p.band ≡ Some lb → slice_get (choices d.y) p.y ≡ Some ly → slice_get (choices d.x) p.x ≡ Some lx → ◌≡◌ {A = Tuple} (record { t = lt; band = lb; y = ly; x = lx }) tuple → number_of d p ≡ k → StandsAt d tuple k
+stands_at_parts d tuple k p lt lb ly lx et eb ey ex same number =
+    subst (λ n. StandsAt d tuple n) number
+    (subst (λ v. StandsAt d v (number_of d p)) same (stands_at d (record { t = lt; band = lb; y = ly; x = lx }) p et eb ey ex))
+
+pub position_of_tuple : (d : Dimensions) (tuple : Tuple) (k : ℕ) → slice_get (tuples d) k ≡ Some tuple → StandsAt d tuple k
+position_of_tuple d tuple k e =
     let nx = extent d.x in
     let ny = extent d.y in
     let nb = extent d.bands in
     let t = from_part (λ l. bands_of d l) (nb * (ny * nx)) (length-bands_of d) (choices d.t) k tuple e in
-    let b = from_part (λ l. rows_of d t.item l) (ny * nx) (length-rows_of d t.item) (choices d.bands) t.place tuple t.at_place in
-    let y = from_part (λ l. row_of d t.item b.item l) nx (length-row_of d t.item b.item) (choices d.y) b.place tuple b.at_place in
+    let b = from_part (λ l. rows_of d t.item l) (ny * nx) (length-rows_of d t.item) (choices d.bands) t.index tuple t.at_index in
+    let y = from_part (λ l. row_of d t.item b.item l) nx (length-row_of d t.item b.item) (choices d.y) b.index tuple b.at_index in
     let make : Option ℤ → Tuple = λ l. record { t = t.item; band = b.item; y = y.item; x = l } in
-    let x = label_inside make (slice_get (choices d.x) y.place) tuple (sym (slice_get-map make (choices d.x) y.place) ∙ y.at_place) in
+    let x = value_at make (choices d.x) y.index tuple y.at_index in
     let kt = t.number in
     let kb = b.number in
     let ky = y.number in
-    let stand : StandAt d (make x.0) t.part b.part y.part y.place = record { at_t = t.at_part; at_band = b.at_part; at_y = y.at_part; at_x = x.1 } in
-    record { t = t.part; b = b.part; y = y.part; x = y.place; stand = subst (λ v. StandAt d v t.part b.part y.part y.place) x.2 stand; number = omega arith }
+    let p : Position = record { t = t.part; band = b.part; y = y.part; x = y.index } in
+    let number : number_of d p ≡ k = omega arith in
+    stands_at_parts d tuple k p t.item b.item y.item x.0 t.at_part b.at_part y.at_part x.1 x.2 number
 
--- labels that have places give the tuple its number
-row_major_at : (d : Dimensions) (tuple : Tuple) (t b y x : ℕ) → place_along same_number d.t tuple.t ≡ Some t → place_along same_name d.bands tuple.band ≡ Some b → place_along same_number d.y tuple.y ≡ Some y → place_along same_number d.x tuple.x ≡ Some x → row_major d tuple ≡ Some (row_number d t b y x)
-row_major_at d tuple t b y x et eb ey ex = rw (et, eb, ey, ex) refl
+-- labels that have indices give the tuple its number
+row_major_at : (d : Dimensions) (tuple : Tuple) (p : Position) → index_along same_number d.t tuple.t ≡ Some p.t → index_along same_name d.bands tuple.band ≡ Some p.band → index_along same_number d.y tuple.y ≡ Some p.y → index_along same_number d.x tuple.x ≡ Some p.x → row_major d tuple ≡ Some (number_of d p)
+row_major_at d tuple p et eb ey ex = rw (et, eb, ey, ex) refl
+
+-- the labels of a position give its tuple the position's number
+pub row_major-tuple_of : (d : Dimensions) (p : Position) → IsShape d → IsPosition d p → row_major d (tuple_of d p) ≡ Some (number_of d p)
+row_major-tuple_of d p h inside =
+    let t = numbers_have_indices d.t (λ list is. IsUnrepeated-rising list (IsRising-rises list (rw is at (t_rises d h)))) p.t _ (choice_of d.t p.t inside.t) in
+    let b = names_have_indices d.bands (λ list is. IsUnrepeated-names list (rw is at (bands_differ d h))) p.band _ (choice_of d.bands p.band inside.band) in
+    let y = numbers_have_indices d.y (λ list is. IsUnrepeated-falling list (IsFalling-falls list (rw is at (y_falls d h)))) p.y _ (choice_of d.y p.y inside.y) in
+    let x = numbers_have_indices d.x (λ list is. IsUnrepeated-rising list (IsRising-rises list (rw is at (x_rises d h)))) p.x _ (choice_of d.x p.x inside.x) in
+    row_major_at d (tuple_of d p) p t b y x
 
 -- each tuple of a shape has the row-major number at which it stands among the tuples
 pub row_major-tuple : (d : Dimensions) (k : ℕ) (tuple : Tuple) → IsShape d → slice_get (tuples d) k ≡ Some tuple → row_major d tuple ≡ Some k
 row_major-tuple d k tuple h e =
-    let p = placed_tuple d tuple k e in
-    let s = p.stand in
-    let t = numbers_have_places d.t (λ list is. rising_distinct list (rw is at (t_rises d h))) p.t tuple.t s.at_t in
-    let b = names_have_places d.bands (λ list is. names_distinct list (rw is at (bands_differ d h))) p.b tuple.band s.at_band in
-    let y = numbers_have_places d.y (λ list is. falling_distinct list (rw is at (y_falls d h))) p.y tuple.y s.at_y in
-    let x = numbers_have_places d.x (λ list is. rising_distinct list (rw is at (x_rises d h))) p.x tuple.x s.at_x in
-    row_major_at d tuple p.t p.b p.y p.x t b y x ∙ ap Some (sym p.number)
+    let s = position_of_tuple d tuple k e in
+    ap (row_major d) (sym s.labels) ∙ row_major-tuple_of d s.position h s.inside ∙ ap Some s.number
 
 -- and a tuple with a row-major number stands at that number among the tuples
 pub tuple-row_major : (d : Dimensions) (k : ℕ) (tuple : Tuple) → row_major d tuple ≡ Some k → slice_get (tuples d) k ≡ Some tuple
 tuple-row_major d k tuple e =
-    option_and_then_some _ (place_along same_number d.t tuple.t) k e (λ t et et'.
-    option_and_then_some _ (place_along same_name d.bands tuple.band) k et' (λ b eb eb'.
-    option_and_then_some _ (place_along same_number d.y tuple.y) k eb' (λ y ey ey'.
-    let x = label_inside _ (place_along same_number d.x tuple.x) k ey' in
-    let stand : StandAt d tuple t b y x.0 = record {
-      at_t = choice_at same_number same_number_is d.t tuple.t t et;
-      at_band = choice_at same_name same_name_is d.bands tuple.band b eb;
-      at_y = choice_at same_number same_number_is d.y tuple.y y ey;
-      at_x = choice_at same_number same_number_is d.x tuple.x x.0 x.1;
-    } in
-    ap (slice_get (tuples d)) (sym x.2) ∙ slice_get-tuples d tuple t b y x.0 stand)))
+    option_and_then_some _ (index_along same_number d.t tuple.t) k e (λ t et et'.
+    option_and_then_some _ (index_along same_name d.bands tuple.band) k et' (λ b eb eb'.
+    option_and_then_some _ (index_along same_number d.y tuple.y) k eb' (λ y ey ey'.
+    let x = value_inside _ (index_along same_number d.x tuple.x) k ey' in
+    let p : Position = record { t = t; band = b; y = y; x = x.0 } in
+    let stand : StandsAt d tuple (number_of d p) =
+    stands_at d tuple p (choice_at same_number same_number_is d.t tuple.t t et) (choice_at same_name same_name_is d.bands tuple.band b eb) (choice_at same_number same_number_is d.y tuple.y y ey) (choice_at same_number same_number_is d.x tuple.x x.0 x.1)
+    in
+    ap (slice_get (tuples d)) (sym x.2 ∙ sym stand.number) ∙ slice_get-tuples d stand.position stand.inside ∙ ap Some stand.labels)))
 
 -- a row-major number is below the count of cells, and each number below it is one
 pub row_major_within : (d : Dimensions) (k : ℕ) (tuple : Tuple) → row_major d tuple ≡ Some k → k < cell_count d
@@ -279,6 +212,89 @@ tuple_at d k h =
     let long = length-tuples d in
     (get_or (tuples d) k none, slice_get-get_or (tuples d) k none (omega arith))
 
+-- ---- positions, one for each number
+
+pub number_below : (d : Dimensions) (p : Position) → IsPosition d p → number_of d p < cell_count d
+number_below d p h =
+    let long = length-tuples d in
+    omega (arith, slice_get_within (tuples d) (number_of d p) (tuple_of d p) (slice_get-tuples d p h))
+
+pub position_there : (d : Dimensions) (k : ℕ) → k < cell_count d → (p : Position) × IsNumberedBy d k p
+position_there d k h =
+    let tuple = tuple_at d k h in
+    let s = position_of_tuple d tuple.0 k tuple.1 in
+    (s.position, record { inside = s.inside; number_is = s.number })
+
+same_digits : (a b a' b' n : ℕ) → b < n → b' < n → a * n + b ≡ a' * n + b' → (a ≡ a') × (b ≡ b')
+same_digits a b a' b' n h h' e = (
+  sym (digits_div a h) ∙ ap (λ k. k / n) e ∙ digits_div a' h',
+  sym (digits_mod a h) ∙ ap (λ k. k % n) e ∙ digits_mod a' h',
+)
+
+pub position_alone : (d : Dimensions) (p q : Position) → IsPosition d p → IsPosition d q → number_of d p ≡ number_of d q → p ≡ q
+position_alone d p q hp hq e =
+    let x = same_digits ((p.t * extent d.bands + p.band) * extent d.y + p.y) p.x ((q.t * extent d.bands + q.band) * extent d.y + q.y) q.x (extent d.x) hp.x hq.x e in
+    let y = same_digits (p.t * extent d.bands + p.band) p.y (q.t * extent d.bands + q.band) q.y (extent d.y) hp.y hq.y x.0 in
+    let b = same_digits p.t p.band q.t q.band (extent d.bands) hp.band hq.band y.0 in
+    same_position p.t q.t p.band q.band p.y q.y p.x q.x b.0 b.1 y.1 x.1
+
+-- ---- the tuples of the dimensions are those that have a label of each
+
+label_is_of : {L : Type 0} (labels : Option (List L)) (i : ℕ) → i < extent labels → IsLabelOf labels (label_of labels i)
+label_is_of None i h = tt
+label_is_of (Some []) i h = absurd (omega arith)
+label_is_of (Some (l ∷ labels)) i h =
+    let e = slice_get-get_or (l ∷ labels) i l h in
+    let there = Contains-get_or (l ∷ labels) i l h in
+    subst (IsLabelOf (Some (l ∷ labels))) (sym e) there
+
+index_of_label : {L : Type 0} (labels : Option (List L)) (l : Option L) → IsLabelOf labels l → (i : ℕ) × (i < extent labels) × (label_of labels i ≡ l)
+index_of_label None None h = (0, omega arith, refl)
+index_of_label None (Some l) h = absurd h
+index_of_label (Some labels) None h = absurd h
+index_of_label (Some labels) (Some l) h = (h.0, h.1, slice_get-get_or labels h.0 l h.1 ∙ ap Some h.2)
+
+pub IsTuple-tuple_of : (d : Dimensions) (p : Position) → IsPosition d p → IsTuple d (tuple_of d p)
+IsTuple-tuple_of d p h =
+    record { t = label_is_of d.t p.t h.t; band = label_is_of d.bands p.band h.band; y = label_is_of d.y p.y h.y; x = label_is_of d.x p.x h.x }
+
+-- the position whose labels a tuple has
+pub position_with_labels : (d : Dimensions) (tuple : Tuple) → IsTuple d tuple → (p : Position) × IsPosition d p × (tuple_of d p ≡ tuple)
+position_with_labels d tuple h =
+    let t = index_of_label d.t tuple.t h.t in
+    let b = index_of_label d.bands tuple.band h.band in
+    let y = index_of_label d.y tuple.y h.y in
+    let x = index_of_label d.x tuple.x h.x in (
+      record { t = t.0; band = b.0; y = y.0; x = x.0 },
+      record { t = t.1; band = b.1; y = y.1; x = x.1 },
+      same_tuple _ tuple.t _ tuple.band _ tuple.y _ tuple.x t.2 b.2 y.2 x.2,
+    )
+
+pub IsTuple-from_get : (d : Dimensions) (k : ℕ) (tuple : Tuple) → slice_get (tuples d) k ≡ Some tuple → IsTuple d tuple
+IsTuple-from_get d k tuple e =
+    let s = position_of_tuple d tuple k e in
+    subst (IsTuple d) s.labels (IsTuple-tuple_of d s.position s.inside)
+
+pub tuples_are : (d : Dimensions) (tuple : Tuple) → Contains (tuples d) tuple ↔ IsTuple d tuple
+tuples_are d tuple = (
+  (λ there. IsTuple-from_get d there.0 tuple (slice_get-get_or (tuples d) there.0 tuple there.1 ∙ ap Some there.2)),
+  (λ h.
+      let p = position_with_labels d tuple h in
+      let e = slice_get-tuples d p.0 p.1 ∙ ap Some p.2 in
+      let within = slice_get_within (tuples d) (number_of d p.0) tuple e in
+      (number_of d p.0, within, get_or_from_slice_get (tuples d) (number_of d p.0) tuple tuple e)),
+)
+
+pub MatchOneToOne-shape : (d : Dimensions) → IsShape d → MatchOneToOne d
+MatchOneToOne-shape d h = record {
+  number_below = number_below d;
+  tuple_there = slice_get-tuples d;
+  tuple_number = λ p inside. row_major-tuple_of d p h inside;
+  position_there = position_there d;
+  position_alone = position_alone d;
+  tuples_are = tuples_are d;
+}
+
 -- ---- the two laws of cubes
 
 -- the cell of a tuple of the shape is what the cube was made of there
@@ -289,15 +305,6 @@ at-tabulate d f k tuple h e =
 
 pub IsCube-tabulate : {C : Type 0} (d : Dimensions) (f : Tuple → C) → IsCube (tabulate d f)
 IsCube-tabulate d f = length-map (tuples d) f
-
-same_gets : {C : Type 0} (xs ys : List C) → ((k : ℕ) → slice_get xs k ≡ slice_get ys k) → xs ≡ ys
-same_gets [] [] h = refl
-same_gets [] (y ∷ ys) h = cc (h 0)
-same_gets (x ∷ xs) [] h = cc (h 0)
-same_gets (x ∷ xs) (y ∷ ys) h =
-    let first : x ≡ y = same_Some x y (h 0) in
-    let rest : xs ≡ ys = same_gets xs ys (λ k. h (suc k)) in
-    rw (first, rest) refl
 
 at-tuple : {C : Type 0} (cube : Cube C) (k : ℕ) (tuple : Tuple) → IsShape cube.shape → slice_get (tuples cube.shape) k ≡ Some tuple → at cube tuple ≡ slice_get cube.cells k
 at-tuple cube k tuple h e = ap (option_and_then (slice_get cube.cells)) (row_major-tuple cube.shape k tuple h e)
@@ -313,3 +320,73 @@ same_cubes {C} d a b h whole_a whole_b agree =
           sym (at-tuple (cube a) k tuple h e) ∙ agree k tuple e ∙ at-tuple (cube b) k tuple h e
       | inr ge ↦ slice_get_past a k (omega arith) ∙ sym (slice_get_past b k (omega arith))
     ])
+
+-- ---- the laws of cubes, said of tuples
+
+get_tuple : (d : Dimensions) (tuple : Tuple) → IsTuple d tuple → (k : ℕ) × (slice_get (tuples d) k ≡ Some tuple)
+get_tuple d tuple h =
+    let p = position_with_labels d tuple h in
+    (number_of d p.0, slice_get-tuples d p.0 p.1 ∙ ap Some p.2)
+
+pub at-tabulate_IsTuple : {C : Type 0} (d : Dimensions) (f : Tuple → C) (tuple : Tuple) → IsShape d → IsTuple d tuple → at (tabulate d f) tuple ≡ Some (f tuple)
+at-tabulate_IsTuple d f tuple shape h =
+    let k = get_tuple d tuple h in at-tabulate d f k.0 tuple shape k.1
+
+-- at the number of a position stands the cell of its tuple
+pub at-tuple_of : {C : Type 0} (cube : Cube C) (p : Position) → IsShape cube.shape → IsPosition cube.shape p → at cube (tuple_of cube.shape p) ≡ slice_get cube.cells (number_of cube.shape p)
+at-tuple_of cube p shape h =
+    at-tuple cube (number_of cube.shape p) (tuple_of cube.shape p) shape (slice_get-tuples cube.shape p h)
+
+-- a cube is the tabulation of its own cells
+own_cell : {C : Type 0} (cube : Cube C) (other : C) (k : ℕ) → IsShape cube.shape → IsCube cube → slice_get (map (cell_or cube other) (tuples cube.shape)) k ≡ slice_get cube.cells k
+own_cell cube other k shape whole =
+    let d = cube.shape in
+    let none : Tuple = record { t = None; band = None; y = None; x = None } in
+    elim (cases_lt k (length (tuples d))) [
+      | inl lt ↦ let tuple = get_or (tuples d) k none in
+          let e = slice_get-get_or (tuples d) k none lt in
+          let cell = slice_get-get_or cube.cells k other (omega arith) in
+          slice_get-map (cell_or cube other) (tuples d) k
+          ∙ ap (option_map (cell_or cube other)) e
+          ∙ ap (λ c. Some (unwrap_or c other)) (at-tuple cube k tuple shape e ∙ cell)
+          ∙ sym cell
+      | inr ge ↦ let long = length-map (tuples d) (cell_or cube other) in
+          slice_get_past _ k (omega arith) ∙ sym (slice_get_past cube.cells k (omega arith))
+    ]
+
+pub tabulate-cell_or : {C : Type 0} (cube : Cube C) (other : C) → IsShape cube.shape → IsCube cube → tabulate cube.shape (cell_or cube other) ≡ cube
+tabulate-cell_or cube other shape whole =
+    let same = same_gets _ cube.cells (λ k. own_cell cube other k shape whole) in
+    ap (λ cells. record { shape = cube.shape; cells = cells }) same
+
+-- and two cubes of one shape that agree at each tuple are one
+pub same_cubes_by_tuples : {C : Type 0} (d : Dimensions) (a b : List C) → IsShape d → IsCube (record { shape = d; cells = a }) → IsCube (record { shape = d; cells = b }) → ((tuple : Tuple) → IsTuple d tuple → at (record { shape = d; cells = a }) tuple ≡ at (record { shape = d; cells = b }) tuple) → a ≡ b
+same_cubes_by_tuples d a b shape whole_a whole_b agree =
+    same_cubes d a b shape whole_a whole_b (λ k tuple e. agree tuple (IsTuple-from_get d k tuple e))
+
+same_shapes : {C : Type 0} (d : Dimensions) (a b : Cube C) → IsShape d → a.shape ≡ d → b.shape ≡ d → IsCube a → IsCube b → ((tuple : Tuple) → IsTuple d tuple → at a tuple ≡ at b tuple) → a ≡ b
+same_shapes {C} d a b shape ea eb whole_a whole_b agree =
+    let cube : List C → Cube C = λ cells. record { shape = d; cells = cells } in
+    let here : a ≡ cube a.cells = ap (λ s. record { shape = s; cells = a.cells }) ea in
+    let there : b ≡ cube b.cells = ap (λ s. record { shape = s; cells = b.cells }) eb in
+    let cells = same_cubes_by_tuples d a.cells b.cells shape (subst IsCube here whole_a) (subst IsCube there whole_b) (λ tuple h. ap (λ c. at c tuple) (sym here) ∙ agree tuple h ∙ ap (λ c. at c tuple) there) in
+    here ∙ ap cube cells ∙ sym there
+
+of_shape : {C : Type 0} (d : Dimensions) (P : Cube C → Dimensions → Type 0) (cube : Cube C) → cube.shape ≡ d → P cube cube.shape → P cube d
+of_shape d P cube e h = subst (P cube) e h
+
+pub AreTabulations-shape : (C : Type 0) (d : Dimensions) → IsShape d → AreTabulations C d
+AreTabulations-shape C d shape = record {
+  cell_made = λ f tuple h. at-tabulate_IsTuple d f tuple shape h;
+  own_cells = λ cube other e whole. of_shape d (λ c v. tabulate v (cell_or c other) ≡ c) cube e (tabulate-cell_or cube other (subst IsShape (sym e) shape) whole);
+  same_cube = λ a b ea eb whole_a whole_b agree. same_shapes d a b shape ea eb whole_a whole_b agree;
+  cell_there = λ cube p e. of_shape d (λ c v. IsPosition v p → at c (tuple_of v p) ≡ slice_get c.cells (number_of v p)) cube e (λ h. at-tuple_of cube p (subst IsShape (sym e) shape) h);
+}
+
+-- so many cells as the shape counts are those of a cube
+pub IsCube-counted : {C : Type 0} (d : Dimensions) (cells : List C) (count : ℕ) → count ≡ cell_count d → IsTrue (nat_eq count (length cells)) ↔ IsCube (record { shape = d; cells = cells })
+IsCube-counted d cells count e =
+    let long = length-tuples d in (
+      (λ t. let same = eqb-true count (length cells) t in omega arith),
+      (λ whole. eq-eqb count (length cells) (omega arith)),
+    )

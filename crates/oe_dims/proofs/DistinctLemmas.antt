@@ -1,5 +1,5 @@
 -- Sorted names differ where each stands before the next, and names differ in any order or in none.
-use Rattle.std.proofs.Common.{◌≡◌, ℕ, suc, ◌+◌, ◌<◌, ◌≤◌, Bool, true, false, List, [], ◌∷◌, length, get_or, drop, refl, sym, ap, ◌∙◌, arith, inl, inr, Ordering}
+use Rattle.std.proofs.Common.{◌≡◌, ℕ, suc, ◌+◌, ◌<◌, ◌≤◌, Bool, true, false, List, [], ◌∷◌, ◌++◌, length, get_or, take, drop, refl, sym, ap, ◌∙◌, arith, inl, inr, Ordering}
 use Rattle.std.specs.declared.cmp.Ordering.TheVariants.{Less, Equal, Greater}
 use Rattle.std.specs.List.{list_any, slice_index_or, AllByRecursion, IsDistinct}
 use Rattle.std.specs.List.Sorted.{IsPermutation, IsSortedBy}
@@ -7,6 +7,7 @@ use Rattle.std.specs.Cmp.{both_ways, IsStrictWeakOrder}
 use Rattle.std.specs.Cmp.Lexicographic.{slice_cmp}
 use Rattle.std.specs.FinMap.{slice_cmp-IsAntisymmetric, nat_cmp-IsAntisymmetric}
 use Rattle.std.specs.Ordering.{nat_cmp, is_lt, ordering_reverse}
+use Rattle.std.proofs.Math.Seq.{take-append_seam}
 use Rattle.std.proofs.lemmas.Bool.{cases_Bool, and_parts, not-true, or_parts, or_from, false≢true}
 use Rattle.std.proofs.lemmas.Cmp.{nat_list_cmp_total, tied_itself}
 use Rattle.std.proofs.lemmas.List.{length-map, length-drop, get_or-map, same_lists, get_or_default}
@@ -79,11 +80,11 @@ rise_short [] h = refl
 rise_short (a ∷ []) h = refl
 rise_short (a ∷ b ∷ names) h = absurd (omega arith)
 
-pub names_rise_all : (names : List (List ℕ)) (places : List ℕ) (k : ℕ) → length places ≤ k + 1 → names_rise (names_at names (drop k places)) ≡ true
-names_rise_all names places k h =
-    let long = length-map (drop k places) (λ place. slice_index_or names place []) in
-    let left = length-drop k places in
-    rise_short (names_at names (drop k places)) (omega arith)
+pub names_rise_all : (names : List (List ℕ)) (indices : List ℕ) (k : ℕ) → length indices ≤ k + 1 → names_rise (names_at names (drop k indices)) ≡ true
+names_rise_all names indices k h =
+    let long = length-map (drop k indices) (λ index. slice_index_or names index []) in
+    let left = length-drop k indices in
+    rise_short (names_at names (drop k indices)) (omega arith)
 
 -- ---- names in another order
 
@@ -121,40 +122,44 @@ all_differ-permutation names other h =
     (λ d. differ_from other (IsDistinct-IsPermutation same_name same_name-comm names other h (distinct_from names d)))
     (λ d. differ_from names (IsDistinct-IsPermutation same_name same_name-comm other names (IsPermutation-sym names other h) (distinct_from other d)))
 
--- ---- names by their places
+-- ---- names by their indices
 
--- at the places from 0 on stand the names themselves
-pub names_at-numbered : (names : List (List ℕ)) (places : List ℕ) → length places ≡ length names → ((k : ℕ) → k < length places → get_or places k 0 ≡ k) → names_at names places ≡ names
-names_at-numbered names places long numbered =
-    let mapped = length-map places (λ place. slice_index_or names place []) in
-    same_lists (names_at names places) names (omega arith)
-    (λ k d l. let within : k < length places = omega arith in
-    get_or-map (λ place. slice_index_or names place []) places k 0 d within ∙ ap (λ place. get_or names place []) (numbered k within) ∙ get_or_default names k [] d (omega arith))
+-- at the indices from 0 on stand the names themselves
+pub names_at-numbered : (names : List (List ℕ)) (indices : List ℕ) → length indices ≡ length names → ((k : ℕ) → k < length indices → get_or indices k 0 ≡ k) → names_at names indices ≡ names
+names_at-numbered names indices long numbered =
+    let mapped = length-map indices (λ index. slice_index_or names index []) in
+    same_lists (names_at names indices) names (omega arith)
+    (λ k d l. let within : k < length indices = omega arith in
+    get_or-map (λ index. slice_index_or names index []) indices k 0 d within ∙ ap (λ index. get_or names index []) (numbered k within) ∙ get_or_default names k [] d (omega arith))
 
--- sorted places give sorted names
-pub names_at-sorted : (names : List (List ℕ)) (places : List ℕ) → IsSortedBy (λ p q. is_name_before (slice_index_or names p []) (slice_index_or names q [])) places → IsSortedBy is_name_before (names_at names places)
-names_at-sorted names places sorted k d low high =
-    let f = λ (place : ℕ). slice_index_or names place [] in
-    let mapped = length-map places f in
-    let next : k + 1 < length places = omega arith in
-    let one = get_or-map f places k 0 d (omega arith) in
-    let two = get_or-map f places (k + 1) 0 d next in
+-- sorted indices give sorted names
+pub names_at-sorted : (names : List (List ℕ)) (indices : List ℕ) → IsSortedBy (λ p q. is_name_before (slice_index_or names p []) (slice_index_or names q [])) indices → IsSortedBy is_name_before (names_at names indices)
+names_at-sorted names indices sorted k d low high =
+    let f = λ (index : ℕ). slice_index_or names index [] in
+    let mapped = length-map indices f in
+    let next : k + 1 < length indices = omega arith in
+    let one = get_or-map f indices k 0 d (omega arith) in
+    let two = get_or-map f indices (k + 1) 0 d next in
     rw (one, two) (sorted k 0 (omega arith) next)
 
-pub places_rank : (names : List (List ℕ)) → IsStrictWeakOrder (λ p q. is_name_before (slice_index_or names p []) (slice_index_or names q []))
-places_rank names = ranks_by nat_list_cmp_total (λ p. slice_index_or names p [])
+pub indices_rank : (names : List (List ℕ)) → IsStrictWeakOrder (λ p q. is_name_before (slice_index_or names p []) (slice_index_or names q []))
+indices_rank names = ranks_by nat_list_cmp_total (λ p. slice_index_or names p [])
 
--- so names differ where they rise at their sorted places
+-- so names differ where they rise at their sorted indices
 pub differ_by_sort : (names : List (List ℕ)) (numbered sorted : List ℕ) → length numbered ≡ length names → ((k : ℕ) → k < length numbered → get_or numbered k 0 ≡ k) → IsPermutation numbered sorted → IsSortedBy (λ p q. is_name_before (slice_index_or names p []) (slice_index_or names q [])) sorted → names_rise (names_at names sorted) ≡ all_differ names
 differ_by_sort names numbered sorted long each moved order =
-    let f = λ (place : ℕ). slice_index_or names place [] in
+    let f = λ (index : ℕ). slice_index_or names index [] in
     names_rise-sorted (names_at names sorted) (names_at-sorted names sorted order)
     ∙ sym (all_differ-permutation (names_at names numbered) (names_at names sorted) (IsPermutation-map f numbered sorted moved))
     ∙ ap all_differ (names_at-numbered names numbered long each)
 
--- and a test that a name passes at some place is one that some name passes
-pub same_at_places : (test : List ℕ → Bool) (names : List (List ℕ)) (numbered moved : List ℕ) → length numbered ≡ length names → ((k : ℕ) → k < length numbered → get_or numbered k 0 ≡ k) → IsPermutation numbered moved → list_any test (names_at names moved) ≡ list_any test names
-same_at_places test names numbered moved long each permuted =
-    let f = λ (place : ℕ). slice_index_or names place [] in
+-- and a test that a name passes at some index is one that some name passes
+pub same_at_indices : (test : List ℕ → Bool) (names : List (List ℕ)) (numbered moved : List ℕ) → length numbered ≡ length names → ((k : ℕ) → k < length numbered → get_or numbered k 0 ≡ k) → IsPermutation numbered moved → list_any test (names_at names moved) ≡ list_any test names
+same_at_indices test names numbered moved long each permuted =
+    let f = λ (index : ℕ). slice_index_or names index [] in
     sym (list_any-IsPermutation test (names_at names numbered) (names_at names moved) (IsPermutation-map f numbered moved permuted))
     ∙ ap (list_any test) (names_at-numbered names numbered long each)
+
+-- what was written whole into a list is the list
+pub whole_write : (n : ℕ) (written old : List ℕ) → length written ≡ n → written ≡ take n (written ++ old)
+whole_write n written old e = sym (take-append_seam written old) ∙ ap (λ k. take k (written ++ old)) e

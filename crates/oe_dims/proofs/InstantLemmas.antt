@@ -15,24 +15,24 @@ digit_stands : (n : ℕ) → n < 10 → is_byte_in 48 57 (48 + n) ≡ true
 digit_stands n h = and_from _ _ (le-leb 48 (48 + n) (omega arith)) (le-leb (48 + n) 57 (omega arith))
 
 -- two digits spell the number that they print
-two_back : (n : ℕ) → 10 * (48 + n / 10 - 48) + (48 + n % 10 - 48) ≡ n
+pub two_back : (n : ℕ) → 10 * (48 + n / 10 - 48) + (48 + n % 10 - 48) ≡ n
 two_back n = omega arith
 
 -- each digit printed is a digit
-tens_stand : (n : ℕ) → n < 100 → is_byte_in 48 57 (48 + n / 10) ≡ true
+pub tens_stand : (n : ℕ) → n < 100 → is_byte_in 48 57 (48 + n / 10) ≡ true
 tens_stand n h = digit_stands (n / 10) (omega arith)
 
-ones_stand : (n : ℕ) → is_byte_in 48 57 (48 + n % 10) ≡ true
+pub ones_stand : (n : ℕ) → is_byte_in 48 57 (48 + n % 10) ≡ true
 ones_stand n = digit_stands (n % 10) (omega arith)
 
-abbrev text_of : Civil → ℕ → List ℕ
+abbrev pub text_of : Civil → ℕ → List ℕ
 text_of date time = date_text date ++ codes "T" ++ time_text time ++ codes "Z"
 
 follows_long : (date : Civil) (time : ℕ) → date.year < 10000 → date.month < 100 → date.day < 100 → time < 86400 → follows_pattern instant_pattern (text_of date time) ≡ true
 follows_long date time hy hm hd ht =
     rw (tens_stand (date.year / 100) (omega arith), ones_stand (date.year / 100), tens_stand (date.year % 100) (omega arith), ones_stand (date.year % 100), tens_stand date.month hm, ones_stand date.month, tens_stand date.day hd, ones_stand date.day, tens_stand (time / 3600) (omega arith), ones_stand (time / 3600), tens_stand (time / 60 % 60) (omega arith), ones_stand (time / 60 % 60), tens_stand (time % 60) (omega arith), ones_stand (time % 60)) refl
 
-same_moment : (y y' mo mo' d d' h h' mi mi' s s' : ℕ) → y ≡ y' → mo ≡ mo' → d ≡ d' → h ≡ h' → mi ≡ mi' → s ≡ s' → ◌≡◌ {A = Moment} (record { date = record { year = y; month = mo; day = d }; hour = h; minute = mi; second = s }) (record { date = record { year = y'; month = mo'; day = d' }; hour = h'; minute = mi'; second = s' })
+pub same_moment : (y y' mo mo' d d' h h' mi mi' s s' : ℕ) → y ≡ y' → mo ≡ mo' → d ≡ d' → h ≡ h' → mi ≡ mi' → s ≡ s' → ◌≡◌ {A = Moment} (record { date = record { year = y; month = mo; day = d }; hour = h; minute = mi; second = s }) (record { date = record { year = y'; month = mo'; day = d' }; hour = h'; minute = mi'; second = s' })
 same_moment y y' mo mo' d d' h h' mi mi' s s' ey emo ed eh emi es = rw (ey, emo, ed, eh, emi, es)
 
 moment_in-long : (date : Civil) (time : ℕ) → moment_in (text_of date time) ≡ record { date = date; hour = time / 3600; minute = time / 60 % 60; second = time % 60 }
@@ -45,7 +45,7 @@ unfolding instant_read
 instant_read-long date time hy hm hd ht =
     rw (follows_long date time hy hm hd ht) (ap instant_of (moment_in-long date time))
 
-is_date_from : (count : ℕ) (date : Civil) → IsDay count date → is_date date ≡ true
+pub is_date_from : (count : ℕ) (date : Civil) → IsDay count date → is_date date ≡ true
 is_date_from count date h =
     rw (le-leb 1 date.year h.year.0, le-leb date.year 9999 h.year.1, le-leb 1 date.month h.month.0, le-leb date.month 12 h.month.1, le-leb 1 date.day h.day.0, le-leb date.day (days_in_month (pos date.year) date.month) h.day.1) refl
 
@@ -57,18 +57,18 @@ is_moment_from date time real h =
     and_from _ _ (and_from _ _ (and_from _ _ real (le-leb (time / 3600) 23 hour)) (le-leb (time / 60 % 60) 59 minute)) (le-leb (time % 60) 59 second)
 
 -- the seconds to a day and a time of day
-seconds_to_day : (day : ℤ) (days time : ℕ) → day ≡ pos days -ℤ pos 719_162 → day *ℤ pos 86400 +ℤ pos (time / 3600 * 3600 + time / 60 % 60 * 60 + time % 60) ≡ first_instant +ℤ pos (86400 * days + time)
+pub seconds_to_day : (day : ℤ) (days time : ℕ) → day ≡ pos days -ℤ pos 719_162 → day *ℤ pos 86400 +ℤ pos (time / 3600 * 3600 + time / 60 % 60 * 60 + time % 60) ≡ first_instant +ℤ pos (86400 * days + time)
 seconds_to_day day days time e =
     let clock : time / 3600 * 3600 + time / 60 % 60 * 60 + time % 60 ≡ time = omega arith in
     rw (e, clock) (omega (arith, signed_arith))
 
 -- the numbers of a date of the years 1 to 9999 have four, two and two digits
-digits_bound : (count : ℕ) (date : Civil) → IsDay count date → (date.year < 10000) × (date.month < 100) × (date.day < 100)
+pub digits_bound : (count : ℕ) (date : Civil) → IsDay count date → (date.year < 10000) × (date.month < 100) × (date.day < 100)
 digits_bound count date h =
     let short = days_in_month_bounds (pos date.year) date.month in
     (omega (arith, h.year), omega (arith, h.month), omega (arith, h.day, short))
 
-instant_of_real : (m : Moment) → is_moment m ≡ true → instant_of m ≡ Ok (seconds_to m)
+pub instant_of_real : (m : Moment) → is_moment m ≡ true → instant_of m ≡ Ok (seconds_to m)
 instant_of_real m h = rw h
 
 instant_read_at : (days time : ℕ) → days ≤ 3_652_058 → time < 86400 → instant_read (text_of (civil_date days) time) ≡ Ok (first_instant +ℤ pos (86400 * days + time))

@@ -1,12 +1,16 @@
 mod BlockLemmas
 mod CivilLemmas
-mod InstantLemmas
 pub mod CubeLemmas
-mod DistinctLemmas
+pub mod DistinctLemmas
+pub mod FlatMapLemmas
+pub mod IndexLemmas
+pub mod InstantLemmas
 pub mod ListsLemmas
 pub mod OrderLemmas
 mod PatternLemmas
-pub mod PlacesLemmas
+pub mod ReaderLemmas
+pub mod RuleLemmas
 mod RunLemmas
 pub mod ShapeLemmas
+pub mod SpellingLemmas
 mod Worked

@@ -37,7 +37,7 @@ extent_limit : {L : Type 0} (labels : Option (List L)) → option_map_or (λ n. 
 extent_limit None e = omega arith
 extent_limit (Some labels) e = leb-true (length labels) most_labels e
 
--- where no dimension has too many labels, each gives at most 65536 places
+-- where no dimension has too many labels, each gives at most 65536 indices
 pub record ExtentsAreWithin (d : Dimensions) : Type 0 where
   pub t : extent d.t ≤ most_labels
   pub bands : extent d.bands ≤ most_labels

@@ -1,5 +1,5 @@
 -- A text against a pattern, one byte at a time.
-use Rattle.std.proofs.Common.{◌≡◌, ℕ, suc, ◌+◌, ◌<◌, ◌≤◌, true, false, ◌&&◌, List, [], ◌∷◌, length, get_or, drop, refl, ap}
+use Rattle.std.proofs.Common.{◌≡◌, ℕ, zero, suc, ◌+◌, ◌<◌, ◌≤◌, true, false, ◌&&◌, List, [], ◌∷◌, length, get_or, drop, refl, ap, arith}
 use Rattle.std.proofs.lemmas.List.{drop_more, drop_all}
 use Rattle.std.proofs.lemmas.Bool.{and_parts, and_right}
 use Rattle.oe_dims.specs.Instant.{is_let_stand, follows_pattern}
@@ -24,3 +24,11 @@ follows_pattern_short [] (b ∷ text) e = refl
 follows_pattern_short (p ∷ pattern) [] e = refl
 follows_pattern_short (p ∷ pattern) (b ∷ text) e =
     and_right (is_let_stand p b) (follows_pattern pattern text) (follows_pattern_short pattern text (λ same. e (ap suc same)))
+
+-- each byte of a text that follows a pattern is one that the pattern lets stand
+pub follows_pattern_at : (pattern text : List ℕ) → follows_pattern pattern text ≡ true → (i : ℕ) → i < length pattern → is_let_stand (get_or pattern i 0) (get_or text i 0) ≡ true
+follows_pattern_at [] text e i h = absurd (omega arith)
+follows_pattern_at (p ∷ pattern) [] e i h = cc
+follows_pattern_at (p ∷ pattern) (b ∷ text) e zero h = (and_parts (is_let_stand p b) (follows_pattern pattern text) e).0
+follows_pattern_at (p ∷ pattern) (b ∷ text) e (suc i) h =
+    follows_pattern_at pattern text (and_parts (is_let_stand p b) (follows_pattern pattern text) e).1 i (omega arith)

@@ -9,8 +9,8 @@ use Rattle.std.proofs.lemmas.List.Sums.{length-filter}
 use Rattle.std.proofs.lemmas.Option.{slice_get_within, get_or_from_slice_get}
 use Rattle.std.proofs.lemmas.Bool.{and_from, and_left, and_right, not_from_true, not_from_false, false≢true, cases_lt, cases_Bool}
 use Rattle.oe_dims.specs.Dimensions.{rises, falls}
-use Rattle.oe_dims.specs.Places.{same_number, place_where, is_inside, IsFromTo, IsRun}
-use Rattle.oe_dims.proofs.PlacesLemmas.{rises_lt, falls_lt, lt_from, place_where_found, place_where_none, same_number_refl, same_number_below, same_number_above}
+use Rattle.oe_dims.specs.Indices.{same_number, index_where, is_inside, IsIndexIn, IsIndexRange}
+use Rattle.oe_dims.proofs.IndexLemmas.{same_number_is, rises_lt, falls_lt, lt_from, index_where_found, index_where_none, same_number_refl, same_number_below, same_number_above}
 
 -- where just the elements of a run pass, the filter is the run
 pub filter_run : {X : Type 0} (test : X → Bool) (xs : List X) (i j : ℕ) (d : X) → i ≤ j → j ≤ length xs → ((k : ℕ) → k < i → test (get_or xs k d) ≡ false) → ((k : ℕ) → i ≤ k → k < j → test (get_or xs k d) ≡ true) → ((k : ℕ) → j ≤ k → k < length xs → test (get_or xs k d) ≡ false) → filter test xs ≡ slice_range xs i j
@@ -68,7 +68,7 @@ at_least_stand_first labels bound h i j d le l later =
       | inr ge ↦ let same : i ≡ j = omega arith in rw same later
     ]
 
--- the two places that the searches give: where the extent begins, and where it is left
+-- the two indices that the searches give: where the extent begins, and where it is left
 pub record IsSplit (from to : ℤ) (before until : ℤ → Bool) (labels : List ℤ) (first last : ℕ) : Type 0 where
   pub inside_is : (l : ℤ) → is_inside from to l ≡ (not (before l) && until l)
   pub first_within : first ≤ length labels
@@ -89,8 +89,8 @@ outside_after : (from to : ℤ) (before until : ℤ → Bool) (labels : List ℤ
 outside_after from to before until labels first last s k d ge l =
     s.inside_is (get_or labels k d) ∙ and_right _ _ (s.last_is.1 k d ge l)
 
--- a place is in the run just where its label is in the extent
-run_at : (from to : ℤ) (before until : ℤ → Bool) (labels : List ℤ) (first last : ℕ) → IsSplit from to before until labels first last → (k : ℕ) (d : ℤ) → k < length labels → (is_inside from to (get_or labels k d) ≡ true) ↔ IsFromTo first (max first last) k
+-- an index is in the run just where its label is in the extent
+run_at : (from to : ℤ) (before until : ℤ → Bool) (labels : List ℤ) (first last : ℕ) → IsSplit from to before until labels first last → (k : ℕ) (d : ℤ) → k < length labels → (is_inside from to (get_or labels k d) ≡ true) ↔ IsIndexIn first (max first last) k
 run_at from to before until labels first last s k d l = (
   (λ inside. elim (cases_lt k first) [
     | inl lt ↦ absurd (false≢true (sym (outside_before from to before until labels first last s k d lt) ∙ inside))
@@ -102,14 +102,14 @@ run_at from to before until labels first last s k d l = (
   (λ run. inside_at from to before until labels first last s k d run.0 (omega arith) l),
 )
 
-pub IsRun-from_split : (from to : ℤ) (before until : ℤ → Bool) (labels : List ℤ) (first last : ℕ) → IsSplit from to before until labels first last → IsRun from to labels first (max first last)
-IsRun-from_split from to before until labels first last s =
+pub IsIndexRange-from_split : (from to : ℤ) (before until : ℤ → Bool) (labels : List ℤ) (first last : ℕ) → IsSplit from to before until labels first last → IsIndexRange from to labels first (max first last)
+IsIndexRange-from_split from to before until labels first last s =
     let a = s.first_within in
     let b = s.last_within in
     record {
       in_order = omega arith;
       within = omega arith;
-      inside = λ place label e. rw (get_or_from_slice_get labels place label label e) at (run_at from to before until labels first last s place label (slice_get_within labels place label e));
+      inside = λ index label e. rw (get_or_from_slice_get labels index label label e) at (run_at from to before until labels first last s index label (slice_get_within labels index label e));
     }
 
 -- and the run is what the extent keeps
@@ -134,21 +134,18 @@ pub inside_falling : (from to l : ℤ) → is_inside from to l ≡ (not (lt_z to
 inside_falling from to l = grind (arith, ints)
 
 -- a label is found where a search for it ends, or nowhere
-same_number_true : (a b : ℤ) → same_number a b ≡ true → b ≡ a
-same_number_true a b h = grind (arith, ints)
-
 same_number_differ : (a b : ℤ) → (b ≡ a → ⊥) → same_number a b ≡ false
 same_number_differ a b h =
-    elim (cases_Bool (same_number a b)) [ inl t ↦ absurd (h (same_number_true a b t)) | inr f ↦ f ]
+    elim (cases_Bool (same_number a b)) [ inl t ↦ absurd (h (same_number_is a b t)) | inr f ↦ f ]
 
-pub found_rising : (labels : List ℤ) (label : ℤ) (i : ℕ) (d : ℤ) → IsPartitionPoint (λ l. lt_z l label ≡ true) (λ l. lt_z l label ≡ false) labels i → i < length labels → get_or labels i d ≡ label → place_where (same_number label) labels ≡ Some i
+pub found_rising : (labels : List ℤ) (label : ℤ) (i : ℕ) (d : ℤ) → IsPartitionPoint (λ l. lt_z l label ≡ true) (λ l. lt_z l label ≡ false) labels i → i < length labels → get_or labels i d ≡ label → index_where (same_number label) labels ≡ Some i
 found_rising labels label i d h l e =
-    place_where_found (same_number label) labels i d l
+    index_where_found (same_number label) labels i d l
     (λ k lt. same_number_below label (get_or labels k d) (lt_from _ _ (h.0 k d (omega arith) lt))) (rw e (same_number_refl label))
 
-pub found_falling : (labels : List ℤ) (label : ℤ) (i : ℕ) (d : ℤ) → IsPartitionPoint (λ l. lt_z label l ≡ true) (λ l. lt_z label l ≡ false) labels i → i < length labels → get_or labels i d ≡ label → place_where (same_number label) labels ≡ Some i
+pub found_falling : (labels : List ℤ) (label : ℤ) (i : ℕ) (d : ℤ) → IsPartitionPoint (λ l. lt_z label l ≡ true) (λ l. lt_z label l ≡ false) labels i → i < length labels → get_or labels i d ≡ label → index_where (same_number label) labels ≡ Some i
 found_falling labels label i d h l e =
-    place_where_found (same_number label) labels i d l
+    index_where_found (same_number label) labels i d l
     (λ k lt. same_number_above label (get_or labels k d) (lt_from _ _ (h.0 k d (omega arith) lt))) (rw e (same_number_refl label))
 
 beyond_rising : (label a b : ℤ) → lt_z a label ≡ false → a <ℤ b → label <ℤ b
@@ -157,9 +154,9 @@ beyond_rising label a b h k = grind (arith, ints)
 beyond_falling : (label a b : ℤ) → lt_z label a ≡ false → b <ℤ a → b <ℤ label
 beyond_falling label a b h k = grind (arith, ints)
 
-pub absent_rising : (labels : List ℤ) (label : ℤ) (i : ℕ) (d : ℤ) → rises labels ≡ true → IsPartitionPoint (λ l. lt_z l label ≡ true) (λ l. lt_z l label ≡ false) labels i → (i < length labels → get_or labels i d ≡ label → ⊥) → place_where (same_number label) labels ≡ None
+pub absent_rising : (labels : List ℤ) (label : ℤ) (i : ℕ) (d : ℤ) → rises labels ≡ true → IsPartitionPoint (λ l. lt_z l label ≡ true) (λ l. lt_z l label ≡ false) labels i → (i < length labels → get_or labels i d ≡ label → ⊥) → index_where (same_number label) labels ≡ None
 absent_rising labels label i d up h none =
-    place_where_none (same_number label) labels d (λ k l. elim (cases_lt k i) [
+    index_where_none (same_number label) labels d (λ k l. elim (cases_lt k i) [
       | inl lt ↦ same_number_below label (get_or labels k d) (lt_from _ _ (h.0 k d (omega arith) lt))
       | inr ge ↦ elim (cases_lt i k) [
         | inl lt ↦ same_number_above label (get_or labels k d) (beyond_rising label (get_or labels i d) (get_or labels k d) (h.1 i d (omega arith) (omega arith)) (rises_lt labels i k d up lt l))
@@ -168,9 +165,9 @@ absent_rising labels label i d up h none =
       ]
     ])
 
-pub absent_falling : (labels : List ℤ) (label : ℤ) (i : ℕ) (d : ℤ) → falls labels ≡ true → IsPartitionPoint (λ l. lt_z label l ≡ true) (λ l. lt_z label l ≡ false) labels i → (i < length labels → get_or labels i d ≡ label → ⊥) → place_where (same_number label) labels ≡ None
+pub absent_falling : (labels : List ℤ) (label : ℤ) (i : ℕ) (d : ℤ) → falls labels ≡ true → IsPartitionPoint (λ l. lt_z label l ≡ true) (λ l. lt_z label l ≡ false) labels i → (i < length labels → get_or labels i d ≡ label → ⊥) → index_where (same_number label) labels ≡ None
 absent_falling labels label i d down h none =
-    place_where_none (same_number label) labels d (λ k l. elim (cases_lt k i) [
+    index_where_none (same_number label) labels d (λ k l. elim (cases_lt k i) [
       | inl lt ↦ same_number_above label (get_or labels k d) (lt_from _ _ (h.0 k d (omega arith) lt))
       | inr ge ↦ elim (cases_lt i k) [
         | inl lt ↦ same_number_below label (get_or labels k d) (beyond_falling label (get_or labels i d) (get_or labels k d) (h.1 i d (omega arith) (omega arith)) (falls_lt labels i k d down lt l))

@@ -4,7 +4,7 @@ use Rattle.std.specs.List.{list_all}
 use Rattle.std.specs.Option.{option_map_or}
 use Rattle.std.proofs.lemmas.Bool.{leb-true}
 use Rattle.oe_dims.specs.Names.{is_name}
-use Rattle.oe_dims.specs.Dimensions.{Dimensions, extent, IsShape, shape_fault, order_fault, range_fault, limit_fault, epsg_fault, cells_fault, of_labels, is_ordered, is_in_range, is_within_limit, has_fitting_epsg, rises, falls, all_differ, all_between, first_instant, last_instant, farthest_place, label_count, cell_count, number_labels, band_names, most_labels, most_cells}
+use Rattle.oe_dims.specs.Dimensions.{Dimensions, extent, IsShape, shape_fault, order_fault, range_fault, limit_fault, epsg_fault, cells_fault, of_labels, is_ordered, is_in_range, is_within_limit, has_fitting_epsg, rises, falls, all_differ, all_between, first_instant, last_instant, farthest_coordinate, label_count, cell_count, number_labels, band_names, most_labels, most_cells}
 use Rattle.oe_dims.specs.declared.kind.Kind.{Kind}
 use Rattle.oe_dims.specs.declared.kind.Kind.TheVariants.{Time, Bands, Y, X}
 use Rattle.oe_dims.specs.declared.shape.ShapeFault.{ShapeFault}
@@ -41,7 +41,7 @@ unfolding limit_fault
 is_within_limit_kind d h = each_passes (is_within_limit d) TooMany (breaks_no_rule d h).limit
 
 -- a test that holds of no labels holds of those that a missing dimension has
-labels_pass : {L : Type 0} (test : List L → Bool) (labels : Option (List L)) → test [] ≡ true → of_labels test labels ≡ true → test (unwrap_or labels []) ≡ true
+pub labels_pass : {L : Type 0} (test : List L → Bool) (labels : Option (List L)) → test [] ≡ true → of_labels test labels ≡ true → test (unwrap_or labels []) ≡ true
 labels_pass test None none h = none
 labels_pass test (Some labels) none h = h
 
@@ -58,15 +58,15 @@ x_rises d h = labels_pass rises d.x refl (is_ordered_kind d h X)
 pub bands_differ : (d : Dimensions) → IsShape d → all_differ (band_names d) ≡ true
 bands_differ d h = labels_pass all_differ d.bands refl (is_ordered_kind d h Bands)
 
--- the labels lie in their ranges, and the names of the bands are in form
+-- the labels lie in their ranges, and the names of the bands are valid
 pub t_in_range : (d : Dimensions) → IsShape d → all_between first_instant last_instant (number_labels d Time) ≡ true
 t_in_range d h = labels_pass (all_between first_instant last_instant) d.t refl (is_in_range_kind d h Time)
 
-pub y_in_range : (d : Dimensions) → IsShape d → all_between (neg_ℤ (pos farthest_place)) (pos farthest_place) (number_labels d Y) ≡ true
-y_in_range d h = labels_pass (all_between (neg_ℤ (pos farthest_place)) (pos farthest_place)) d.y refl (is_in_range_kind d h Y)
+pub y_in_range : (d : Dimensions) → IsShape d → all_between (neg_ℤ (pos farthest_coordinate)) (pos farthest_coordinate) (number_labels d Y) ≡ true
+y_in_range d h = labels_pass (all_between (neg_ℤ (pos farthest_coordinate)) (pos farthest_coordinate)) d.y refl (is_in_range_kind d h Y)
 
-pub x_in_range : (d : Dimensions) → IsShape d → all_between (neg_ℤ (pos farthest_place)) (pos farthest_place) (number_labels d X) ≡ true
-x_in_range d h = labels_pass (all_between (neg_ℤ (pos farthest_place)) (pos farthest_place)) d.x refl (is_in_range_kind d h X)
+pub x_in_range : (d : Dimensions) → IsShape d → all_between (neg_ℤ (pos farthest_coordinate)) (pos farthest_coordinate) (number_labels d X) ≡ true
+x_in_range d h = labels_pass (all_between (neg_ℤ (pos farthest_coordinate)) (pos farthest_coordinate)) d.x refl (is_in_range_kind d h X)
 
 pub bands_are_names : (d : Dimensions) → IsShape d → list_all is_name (band_names d) ≡ true
 bands_are_names d h = labels_pass (list_all is_name) d.bands refl (is_in_range_kind d h Bands)
@@ -83,7 +83,7 @@ pub extents_of_shape : (d : Dimensions) → IsShape d → ExtentsAreWithin d
 extents_of_shape d h = extents_within d (breaks_no_rule d h).limit
 
 -- and there are at most 2^40 cells
-no_fault : (b : Bool) (fault : ShapeFault) → cond b None (Some fault) ≡ None → b ≡ true
+pub no_fault : (b : Bool) (fault : ShapeFault) → cond b None (Some fault) ≡ None → b ≡ true
 no_fault true fault e = refl
 no_fault false fault e = cc
 

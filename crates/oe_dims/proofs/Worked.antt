@@ -4,7 +4,8 @@ use Rattle.oe_dims.specs.Calendar.{civil_date}
 use Rattle.oe_dims.specs.Cube.{Cube, tuples, at, row_major}
 use Rattle.oe_dims.specs.Dimensions.{Dimensions, shape_fault, order_fault, range_fault, limit_fault, epsg_fault, cells_fault, cell_count}
 use Rattle.oe_dims.specs.Instant.{instant_text, instant_read}
-use Rattle.oe_dims.specs.Places.{same_number, place_where}
+use Rattle.oe_dims.specs.Indices.{same_number, index_where}
+use Rattle.oe_dims.specs.Positions.{Position, number_of, tuple_of}
 use Rattle.oe_dims.specs.declared.instant.InstantFault.TheVariants.{Spelling, NoSuchDay}
 use Rattle.oe_dims.specs.declared.kind.Kind.TheVariants.{Bands, Y}
 use Rattle.oe_dims.specs.declared.shape.ShapeFault.TheVariants.{OrderWrong, OutOfRange, EpsgWrong}
@@ -53,6 +54,18 @@ no_such_label : row_major square (record { t = None; band = Some (codes "B1"); y
 unfolding square
 no_such_label = refl
 
+-- the lower right corner has index 1 along y and x, and stands last
+corner : Position
+corner = record { t = 0; band = 0; y = 1; x = 1 }
+
+corner_number : number_of square corner ≡ 3
+unfolding square corner
+corner_number = refl
+
+corner_labels : tuple_of square corner ≡ record { t = None; band = Some (codes "B1"); y = Some (pos 0); x = Some (pos 10) }
+unfolding square corner
+corner_labels = refl
+
 nothing : Dimensions
 nothing = record { epsg = 0; t = None; bands = None; y = None; x = None }
 
@@ -72,9 +85,9 @@ order_first : shape_fault (record { epsg = 0; t = Some (pos 999999999999 ∷ [])
 unfolding shape_fault order_fault range_fault limit_fault epsg_fault cells_fault
 order_first = refl
 
-code_without_place : shape_fault (record nothing { epsg = 4326 }) ≡ Some EpsgWrong
+code_without_coordinate : shape_fault (record nothing { epsg = 4326 }) ≡ Some EpsgWrong
 unfolding nothing shape_fault order_fault range_fault limit_fault epsg_fault cells_fault
-code_without_place = refl
+code_without_coordinate = refl
 
 twice_the_same_band : shape_fault (record nothing { bands = Some (codes "B" ∷ codes "B" ∷ []) }) ≡ Some (OrderWrong Bands)
 unfolding nothing shape_fault order_fault range_fault limit_fault epsg_fault cells_fault
@@ -96,5 +109,5 @@ one_digit : instant_read (codes "2024-1-01") ≡ Err Spelling
 unfolding instant_read
 one_digit = refl
 
-second_place : place_where (same_number (pos 0)) (pos 10 ∷ pos 0 ∷ []) ≡ Some 1
-second_place = refl
+second_index : index_where (same_number (pos 0)) (pos 10 ∷ pos 0 ∷ []) ≡ Some 1
+second_index = refl

@@ -47,9 +47,9 @@ first_instant = neg_ℤ (pos 62135596800)
 abbrev pub last_instant : ℤ
 last_instant = pos 253402300799
 
--- how far a place may be from 0
-abbrev pub farthest_place : ℕ
-farthest_place = 1000000000
+-- how far a coordinate may be from 0
+abbrev pub farthest_coordinate : ℕ
+farthest_coordinate = 1000000000
 
 -- a test of labels, which holds of a dimension that is missing
 abbrev pub of_labels : {L : Type 0} → (L → Bool) → Option L → Bool
@@ -66,8 +66,8 @@ is_ordered d X = of_labels rises d.x
 abbrev pub is_in_range : Dimensions → Kind → Bool
 is_in_range d Time = of_labels (all_between first_instant last_instant) d.t
 is_in_range d Bands = of_labels (list_all is_name) d.bands
-is_in_range d Y = of_labels (all_between (neg_ℤ (pos farthest_place)) (pos farthest_place)) d.y
-is_in_range d X = of_labels (all_between (neg_ℤ (pos farthest_place)) (pos farthest_place)) d.x
+is_in_range d Y = of_labels (all_between (neg_ℤ (pos farthest_coordinate)) (pos farthest_coordinate)) d.y
+is_in_range d X = of_labels (all_between (neg_ℤ (pos farthest_coordinate)) (pos farthest_coordinate)) d.x
 
 -- how many labels the dimension has, if the cube has it
 abbrev pub label_count : Dimensions → Kind → Option ℕ
@@ -92,7 +92,7 @@ abbrev pub has_fitting_epsg : Dimensions → Bool
 has_fitting_epsg d =
     if is_some d.y || is_some d.x then nat_le 1 d.epsg && nat_le d.epsg 999999 else d.epsg == 0
 
--- how many places a dimension gives: its labels, or one where it is missing
+-- how many indices a dimension gives: one for each label, or 0 alone where it is missing
 abbrev pub extent : {L : Type 0} → Option (List L) → ℕ
 extent None = 1
 extent (Some labels) = length labels

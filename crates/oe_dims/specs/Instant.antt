@@ -1,8 +1,8 @@
 -- How an instant is spelled: YYYY-MM-DDTHH:MM:SSZ, or YYYY-MM-DD for its first second (RFC 3339, in universal time).
-use Rattle.std.specs.Prelude.{ℕ, ◌+◌, ◌-◌, ◌*◌, ◌/◌, ◌%◌, ◌==◌, ◌&&◌, nat_le, if◌then◌else◌, Bool, true, false, List, [], ◌∷◌, ◌++◌, slice_index, codes, ℤ, pos, ◌+ℤ◌, ◌-ℤ◌, ◌*ℤ◌, unsigned_abs, Option, Some, None, Result, Ok, Err}
+use Rattle.std.specs.Prelude.{◌≡◌, ◌⊎◌, ◌≤ℤ◌, ℕ, ◌+◌, ◌-◌, ◌*◌, ◌/◌, ◌%◌, ◌==◌, ◌&&◌, nat_le, if◌then◌else◌, Bool, true, false, List, [], ◌∷◌, ◌++◌, slice_index, codes, ℤ, pos, ◌+ℤ◌, ◌-ℤ◌, ◌*ℤ◌, unsigned_abs, Option, Some, None, Result, Ok, Err}
 use Rattle.jiff_core.specs.Calendar.{days_in_month, days_from_civil}
 use Rattle.oe_dims.specs.Calendar.{Civil, civil_date}
-use Rattle.oe_dims.specs.Dimensions.{first_instant}
+use Rattle.oe_dims.specs.Dimensions.{first_instant, last_instant}
 use Rattle.oe_dims.specs.Names.{is_byte_in}
 use Rattle.oe_dims.specs.declared.instant.InstantFault.{InstantFault}
 use Rattle.oe_dims.specs.declared.instant.InstantFault.TheVariants.{Spelling, NoSuchDay}
@@ -47,9 +47,9 @@ date_pattern = codes "dddd-dd-dd"
 abbrev pub instant_pattern : List ℕ
 instant_pattern = codes "dddd-dd-ddTdd:dd:ddZ"
 
--- the number that two digits of a text spell, from a place on
+-- the number that two digits of a text spell, from an index on
 abbrev pub two_at : List ℕ → ℕ → ℕ
-two_at text place = 10 * (slice_index text place - 48) + (slice_index text (place + 1) - 48)
+two_at text index = 10 * (slice_index text index - 48) + (slice_index text (index + 1) - 48)
 
 -- a date and a time of day, which need not be real
 pub record Moment : Type 0 where
@@ -86,7 +86,8 @@ is_moment m = is_date m.date && nat_le m.hour 23 && nat_le m.minute 59 && nat_le
 -- the seconds from 1970-01-01T00:00:00Z to a moment: those of its day, and those of its time
 abbrev pub seconds_to : Moment → ℤ
 seconds_to m =
-    days_from_civil (pos m.date.year) m.date.month m.date.day *ℤ pos 86400 +ℤ pos (m.hour * 3600 + m.minute * 60 + m.second)
+    days_from_civil (pos m.date.year) m.date.month m.date.day *ℤ pos 86400
+    +ℤ pos (m.hour * 3600 + m.minute * 60 + m.second)
 
 -- a moment's instant, if the moment is real
 abbrev pub instant_of : Moment → Result ℤ InstantFault
@@ -97,3 +98,13 @@ unfoldable pub instant_read : List ℕ → Result ℤ InstantFault
 instant_read text =
     if follows_pattern instant_pattern text then instant_of (moment_in text)
     else (if follows_pattern date_pattern text then instant_of (midnight_in text) else Err Spelling)
+
+-- an instant of the years 1 to 9999
+pub record IsInstant (seconds : ℤ) : Type 0 where
+  pub first : first_instant ≤ℤ seconds
+  pub last : seconds ≤ℤ last_instant
+
+-- the text spells the instant: by its long spelling, or by the date of which it is midnight
+pub record SpellsInstant (text : List ℕ) (seconds : ℤ) : Type 0 where
+  pub in_range : IsInstant seconds
+  pub spelling : (text ≡ instant_text seconds) ⊎ (text ++ codes "T00:00:00Z" ≡ instant_text seconds)

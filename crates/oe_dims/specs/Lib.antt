@@ -1,8 +1,10 @@
 pub mod Calendar
 pub mod Cube
 pub mod Dimensions
+pub mod Indices
 pub mod Instant
 pub mod Lists
 pub mod Names
-pub mod Places
 pub mod Plain
+pub mod Positions
+pub mod Rules

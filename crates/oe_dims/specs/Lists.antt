@@ -1,24 +1,34 @@
 -- What contracts see of lists of labels.
-use Rattle.std.specs.Prelude.{ℕ, ℤ, List, Option, Vec}
+use Rattle.std.specs.Prelude.{◌≡◌, ℕ, ℤ, List, Option, Vec}
 use Rattle.std.specs.Option.{option_map}
 use Rattle.std.specs.declared.alloc.Global.{Global}
 use Rattle.oe_dims.specs.Dimensions.{Dimensions}
+use Rattle.oe_dims.specs.declared.kind.Kind.{Kind}
+use Rattle.oe_dims.specs.declared.kind.Kind.TheVariants.{Time, Bands, Y, X}
 use Rattle.oe_dims.specs.declared.lists.Lists.{Lists}
 
 -- the list that a vector holds
-abbrev pub listed : {A : Type 0} → Vec A Global → List A
-listed v = v.items
+abbrev pub items_of : {A : Type 0} → Vec A Global → List A
+items_of v = v.items
 
 -- the dimensions with these labels
-abbrev pub dimensions_with : ℕ → Option (Vec ℤ Global) → Option (Vec (List ℕ) Global) → Option (Vec ℤ Global) → Option (Vec ℤ Global) → Dimensions
+abbrev pub dimensions_with : ℕ → Option (Vec ℤ Global) → Option (Vec (List ℕ) Global)
+    → Option (Vec ℤ Global) → Option (Vec ℤ Global) → Dimensions
 dimensions_with epsg t bands y x = record {
   epsg = epsg;
-  t = option_map listed t;
-  bands = option_map listed bands;
-  y = option_map listed y;
-  x = option_map listed x;
+  t = option_map items_of t;
+  bands = option_map items_of bands;
+  y = option_map items_of y;
+  x = option_map items_of x;
 }
 
 -- the dimensions that the lists give
 abbrev pub dimensions_of : Lists → Dimensions
 dimensions_of s = dimensions_with s.epsg s.t s.bands s.y s.x
+
+-- both have the dimension with the same labels in the same order, or both lack it
+abbrev pub HaveSameLabels : Dimensions → Dimensions → Kind → Type 0
+HaveSameLabels a b Time = a.t ≡ b.t
+HaveSameLabels a b Bands = a.bands ≡ b.bands
+HaveSameLabels a b Y = a.y ≡ b.y
+HaveSameLabels a b X = a.x ≡ b.x

@@ -11,12 +11,12 @@ pub struct DimsRow {
     pub id: Text,
     /// Its dimensions.
     pub shape: Shape,
-    /// What its cells are, besides empty.
+    /// What its cells are, besides null.
     pub kind: CellKind,
 }
 
 impl DimsRow {
-    /// A copy with equal contents.
+    /// A copy with equal contents. Refuses: out of memory.
     pub fn copy(&self) -> Result<DimsRow, OutOfMemory>
         ensures { IfOk result (λ r. r ≡ self.now) }
     {
@@ -28,7 +28,8 @@ impl DimsRow {
     }
 }
 
-/// The dimensions of several collections, a row each. Whoever takes them asks that the ids rise in byte order.
+/// The dimensions of several collections, a row each. Whoever takes them asks that the ids rise in byte order
+/// (`HaveRisingIds`).
 #[derive(Debug, Drop)]
 pub struct Dims {
     /// A row for each collection.
@@ -38,7 +39,7 @@ pub struct Dims {
 impl Dims {
     ghost use Rattle.oe_dims.specs.Plain.{plain_rows};
 
-    /// A copy with equal contents.
+    /// A copy with equal contents. Refuses: out of memory.
     pub fn copy(&self) -> Result<Dims, OutOfMemory>
         ensures { IfOk result (λ d. plain_rows d ≡ plain_rows self.now) }
     {

@@ -1,9 +1,9 @@
 // How an instant is spelled.
-ghost use Rattle.std.specs.Prelude.{◌≡◌, ◌+◌, ◌/◌, ◌%◌, ◌<◌, ◌≤◌, ◌≤ℤ◌, ◌+ℤ◌, pos, length, Ok, IfSome};
+ghost use Rattle.std.specs.Prelude.{◌≡◌, ◌↔◌, ℤ, ◌+◌, ◌/◌, ◌%◌, ◌<◌, ◌≤◌, ◌≤ℤ◌, ◌+ℤ◌, pos, length, Ok, IfOk, IfSome};
 ghost use Rattle.std.specs.Bool.{OnTrue};
 ghost use Rattle.jiff_core.specs.Calendar.{IsEpochDay};
 ghost use Rattle.oe_dims.specs.Calendar.{civil_date};
-ghost use Rattle.oe_dims.specs.Instant.{text_after, instant_text, instant_read, is_let_stand, follows_pattern, two_at, date_in, day_number, instant_of};
+ghost use Rattle.oe_dims.specs.Instant.{text_after, instant_text, instant_read, is_let_stand, follows_pattern, two_at, date_in, day_number, instant_of, IsInstant, SpellsInstant};
 ghost use Rattle.oe_dims.specs.Dimensions.{first_instant, last_instant};
 
 use jiff_core::civil::Date;
@@ -131,6 +131,8 @@ pub fn print_instant(seconds: i64) -> [u8; 20]
     requires last { seconds ≤ℤ last_instant }
     ensures text { result ≡ instant_text seconds }
     ensures read { instant_read result ≡ Ok seconds }
+    // of any instant the long spelling is read as the instant again
+    ensures again { (s : ℤ) → IsInstant s → instant_read (instant_text s) ≡ Ok s }
 {
     text_after(seconds_after(seconds))
 }
@@ -155,22 +157,22 @@ fn follows_pattern(pattern: &[u8], text: &[u8]) -> bool
     if pattern.len() != text.len() {
         return false;
     }
-    for place in 0..pattern.len() {
-        if !is_let_stand(pattern[place], text[place]) {
+    for index in 0..pattern.len() {
+        if !is_let_stand(pattern[index], text[index]) {
             return false;
         }
     }
     true
 }
 
-/// The number that two digits of a text spell, from a place on.
-fn two_at(text: &[u8], place: usize) -> u32
-    requires { place + 1 < length text.now }
-    ensures value { result ≡ two_at text.now place }
+/// The number that two digits of a text spell, from an index on.
+fn two_at(text: &[u8], index: usize) -> u32
+    requires { index + 1 < length text.now }
+    ensures value { result ≡ two_at text.now index }
     ensures bound { result < 2400 }
 {
-    let tens = text[place].saturating_sub(b'0');
-    let ones = text[place + 1].saturating_sub(b'0');
+    let tens = text[index].saturating_sub(b'0');
+    let ones = text[index + 1].saturating_sub(b'0');
     10 * u32::from(tens) + u32::from(ones)
 }
 
@@ -190,7 +192,8 @@ fn date_in(text: &[u8]) -> CivilDate
 
 /// The day number of a date, if the calendar has it, in the years 1 to 9999.
 fn day_number(date: CivilDate) -> Option<i64>
-    ensures value { result ≡ day_number (record { year = date.year; month = date.month; day = date.day }) }
+    ensures value { result
+        ≡ day_number (record { year = date.year; month = date.month; day = date.day }) }
     ensures bound { IfSome result IsEpochDay }
 {
     let CivilDate { year, month, day } = date;
@@ -205,7 +208,13 @@ fn day_number(date: CivilDate) -> Option<i64>
 
 /// The instant of a date and a time of day, if both are real.
 fn instant_of(date: CivilDate, hour: u32, minute: u32, second: u32) -> Result<i64, InstantFault>
-    ensures { result ≡ instant_of (record { date = record { year = date.year; month = date.month; day = date.day }; hour = hour; minute = minute; second = second }) }
+    ensures { result
+        ≡ instant_of (record {
+          date = record { year = date.year; month = date.month; day = date.day };
+          hour = hour;
+          minute = minute;
+          second = second;
+        }) }
 {
     if hour > 23 || minute > 59 || second > 59 {
         return Err(InstantFault::NoSuchDay);
@@ -218,11 +227,23 @@ fn instant_of(date: CivilDate, hour: u32, minute: u32, second: u32) -> Result<i6
 
 /// The instant that a text spells, in seconds since 1970-01-01T00:00:00Z: `YYYY-MM-DDTHH:MM:SSZ`, or `YYYY-MM-DD` for
 /// the first second of the day (RFC 3339, in universal time), with the years 0001 to 9999. No day has a second 60.
-#[tactic(auto, unfolding(crate::specs::Instant::instant_read))]
+///
+/// Refuses: `Spelling` where the text has neither form, and `NoSuchDay` where it has one but the year is 0000, or there
+/// is no such date or time.
 pub fn read_instant(text: &str) -> Result<i64, InstantFault>
-    ensures { result ≡ instant_read text.now }
+    ensures value { result ≡ instant_read text.now }
+    // a text is read as an instant exactly where it is one of its two spellings
+    ensures exact { (seconds : ℤ) → (result ≡ Ok seconds) ↔ SpellsInstant text.now seconds }
+    ensures range { IfOk result IsInstant }
 {
-    let bytes = text.as_bytes();
+    read_bytes(text.as_bytes())
+}
+
+/// The instant that the bytes of a text spell.
+#[tactic(auto, unfolding(crate::specs::Instant::instant_read))]
+fn read_bytes(bytes: &[u8]) -> Result<i64, InstantFault>
+    ensures { result ≡ instant_read bytes.now }
+{
     if follows_pattern(b"dddd-dd-ddTdd:dd:ddZ", bytes) {
         return instant_of(
             date_in(bytes),

@@ -1,7 +1,7 @@
 // Kinds of cells and of dimensions, and lists of labels.
 use crate::Text;
 
-/// What the cells of a cube are, besides empty.
+/// What the cells of a cube are, besides null.
 #[derive(Clone, Copy, Debug, PartialEq, Eq)]
 pub enum CellKind {
     /// Exact numbers.
@@ -17,9 +17,9 @@ pub enum Kind {
     Time,
     /// `bands`, whose labels are names.
     Bands,
-    /// `y`, whose labels are places that fall.
+    /// `y`, whose labels are coordinates that fall.
     Y,
-    /// `x`, whose labels are places that rise.
+    /// `x`, whose labels are coordinates that rise.
     X,
 }
 
@@ -30,6 +30,6 @@ pub enum Labels {
     Instants(Vec<i64>),
     /// Names of bands.
     Names(Vec<Text>),
-    /// Whole numbers in the unit of the reference system.
+    /// Coordinates, whole numbers in the unit of the reference system.
     Places(Vec<i64>),
 }

@@ -3,10 +3,11 @@
 //! A [`Shape`] has at most one dimension each of time, bands, `y` and `x`, each with its labels in order, and every
 //! shape that exists is valid. Contracts see it as its [`Dimensions`](specs) record. The definition of a cube over any
 //! type of cell stands here too: its shape and one cell for each tuple of labels, found by the labels and never by
-//! position. The layers above use that the readers of a shape are exact, and that tuples and row-major places
-//! correspond one to one.
+//! position. The layers above use that the readers of a shape are exact, that positions, tuples and row-major numbers
+//! correspond one to one, and that a cube is what it is at each tuple.
 #![tactic(auto)]
 
+mod bands;
 mod dims;
 mod distinct;
 mod instant;
@@ -16,10 +17,9 @@ mod name;
 mod order;
 mod search;
 mod shape;
-#[cfg(test)]
-mod tests;
 mod text;
 
+pub use bands::BandIndex;
 pub use dims::{Dims, DimsRow};
 pub use instant::{InstantFault, print_instant, read_instant};
 pub use kind::{CellKind, Kind, Labels};

@@ -1,15 +1,15 @@
 // Lists of labels that may become a shape.
-ghost use Rattle.std.specs.Prelude.{◌≡◌, ◌<◌, ◌≤◌, ◌^◌, length, SomeIff, None, filter, IfSome, IfOk};
+ghost use Rattle.std.specs.Prelude.{◌≡◌, ◌↔◌, IsTrue, ◌<◌, ◌≤◌, ◌^◌, length, SomeIff, None, filter, IfSome, IfOk};
 ghost use Rattle.std.specs.List.{slice_range};
 ghost use Rattle.std.specs.Option.{option_map};
 ghost use Rattle.oe_dims.specs.Dimensions.{Dimensions, shape_fault, order_fault, range_fault, limit_fault, epsg_fault, cells_fault, is_ordered, is_in_range, is_within_limit, has_fitting_epsg, label_count, cell_count, extent, most_labels, most_cells, number_labels, band_names, of_labels, rises, falls, all_differ, all_between};
 ghost use Rattle.oe_dims.specs.Names.{same_name};
-ghost use Rattle.oe_dims.specs.Places.{same_number, place_where, count_before, is_inside, IsRun};
-ghost use Rattle.oe_dims.specs.Lists.{listed, dimensions_of};
+ghost use Rattle.oe_dims.specs.Indices.{same_number, index_where, count_before, is_inside, IsIndexRange};
+ghost use Rattle.oe_dims.specs.Lists.{items_of, dimensions_of, HaveSameLabels};
 
 use crate::distinct::all_differ;
-use crate::order::{all_between, all_names, falls, place_of_name, rises};
-use crate::search::{place_in_falling, place_in_rising, run_in_falling, run_in_rising};
+use crate::order::{all_between, all_names, falls, index_of_name, rises};
+use crate::search::{index_in_falling, index_in_rising, run_in_falling, run_in_rising};
 use crate::{Kind, ShapeFault, Text};
 use oe_memory::OutOfMemory;
 
@@ -22,8 +22,8 @@ const FIRST_INSTANT: i64 = -62135596800;
 /// The last second of the year 9999.
 const LAST_INSTANT: i64 = 253402300799;
 
-/// How far a place may be from 0.
-const FARTHEST_PLACE: i64 = 1000000000;
+/// How far a coordinate may be from 0.
+const FARTHEST_COORDINATE: i64 = 1000000000;
 
 /// The most labels of one dimension.
 const MOST_LABELS: usize = 65536;
@@ -43,7 +43,7 @@ pub struct Lists {
 
 /// How many labels a dimension has, if it is there.
 fn count_of<T>(labels: &Option<Vec<T>>) -> Option<usize>
-    ensures { result ≡ option_map length (option_map listed labels.now) }
+    ensures { result ≡ option_map length (option_map items_of labels.now) }
 {
     match labels {
         None => None,
@@ -51,9 +51,9 @@ fn count_of<T>(labels: &Option<Vec<T>>) -> Option<usize>
     }
 }
 
-/// How many places a dimension gives.
+/// How many indices a dimension gives.
 fn extent_of<T>(labels: &Option<Vec<T>>) -> usize
-    ensures { result ≡ extent (option_map listed labels.now) }
+    ensures { result ≡ extent (option_map items_of labels.now) }
 {
     match labels {
         None => 1,
@@ -62,8 +62,8 @@ fn extent_of<T>(labels: &Option<Vec<T>>) -> usize
 }
 
 /// A copy of labels, if the dimension is there.
-fn copied_numbers(labels: &Option<Vec<i64>>) -> Result<Option<Vec<i64>>, OutOfMemory>
-    ensures { IfOk result (λ c. option_map listed c ≡ option_map listed labels.now) }
+fn copy_numbers(labels: &Option<Vec<i64>>) -> Result<Option<Vec<i64>>, OutOfMemory>
+    ensures { IfOk result (λ c. option_map items_of c ≡ option_map items_of labels.now) }
 {
     match labels {
         None => Ok(None),
@@ -72,7 +72,7 @@ fn copied_numbers(labels: &Option<Vec<i64>>) -> Result<Option<Vec<i64>>, OutOfMe
 }
 
 /// A copy of names.
-fn copied_texts(names: &Vec<Text>) -> Result<Vec<Text>, OutOfMemory>
+fn copy_texts(names: &Vec<Text>) -> Result<Vec<Text>, OutOfMemory>
     ensures { IfOk result (λ c. c.items ≡ names.now.items) }
 {
     let mut copies = Vec::with_capacity(*names.allocator(), names.len())?;
@@ -83,26 +83,61 @@ fn copied_texts(names: &Vec<Text>) -> Result<Vec<Text>, OutOfMemory>
 }
 
 /// A copy of names, if the dimension is there.
-fn copied_names(names: &Option<Vec<Text>>) -> Result<Option<Vec<Text>>, OutOfMemory>
-    ensures { IfOk result (λ c. option_map listed c ≡ option_map listed names.now) }
+fn copy_names(names: &Option<Vec<Text>>) -> Result<Option<Vec<Text>>, OutOfMemory>
+    ensures { IfOk result (λ c. option_map items_of c ≡ option_map items_of names.now) }
 {
     match names {
         None => Ok(None),
-        Some(names) => Ok(Some(copied_texts(names)?)),
+        Some(names) => Ok(Some(copy_texts(names)?)),
+    }
+}
+
+/// Whether both dimensions have the same numbers, or both are missing.
+fn has_same_numbers(a: &Option<Vec<i64>>, b: &Option<Vec<i64>>) -> bool
+    ensures { IsTrue result ↔ (option_map items_of a.now ≡ option_map items_of b.now) }
+{
+    match (a, b) {
+        (None, None) => true,
+        (Some(a), Some(b)) => a.as_slice() == b.as_slice(),
+        _ => false,
+    }
+}
+
+/// Whether both dimensions have the same names, or both are missing.
+fn has_same_names(a: &Option<Vec<Text>>, b: &Option<Vec<Text>>) -> bool
+    ensures { IsTrue result ↔ (option_map items_of a.now ≡ option_map items_of b.now) }
+{
+    match (a, b) {
+        (None, None) => true,
+        (Some(a), Some(b)) => a.as_slice() == b.as_slice(),
+        _ => false,
     }
 }
 
 impl Lists {
+    /// Whether both have the dimension with the same labels, or both lack it.
+    pub fn has_same_labels(&self, other: &Lists, kind: Kind) -> bool
+        ensures { IsTrue result
+            ↔ HaveSameLabels (dimensions_of self.now) (dimensions_of other.now) kind }
+    {
+        match kind {
+            Kind::Time => has_same_numbers(&self.t, &other.t),
+            Kind::Bands => has_same_names(&self.bands, &other.bands),
+            Kind::Y => has_same_numbers(&self.y, &other.y),
+            Kind::X => has_same_numbers(&self.x, &other.x),
+        }
+    }
+
     /// A copy with equal contents.
     pub fn copy(&self) -> Result<Lists, OutOfMemory>
         ensures { IfOk result (λ c. dimensions_of c ≡ dimensions_of self.now) }
     {
         Ok(Lists {
             epsg: self.epsg,
-            t: copied_numbers(&self.t)?,
-            bands: copied_names(&self.bands)?,
-            y: copied_numbers(&self.y)?,
-            x: copied_numbers(&self.x)?,
+            t: copy_numbers(&self.t)?,
+            bands: copy_names(&self.bands)?,
+            y: copy_numbers(&self.y)?,
+            x: copy_numbers(&self.x)?,
         })
     }
 
@@ -144,34 +179,39 @@ impl Lists {
         }
     }
 
-    /// The place of a label of `t`, `y` or `x`.
+    /// The index of a label of `t`, `y` or `x`.
     pub fn position_of(&self, kind: Kind, label: i64) -> Option<usize>
         requires { shape_fault (dimensions_of self.now) ≡ None }
-        ensures value { result ≡ place_where (same_number label) (number_labels (dimensions_of self.now) kind) }
-        ensures most { IfSome result (λ place. place < most_labels) }
+        ensures value { result
+            ≡ index_where (same_number label) (number_labels (dimensions_of self.now) kind) }
+        ensures most { IfSome result (λ index. index < most_labels) }
     {
         let labels = self.numbers(kind);
         match kind {
-            Kind::Y => place_in_falling(labels, label),
-            _ => place_in_rising(labels, label),
+            Kind::Y => index_in_falling(labels, label),
+            _ => index_in_rising(labels, label),
         }
     }
 
-    /// The place of a band.
+    /// The index of a band.
     pub fn band_position(&self, name: &Text) -> Option<usize>
         requires { shape_fault (dimensions_of self.now) ≡ None }
-        ensures value { result ≡ place_where (same_name name.now) (band_names (dimensions_of self.now)) }
-        ensures most { IfSome result (λ place. place < most_labels) }
+        ensures value { result
+            ≡ index_where (same_name name.now) (band_names (dimensions_of self.now)) }
+        ensures most { IfSome result (λ index. index < most_labels) }
     {
-        place_of_name(name, self.names())
+        index_of_name(name, self.names())
     }
 
-    /// The places of the labels of `t`, `y` or `x` from `from` to `to`, both inside, as the first and the end.
+    /// The indices of the labels of `t`, `y` or `x` from `from` to `to`, both inside, as the first and the end.
     pub fn range_of(&self, kind: Kind, from: i64, to: i64) -> (usize, usize)
         requires { shape_fault (dimensions_of self.now) ≡ None }
-        ensures first { result.0 ≡ count_before kind from to (number_labels (dimensions_of self.now) kind) }
-        ensures run { IsRun from to (number_labels (dimensions_of self.now) kind) result.0 result.1 }
-        ensures kept { slice_range (number_labels (dimensions_of self.now) kind) result.0 result.1 ≡ filter (is_inside from to) (number_labels (dimensions_of self.now) kind) }
+        ensures first { result.0
+            ≡ count_before kind from to (number_labels (dimensions_of self.now) kind) }
+        ensures run { IsIndexRange from to (number_labels (dimensions_of self.now) kind)
+            result.0 result.1 }
+        ensures kept { slice_range (number_labels (dimensions_of self.now) kind) result.0 result.1
+            ≡ filter (is_inside from to) (number_labels (dimensions_of self.now) kind) }
         ensures most { result.1 ≤ most_labels }
     {
         let labels = self.numbers(kind);
@@ -232,11 +272,11 @@ impl Lists {
             },
             Kind::Y => match &self.y {
                 None => true,
-                Some(labels) => all_between(-FARTHEST_PLACE, FARTHEST_PLACE, labels),
+                Some(labels) => all_between(-FARTHEST_COORDINATE, FARTHEST_COORDINATE, labels),
             },
             Kind::X => match &self.x {
                 None => true,
-                Some(labels) => all_between(-FARTHEST_PLACE, FARTHEST_PLACE, labels),
+                Some(labels) => all_between(-FARTHEST_COORDINATE, FARTHEST_COORDINATE, labels),
             },
         }
     }
@@ -316,7 +356,8 @@ impl Lists {
     /// How many cells there are, where they fit 64 bits.
     fn cells_within_word(&self) -> Option<u64>
         requires { limit_fault (dimensions_of self.now) ≡ None }
-        ensures { SomeIff result (cell_count (dimensions_of self.now) < 2 ^ 64) (cell_count (dimensions_of self.now)) }
+        ensures { let cells = cell_count (dimensions_of self.now) in
+            SomeIff result (cells < 2 ^ 64) cells }
     {
         let rows = extent_of(&self.t) as u64
             * extent_of(&self.bands) as u64

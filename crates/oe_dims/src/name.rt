@@ -3,7 +3,7 @@ ghost use Rattle.std.specs.Prelude.{◌≡◌};
 ghost use Rattle.std.specs.List.{list_all};
 ghost use Rattle.oe_dims.specs.Names as spec;
 
-/// Whether the text is a name in form: 1 to 64 bytes of letters, digits, `_`, `-` and `.`.
+/// Whether the text is a valid name: 1 to 64 bytes of letters, digits, `_`, `-` and `.`.
 pub fn is_name(name: &str) -> bool
     ensures { result ≡ spec.is_name name.now }
 {

@@ -3,7 +3,7 @@ ghost use Rattle.std.specs.Prelude.{◌≡◌};
 ghost use Rattle.std.specs.List.{list_all};
 ghost use Rattle.oe_dims.specs.Dimensions.{rises, falls, all_between};
 ghost use Rattle.oe_dims.specs.Names.{is_name, same_name};
-ghost use Rattle.oe_dims.specs.Places.{place_where};
+ghost use Rattle.oe_dims.specs.Indices.{index_where};
 
 use crate::{Text, is_name};
 
@@ -11,8 +11,8 @@ use crate::{Text, is_name};
 pub fn rises(labels: &[i64]) -> bool
     ensures { result ≡ rises labels.now }
 {
-    for place in 1..labels.len() {
-        if labels[place - 1] >= labels[place] {
+    for index in 1..labels.len() {
+        if labels[index - 1] >= labels[index] {
             return false;
         }
     }
@@ -23,8 +23,8 @@ pub fn rises(labels: &[i64]) -> bool
 pub fn falls(labels: &[i64]) -> bool
     ensures { result ≡ falls labels.now }
 {
-    for place in 1..labels.len() {
-        if labels[place - 1] <= labels[place] {
+    for index in 1..labels.len() {
+        if labels[index - 1] <= labels[index] {
             return false;
         }
     }
@@ -38,7 +38,7 @@ pub fn all_between(low: i64, high: i64, labels: &[i64]) -> bool
     labels.iter().all(|l| low <= *l && *l <= high)
 }
 
-/// Every name is in form.
+/// Every name is valid.
 pub fn all_names(names: &[Text]) -> bool
     ensures { result ≡ list_all is_name names.now }
 {
@@ -52,13 +52,13 @@ pub fn same_name(a: &Text, b: &Text) -> bool
     a.as_str() == b.as_str()
 }
 
-/// The place of a name among these.
-pub fn place_of_name(name: &Text, names: &[Text]) -> Option<usize>
-    ensures { result ≡ place_where (same_name name.now) names.now }
+/// The index of a name among these.
+pub fn index_of_name(name: &Text, names: &[Text]) -> Option<usize>
+    ensures { result ≡ index_where (same_name name.now) names.now }
 {
-    for place in 0..names.len() {
-        if same_name(name, &names[place]) {
-            return Some(place);
+    for index in 0..names.len() {
+        if same_name(name, &names[index]) {
+            return Some(index);
         }
     }
     None

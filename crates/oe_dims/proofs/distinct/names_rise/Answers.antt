@@ -4,4 +4,4 @@ use Rattle.oe_dims.proofs.distinct.names_rise.Goals as goal
 
 pub returns : goal.returns
 returns c =
-    sym (c.loop-k.invariant ∙ names_rise_all c.args.names.now c.args.places.now (c.loop-k.k - 1) (omega arith))
+    sym (c.loop-k.invariant ∙ names_rise_all c.args.names.now c.args.indices.now (c.loop-k.k - 1) (omega arith))

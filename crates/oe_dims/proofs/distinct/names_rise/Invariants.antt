@@ -4,4 +4,4 @@ use Rattle.oe_dims.proofs.distinct.names_rise.Given as goal
 
 abbrev pub invariant-loop-k : goal.invariant-loop-k
 invariant-loop-k l =
-    names_rise (names_at l.names l.places) ≡ names_rise (names_at l.names (drop (l.k - 1) l.places))
+    names_rise (names_at l.names l.indices) ≡ names_rise (names_at l.names (drop (l.k - 1) l.indices))

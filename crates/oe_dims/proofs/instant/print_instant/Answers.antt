@@ -16,3 +16,6 @@ returns-clause-text c = text_is c
 pub returns-clause-read : goal.returns-clause-read
 returns-clause-read c =
     ap instant_read (text_is c) ∙ instant_read-instant_text c.args.seconds c.requires.first c.requires.last
+
+pub returns-clause-again : goal.returns-clause-again
+returns-clause-again c = λ s h. instant_read-instant_text s h.first h.last

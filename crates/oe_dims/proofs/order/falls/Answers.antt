@@ -4,4 +4,4 @@ use Rattle.oe_dims.proofs.order.falls.Goals as goal
 
 pub returns : goal.returns
 returns c =
-    sym (c.loop-place.invariant ∙ falls_all c.args.labels.now (c.loop-place.place - 1) (omega arith))
+    sym (c.loop-index.invariant ∙ falls_all c.args.labels.now (c.loop-index.index - 1) (omega arith))

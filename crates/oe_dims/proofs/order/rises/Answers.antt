@@ -4,4 +4,4 @@ use Rattle.oe_dims.proofs.order.rises.Goals as goal
 
 pub returns : goal.returns
 returns c =
-    sym (c.loop-place.invariant ∙ rises_all c.args.labels.now (c.loop-place.place - 1) (omega arith))
+    sym (c.loop-index.invariant ∙ rises_all c.args.labels.now (c.loop-index.index - 1) (omega arith))

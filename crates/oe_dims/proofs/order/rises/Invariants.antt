@@ -2,5 +2,5 @@ use Rattle.std.proofs.Common.{◌≡◌, ◌-◌, drop}
 use Rattle.oe_dims.specs.Dimensions.{rises}
 use Rattle.oe_dims.proofs.order.rises.Given as goal
 
-abbrev pub invariant-loop-place : goal.invariant-loop-place
-invariant-loop-place l = rises l.labels ≡ rises (drop (l.place - 1) l.labels)
+abbrev pub invariant-loop-index : goal.invariant-loop-index
+invariant-loop-index l = rises l.labels ≡ rises (drop (l.index - 1) l.labels)

@@ -2,7 +2,7 @@ use Rattle.std.proofs.Common.{sym, ◌∙◌, arith, FitsSigned, w64}
 use Rattle.std.proofs.lemmas.Int.{to_z-of_z}
 use Rattle.oe_dims.specs.Dimensions.{number_labels}
 use Rattle.oe_dims.specs.Lists.{dimensions_of}
-use Rattle.oe_dims.proofs.PlacesLemmas.{count_before_rising}
+use Rattle.oe_dims.proofs.IndexLemmas.{count_before_rising}
 use Rattle.oe_dims.proofs.ShapeLemmas.{y_falls, numbers_rise, numbers_within}
 use Rattle.oe_dims.proofs.lists.Lists.range_of.Goals as goal
 
