@@ -1,6 +1,6 @@
--- How the clauses on a count of faults add up over calls, so that a caller hands a fault on in one line.
+-- How the clauses on a fault counter add up over calls, so that a caller hands a fault on in one line.
 use Rattle.std.proofs.Common.{ℕ, Result, arith}
-use Rattle.std.specs.Result.{IsErr}
+use Rattle.std.specs.Result.{IsErr, IsErrOf}
 use Rattle.oe_outside.specs.Faults.{Rose, NeverFalls, HasCause, HasCauseOf}
 
 -- over no call
@@ -11,11 +11,11 @@ NeverFalls-refl count = record { later = omega arith; bounded = λ small. small 
 pub NeverFalls-trans : {a b c : ℕ} → NeverFalls a b → NeverFalls b c → NeverFalls a c
 NeverFalls-trans {a} {b} {c} first second = grind arith
 
--- the count rose, and then there were more calls
+-- the counter rose, and then there were more calls
 pub Rose-then : {a b c : ℕ} → Rose a b → NeverFalls b c → Rose a c
 Rose-then {a} {b} {c} rose later = grind arith
 
--- there were some calls, and then the count rose
+-- there were some calls, and then the counter rose
 pub then-Rose : {a b c : ℕ} → NeverFalls a b → Rose b c → Rose a c
 then-Rose {a} {b} {c} earlier rose = grind arith
 
@@ -32,3 +32,7 @@ hands_on earlier last err error answer = record {
   count = NeverFalls-trans earlier last.count;
   failed = λ _. then-Rose earlier (last.failed err);
 }
+
+-- one error is handed on as another
+pub HasCauseOf-other : {T E U F : Type 0} {error : E} {other : F} {a b : ℕ} {result : Result T E} {answer : Result U F} → (IsErrOf answer other → IsErrOf result error) → HasCauseOf error a b result → HasCauseOf other a b answer
+HasCauseOf-other handed cause = record { count = cause.count; failed = λ err. cause.failed (handed err) }

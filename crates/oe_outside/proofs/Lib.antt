@@ -1,6 +1,8 @@
 pub mod Causes
-mod Kept
+mod Inputs
 pub mod Runs
 mod Scripts
+pub mod Stores
+pub mod Streams
 mod Turned
 pub mod Worked

@@ -1,9 +1,10 @@
--- How the clauses on told bytes add up over calls.
-use Rattle.std.proofs.Common.{◌≡◌, ℕ, ◌+◌, List, [], ◌++◌, take, Option, Some, None, IfSome, refl, ap, sym, ◌∙◌, append_assoc, append-nil, arith}
+-- How the clauses on visible bytes add up over calls.
+use Rattle.std.proofs.Common.{◌≡◌, ℕ, ◌+◌, ◌≤◌, List, [], ◌++◌, length, take, Option, Some, None, IfSome, refl, ap, sym, ◌∙◌, append_assoc, append-nil, arith}
 use Rattle.std.specs.Option.{option_map}
-use Rattle.std.proofs.lemmas.List.{take-append-drop}
+use Rattle.std.proofs.lemmas.List.{take-append-drop, length-append}
+use Rattle.std.proofs.Math.Seq.{take-append_seam, drop-append_seam, take-length}
 use Rattle.std.proofs.lemmas.Grind.{common_steps}
-use Rattle.oe_outside.specs.Told.{TakesFront, Gave, Appends, AddsBytes}
+use Rattle.oe_outside.specs.Visible.{TakesFront, Gave, Appends, AddsBytes}
 
 -- over no read nothing was given
 pub Gave-none : (left : Option (List ℕ)) → Gave left [] left
@@ -23,6 +24,20 @@ pub Gave-more : (a b c : Option (List ℕ)) (first second : List ℕ) → Gave a
 Gave-more a b None first second one two = cc
 Gave-more a b (Some rest) first second one two =
     one ∙ ap (option_map (λ tail. first ++ tail)) two ∙ ap Some (sym (append_assoc first second rest))
+
+-- what was given is the front of what was left
+pub Gave-front : (before after : Option (List ℕ)) (given : List ℕ) → Gave before given after → TakesFront before (length given) given after
+Gave-front None None given gave = refl
+Gave-front None (Some rest) given gave = cc
+Gave-front (Some bytes) None given gave = cc
+Gave-front (Some bytes) (Some rest) given gave =
+    let is : bytes ≡ given ++ rest = cc in
+    let few : length given ≤ length (given ++ rest) = simp length-append (omega arith) in
+    rw is (record {
+      enough = few;
+      given = take-length given ∙ sym (take-append_seam given rest);
+      rest_is = sym (drop-append_seam given rest);
+    })
 
 -- where nothing is left, what was given is what was there
 pub Gave-all : (before after : Option (List ℕ)) (given : List ℕ) → Gave before given after → IfSome after (λ rest. rest ≡ []) → IfSome before (λ bytes. bytes ≡ given)

@@ -16,7 +16,7 @@ pub from_list-permutation : (xs ys : List ℕ) → IsPermutation xs ys → set.f
 from_list-permutation xs ys same =
     set.same_set nat_cmp_total set.nat_cmp-IsAntisymmetric _ _ (λ q. set.contains-from_list_nat ys q ∙ sym (list_any-IsPermutation (λ y. nat_eq y q) xs ys same) ∙ sym (set.contains-from_list_nat xs q))
 
--- a number that is smaller before a place and greater from there on is nowhere
+-- a number that is smaller before an index and greater from there on is nowhere
 nowhere : (i k y x : ℕ) → (k < i → y < x) → (i ≤ k → x < y) → y ≡ x → ⊥
 nowhere i k y x below above same = grind arith
 

@@ -2,11 +2,11 @@
 use Rattle.std.proofs.Common.{◌≡◌, ℕ, true, false, [], ◌∷◌, Some, refl, inl, inr, arith}
 use Rattle.std.specs.FinSet as set
 use Rattle.oe_outside.specs.Faults.{counted, count_after, Rose}
-use Rattle.oe_outside.specs.Told.{TakesFront, Gave, Appends, AppendsPrefix, AddsBytes}
+use Rattle.oe_outside.specs.Visible.{TakesFront, Gave, Appends, AppendsPrefix, AddsBytes}
 use Rattle.oe_outside.specs.Stored.{count_at, with_piece, IsSameOutside}
 use Rattle.oe_outside.specs.Script.{script_of, fails_next, after_call}
 
--- a count goes up by one, and stays at 2^64 - 1
+-- a counter goes up by one, and stays at 2^64 - 1
 one_more : counted 6 ≡ 7
 one_more = refl
 

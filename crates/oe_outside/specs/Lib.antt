@@ -1,8 +1,10 @@
 pub mod Doors
 pub mod Faults
+pub mod Input
 pub mod Memory
 pub mod Moment
 pub mod Script
 pub mod ScriptDoors
 pub mod Stored
-pub mod Told
+pub mod Stream
+pub mod Visible

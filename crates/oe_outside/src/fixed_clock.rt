@@ -5,7 +5,7 @@ ghost use Rattle.oe_outside.specs.Moment.{IsMoment};
 use crate::Clock;
 use std::marker::Model;
 
-/// A clock that always gives one moment, which it tells. It takes no memory.
+/// A clock that always gives one moment, which is visible. It takes no memory.
 #[derive(Drop)]
 pub struct FixedClock {
     seconds: i64,

@@ -1,10 +1,10 @@
 //! The outside of the program: where bytes come from and go to, and how often that failed.
 //!
-//! Each object of the outside, as a [`Source`] or a [`Sink`], has a count of faults that never falls, and a call answers
-//! [`Failed`] only where the count rose in that call. What an object has left or holds is told to contracts where it is
-//! known: an object in memory tells all its bytes, a real file or terminal tells nothing, and the same clauses serve
-//! both. The layers above use these clauses alone, so what they prove over told objects is what their bodies do over
-//! real ones.
+//! Each object of the outside, as a [`Source`] or a [`Sink`], has a fault counter that never falls, and a call answers
+//! [`Failed`] only where the counter rose in that call. What an object has left or holds may be visible to contracts or
+//! hidden: all bytes of an object in memory are visible, those of a real file or terminal are hidden, and the same
+//! clauses serve both. The layers above use these clauses alone, so what they prove over visible objects is what their
+//! bodies do over real ones. [`Pending`] gathers what goes to a sink, and [`read_up_to`] takes what a source has.
 #![tactic(auto)]
 
 mod clock;
@@ -13,6 +13,7 @@ mod door;
 mod failed;
 mod fixed_clock;
 mod gate;
+mod input;
 mod last_dial;
 mod link;
 mod memory_link;
@@ -25,8 +26,7 @@ mod script_door;
 mod sink;
 mod source;
 mod store;
-#[cfg(test)]
-mod tests;
+mod stream;
 
 pub use clock::Clock;
 pub use count_sink::CountSink;
@@ -34,6 +34,7 @@ pub use door::{Door, Next};
 pub use failed::Failed;
 pub use fixed_clock::FixedClock;
 pub use gate::{Gate, NoGate};
+pub use input::{ReadRefusal, read_up_to};
 pub use link::Link;
 pub use memory_link::MemoryLink;
 pub use memory_sink::MemorySink;
@@ -42,4 +43,5 @@ pub use memory_store::MemoryStore;
 pub use script_door::ScriptDoor;
 pub use sink::Sink;
 pub use source::Source;
-pub use store::Store;
+pub use store::{Store, fill_at};
+pub use stream::{Pending, flush, send};

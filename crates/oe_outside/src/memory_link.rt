@@ -3,7 +3,7 @@ ghost use Rattle.std.specs.Prelude.{◌≡◌, ◌↔◌, ◌≤◌, ◌++◌, �
 ghost use Rattle.oe_outside.specs.Faults.{HasCause, count_after};
 ghost use Rattle.oe_outside.specs.Memory.{given_count, fails_write, written_count};
 ghost use Rattle.oe_outside.specs.Script.{script_of, fails_next, after_call};
-ghost use Rattle.oe_outside.specs.Told.{EndsOnlyAtEnd};
+ghost use Rattle.oe_outside.specs.Visible.{EndsOnlyAtEnd};
 
 use crate::pieces::{append, give};
 use crate::script::{Script, raise};
@@ -12,8 +12,8 @@ use oe_memory::OutOfMemory;
 use std::alloc::Global;
 use std::marker::Model;
 
-/// A connection in memory, which tells what is left to be read and what was written. Its calls fail by a script, and where
-/// a write would pass the capacity.
+/// A connection in memory: what is left to be read and what was written are visible. Its calls fail by a script, and
+/// where a write would pass the capacity.
 #[derive(Drop)]
 pub struct MemoryLink {
     incoming: Vec<u8>,
@@ -33,15 +33,25 @@ impl Model for MemoryLink {
 
     ghost coded = { link_code };
 
-    ghost view = { λ s. record { left = drop s.at s.incoming.items; piece = s.piece; written = s.outgoing.items; capacity = s.capacity; script = s.script; faults = s.faults } };
+    ghost view = { λ s. record {
+      left = drop s.at s.incoming.items;
+      piece = s.piece;
+      written = s.outgoing.items;
+      capacity = s.capacity;
+      script = s.script;
+      faults = s.faults;
+    } };
 
-    ghost invariant = { λ s. (s.at ≤ length s.incoming.items) × (1 ≤ s.piece) × (length s.outgoing.items ≤ s.capacity) × (s.capacity ≤ vec_capacity s.outgoing) };
+    ghost invariant = { λ s. (s.at ≤ length s.incoming.items) × (1 ≤ s.piece)
+        × (length s.outgoing.items ≤ s.capacity) × (s.capacity ≤ vec_capacity s.outgoing) };
 }
 
 impl MemoryLink {
     /// A connection that gives these bytes, at most `piece` of them in a read, and has room for as many written ones as
-    /// the capacity, all of which it takes now, so that no write takes memory. `failing` has the numbers of the calls that
-    /// fail, counted from 0 over reads and writes together, in any order.
+    /// the capacity, all of which it takes now, so that no write takes memory. `failing` has the numbers of the calls
+    /// that fail, counted from 0 over reads and writes together, in any order.
+    ///
+    /// Refuses: where an allocation was refused.
     pub fn new(
         alloc: Global,
         incoming: Vec<u8>,
@@ -50,7 +60,15 @@ impl MemoryLink {
         failing: Vec<u64>,
     ) -> Result<MemoryLink, OutOfMemory>
         requires { 1 ≤ piece }
-        ensures { IfOk result (λ s. s ≡ record { left = incoming.items; piece = piece; written = []; capacity = capacity; script = script_of failing.items; faults = 0 }) }
+        ensures { IfOk result
+            (λ s. s ≡ record {
+              left = incoming.items;
+              piece = piece;
+              written = [];
+              capacity = capacity;
+              script = script_of failing.items;
+              faults = 0;
+            }) }
     {
         let script = Script::new(failing)?;
         let outgoing = Vec::with_capacity(alloc, capacity)?;
@@ -78,12 +96,11 @@ impl MemoryLink {
     {
         self.faults > 0
     }
-}
 
-#[cfg(test)]
-impl MemoryLink {
-    /// How many reads and writes have failed.
-    pub(crate) fn faults(&self) -> u64 {
+    /// How many reads and writes have failed, for tests.
+    pub fn faults(&self) -> u64
+        ensures { result ≡ self.now.faults }
+    {
         self.faults
     }
 }
@@ -99,11 +116,18 @@ impl Link for MemoryLink {
     /// fails exactly where the script says so, and then takes no byte and leaves the whole buffer.
     fn read(&mut self, into: &mut [u8]) -> Result<usize, Failed>
         ensures fails { IsErr result ↔ IsTrue (fails_next self.old.script) }
-        ensures count { let room = min (length into.old) self.old.piece in IfOk result (λ n. n ≡ given_count self.old.script self.old.left room) }
-        ensures buffer { let n = given_count self.old.script self.old.left (min (length into.old) self.old.piece) in
+        ensures count { let room = min (length into.old) self.old.piece in
+            IfOk result (λ n. n ≡ given_count self.old.script self.old.left room) }
+        ensures buffer { let n = given_count self.old.script self.old.left
+            (min (length into.old) self.old.piece) in
             into.new ≡ take n self.old.left ++ drop n into.old }
-        ensures state { let n = given_count self.old.script self.old.left (min (length into.old) self.old.piece) in
-            self.new ≡ record self.old { left = drop n self.old.left; script = after_call self.old.script; faults = count_after self.old.faults (is_err result) } }
+        ensures state { let n = given_count self.old.script self.old.left
+            (min (length into.old) self.old.piece) in
+            self.new ≡ record self.old {
+              left = drop n self.old.left;
+              script = after_call self.old.script;
+              faults = count_after self.old.faults (is_err result);
+            } }
         ensures end { IfOk result (λ n. EndsOnlyAtEnd (Some self.old.left) n (length into.old)) }
         ensures cause { HasCause self.old.faults self.new.faults result }
     {
@@ -116,12 +140,18 @@ impl Link for MemoryLink {
         Ok(count)
     }
 
-    /// Appends the piece. It fails exactly where the script says so, and then half of the piece is written, rounded down;
-    /// and where the piece is longer than the room that is left. Either way no more is written than fits.
+    /// Appends the piece. It fails exactly where the script says so, and then half of the piece is written, rounded
+    /// down; and where the piece is longer than the room that is left. Either way no more is written than fits.
     fn write(&mut self, piece: &[u8]) -> Result<(), Failed>
-        ensures fails { let room = self.old.capacity - length self.old.written in IsErr result ↔ IsTrue (fails_write self.old.script room piece.now) }
+        ensures fails { let room = self.old.capacity - length self.old.written in
+            IsErr result ↔ IsTrue (fails_write self.old.script room piece.now) }
         ensures state { let room = self.old.capacity - length self.old.written in
-            self.new ≡ record self.old { written = self.old.written ++ take (written_count self.old.script room piece.now) piece.now; script = after_call self.old.script; faults = count_after self.old.faults (is_err result) } }
+            self.new ≡ record self.old {
+              written = self.old.written
+                  ++ take (written_count self.old.script room piece.now) piece.now;
+              script = after_call self.old.script;
+              faults = count_after self.old.faults (is_err result);
+            } }
         ensures cause { HasCause self.old.faults self.new.faults result }
     {
         let listed = self.script.next_call();

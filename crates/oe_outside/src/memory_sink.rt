@@ -3,7 +3,7 @@ ghost use Rattle.std.specs.Prelude.{◌≡◌, ◌↔◌, ◌++◌, ◌-◌, Som
 ghost use Rattle.oe_outside.specs.Faults.{HasCause, count_after};
 ghost use Rattle.oe_outside.specs.Memory.{fails_write, written_count};
 ghost use Rattle.oe_outside.specs.Script.{script_of, after_call};
-ghost use Rattle.oe_outside.specs.Told.{AddsBytes, AddsSome};
+ghost use Rattle.oe_outside.specs.Visible.{AddsBytes, AddsSome};
 
 use crate::pieces::append;
 use crate::script::{Script, raise};
@@ -12,7 +12,7 @@ use oe_memory::OutOfMemory;
 use std::alloc::Global;
 use std::marker::Model;
 
-/// A sink into memory, which tells all that was written. Its calls fail by a script, and where the capacity is passed.
+/// A sink into memory: all that was written is visible. Its calls fail by a script, and where the capacity is passed.
 #[derive(Drop)]
 pub struct MemorySink {
     bytes: Vec<u8>,
@@ -29,16 +29,30 @@ impl Model for MemorySink {
 
     ghost coded = { sink_code };
 
-    ghost view = { λ s. record { written = s.bytes.items; capacity = s.capacity; script = s.script; faults = s.faults } };
+    ghost view = { λ s. record {
+      written = s.bytes.items;
+      capacity = s.capacity;
+      script = s.script;
+      faults = s.faults;
+    } };
 
-    ghost invariant = { λ s. (length s.bytes.items ≤ s.capacity) × (s.capacity ≤ vec_capacity s.bytes) };
+    ghost invariant = { λ s. (length s.bytes.items ≤ s.capacity)
+        × (s.capacity ≤ vec_capacity s.bytes) };
 }
 
 impl MemorySink {
-    /// An empty sink with room for as many bytes, all of which it takes now, so that no write takes memory. `failing` has
-    /// the numbers of the writes that fail, counted from 0, in any order.
+    /// An empty sink with room for as many bytes, all of which it takes now, so that no write takes memory. `failing`
+    /// has the numbers of the writes that fail, counted from 0, in any order.
+    ///
+    /// Refuses: where an allocation was refused.
     pub fn new(alloc: Global, capacity: usize, failing: Vec<u64>) -> Result<MemorySink, OutOfMemory>
-        ensures { IfOk result (λ s. s ≡ record { written = []; capacity = capacity; script = script_of failing.items; faults = 0 }) }
+        ensures { IfOk result
+            (λ s. s ≡ record {
+              written = [];
+              capacity = capacity;
+              script = script_of failing.items;
+              faults = 0;
+            }) }
     {
         let script = Script::new(failing)?;
         let bytes = Vec::with_capacity(alloc, capacity)?;
@@ -56,12 +70,11 @@ impl MemorySink {
     {
         &self.bytes
     }
-}
 
-#[cfg(test)]
-impl MemorySink {
-    /// How many writes have failed.
-    pub(crate) fn faults(&self) -> u64 {
+    /// How many writes have failed, for tests.
+    pub fn faults(&self) -> u64
+        ensures { result ≡ self.now.faults }
+    {
         self.faults
     }
 }
@@ -73,17 +86,23 @@ impl Sink for MemorySink {
 
     ghost faults = { λ s. s.faults };
 
-    /// Appends the piece. It fails exactly where the script says so, and then half of the piece is written, rounded down;
-    /// and where the piece is longer than the room that is left. Either way no more is written than fits.
+    /// Appends the piece. It fails exactly where the script says so, and then half of the piece is written, rounded
+    /// down; and where the piece is longer than the room that is left. Either way no more is written than fits.
     fn write(&mut self, piece: &[u8]) -> Result<(), Failed>
-        ensures fails { let room = self.old.capacity - length self.old.written in IsErr result ↔ IsTrue (fails_write self.old.script room piece.now) }
+        ensures fails { let room = self.old.capacity - length self.old.written in
+            IsErr result ↔ IsTrue (fails_write self.old.script room piece.now) }
         ensures written { let room = self.old.capacity - length self.old.written in
-            self.new.written ≡ self.old.written ++ take (written_count self.old.script room piece.now) piece.now }
+            self.new.written ≡ self.old.written
+            ++ take (written_count self.old.script room piece.now) piece.now }
         ensures capacity { self.new.capacity ≡ self.old.capacity }
         ensures script { self.new.script ≡ after_call self.old.script }
         ensures faults { self.new.faults ≡ count_after self.old.faults (is_err result) }
-        ensures counted { OnOk result (AddsBytes (Some (length self.old.written)) (length piece.now) (Some (length self.new.written))) }
-        ensures counted_prefix { OnErr result (AddsSome (Some (length self.old.written)) (length piece.now) (Some (length self.new.written))) }
+        ensures counted { OnOk result
+            (AddsBytes (Some (length self.old.written)) (length piece.now)
+            (Some (length self.new.written))) }
+        ensures counted_prefix { OnErr result
+            (AddsSome (Some (length self.old.written)) (length piece.now)
+            (Some (length self.new.written))) }
         ensures cause { HasCause self.old.faults self.new.faults result }
     {
         let listed = self.script.next_call();

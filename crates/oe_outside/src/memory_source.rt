@@ -10,7 +10,7 @@ use crate::{Failed, Source};
 use oe_memory::OutOfMemory;
 use std::marker::Model;
 
-/// A source over bytes in memory, which tells all that is left. Its calls fail by a script.
+/// A source over bytes in memory: all that is left is visible. Its calls fail by a script.
 #[derive(Drop)]
 pub struct MemorySource {
     bytes: Vec<u8>,
@@ -27,15 +27,22 @@ impl Model for MemorySource {
 
     ghost coded = { source_code };
 
-    ghost view = { λ s. record { left = drop s.at s.bytes.items; script = s.script; faults = s.faults } };
+    ghost view = { λ s. record {
+      left = drop s.at s.bytes.items;
+      script = s.script;
+      faults = s.faults;
+    } };
 
     ghost invariant = { λ s. s.at ≤ length s.bytes.items };
 }
 
 impl MemorySource {
     /// A source of these bytes. `failing` has the numbers of the reads that fail, counted from 0, in any order.
+    ///
+    /// Refuses: where an allocation was refused.
     pub fn new(bytes: Vec<u8>, failing: Vec<u64>) -> Result<MemorySource, OutOfMemory>
-        ensures { IfOk result (λ s. s ≡ record { left = bytes.items; script = script_of failing.items; faults = 0 }) }
+        ensures { IfOk result
+            (λ s. s ≡ record { left = bytes.items; script = script_of failing.items; faults = 0 }) }
     {
         let script = Script::new(failing)?;
         Ok(MemorySource {
@@ -45,12 +52,11 @@ impl MemorySource {
             faults: 0,
         })
     }
-}
 
-#[cfg(test)]
-impl MemorySource {
-    /// How many reads have failed.
-    pub(crate) fn faults(&self) -> u64 {
+    /// How many reads have failed, for tests.
+    pub fn faults(&self) -> u64
+        ensures { result ≡ self.now.faults }
+    {
         self.faults
     }
 }
@@ -60,13 +66,16 @@ impl Source for MemorySource {
 
     ghost faults = { λ s. s.faults };
 
-    /// Fills the buffer as far as bytes are left, and leaves the rest of the buffer as it was. It fails exactly where the
-    /// script says so, and then takes no byte and leaves the whole buffer.
+    /// Fills the buffer as far as bytes are left, and leaves the rest of the buffer as it was. It fails exactly where
+    /// the script says so, and then takes no byte and leaves the whole buffer.
     fn read(&mut self, into: &mut [u8]) -> Result<usize, Failed>
         ensures fails { IsErr result ↔ IsTrue (fails_next self.old.script) }
-        ensures count { IfOk result (λ n. n ≡ given_count self.old.script self.old.left (length into.old)) }
-        ensures buffer { let n = given_count self.old.script self.old.left (length into.old) in into.new ≡ take n self.old.left ++ drop n into.old }
-        ensures left { self.new.left ≡ drop (given_count self.old.script self.old.left (length into.old)) self.old.left }
+        ensures count { IfOk result
+            (λ n. n ≡ given_count self.old.script self.old.left (length into.old)) }
+        ensures buffer { let n = given_count self.old.script self.old.left (length into.old) in
+            into.new ≡ take n self.old.left ++ drop n into.old }
+        ensures left { self.new.left
+            ≡ drop (given_count self.old.script self.old.left (length into.old)) self.old.left }
         ensures script { self.new.script ≡ after_call self.old.script }
         ensures faults { self.new.faults ≡ count_after self.old.faults (is_err result) }
         ensures cause { HasCause self.old.faults self.new.faults result }

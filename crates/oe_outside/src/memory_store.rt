@@ -11,7 +11,7 @@ use crate::{Failed, Store};
 use oe_memory::OutOfMemory;
 use std::marker::Model;
 
-/// A store in memory, which tells all its bytes. Its calls fail by a script, and where a write would pass the capacity.
+/// A store in memory: all its bytes are visible. Its calls fail by a script, and where a write would pass the capacity.
 #[derive(Drop)]
 pub struct MemoryStore {
     bytes: Vec<u8>,
@@ -28,21 +28,34 @@ impl Model for MemoryStore {
 
     ghost coded = { store_code };
 
-    ghost view = { λ s. record { bytes = s.bytes.items; capacity = s.capacity; script = s.script; faults = s.faults } };
+    ghost view = { λ s. record {
+      bytes = s.bytes.items;
+      capacity = s.capacity;
+      script = s.script;
+      faults = s.faults;
+    } };
 
     ghost invariant = { λ s. s.capacity ≤ vec_capacity s.bytes };
 }
 
 impl MemoryStore {
-    /// A store of these bytes, which no write makes longer than the capacity. All the room is taken now, so that no write
-    /// takes memory. `failing` has the numbers of the calls that fail, counted from 0 over `length`, `read_at` and
-    /// `write_at` together, in any order.
+    /// A store of these bytes, which no write makes longer than the capacity. All the room is taken now, so that no
+    /// write takes memory. `failing` has the numbers of the calls that fail, counted from 0 over `length`, `read_at`
+    /// and `write_at` together, in any order.
+    ///
+    /// Refuses: where an allocation was refused.
     pub fn new(
         mut bytes: Vec<u8>,
         capacity: usize,
         failing: Vec<u64>,
     ) -> Result<MemoryStore, OutOfMemory>
-        ensures { IfOk result (λ s. s ≡ record { bytes = bytes.items; capacity = capacity; script = script_of failing.items; faults = 0 }) }
+        ensures { IfOk result
+            (λ s. s ≡ record {
+              bytes = bytes.items;
+              capacity = capacity;
+              script = script_of failing.items;
+              faults = 0;
+            }) }
     {
         let script = Script::new(failing)?;
         let missing = capacity.saturating_sub(bytes.len());
@@ -61,12 +74,11 @@ impl MemoryStore {
     {
         &self.bytes
     }
-}
 
-#[cfg(test)]
-impl MemoryStore {
-    /// How many calls have failed.
-    pub(crate) fn faults(&self) -> u64 {
+    /// How many calls have failed, for tests.
+    pub fn faults(&self) -> u64
+        ensures { result ≡ self.now.faults }
+    {
         self.faults
     }
 }
@@ -92,12 +104,13 @@ impl Store for MemoryStore {
         Ok(self.bytes.len() as u64)
     }
 
-    /// It fails exactly where the script says so, and then leaves the whole buffer as it was. It leaves the buffer behind
-    /// what it gives as it was.
+    /// It fails exactly where the script says so, and then leaves the whole buffer as it was. It leaves the buffer
+    /// behind what it gives as it was.
     fn read_at(&mut self, at: u64, into: &mut [u8]) -> Result<usize, Failed>
         ensures fails { IsErr result ↔ IsTrue (fails_next self.old.script) }
         ensures count { IfOk result (λ n. n ≡ count_at self.old.bytes at (length into.old)) }
-        ensures buffer { IfOk result (λ n. into.new ≡ take n (drop at self.old.bytes) ++ drop n into.old) }
+        ensures buffer { IfOk result
+            (λ n. into.new ≡ take n (drop at self.old.bytes) ++ drop n into.old) }
         ensures untouched { IsErr result → into.new ≡ into.old }
         ensures bytes { self.new.bytes ≡ self.old.bytes }
         ensures capacity { self.new.capacity ≡ self.old.capacity }
@@ -113,13 +126,14 @@ impl Store for MemoryStore {
         Ok(give(&self.bytes[from..], room, into))
     }
 
-    /// It fails exactly where the script says so, and then half of the piece is written, rounded down; and where the piece
-    /// would pass the capacity, and then as much is written as fits. Where the offset itself is past the capacity, nothing
-    /// changes.
+    /// It fails exactly where the script says so, and then half of the piece is written, rounded down; and where the
+    /// piece would pass the capacity, and then as much is written as fits. Where the offset itself is past the
+    /// capacity, nothing changes.
     fn write_at(&mut self, at: u64, piece: &[u8]) -> Result<(), Failed>
         ensures fails { IsErr result ↔ IsTrue (fails_write_at self.old at piece.now) }
         ensures bytes { self.new.bytes ≡ bytes_after_write self.old at piece.now }
-        ensures outside { OnErr result (StaysOutside (Some self.old.bytes) at (length piece.now) (Some self.new.bytes)) }
+        ensures outside { OnErr result
+            (StaysOutside (Some self.old.bytes) at (length piece.now) (Some self.new.bytes)) }
         ensures capacity { self.new.capacity ≡ self.old.capacity }
         ensures script { self.new.script ≡ after_call self.old.script }
         ensures faults { self.new.faults ≡ count_after self.old.faults (is_err result) }

@@ -41,7 +41,8 @@ fn pad(bytes: &mut Vec<u8>, len: usize)
 fn overwrite(bytes: &mut Vec<u8>, at: usize, piece: &[u8])
     requires within { at ≤ vec_len bytes.old }
     requires room { at + length piece.now ≤ vec_capacity bytes.old }
-    ensures items { bytes.new.items ≡ take at bytes.old.items ++ piece.now ++ drop (at + length piece.now) bytes.old.items }
+    ensures items { bytes.new.items
+        ≡ take at bytes.old.items ++ piece.now ++ drop (at + length piece.now) bytes.old.items }
     ensures room { vec_capacity bytes.old ≤ vec_capacity bytes.new }
 {
     let over = piece.len().min(bytes.len() - at);

@@ -1,4 +1,4 @@
-// Which calls of an object in memory fail, and the counting of faults.
+// Which calls of an object in memory fail, and the fault counter.
 ghost use Rattle.std.specs.Prelude.{◌≡◌, IfOk};
 ghost use Rattle.oe_outside.specs.Faults.{counted};
 ghost use Rattle.oe_outside.specs.Script.{script_of, fails_next, after_call};
@@ -49,7 +49,7 @@ impl Script {
     }
 }
 
-/// Raises a count of faults, which stays at its last value.
+/// Raises a fault counter, which stays at its last value.
 pub(crate) fn raise(count: &mut u64) -> Failed
     ensures { count.new ≡ counted count.old }
 {

@@ -11,7 +11,7 @@ use oe_memory::OutOfMemory;
 use std::alloc::Global;
 use std::marker::Model;
 
-/// A door over connections in memory, which tells them all. Its calls fail by a script.
+/// A door over connections in memory, all of which are visible. Its calls fail by a script.
 #[derive(Drop)]
 pub struct ScriptDoor {
     // The first of these two stands last.
@@ -38,7 +38,15 @@ impl Model for ScriptDoor {
     ghost coded = { door_code };
 
     ghost view = { λ d. record {
-      told = record { coming = reverse d.coming.items; to_dial = reverse d.to_dial.items; out = d.out; given_back = d.given_back.items; nexts = d.nexts; dials = d.dials; last_dial = d.last_dial };
+      visible = record {
+        coming = reverse d.coming.items;
+        to_dial = reverse d.to_dial.items;
+        out = d.out;
+        given_back = d.given_back.items;
+        nexts = d.nexts;
+        dials = d.dials;
+        last_dial = d.last_dial;
+      };
       script = d.script;
       faults = d.faults;
       dial_faults = d.dial_faults;
@@ -47,14 +55,17 @@ impl Model for ScriptDoor {
 
     ghost invariant = { λ d. All IsSound d.coming.items
         × All IsSound d.to_dial.items
-        × (length d.coming.items + length d.to_dial.items + d.out + length d.given_back.items ≡ d.room)
+        × (length d.coming.items + length d.to_dial.items + d.out + length d.given_back.items
+        ≡ d.room)
         × (d.room ≤ vec_capacity d.given_back) };
 }
 
 impl ScriptDoor {
     /// A door to which `links` come, in their order, and which dials `dialled`, in their order. The room for those that
-    /// are given back is taken now, so that no later call takes memory. `failing` has the numbers of the calls that fail,
-    /// counted from 0 over `next` and `dial` together, in any order.
+    /// are given back is taken now, so that no later call takes memory. `failing` has the numbers of the calls that
+    /// fail, counted from 0 over `next` and `dial` together, in any order.
+    ///
+    /// Refuses: where an allocation was refused.
     pub fn new(
         alloc: Global,
         mut links: Vec<MemoryLink>,
@@ -88,27 +99,40 @@ impl ScriptDoor {
 
     /// The connections that were given back, in their order, for tests.
     pub fn given_back(&self) -> &[MemoryLink]
-        ensures { result.now ≡ self.now.told.given_back }
+        ensures { result.now ≡ self.now.visible.given_back }
     {
         &self.given_back
     }
-}
 
-#[cfg(test)]
-impl ScriptDoor {
-    /// The counts of faults, of dial faults and of link faults.
-    pub(crate) fn counts(&self) -> (u64, u64, u64) {
-        (self.faults, self.dial_faults, self.link_faults)
+    /// How many calls of `next` have failed, for tests.
+    pub fn faults(&self) -> u64
+        ensures { result ≡ self.now.faults }
+    {
+        self.faults
+    }
+
+    /// How many calls of `dial` have failed, for tests.
+    pub fn dial_faults(&self) -> u64
+        ensures { result ≡ self.now.dial_faults }
+    {
+        self.dial_faults
+    }
+
+    /// How many connections were given back with faults, for tests.
+    pub fn link_faults(&self) -> u64
+        ensures { result ≡ self.now.link_faults }
+    {
+        self.link_faults
     }
 }
 
 impl Door for ScriptDoor {
-    ghost use Rattle.oe_outside.specs.Doors.{NextTells, DialTells, DoneTells, taken_back, IsFailed, IsNobody, IfConn, HasNextCause, CountsLink};
+    ghost use Rattle.oe_outside.specs.Doors.{ShowsNext, ShowsDialled, ShowsDone, taken_back, IsFailed, IsNobody, IfConn, HasNextCause, CountsLink};
     ghost use Rattle.std.specs.Prelude.{Some};
 
     type Conn = MemoryLink;
 
-    ghost told = { λ d. Some d.told };
+    ghost visible = { λ d. Some d.visible };
 
     ghost faults = { λ d. d.faults };
 
@@ -118,13 +142,15 @@ impl Door for ScriptDoor {
 
     /// It fails exactly where the script says so.
     fn next(&mut self, busy: bool) -> Next<MemoryLink>
-        ensures told { NextTells (Some self.old.told) busy result (Some self.new.told) }
+        ensures visible { ShowsNext (Some self.old.visible) busy result (Some self.new.visible) }
         ensures fails { IsFailed result ↔ IsTrue (fails_next self.old.script) }
         ensures script { self.new.script ≡ after_call self.old.script }
-        ensures faults { self.new.faults ≡ count_after self.old.faults (fails_next self.old.script) }
+        ensures faults { self.new.faults
+            ≡ count_after self.old.faults (fails_next self.old.script) }
         ensures fresh { IfConn result IsSound }
         ensures nobody { IsNobody result → IsTrue busy }
-        ensures cause { HasNextCause (Some self.old.told) self.old.faults self.new.faults result }
+        ensures cause { HasNextCause (Some self.old.visible)
+            self.old.faults self.new.faults result }
         ensures same_dial_faults { self.new.dial_faults ≡ self.old.dial_faults }
         ensures same_link_faults { self.new.link_faults ≡ self.old.link_faults }
     {
@@ -147,10 +173,13 @@ impl Door for ScriptDoor {
     fn dial(&mut self, host: &str, port: u16) -> Result<MemoryLink, Failed>
         requires named { 1 ≤ length host.now }
         requires short { length host.now ≤ 253 }
-        ensures told { DialTells (Some self.old.told) host.now port result (Some self.new.told) }
-        ensures fails { IsErr result ↔ IsTrue (fails_next self.old.script || (length self.old.told.to_dial == 0)) }
+        ensures visible { ShowsDialled (Some self.old.visible) host.now port result
+            (Some self.new.visible) }
+        ensures fails { IsErr result
+            ↔ IsTrue (fails_next self.old.script || (length self.old.visible.to_dial == 0)) }
         ensures script { self.new.script ≡ after_call self.old.script }
-        ensures dial_faults { self.new.dial_faults ≡ count_after self.old.dial_faults (is_err result) }
+        ensures dial_faults { self.new.dial_faults
+            ≡ count_after self.old.dial_faults (is_err result) }
         ensures fresh { IfOk result IsSound }
         ensures cause { HasCause self.old.dial_faults self.new.dial_faults result }
         ensures same_faults { self.new.faults ≡ self.old.faults }
@@ -172,8 +201,9 @@ impl Door for ScriptDoor {
 
     /// Lets go a connection that is more than the door gave.
     fn done(&mut self, conn: MemoryLink)
-        ensures told { self.new.told ≡ taken_back self.old.told conn }
-        ensures link_faults { self.new.link_faults ≡ (if conn.faults == 0 then self.old.link_faults else counted self.old.link_faults) }
+        ensures visible { self.new.visible ≡ taken_back self.old.visible conn }
+        ensures link_faults { self.new.link_faults
+            ≡ (if conn.faults == 0 then self.old.link_faults else counted self.old.link_faults) }
         ensures cause { CountsLink conn.faults self.old.link_faults self.new.link_faults }
         ensures script { self.new.script ≡ self.old.script }
         ensures same_faults { self.new.faults ≡ self.old.faults }

@@ -1,5 +1,5 @@
 use Rattle.std.proofs.Common.{◌≤◌, length, arith}
-use Rattle.oe_outside.proofs.Kept.{IsSameOutside-put}
+use Rattle.oe_outside.proofs.Stores.{IsSameOutside-put}
 use Rattle.oe_outside.proofs.memory_store.MemoryStoreStore.write_at.Goals as goal
 use Rattle.oe_outside.proofs.memory_store.MemoryStoreStore.write_at.Goals.{then-listed, else-listed}
 

@@ -2,6 +2,6 @@ use Rattle.std.proofs.Common.{reverse}
 use Rattle.oe_outside.proofs.Turned.{reverse-popped}
 use Rattle.oe_outside.proofs.script_door.ScriptDoorDoor.dial.Goals as goal
 
-pub returns-in-Some-clause-told : goal.returns-in-Some-clause-told
-returns-in-Some-clause-told c =
+pub returns-in-Some-clause-visible : goal.returns-in-Some-clause-visible
+returns-in-Some-clause-visible c =
     rw (← c.self.view_is) (reverse c.pop.new.self.items, reverse-popped _ _ _ c.in-Some.ensures.items, cc)
