@@ -1,7 +1,10 @@
-pub mod FunctionLemmas
+pub mod ColumnLemmas
+pub mod KindLemmas
 pub mod OrderLemmas
 pub mod ReductionLemmas
-pub mod ScanLemmas
+pub mod SettleLemmas
 pub mod SortedLemmas
+pub mod TallyLemmas
 pub mod UniqueLemmas
+pub mod ValueLemmas
 mod Worked

@@ -1,10 +1,10 @@
 -- The order by which cells are sorted is a strict weak order, and on numbers of cells it is that of the numbers.
 use Rattle.std.proofs.Common.{◌≡◌, ℕ, ◌<◌, true, false, Bool, refl, sym, ap, ◌∙◌, subst, arith, ℤ, pos, ◌*ℤ◌, ◌≤ℤ◌, ◌<ℤ◌, inl, inr, nat_lt}
 use Rattle.std.specs.Prelude.{◌&&◌}
-use Rattle.std.specs.Ordering.{is_lt, ordering_reverse}
+use Rattle.std.specs.Ordering.{is_lt, int_cmp, ordering_reverse}
 use Rattle.std.specs.declared.cmp.Ordering.{Ordering}
 use Rattle.std.specs.declared.cmp.Ordering.TheVariants.{Less, Equal, Greater}
-use Rattle.std.specs.Cmp.{IsStrictWeakOrder}
+use Rattle.std.specs.Cmp.{IsStrictWeakOrder, int_cmp_is}
 use Rattle.std.proofs.lemmas.Cmp.{int_ranked}
 use Rattle.std.proofs.lemmas.Int.{ints}
 use Rattle.std.proofs.lemmas.Bool.{cases_Bool, cond-true, cond-false, ltb-true, lt-ltb}
@@ -14,9 +14,8 @@ use Rattle.oe_cell.specs.Order.{compare_of}
 use Rattle.oe_cell.specs.declared.cell.Cell.{Cell}
 use Rattle.oe_cell.specs.declared.cell.Cell.TheVariants.{Empty, Flag, Number, Over}
 use Rattle.oe_cell.proofs.OrderLemmas.{compare_of_antisymm}
+use Rattle.oe_fold.specs.Order.{is_below, is_sound, is_before}
 use Rattle.oe_cell.proofs.Scale.{scale-scale, below_scale, at_most_scale}
-use Rattle.oe_fold.specs.Kinds.{is_below}
-use Rattle.oe_fold.specs.Progress.{is_sound, is_before}
 
 lt-from_below : (p q : Fraction) → is_lt (compare_of p q) ≡ true → (p.num *ℤ pos q.den) <ℤ (q.num *ℤ pos p.den)
 lt-from_below p q e = int_ranked _ _ Less (sym (less (compare_of p q) e))
@@ -121,3 +120,16 @@ chain x y z h k = elim (soundness x) [
 
 pub before-ranks : IsStrictWeakOrder is_before
 before-ranks = record { one_way = one_way; chain = chain }
+
+int_cmp-scale : (x y : ℤ) (k : ℕ) → 0 < k → int_cmp x y ≡ int_cmp (x *ℤ pos k) (y *ℤ pos k)
+int_cmp-scale x y k some = by_order (int_cmp x y) refl
+  where
+    by_order : (o : Ordering) → o ≡ int_cmp x y → o ≡ int_cmp (x *ℤ pos k) (y *ℤ pos k)
+    by_order Less e = int_cmp_is (x *ℤ pos k) (y *ℤ pos k) Less (below_scale x y k some (int_ranked x y Less e))
+    by_order Equal e = int_cmp_is (x *ℤ pos k) (y *ℤ pos k) Equal (ap (λ (z : ℤ). z *ℤ pos k) (int_ranked x y Equal e))
+    by_order Greater e = int_cmp_is (x *ℤ pos k) (y *ℤ pos k) Greater (below_scale y x k some (int_ranked x y Greater e))
+
+-- numbers with one denominator stand as their numerators do
+pub compare_of-same_den : (p q : Fraction) → 0 < p.den → p.den ≡ q.den → int_cmp p.num q.num ≡ compare_of p q
+compare_of-same_den p q some e =
+    int_cmp-scale p.num q.num p.den some ∙ ap (λ (d : ℕ). int_cmp (p.num *ℤ pos d) (q.num *ℤ pos p.den)) e

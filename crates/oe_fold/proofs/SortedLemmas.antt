@@ -14,8 +14,7 @@ use Rattle.oe_cell.specs.Order.{compare_of}
 use Rattle.oe_cell.specs.declared.cell.Cell.{Cell}
 use Rattle.oe_cell.specs.declared.cell.Cell.TheVariants.{Empty, Flag, Number, Over}
 use Rattle.oe_cell.proofs.OrderLemmas.{compare_of_antisymm, same_from_compare_of}
-use Rattle.oe_fold.specs.Kinds.{is_below}
-use Rattle.oe_fold.specs.Progress.{is_before}
+use Rattle.oe_fold.specs.Order.{is_below, is_before}
 use Rattle.oe_fold.proofs.OrderLemmas.{before-numbers, before-ranks}
 
 -- a number of a cell

@@ -9,9 +9,10 @@ use Rattle.oe_cell.specs.Cells.{IsCell}
 use Rattle.oe_cell.specs.Operations.{divide_of}
 use Rattle.oe_cell.specs.declared.cell.Cell.{Cell}
 use Rattle.oe_cell.specs.declared.cell.Cell.TheVariants.{Empty, Over}
-use Rattle.oe_fold.specs.Kinds.{is_over, is_kept, kept, is_below, whole_cell}
-use Rattle.oe_fold.specs.Progress.{is_before}
-use Rattle.oe_fold.specs.Reduction.{is_refused, IsLeast, IsGreatest, IsMedian, IsValue, IsOfKept, IsOfFitting, IsReduction, middle_of}
+use Rattle.oe_cell.specs.Kinds.{is_over}
+use Rattle.oe_fold.specs.Order.{is_below, is_before}
+use Rattle.oe_fold.specs.Counted.{is_counted, counted_cells, whole_cell}
+use Rattle.oe_fold.specs.Reduction.{makes_null, IsLeast, IsGreatest, IsMedian, IsResultWithoutNull, IsResultOfCounted, IsResultWithoutOver, IsReduction, middle_of}
 use Rattle.oe_fold.specs.declared.reducer.Reducer.{Reducer}
 use Rattle.oe_fold.specs.declared.reducer.Reducer.TheVariants.{Sum, Product, Mean, Min, Max, Median, First, Last, Any, All as EveryOne, Count, CountAll}
 use Rattle.oe_fold.proofs.ReductionLemmas.{none_passes, all_real}
@@ -37,12 +38,12 @@ median-unique xs c d real (ys, y_moved, y_up, y_is) (zs, z_moved, z_up, z_is) =
     let same : ys ≡ zs = sorted-unique ys zs y_real z_real (sorted_before ys y_real y_up) (sorted_before zs z_real z_up) (λ f. sum_by-IsPermutation f xs ys y_moved ∙ sym (sum_by-IsPermutation f xs zs z_moved)) in
     y_is ∙ ap (λ (os : List Cell). middle_of os) same ∙ sym z_is
 
-mean-unique : (xs : List Cell) (c d : Cell) → IsValue Mean xs c → IsValue Mean xs d → c ≡ d
+mean-unique : (xs : List Cell) (c d : Cell) → IsResultWithoutNull Mean xs c → IsResultWithoutNull Mean xs d → c ≡ d
 mean-unique xs c d (a, a_sum, a_is) (b, b_sum, b_is) =
     let same : a ≡ b = cc in
     a_is ∙ ap (λ (s : Cell). divide_of s (whole_cell (length xs))) same ∙ sym b_is
 
-value-unique : (r : Reducer) (xs : List Cell) (c d : Cell) → All IsCell xs → All (λ x. is_over x ≡ false) xs → list_any (is_refused r) xs ≡ false → IsValue r xs c → IsValue r xs d → c ≡ d
+value-unique : (r : Reducer) (xs : List Cell) (c d : Cell) → All IsCell xs → All (λ x. is_over x ≡ false) xs → list_any (makes_null r) xs ≡ false → IsResultWithoutNull r xs c → IsResultWithoutNull r xs d → c ≡ d
 value-unique Sum xs c d cells fits k a b = cc
 value-unique Product xs c d cells fits k a b = cc
 value-unique Mean xs c d cells fits k a b = mean-unique xs c d a b
@@ -61,36 +62,36 @@ by_test : (b : Bool) (P Q : Cell → Type 0) (c d : Cell) → (b ≡ true → P 
 by_test true P Q c d f g x y = f refl x y
 by_test false P Q c d f g x y = g refl x y
 
-kept-unique : (r : Reducer) (xs : List Cell) (c d : Cell) → All IsCell xs → All (λ x. is_over x ≡ false) xs → IsOfKept r xs c → IsOfKept r xs d → c ≡ d
-kept-unique r [] c d cells fits a b = a ∙ sym b
-kept-unique r (x ∷ xs) c d cells fits a b =
-    by_test (list_any (is_refused r) (x ∷ xs)) (λ v. v ≡ Empty) (λ v. IsValue r (x ∷ xs) v) c d (λ _ p q. p ∙ sym q) (λ k p q. value-unique r (x ∷ xs) c d cells fits k p q) a b
+counted-unique : (r : Reducer) (xs : List Cell) (c d : Cell) → All IsCell xs → All (λ x. is_over x ≡ false) xs → IsResultOfCounted r xs c → IsResultOfCounted r xs d → c ≡ d
+counted-unique r [] c d cells fits a b = a ∙ sym b
+counted-unique r (x ∷ xs) c d cells fits a b =
+    by_test (list_any (makes_null r) (x ∷ xs)) (λ v. v ≡ Empty) (λ v. IsResultWithoutNull r (x ∷ xs) v) c d (λ _ p q. p ∙ sym q) (λ k p q. value-unique r (x ∷ xs) c d cells fits k p q) a b
 
-fitting-unique : (r : Reducer) (ignore : Bool) (xs : List Cell) (c d : Cell) → All IsCell xs → list_any is_over xs ≡ false → IsOfFitting r ignore xs c → IsOfFitting r ignore xs d → c ≡ d
-fitting-unique r ignore xs c d cells fits a b = by_kind r a b
+without_over-unique : (r : Reducer) (ignore : Bool) (xs : List Cell) (c d : Cell) → All IsCell xs → list_any is_over xs ≡ false → IsResultWithoutOver r ignore xs c → IsResultWithoutOver r ignore xs d → c ≡ d
+without_over-unique r ignore xs c d cells fits a b = by_kind r a b
   where
-    counted : All IsCell (kept ignore xs)
-    counted = All-filter (is_kept ignore) IsCell xs cells
+    counted : All IsCell (counted_cells ignore xs)
+    counted = All-filter (is_counted ignore) IsCell xs cells
 
-    without : All (λ x. is_over x ≡ false) (kept ignore xs)
-    without = All-filter (is_kept ignore) (λ x. is_over x ≡ false) xs (none_passes is_over xs fits)
+    without : All (λ x. is_over x ≡ false) (counted_cells ignore xs)
+    without = All-filter (is_counted ignore) (λ x. is_over x ≡ false) xs (none_passes is_over xs fits)
 
-    by_kind : (r : Reducer) → IsOfFitting r ignore xs c → IsOfFitting r ignore xs d → c ≡ d
+    by_kind : (r : Reducer) → IsResultWithoutOver r ignore xs c → IsResultWithoutOver r ignore xs d → c ≡ d
     by_kind Count a b = a ∙ sym b
     by_kind CountAll a b = a ∙ sym b
-    by_kind Sum a b = kept-unique Sum (kept ignore xs) c d counted without a b
-    by_kind Product a b = kept-unique Product (kept ignore xs) c d counted without a b
-    by_kind Mean a b = kept-unique Mean (kept ignore xs) c d counted without a b
-    by_kind Min a b = kept-unique Min (kept ignore xs) c d counted without a b
-    by_kind Max a b = kept-unique Max (kept ignore xs) c d counted without a b
-    by_kind Median a b = kept-unique Median (kept ignore xs) c d counted without a b
-    by_kind First a b = kept-unique First (kept ignore xs) c d counted without a b
-    by_kind Last a b = kept-unique Last (kept ignore xs) c d counted without a b
-    by_kind Any a b = kept-unique Any (kept ignore xs) c d counted without a b
-    by_kind EveryOne a b = kept-unique EveryOne (kept ignore xs) c d counted without a b
+    by_kind Sum a b = counted-unique Sum (counted_cells ignore xs) c d counted without a b
+    by_kind Product a b = counted-unique Product (counted_cells ignore xs) c d counted without a b
+    by_kind Mean a b = counted-unique Mean (counted_cells ignore xs) c d counted without a b
+    by_kind Min a b = counted-unique Min (counted_cells ignore xs) c d counted without a b
+    by_kind Max a b = counted-unique Max (counted_cells ignore xs) c d counted without a b
+    by_kind Median a b = counted-unique Median (counted_cells ignore xs) c d counted without a b
+    by_kind First a b = counted-unique First (counted_cells ignore xs) c d counted without a b
+    by_kind Last a b = counted-unique Last (counted_cells ignore xs) c d counted without a b
+    by_kind Any a b = counted-unique Any (counted_cells ignore xs) c d counted without a b
+    by_kind EveryOne a b = counted-unique EveryOne (counted_cells ignore xs) c d counted without a b
 
 -- two cells that a reduction allows are the same
 pub IsReduction-unique : (r : Reducer) (ignore : Bool) (xs : List Cell) (c d : Cell) → All IsCell xs → IsReduction r ignore xs c → IsReduction r ignore xs d → c ≡ d
 unfolding IsReduction
 IsReduction-unique r ignore xs c d cells a b =
-    by_test (list_any is_over xs) (λ v. v ≡ Over) (λ v. IsOfFitting r ignore xs v) c d (λ _ p q. p ∙ sym q) (λ fits p q. fitting-unique r ignore xs c d cells fits p q) a b
+    by_test (list_any is_over xs) (λ v. v ≡ Over) (λ v. IsResultWithoutOver r ignore xs v) c d (λ _ p q. p ∙ sym q) (λ fits p q. without_over-unique r ignore xs c d cells fits p q) a b

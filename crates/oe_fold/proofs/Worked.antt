@@ -3,8 +3,8 @@ use Rattle.std.specs.Prelude.{◌≡◌, ℕ, true, false, [], ◌∷◌, pos, n
 use Rattle.oe_cell.specs.Exact.{gcd_within, gcd_of, cell_of_lowest, exact}
 use Rattle.oe_cell.specs.declared.cell.Cell.{Cell}
 use Rattle.oe_cell.specs.declared.cell.Cell.TheVariants.{Empty, Flag, Number, Over}
-use Rattle.oe_fold.specs.Function.{reduction_of}
-use Rattle.oe_fold.specs.Kinds.{is_below}
+use Rattle.oe_fold.specs.Order.{is_below}
+use Rattle.oe_fold.specs.Value.{reduction_of}
 use Rattle.oe_fold.specs.Reduction.{IsReduction, middle_of}
 use Rattle.oe_fold.specs.declared.reducer.Reducer.TheVariants.{Sum, Product, Mean, Min, Max, Median, First, Last, Any, All, Count, CountAll}
 

@@ -1,4 +1,6 @@
-pub mod Function
-pub mod Kinds
+pub mod Columns
+pub mod Counted
+pub mod Order
 pub mod Progress
 pub mod Reduction
+pub mod Value

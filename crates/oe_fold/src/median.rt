@@ -1,35 +1,22 @@
 // The median: the cells that count are put in order in a slice that is lent.
-ghost use Rattle.std.specs.Prelude.{◌≡◌, pos, ◌≤◌, ◌<◌, ◌^◌, List, length, take, IsPermutation};
+ghost use Rattle.std.specs.Prelude.{◌≡◌, ◌≤◌, ◌<◌, List, length, take, All, IsPermutation};
 ghost use Rattle.std.specs.List.Sorted.{IsSortedBy};
+ghost use Rattle.oe_cell.specs.Cells.{IsCell};
 ghost use Rattle.oe_cell.specs.declared.cell.Cell.{Cell};
-ghost use Rattle.oe_fold.specs.Kinds.{is_kept, kept, whole_cell};
-ghost use Rattle.oe_fold.specs.Progress.{is_before};
+ghost use Rattle.oe_fold.specs.Counted.{is_counted, counted_cells};
+ghost use Rattle.oe_fold.specs.Value.{reduction_of};
+ghost use Rattle.oe_fold.specs.Order.{is_before};
+ghost use Rattle.oe_fold.specs.Progress.{IsTallyOf};
 ghost use Rattle.oe_fold.specs.Reduction.{middle_of};
 
-use crate::scan::order;
-use oe_cell::{Cell, Frac, add, divide};
-
-fn signed(n: usize) -> i64
-    requires { n < 2 ^ 63 }
-    ensures { result ≡ pos n }
-{
-    n as i64
-}
-
-/// A whole number as a cell.
-pub(crate) fn whole(n: usize) -> Cell
-    requires { n < 2 ^ 63 }
-    ensures { result ≡ whole_cell n }
-{
-    match Frac::new(signed(n), 1) {
-        Some(number) => Cell::Number(number),
-        None => Cell::Over,
-    }
-}
+use crate::Reducer;
+use crate::order::order;
+use crate::tally::{Tally, whole};
+use oe_cell::{Cell, add, divide};
 
 /// Whether a cell counts.
-fn counts(ignore: bool, cell: Cell) -> bool
-    ensures { result ≡ is_kept ignore cell }
+fn is_counted(ignore: bool, cell: Cell) -> bool
+    ensures { result ≡ is_counted ignore cell }
 {
     !(ignore && matches!(cell, Cell::Empty))
 }
@@ -38,11 +25,11 @@ fn counts(ignore: bool, cell: Cell) -> bool
 fn gather(ignore: bool, cells: &[Cell], scratch: &mut [Cell]) -> usize
     requires { length cells.now ≤ length scratch.old }
     ensures within { result ≤ length scratch.new }
-    ensures front { take result scratch.new ≡ kept ignore cells.now }
+    ensures front { take result scratch.new ≡ counted_cells ignore cells.now }
 {
     let mut n = 0;
     for cell in cells {
-        if counts(ignore, *cell) {
+        if is_counted(ignore, *cell) {
             scratch[n] = *cell;
             n += 1;
         }
@@ -81,12 +68,32 @@ fn middle_in_order(cells: &mut [Cell]) -> Cell
     middle(cells)
 }
 
-/// The median of the cells that count.
-pub(crate) fn median(ignore: bool, cells: &[Cell], scratch: &mut [Cell]) -> Cell
-    requires some { 0 < length (kept ignore cells.now) }
+/// The middle of the cells that count, of which there is one.
+fn middle_of_counted(ignore: bool, cells: &[Cell], scratch: &mut [Cell]) -> Cell
+    requires some { 0 < length (counted_cells ignore cells.now) }
     requires room { length cells.now ≤ length scratch.old }
-    ensures { (ordered : List Cell) × IsPermutation (kept ignore cells.now) ordered × IsSortedBy is_before ordered × (result ≡ middle_of ordered) }
+    ensures { (ordered : List Cell) × IsPermutation (counted_cells ignore cells.now) ordered
+        × IsSortedBy is_before ordered × (result ≡ middle_of ordered) }
 {
     let n = gather(ignore, cells, scratch);
     middle_in_order(&mut scratch[..n])
+}
+
+/// The median of the cells that a tally is of.
+pub(crate) fn median(ignore: bool, tally: Tally, cells: &[Cell], scratch: &mut [Cell]) -> Cell
+    requires tally { IsTallyOf Reducer.Median ignore cells.now tally }
+    requires known { All IsCell cells.now }
+    requires room { length cells.now ≤ length scratch.old }
+    ensures { result ≡ reduction_of Reducer.Median ignore cells.now }
+{
+    if tally.over {
+        return Cell::Over;
+    }
+    if tally.null {
+        return Cell::Empty;
+    }
+    if tally.count == 0 {
+        return Cell::Empty;
+    }
+    middle_of_counted(ignore, cells, scratch)
 }

@@ -1,6 +1,7 @@
 // The names of the reducers.
 
-/// A reducer of openEO Processes.
+/// A reducer of openEO Processes: `sum`, `product`, `mean`, `min`, `max`, `median`, `first`, `last`, `any`, `all`, and
+/// `count` without and with nulls.
 #[derive(Clone, Copy, Debug, PartialEq, Eq)]
 pub enum Reducer {
     /// The cells added up from the first on.

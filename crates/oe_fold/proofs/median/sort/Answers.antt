@@ -1,7 +1,7 @@
 use Rattle.std.proofs.Common.{rules}
 use Rattle.std.proofs.lemmas.List.Sorted.{answers_always}
+use Rattle.oe_fold.specs.Order.{is_before}
 use Rattle.oe_fold.proofs.OrderLemmas.{before-ranks}
-use Rattle.oe_fold.specs.Progress.{is_before}
 use Rattle.oe_fold.proofs.median.sort.Goals as goal
 
 pub returns-clause-sorted : goal.returns-clause-sorted
