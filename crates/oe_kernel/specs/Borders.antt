@@ -40,8 +40,8 @@ outside ReflectPixel i n = Some (reflected_at_pixel i n)
 outside Wrap i n = Some (modulo i n)
 
 -- the position on a side of n that stands for any position: itself where it is on the side
-unfoldable pub position_of : Border → ℤ → ℕ → Option ℕ
-position_of border i n =
+unfoldable pub border_position : Border → ℤ → ℕ → Option ℕ
+border_position border i n =
     if is_on i n then Some (unsigned_abs i) else outside border i n
 
 -- after how many positions a rule gives the same ones again: 0 for a rule that does not
@@ -53,9 +53,25 @@ period_of ReflectPixel n = 2 * n - 2
 period_of Wrap n = n
 
 -- the rule is a number
-abbrev pub IsValue : Border → Type 0
-IsValue (Value q) = ⊤
-IsValue Replicate = ⊥
-IsValue Reflect = ⊥
-IsValue ReflectPixel = ⊥
-IsValue Wrap = ⊥
+abbrev pub IsNumberBorder : Border → Type 0
+IsNumberBorder (Value q) = ⊤
+IsNumberBorder Replicate = ⊥
+IsNumberBorder Reflect = ⊥
+IsNumberBorder ReflectPixel = ⊥
+IsNumberBorder Wrap = ⊥
+
+-- the rule puts the other end of the side
+abbrev pub IsWrap : Border → Type 0
+IsWrap (Value q) = ⊥
+IsWrap Replicate = ⊥
+IsWrap Reflect = ⊥
+IsWrap ReflectPixel = ⊥
+IsWrap Wrap = ⊤
+
+-- the rule puts no position that is further than the one outside is from the window's middle
+abbrev pub IsNear : Border → Type 0
+IsNear (Value q) = ⊤
+IsNear Replicate = ⊤
+IsNear Reflect = ⊤
+IsNear ReflectPixel = ⊤
+IsNear Wrap = ⊥

@@ -1,4 +1,4 @@
--- Kernels: a number for each place of a window with odd sides.
+-- Kernels: a number for each row and column of a window with odd sizes.
 use Rattle.std.specs.Prelude.{◌≡◌, ◌≤◌, ℕ, ◌-◌, ◌*◌, ◌/◌, ◌%◌, ◌==◌, ◌||◌, nat_lt, if◌then◌else◌, List, length, Option, Some, None}
 use Rattle.oe_cell.specs.Fraction.{Fraction}
 use Rattle.oe_kernel.specs.declared.kernel.KernelFault.{KernelFault}
@@ -11,21 +11,21 @@ pub record KernelValues : Type 0 where
   pub values : List Fraction
 
 -- the largest size of a kernel
-abbrev pub largest : ℕ
-largest = 31
+abbrev pub largest_size : ℕ
+largest_size = 31
 
 -- what every kernel is
 pub record IsKernel (k : KernelValues) : Type 0 where
   pub counted : length k.values ≡ k.width * k.height
   pub width_odd : k.width % 2 ≡ 1
   pub height_odd : k.height % 2 ≡ 1
-  pub width_most : k.width ≤ largest
-  pub height_most : k.height ≤ largest
+  pub width_most : k.width ≤ largest_size
+  pub height_most : k.height ≤ largest_size
 
--- the first rule that is broken: as many values as places, odd sizes, and sizes of at most 31
+-- the first rule that is broken: as many values as rows times columns, odd sizes, and sizes of at most 31
 abbrev pub kernel_fault : ℕ → ℕ → ℕ → Option KernelFault
 kernel_fault width height count =
-    if count == width * height then (if width % 2 == 0 || height % 2 == 0 then Some Uneven else (if nat_lt largest width || nat_lt largest height then Some TooLarge else None))
+    if count == width * height then (if width % 2 == 0 || height % 2 == 0 then Some Uneven else (if nat_lt largest_size width || nat_lt largest_size height then Some TooLarge else None))
     else Some LengthDiffers
 
 -- how far a window of an odd size reaches from its middle, to each side

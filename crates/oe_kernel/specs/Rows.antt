@@ -6,23 +6,23 @@ use Rattle.oe_cell.specs.Operations.{multiply_of}
 use Rattle.oe_cell.specs.Rational.{whole_of}
 use Rattle.oe_cell.specs.declared.cell.Cell.{Cell}
 use Rattle.oe_cell.specs.declared.cell.Cell.TheVariants.{Empty, Number}
-use Rattle.oe_kernel.specs.Borders.{position_of}
-use Rattle.oe_kernel.specs.Convolution.{WholePlane, number_of, border_number, reach, cell_in}
+use Rattle.oe_kernel.specs.Borders.{border_position}
+use Rattle.oe_kernel.specs.Convolution.{WholePlane, pixel_number, border_number, reach, cell_in}
 use Rattle.oe_kernel.specs.declared.border.Border.{Border}
 use Rattle.oe_kernel.specs.declared.plane.Plane.{Plane}
 
 -- the plane that has the cells of a box
-abbrev pub shown : Plane → WholePlane
-shown p = record { side_y = p.side_y; side_x = p.side_x; cell = cell_in p }
+abbrev pub whole_plane_of : Plane → WholePlane
+whole_plane_of p = record { side_y = p.side_y; side_x = p.side_x; cell = cell_in p }
 
--- the value at a place of a kernel's row
+-- the value at an index of a kernel's row
 abbrev pub value_at : List Fraction → ℕ → Cell
 value_at values j = Number (slice_index_or values j (whole_of (pos 0)))
 
--- a value times the pixel in its place
+-- a value times the pixel beside it
 abbrev pub beside : List Fraction → List Cell → Fraction → ℕ → Cell
 beside values pixels replace j =
-    multiply_of (value_at values j) (number_of replace (slice_index_or pixels j Empty))
+    multiply_of (value_at values j) (pixel_number replace (slice_index_or pixels j Empty))
 
 -- a value times the number that stands for every pixel outside
 abbrev pub bordered : List Fraction → Border → ℕ → Cell
@@ -31,10 +31,10 @@ bordered values border j = multiply_of (value_at values j) (border_number border
 -- the pixel of a column that a border rule gave or did not give, in a row that begins at a column
 abbrev pub pixel_in : Border → Fraction → List Cell → ℕ → Option ℕ → Cell
 pixel_in border replace pixels from (Some column) =
-    number_of replace (slice_index_or pixels (column - from) Empty)
+    pixel_number replace (slice_index_or pixels (column - from) Empty)
 pixel_in border replace pixels from None = border_number border
 
 -- a value times the pixel of its column, for a window around column x
-abbrev pub placed : List Fraction → Border → Fraction → List Cell → ℕ → ℕ → ℕ → ℕ → Cell
-placed values border replace pixels from side x j =
-    multiply_of (value_at values j) (pixel_in border replace pixels from (position_of border (reach x j (length values)) side))
+abbrev pub in_row : List Fraction → Border → Fraction → List Cell → ℕ → ℕ → ℕ → ℕ → Cell
+in_row values border replace pixels from side x j =
+    multiply_of (value_at values j) (pixel_in border replace pixels from (border_position border (reach x j (length values)) side))

@@ -1,6 +1,6 @@
 // What stands for pixels outside a plane.
 ghost use Rattle.std.specs.Prelude.{◌≡◌, ◌↔◌, ◌<◌, ◌≤◌, ◌+◌, ◌*◌, ◌^◌, pos, ◌+ℤ◌, ◌-ℤ◌, ◌≤ℤ◌, ◌<ℤ◌, IfSome, IsNone, IsFalse, unsigned_abs};
-ghost use Rattle.oe_kernel.specs.Borders.{position_of, period_of, is_on, outside, nearest, reflected_at_pixel, modulo, folded, IsValue};
+ghost use Rattle.oe_kernel.specs.Borders.{border_position, period_of, is_on, outside, nearest, reflected_at_pixel, modulo, folded, IsNumberBorder};
 
 use oe_cell::Frac;
 
@@ -25,11 +25,11 @@ pub fn border_index(border: Border, at: i64, side: u32) -> Option<u32>
     requires some { 0 < side }
     requires low { pos 0 ≤ℤ (at +ℤ pos 1048576) }
     requires high { at ≤ℤ pos 1048576 }
-    ensures value { result ≡ position_of border at side }
+    ensures value { result ≡ border_position border at side }
     ensures within { IfSome result (λ position. position < side) }
     ensures inside { pos 0 ≤ℤ at → at <ℤ pos side → result ≡ Some (unsigned_abs at) }
-    ensures repeats { position_of border (at +ℤ pos (period_of border side)) side ≡ result }
-    ensures none { IsNone result ↔ (IsValue border × IsFalse (is_on at side)) }
+    ensures repeats { border_position border (at +ℤ pos (period_of border side)) side ≡ result }
+    ensures none { IsNone result ↔ (IsNumberBorder border × IsFalse (is_on at side)) }
 {
     index_of(&border, at, side)
 }
@@ -39,7 +39,7 @@ pub(crate) fn index_of(border: &Border, at: i64, side: u32) -> Option<u32>
     requires some { 0 < side }
     requires low { pos 0 ≤ℤ (at +ℤ pos 1048576) }
     requires high { at ≤ℤ pos 1048576 }
-    ensures value { result ≡ position_of border.now at side }
+    ensures value { result ≡ border_position border.now at side }
     ensures within { IfSome result (λ position. position < side) }
 {
     if 0 <= at && at < i64::from(side) {
@@ -103,11 +103,11 @@ fn folded_index(at: i64, side: u32, turn: u64, period: u64) -> u32
     ensures value { result ≡ folded side turn (modulo at period) }
     ensures within { result < side }
 {
-    let place = modulo_index(at, period);
-    if place < u64::from(side) {
-        place as u32
+    let index = modulo_index(at, period);
+    if index < u64::from(side) {
+        index as u32
     } else {
-        (turn - place) as u32
+        (turn - index) as u32
     }
 }
 

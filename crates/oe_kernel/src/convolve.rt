@@ -2,8 +2,8 @@
 ghost use Rattle.std.specs.Prelude.{◌≡◌, ◌<◌, ◌≤◌, ◌-◌, length};
 ghost use Rattle.oe_cell.specs.Cells.{IsCell};
 ghost use Rattle.oe_kernel.specs.Kernels.{IsKernel};
-ghost use Rattle.oe_kernel.specs.Convolution.{WholePlane, IsPlane, IsPartOf, Holds, convolved, weighted, row_added};
-ghost use Rattle.oe_kernel.specs.Rows.{shown};
+ghost use Rattle.oe_kernel.specs.Convolution.{WholePlane, IsPlane, IsPartOf, CoversWindow, convolved, weighted, row_added, IsAmount};
+ghost use Rattle.oe_kernel.specs.Rows.{whole_plane_of};
 ghost use Rattle.oe_kernel.specs.Totals.{total_of};
 
 use crate::border::index_of;
@@ -13,11 +13,13 @@ use crate::total::{Total, cell_of};
 use crate::{Border, Kernel, Plane};
 use oe_cell::{Cell, Frac, multiply};
 
-/// The cell that `apply_kernel` of openEO Processes gives for the pixel at column `x` and row `y`. The kernel's middle
-/// lies on it, and the kernel is not flipped. Each value is multiplied with its pixel, the products are added row by
-/// row from 0 on, and the total is multiplied with `factor`. A null counts as `replace`, true as 1 and false as 0. The
-/// border applies where the window leaves the whole plane, of which `plane` is to hold each position that the border
-/// gives. A product or a sum that does not fit makes the cell Over.
+/// The cell that `apply_kernel` of openEO Processes gives for the pixel at column `x` and row `y` of a plane, of which
+/// `plane` is a box that holds each position that the border rule gives.
+///
+/// The kernel's middle lies on the pixel, and the kernel is not flipped. Each value is multiplied with its pixel, the
+/// products are added row by row from 0 on, and the total is multiplied with `factor`. A null counts as `replace`, true
+/// as 1 and false as 0. The border rule applies where the window leaves the whole plane, not where it leaves the box. A
+/// product or a sum that is no number of a cell makes the cell Over. Takes no memory.
 pub fn convolve_at(
     kernel: &Kernel,
     factor: Frac,
@@ -30,10 +32,16 @@ pub fn convolve_at(
     requires plane { IsPlane plane.now }
     requires x_in { x < plane.now.side_x }
     requires y_in { y < plane.now.side_y }
-    requires rows { Holds border y kernel.now.height plane.now.side_y plane.now.from_y plane.now.to_y }
-    requires columns { Holds border x kernel.now.width plane.now.side_x plane.now.from_x plane.now.to_x }
+    // the box holds each position that the border rule gives
+    requires rows { CoversWindow border y kernel.now.height plane.now.side_y plane.now.from_y
+        plane.now.to_y }
+    requires columns { CoversWindow border x kernel.now.width plane.now.side_x plane.now.from_x
+        plane.now.to_x }
+    // the cell of the definition, for every whole plane that the box is a part of
     ensures value { (whole : WholePlane) → IsPartOf plane.now whole
         → result ≡ convolved kernel.now factor border replace whole y x }
+    // a number or Over
+    ensures amount { IsAmount result }
     ensures cell { IsCell result }
 {
     let mut total = Total::Whole(0);
@@ -58,9 +66,13 @@ fn with_kernel_row(
     requires x_in { x < plane.now.side_x }
     requires y_in { y < plane.now.side_y }
     requires i_in { i < kernel.now.height }
-    requires rows { Holds border.now y kernel.now.height plane.now.side_y plane.now.from_y plane.now.to_y }
-    requires columns { Holds border.now x kernel.now.width plane.now.side_x plane.now.from_x plane.now.to_x }
-    ensures { total_of result ≡ row_added (weighted kernel.now border.now replace (shown plane.now) y x i) kernel.now.width (total_of total) }
+    requires rows { CoversWindow border.now y kernel.now.height plane.now.side_y plane.now.from_y
+        plane.now.to_y }
+    requires columns { CoversWindow border.now x kernel.now.width plane.now.side_x plane.now.from_x
+        plane.now.to_x }
+    ensures { total_of result
+        ≡ row_added (weighted kernel.now border.now replace (whole_plane_of plane.now) y x i)
+        kernel.now.width (total_of total) }
 {
     let values = kernel.row(i);
     let at = reach(y, i as usize, kernel.height() as usize);

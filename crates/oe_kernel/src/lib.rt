@@ -6,17 +6,21 @@
 //! use. Nothing here takes memory.
 #![tactic(auto)]
 
+mod block;
 mod border;
 mod convolve;
+mod halo;
 mod kernel;
+mod pixels;
 mod plane;
 mod rows;
+mod strip;
+mod sums;
 mod total;
 
+pub use block::convolve_block;
 pub use border::{Border, border_index};
 pub use convolve::convolve_at;
 pub use kernel::{Kernel, KernelFault};
 pub use plane::Plane;
-
-#[cfg(test)]
-mod tests;
+pub use strip::convolve_row;

@@ -2,9 +2,9 @@
 ghost use Rattle.std.specs.Prelude.{◌≡◌, ◌<◌, ◌≤◌, ◌+◌, length, IfSome};
 ghost use Rattle.oe_cell.specs.Exact.{cell_of_lowest};
 ghost use Rattle.oe_cell.specs.declared.cell.Cell.{Cell};
-ghost use Rattle.oe_kernel.specs.Kernels.{largest};
-ghost use Rattle.oe_kernel.specs.Convolution.{number_of, border_number, row_added, reach, Holds, IsFromTo, longest};
-ghost use Rattle.oe_kernel.specs.Rows.{beside, bordered, placed, pixel_in};
+ghost use Rattle.oe_kernel.specs.Kernels.{largest_size};
+ghost use Rattle.oe_kernel.specs.Convolution.{pixel_number, border_number, row_added, reach, CoversWindow, IsPositionIn, longest_side};
+ghost use Rattle.oe_kernel.specs.Rows.{beside, bordered, in_row, pixel_in};
 ghost use Rattle.oe_kernel.specs.Totals.{total_of};
 
 use crate::Border;
@@ -12,18 +12,19 @@ use crate::border::index_of;
 use crate::total::{Total, whole, whole_sum, with_product};
 use oe_cell::{Cell, Frac};
 
-/// Where a place of a window of this size stands, whose middle is at a position.
-pub(crate) fn reach(at: u32, place: usize, size: usize) -> i64
-    requires within { place < size }
-    requires most { size ≤ largest }
-    ensures { result ≡ reach at place size }
+/// The position that lies so many after the first of a window of this size, whose middle is at a position.
+pub(crate) fn reach(at: u32, after: usize, size: usize) -> i64
+    requires most { after ≤ 65536 }
+    requires some { 0 < size }
+    requires size_most { size ≤ largest_size }
+    ensures { result ≡ reach at after size }
 {
-    i64::from(at) + place as i64 - ((size - 1) / 2) as i64
+    i64::from(at) + after as i64 - ((size - 1) / 2) as i64
 }
 
 /// What a pixel counts as: a null as the replacement, true as 1 and false as 0.
-fn as_number(pixel: Cell, replace: Frac) -> Cell
-    ensures { result ≡ number_of replace pixel }
+pub(crate) fn as_number(pixel: Cell, replace: Frac) -> Cell
+    ensures { result ≡ pixel_number replace pixel }
 {
     match pixel {
         Cell::Empty => Cell::Number(replace),
@@ -36,7 +37,8 @@ fn as_number(pixel: Cell, replace: Frac) -> Cell
 fn whole_run(sum: i64, values: &[Frac], pixels: &[Cell], replace: Frac) -> (i64, usize)
     requires { length values.now ≡ length pixels.now }
     ensures within { result.1 ≤ length values.now }
-    ensures value { cell_of_lowest result.0 1 ≡ row_added (beside values.now pixels.now replace) result.1 (cell_of_lowest sum 1) }
+    ensures value { cell_of_lowest result.0 1
+        ≡ row_added (beside values.now pixels.now replace) result.1 (cell_of_lowest sum 1) }
 {
     let mut total = sum;
     for i in 0..values.len() {
@@ -48,15 +50,17 @@ fn whole_run(sum: i64, values: &[Frac], pixels: &[Cell], replace: Frac) -> (i64,
     (total, values.len())
 }
 
-/// The total of the products before a place, and those from there on.
-fn with_rest(total: Total, values: &[Frac], pixels: &[Cell], replace: Frac, place: usize) -> Total
+/// The total of the products before an index, and those from there on.
+fn with_rest(total: Total, values: &[Frac], pixels: &[Cell], replace: Frac, index: usize) -> Total
     requires same_length { length values.now ≡ length pixels.now }
-    requires within { place ≤ length values.now }
-    ensures { (start : Cell) → total_of total ≡ row_added (beside values.now pixels.now replace) place start
-        → total_of result ≡ row_added (beside values.now pixels.now replace) (length values.now) start }
+    requires within { index ≤ length values.now }
+    ensures { (start : Cell) → total_of total
+        ≡ row_added (beside values.now pixels.now replace) index start
+        → total_of result ≡ row_added (beside values.now pixels.now replace) (length values.now)
+        start }
 {
     let mut sum = total;
-    for i in place..values.len() {
+    for i in index..values.len() {
         sum = with_product(sum, values[i], as_number(pixels[i], replace));
     }
     sum
@@ -65,12 +69,13 @@ fn with_rest(total: Total, values: &[Frac], pixels: &[Cell], replace: Frac, plac
 /// The pixels that stand beside the values: as machine numbers as long as they and their sum are whole.
 fn with_slice(total: Total, values: &[Frac], pixels: &[Cell], replace: Frac) -> Total
     requires { length values.now ≡ length pixels.now }
-    ensures { total_of result ≡ row_added (beside values.now pixels.now replace) (length values.now) (total_of total) }
+    ensures { total_of result
+        ≡ row_added (beside values.now pixels.now replace) (length values.now) (total_of total) }
 {
     match total {
         Total::Whole(sum) => {
-            let (sum, place) = whole_run(sum, values, pixels, replace);
-            with_rest(Total::Whole(sum), values, pixels, replace, place)
+            let (sum, index) = whole_run(sum, values, pixels, replace);
+            with_rest(Total::Whole(sum), values, pixels, replace, index)
         }
         Total::Other(sum) => with_rest(Total::Other(sum), values, pixels, replace, 0),
     }
@@ -78,7 +83,8 @@ fn with_slice(total: Total, values: &[Frac], pixels: &[Cell], replace: Frac) -> 
 
 /// Every pixel of the row is outside.
 pub(crate) fn with_border(total: Total, values: &[Frac], border: &Border) -> Total
-    ensures { total_of result ≡ row_added (bordered values.now border.now) (length values.now) (total_of total) }
+    ensures { total_of result
+        ≡ row_added (bordered values.now border.now) (length values.now) (total_of total) }
 {
     let mut sum = total;
     for i in 0..values.len() {
@@ -88,7 +94,7 @@ pub(crate) fn with_border(total: Total, values: &[Frac], border: &Border) -> Tot
 }
 
 /// Each pixel by the border rule.
-fn with_placed(
+fn with_positions(
     total: Total,
     values: &[Frac],
     border: &Border,
@@ -99,30 +105,33 @@ fn with_placed(
     x: u32,
 ) -> Total
     requires some { 0 < length values.now }
-    requires most { length values.now ≤ largest }
-    requires side { side ≤ longest }
+    requires most { length values.now ≤ largest_size }
+    requires side { side ≤ longest_side }
     requires x { x < side }
-    requires held { Holds border.now x (length values.now) side from (from + length pixels.now) }
-    ensures { total_of result ≡ row_added (placed values.now border.now replace pixels.now from side x) (length values.now) (total_of total) }
+    requires held { CoversWindow border.now x (length values.now) side from
+        (from + length pixels.now) }
+    ensures { total_of result
+        ≡ row_added (in_row values.now border.now replace pixels.now from side x)
+        (length values.now) (total_of total) }
 {
     let mut sum = total;
     for i in 0..values.len() {
         let at = reach(x, i, values.len());
-        let pixel = placed_pixel(border, replace, pixels, from, index_of(border, at, side));
+        let pixel = pixel_at(border, replace, pixels, from, index_of(border, at, side));
         sum = with_product(sum, values[i], pixel);
     }
     sum
 }
 
 /// The pixel of the column that a border rule gave, or what stands outside where it gave none.
-fn placed_pixel(
+pub(crate) fn pixel_at(
     border: &Border,
     replace: Frac,
     pixels: &[Cell],
     from: u32,
     column: Option<u32>,
 ) -> Cell
-    requires { IfSome column (IsFromTo from (from + length pixels.now)) }
+    requires { IfSome column (IsPositionIn from (from + length pixels.now)) }
     ensures { result ≡ pixel_in border.now replace pixels.now from column }
 {
     match column {
@@ -132,7 +141,7 @@ fn placed_pixel(
 }
 
 /// The number that stands for each pixel outside. The rules that give a position for each have none.
-fn border_cell(border: &Border) -> Cell
+pub(crate) fn border_cell(border: &Border) -> Cell
     ensures { result ≡ border_number border.now }
 {
     match border {
@@ -153,15 +162,18 @@ pub(crate) fn with_row(
     x: u32,
 ) -> Total
     requires some { 0 < length values.now }
-    requires most { length values.now ≤ largest }
-    requires side { side ≤ longest }
+    requires most { length values.now ≤ largest_size }
+    requires side { side ≤ longest_side }
     requires x { x < side }
-    requires held { Holds border.now x (length values.now) side from (from + length pixels.now) }
-    ensures { total_of result ≡ row_added (placed values.now border.now replace pixels.now from side x) (length values.now) (total_of total) }
+    requires held { CoversWindow border.now x (length values.now) side from
+        (from + length pixels.now) }
+    ensures { total_of result
+        ≡ row_added (in_row values.now border.now replace pixels.now from side x)
+        (length values.now) (total_of total) }
 {
     let radius = (values.len() as u32 - 1) / 2;
     if x < radius || side - x < values.len() as u32 - radius {
-        return with_placed(total, values, border, replace, pixels, from, side, x);
+        return with_positions(total, values, border, replace, pixels, from, side, x);
     }
     let first = (x - radius - from) as usize;
     with_slice(total, values, &pixels[first..first + values.len()], replace)

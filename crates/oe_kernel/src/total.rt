@@ -70,7 +70,8 @@ fn cell_sum(sum: Cell, value: Frac, pixel: Cell) -> Cell
 /// The sum and one product more, where the value is 0, which leaves the sum beside a number, or where all of them are
 /// whole and fit: no divisor is looked for.
 pub(crate) fn whole_sum(sum: i64, value: Frac, pixel: &Cell) -> Option<i64>
-    ensures { IfSome result (λ next. cell_of_lowest next 1 ≡ add_of (cell_of_lowest sum 1) (multiply_of (Number value) pixel.now)) }
+    ensures { IfSome result (λ next. cell_of_lowest next 1
+        ≡ add_of (cell_of_lowest sum 1) (multiply_of (Number value) pixel.now)) }
 {
     let Cell::Number(number) = pixel else {
         return None;

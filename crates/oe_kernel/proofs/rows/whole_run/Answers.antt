@@ -8,7 +8,7 @@ use Rattle.oe_cell.specs.Operations.{multiply_of}
 use Rattle.oe_cell.specs.Rational.{whole_of}
 use Rattle.oe_cell.specs.declared.cell.Cell.{Cell}
 use Rattle.oe_cell.specs.declared.cell.Cell.TheVariants.{Number, Empty}
-use Rattle.oe_kernel.specs.Convolution.{number_of}
+use Rattle.oe_kernel.specs.Convolution.{pixel_number}
 use Rattle.oe_kernel.specs.Rows.{beside, value_at}
 use Rattle.oe_kernel.proofs.SumLemmas.{row_added-none, row_added-step}
 use Rattle.oe_kernel.proofs.rows.whole_run.Goals as goal
@@ -25,5 +25,5 @@ loop-i-preserved c =
     let fits : FitsSigned w64 c.in-Some.next = search rules in
     let next = ap (λ (z : ℤ). cell_of_lowest z 1) (to_z-of_z w64 c.in-Some.next fits) in
     row_added-step (beside c.args.values.now c.args.pixels.now c.args.replace) c.loop-i.i _ (cell_of_lowest (to_z w64 c.loop-i.total-bits) 1) _ (multiply_of (Number c.index-values-i.result) c.as_number.result) c.loop-i.invariant
-    (ap (λ (v : Fraction). multiply_of (Number v) c.as_number.result) value ∙ ap (λ (p : Cell). multiply_of (value_at c.args.values.now c.loop-i.i) p) (c.as_number.ensures ∙ ap (λ (p : Cell). number_of c.args.replace p) pixel))
+    (ap (λ (v : Fraction). multiply_of (Number v) c.as_number.result) value ∙ ap (λ (p : Cell). multiply_of (value_at c.args.values.now c.loop-i.i) p) (c.as_number.ensures ∙ ap (λ (p : Cell). pixel_number c.args.replace p) pixel))
     (next ∙ c.in-Some.ensures)

@@ -6,7 +6,7 @@ use Rattle.oe_cell.specs.Operations.{multiply_of}
 use Rattle.oe_cell.specs.Rational.{whole_of}
 use Rattle.oe_cell.specs.declared.cell.Cell.{Cell}
 use Rattle.oe_cell.specs.declared.cell.Cell.TheVariants.{Number, Empty}
-use Rattle.oe_kernel.specs.Convolution.{number_of}
+use Rattle.oe_kernel.specs.Convolution.{pixel_number}
 use Rattle.oe_kernel.specs.Rows.{beside, value_at}
 use Rattle.oe_kernel.specs.Totals.{total_of}
 use Rattle.oe_kernel.proofs.SumLemmas.{row_added-step}
@@ -19,5 +19,5 @@ loop-i-preserved c start before =
     let value = get_or_read c.args.values.now c.loop-i.i c.index-values-i.result in_values c.index-values-i.is (whole_of (pos 0)) in
     let pixel = get_or_read c.args.pixels.now c.loop-i.i c.index-pixels-i.result in_pixels c.index-pixels-i.is Empty in
     row_added-step (beside c.args.values.now c.args.pixels.now c.args.replace) c.loop-i.i start (total_of c.loop-i.sum) (total_of c.with_product-sum.result) (multiply_of (Number c.index-values-i.result) c.as_number.result) (c.loop-i.invariant start before)
-    (ap (λ (v : Fraction). multiply_of (Number v) c.as_number.result) value ∙ ap (λ (p : Cell). multiply_of (value_at c.args.values.now c.loop-i.i) p) (c.as_number.ensures ∙ ap (λ (p : Cell). number_of c.args.replace p) pixel))
+    (ap (λ (v : Fraction). multiply_of (Number v) c.as_number.result) value ∙ ap (λ (p : Cell). multiply_of (value_at c.args.values.now c.loop-i.i) p) (c.as_number.ensures ∙ ap (λ (p : Cell). pixel_number c.args.replace p) pixel))
     c.with_product-sum.ensures

@@ -7,4 +7,4 @@ use Rattle.oe_kernel.proofs.rows.with_rest.Given as goal
 
 abbrev pub invariant-loop-i : goal.invariant-loop-i
 invariant-loop-i l =
-    (start : Cell) → total_of l.initial.sum ≡ row_added (beside l.values l.pixels l.replace) l.place start → total_of l.sum ≡ row_added (beside l.values l.pixels l.replace) l.i start
+    (start : Cell) → total_of l.initial.sum ≡ row_added (beside l.values l.pixels l.replace) l.index start → total_of l.sum ≡ row_added (beside l.values l.pixels l.replace) l.i start

@@ -1,9 +1,9 @@
 use Rattle.std.proofs.Common.{◌≤◌, ◌+◌, ◌-◌, ◌∙◌, refl, arith, length, rules}
 use Rattle.oe_kernel.specs.Kernels.{radius_of}
-use Rattle.oe_kernel.specs.Rows.{placed}
+use Rattle.oe_kernel.specs.Rows.{in_row}
 use Rattle.oe_kernel.specs.Totals.{total_of}
 use Rattle.oe_kernel.proofs.SumLemmas.{row_added-same}
-use Rattle.oe_kernel.proofs.WindowLemmas.{held_inside, beside_is_placed}
+use Rattle.oe_kernel.proofs.WindowLemmas.{held_inside, beside_is_in_row}
 use Rattle.oe_kernel.proofs.rows.with_row.Goals as goal
 
 pub overflow_sub-first-2 : goal.overflow_sub-first-2
@@ -21,4 +21,4 @@ slice_bounds-with_slice-end c =
 pub returns : goal.returns
 returns c =
     let held = held_inside c.args.border.now c.args.x (length c.args.values.now) c.args.side c.args.from (c.args.from + length c.args.pixels.now) c.requires.some (omega arith) (omega arith) c.requires.x c.requires.held in
-    c.with_slice.ensures ∙ row_added-same _ (placed c.args.values.now c.args.border.now c.args.replace c.args.pixels.now c.args.from c.args.side c.args.x) (length c.args.values.now) (total_of c.args.total) (λ j place. beside_is_placed c.args.values.now c.args.border.now c.args.replace c.args.pixels.now _ c.args.from c.args.side c.args.x j (omega arith) (omega arith) c.requires.x held.0 refl place)
+    c.with_slice.ensures ∙ row_added-same _ (in_row c.args.values.now c.args.border.now c.args.replace c.args.pixels.now c.args.from c.args.side c.args.x) (length c.args.values.now) (total_of c.args.total) (λ j place. beside_is_in_row c.args.values.now c.args.border.now c.args.replace c.args.pixels.now _ c.args.from c.args.side c.args.x j (omega arith) (omega arith) c.requires.x held.0 refl place)

@@ -1,0 +1,12 @@
+use Rattle.std.proofs.Common.{◌≡◌, ◌<◌, ◌≤◌, ℕ, ◌+◌, ◌*◌, length}
+use Rattle.std.specs.Prelude.{unsigned_abs}
+use Rattle.oe_cell.specs.Exact.{cell_of_lowest}
+use Rattle.oe_kernel.specs.Convolution.{rows_added}
+use Rattle.oe_kernel.specs.Strips.{at, weight_of, unpacked}
+use Rattle.oe_kernel.proofs.block.sum_windows.Given as goal
+
+abbrev pub invariant-loop-i : goal.invariant-loop-i
+invariant-loop-i l = record {
+  same : (k : ℕ) → k < length l.sums → cell_of_lowest (at l.sums k) 1 ≡ rows_added (unpacked l.kernel l.pixels l.stride (l.first + k)) l.kernel.width l.i;
+  size : (k : ℕ) → k < length l.sums → unsigned_abs (at l.sums k) ≤ weight_of l.kernel.values 0 (l.i * l.kernel.width) * l.bound;
+}
