@@ -8,4 +8,5 @@ pub mod Queues
 pub mod Nexts
 pub mod Steps
 pub mod Reach
-pub mod Ranks
+pub mod RankLemmas
+pub mod Evaluations

@@ -1,8 +1,8 @@
 -- Membership in a list of nodes, marks, and how many different nodes there can be.
-use Rattle.std.proofs.Common.{◌≡◌, ℕ, zero, suc, ◌+◌, ◌<◌, ◌≤◌, Bool, true, false, cond, eqb, ◌||◌, List, [], ◌∷◌, ◌++◌, length, get_or, set, replicate, refl, sym, ap, ◌∙◌, subst, inl, inr, ◌⊎◌, Vec, arith}
+use Rattle.std.proofs.Common.{◌≡◌, ℕ, zero, suc, ◌+◌, ◌<◌, ◌≤◌, Bool, true, false, cond, eqb, ◌||◌, List, [], ◌∷◌, ◌++◌, length, get_or, set, take, replicate, refl, sym, ap, ◌∙◌, subst, inl, inr, ◌⊎◌, Vec, arith}
 use Rattle.std.specs.List.{Contains, count_by}
 use Rattle.std.proofs.lemmas.Bool.{cases_eq, eqb-true, eq-eqb, ne_eqb, or_cases, or_left, or_right, false≢true}
-use Rattle.std.proofs.lemmas.List.{get_or-set_same, get_or-set_other, length-set, length-replicate, get_or_default}
+use Rattle.std.proofs.lemmas.List.{get_or-take, get_or-set_same, get_or-set_other, length-set, length-replicate, get_or_default}
 use Rattle.std.proofs.lemmas.List.Sums.{sum_by-set, sum_by-cons, count_by-le-length}
 use Rattle.oe_order.specs.Order.{contains}
 use Rattle.oe_order.specs.Marks.{IsMarked}
@@ -10,6 +10,10 @@ use Rattle.oe_order.specs.Marks.{IsMarked}
 -- the elements of a vector, as a function
 abbrev pub items : {X Z : Type 0} → Vec X Z → List X
 items v = v.items
+
+-- what stands in a list still stands there behind which more was put
+pub kept_index : (old new : List ℕ) (k : ℕ) → take (length old) new ≡ old → k < length old → get_or new k 0 ≡ get_or old k 0
+kept_index old new k e h = sym (get_or-take (length old) new k 0 h) ∙ ap (λ ys. get_or ys k 0) e
 
 pub bool_iff : (a b : Bool) → (a ≡ true → b ≡ true) → (b ≡ true → a ≡ true) → a ≡ b
 bool_iff true b f g = sym (f refl)
@@ -63,11 +67,11 @@ contains-at (x ∷ xs) zero d h = or_left (eqb x x) (contains xs x) (eq-eqb x x 
 contains-at (x ∷ xs) (suc i) d h =
     or_right (eqb x (get_or xs i d)) (contains xs (get_or xs i d)) (contains-at xs i d (omega arith))
 
-pub contains-place : (xs : List ℕ) (n : ℕ) → contains xs n ≡ true → (i : ℕ) × (i < length xs) × (get_or xs i 0 ≡ n)
-contains-place [] n h = absurd (false≢true h)
-contains-place (x ∷ xs) n h = elim (or_cases (eqb x n) (contains xs n) h) [
+pub contains-index : (xs : List ℕ) (n : ℕ) → contains xs n ≡ true → (i : ℕ) × (i < length xs) × (get_or xs i 0 ≡ n)
+contains-index [] n h = absurd (false≢true h)
+contains-index (x ∷ xs) n h = elim (or_cases (eqb x n) (contains xs n) h) [
   | inl e ↦ (0, omega arith, eqb-true x n e)
-  | inr e ↦ let at = contains-place xs n e in (suc at.0, omega (arith, at.1), at.2)
+  | inr e ↦ let at = contains-index xs n e in (suc at.0, omega (arith, at.1), at.2)
 ]
 
 pub contains-from : (xs : List ℕ) (n : ℕ) → Contains xs n → contains xs n ≡ true
@@ -75,7 +79,7 @@ contains-from xs n h = subst (λ m. contains xs m ≡ true) h.2 (contains-at xs 
 
 pub contains-to : (xs : List ℕ) (n : ℕ) → contains xs n ≡ true → Contains xs n
 contains-to xs n h =
-    let at = contains-place xs n h in
+    let at = contains-index xs n h in
     (at.0, at.1, get_or_default xs at.0 n 0 at.1 ∙ at.2)
 
 -- how many are marked

@@ -5,7 +5,7 @@ use Rattle.std.specs.Option.{option_to_list}
 use Rattle.std.proofs.lemmas.Bool.{cases_eq, false≢true, eq-eqb, ne_eqb, eqb-true, or_left, or_right, or_cases, and_parts, and_cases}
 use Rattle.std.proofs.lemmas.List.Elements.{filter-append}
 use Rattle.oe_order.specs.Graph.{Node}
-use Rattle.oe_order.specs.Order.{contains, is_ready, next_of, place}
+use Rattle.oe_order.specs.Order.{contains, is_ready, next_of, extend_order}
 use Rattle.oe_order.specs.Waiting.{marked_nodes}
 use Rattle.oe_order.proofs.Lists.{bool_split}
 
@@ -152,15 +152,15 @@ pub next_of-not_ready : (nodes : List Node) (run steps : List ℕ) (n : ℕ) →
 unfolding next_of
 next_of-not_ready nodes run steps n e h = find-none_at (is_ready nodes steps) run n e h
 
-pub place-more : (nodes : List Node) (run steps : List ℕ) (times x : ℕ) → next_of nodes run steps ≡ Some x → place nodes run (suc times) steps ≡ place nodes run times (steps ++ x ∷ [])
-unfolding place
-place-more nodes run steps times x e = ap (λ o. place nodes run times (steps ++ option_to_list o)) e
+pub extend_order-more : (nodes : List Node) (run steps : List ℕ) (times x : ℕ) → next_of nodes run steps ≡ Some x → extend_order nodes run (suc times) steps ≡ extend_order nodes run times (steps ++ x ∷ [])
+unfolding extend_order
+extend_order-more nodes run steps times x e = ap (λ o. extend_order nodes run times (steps ++ option_to_list o)) e
 
-pub place-done : (nodes : List Node) (run steps : List ℕ) (times : ℕ) → next_of nodes run steps ≡ None → place nodes run times steps ≡ steps
-unfolding place
-place-done nodes run steps zero e = refl
-place-done nodes run steps (suc times) e =
-    ap (λ o. place nodes run times (steps ++ option_to_list o)) e ∙ ap (place nodes run times) (nil steps) ∙ place-done nodes run steps times e
+pub extend_order-done : (nodes : List Node) (run steps : List ℕ) (times : ℕ) → next_of nodes run steps ≡ None → extend_order nodes run times steps ≡ steps
+unfolding extend_order
+extend_order-done nodes run steps zero e = refl
+extend_order-done nodes run steps (suc times) e =
+    ap (λ o. extend_order nodes run times (steps ++ option_to_list o)) e ∙ ap (extend_order nodes run times) (nil steps) ∙ extend_order-done nodes run steps times e
   where
     nil : (xs : List ℕ) → xs ++ [] ≡ xs
     nil [] = refl

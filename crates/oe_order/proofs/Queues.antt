@@ -11,7 +11,7 @@ use Rattle.oe_order.specs.Graph.{Node, arguments, is_load}
 use Rattle.oe_order.specs.Order.{contains}
 use Rattle.oe_order.specs.Marks.{IsMarked}
 use Rattle.oe_order.specs.Waiting.{IsKept, IsQueue, IsPartial, HasPassed, is_wanted}
-use Rattle.oe_order.proofs.Lists.{clash, contains-at, contains-place, contains-push, IsMarked-none, IsMarked-set, IsMarked-count, or_swap}
+use Rattle.oe_order.proofs.Lists.{clash, contains-at, contains-index, contains-push, IsMarked-none, IsMarked-set, IsMarked-count, or_swap}
 use Rattle.oe_order.proofs.Kept.{IsKept-same, ready_times, minus-same, minus-other, or-none}
 
 none_at : (count a : ℕ) → get_or (replicate count (let n : Option ℕ = None in n)) a None ≡ None
@@ -128,18 +128,18 @@ IsPartial-push nodes members steps x p new' member args =
         | inl lt ↦ (let w = p.arguments_first j a lt (ap (is_load nodes) (sym (old_at j lt)) ∙ free) (ap (λ m. contains (arguments nodes m) a) (sym (old_at j lt)) ∙ e) in
             (w.0, w.1, old_at w.0 (omega (arith, w.1)) ∙ w.2))
         | inr ge ↦ (let at = new_at j (omega (arith, long)) in
-            let w = contains-place steps a (args (ap (is_load nodes) (sym at) ∙ free) a (ap (λ m. contains (arguments nodes m) a) (sym at) ∙ e)) in
+            let w = contains-index steps a (args (ap (is_load nodes) (sym at) ∙ free) a (ap (λ m. contains (arguments nodes m) a) (sym at) ∙ e)) in
             (w.0, omega (arith, w.1), old_at w.0 w.1 ∙ w.2))
       ];
     }
 
 -- a node is put behind those that stand
-pub IsQueue-place : (nodes : List Node) (members standing : List Bool) (steps : List ℕ) (first next : List (Option ℕ)) (passed : List ℕ) (ready : List (Reverse ℕ)) (x : ℕ) (after : List ℕ) →
+pub IsQueue-append : (nodes : List Node) (members standing : List Bool) (steps : List ℕ) (first next : List (Option ℕ)) (passed : List ℕ) (ready : List (Reverse ℕ)) (x : ℕ) (after : List ℕ) →
     IsQueue nodes (λ n. is_wanted nodes members standing n && not (eqb n x)) members standing steps first next passed ready → get_or members x false ≡ true →
     get_or standing x false ≡ false → (is_load nodes x ≡ false → (a : ℕ) → contains (arguments nodes x) a ≡ true → contains steps a ≡ true) → x < length nodes →
     after ≡ steps ++ x ∷ [] →
     IsQueue nodes (is_wanted nodes members (set standing x true)) members (set standing x true) after first next passed ready
-IsQueue-place nodes members standing steps first next passed ready x after q member comes args in' is =
+IsQueue-append nodes members standing steps first next passed ready x after q member comes args in' is =
     let h : x < length standing = omega (arith, in', q.standing_len) in
     let new' : contains steps x ≡ false = sym (q.marked.same x) ∙ comes in
     subst (λ ts. IsQueue nodes (is_wanted nodes members (set standing x true)) members (set standing x true) ts first next passed ready) (sym is) (record {

@@ -13,7 +13,7 @@ use Rattle.oe_order.specs.Graph.{Node, arguments, is_load, IsAcyclic, RefersWith
 use Rattle.oe_order.specs.Order.{contains, is_ready, next_of, IsListing}
 use Rattle.oe_order.specs.Waiting.{IsKept, IsQueue, IsPartial, AllReleased, is_wanted, lacks, is_for, IsChain, marked_nodes}
 use Rattle.oe_order.proofs.Gets.{get_at, get_is, get_some}
-use Rattle.oe_order.proofs.Lists.{one_if, bool_split, contains-at, contains-place, contains-from, contains-to}
+use Rattle.oe_order.proofs.Lists.{one_if, bool_split, contains-at, contains-index, contains-from, contains-to}
 use Rattle.oe_order.proofs.Reach.{IsPath, IsPath-none, IsPath-push, IsPath-short, IsInRun-push, IsInRun-within}
 use Rattle.oe_order.proofs.Pools.{marked_within, count-set_true}
 use Rattle.oe_order.proofs.Kept.{ready_times, no_chain, IsKept-pop, least_of}
@@ -85,7 +85,7 @@ module _ (nodes : List Node) (members standing : List Bool) (steps : List ℕ) (
       let p = IsKept-pop nodes first next passed ready (is_wanted nodes members standing) r after q.keeping moved heap in
       let w = is_wanted-to nodes members standing x p.was in
       let all : (a : ℕ) → contains (arguments nodes x) a ≡ true → contains steps a ≡ true =
-      λ a e. let at = contains-place (arguments nodes x) a e in
+      λ a e. let at = contains-index (arguments nodes x) a e in
       sym (q.marked.same a) ∙ ap (λ b. get_or standing b false) (sym at.2) ∙ q.passing x at.0 (omega (arith, at.1, past_none (arguments nodes x) (get_or passed x 0) p.for)) at.1 in
       let new' : contains steps x ≡ false = sym (q.marked.same x) ∙ w.comes in
       let in' : x < length nodes = q.keeping.within x p.was in

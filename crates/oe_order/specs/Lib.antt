@@ -1,7 +1,9 @@
 pub mod Marks
 pub mod Graph
+pub mod Ranks
 pub mod Order
 pub mod Live
 pub mod Waiting
 pub mod Pool
+pub mod Evaluation
 pub mod Worked

@@ -19,10 +19,10 @@ unfoldable pub next_of : List Node → List ℕ → List ℕ → Option ℕ
 next_of nodes run standing = find (is_ready nodes standing) run
 
 -- the next node is put behind those that stand, so many times
-unfoldable pub place : List Node → List ℕ → ℕ → List ℕ → List ℕ
-place nodes run zero standing = standing
-place nodes run (suc times) standing =
-    place nodes run times (standing ++ option_to_list (next_of nodes run standing))
+unfoldable pub extend_order : List Node → List ℕ → ℕ → List ℕ → List ℕ
+extend_order nodes run zero standing = standing
+extend_order nodes run (suc times) standing =
+    extend_order nodes run times (standing ++ option_to_list (next_of nodes run standing))
 
 -- the load nodes of the run, by index
 unfoldable pub loads_of : List Node → ℕ → List ℕ
@@ -31,7 +31,7 @@ loads_of nodes last = filter (is_load nodes) (run_of nodes last)
 -- the order of the run of `last`; once no node is ready, further times change nothing
 unfoldable pub order_of : List Node → ℕ → List ℕ
 order_of nodes last =
-    place nodes (run_of nodes last) (length nodes - length (loads_of nodes last)) (loads_of nodes last)
+    extend_order nodes (run_of nodes last) (length nodes - length (loads_of nodes last)) (loads_of nodes last)
 
 -- what makes steps an order to work by: each node of the run stands once, no other does, and a node that is no load
 -- stands behind all its arguments

@@ -1,4 +1,4 @@
--- Slots that are held and slots that are free.
+-- For private functions. Slots that are held and slots that are free.
 use Rattle.std.specs.Prelude.{◌≡◌, ◌≢◌, ◌<◌, ◌+◌, ◌==◌, ℕ, Bool, true, false, List, length, slice_index, slice_index_or, count_by}
 use Rattle.std.specs.List.{list_any}
 
@@ -13,6 +13,6 @@ pub record IsPool (held : List Bool) (slots free : List ℕ) (count : ℕ) : Typ
   pub unused : (k i : ℕ) → k < length free → slice_index_or held i false ≡ true → slice_index free k ≢ slice_index slots i
   pub all : length free + count_by (λ b. b) held ≡ count
 
--- whether step i is the place of one of these nodes
-abbrev pub is_place : List ℕ → List ℕ → ℕ → Bool
-is_place nodes places i = list_any (λ n. slice_index places n == i) nodes
+-- whether step i is the step of one of these nodes
+abbrev pub is_step_of : List ℕ → List ℕ → ℕ → Bool
+is_step_of nodes by_node i = list_any (λ n. slice_index by_node n == i) nodes

@@ -1,4 +1,5 @@
--- How the nodes that do not stand yet are kept: each waits in the chain of one argument that it lacks, or is ready.
+-- For private functions. How the nodes that do not stand yet are kept: each waits in the chain of one argument that it
+-- lacks, or is ready.
 use Rattle.std.specs.Prelude.{◌≡◌, ◌≢◌, ◌<◌, ℕ, Bool, true, false, cond, not, ◌&&◌, ◌==◌, List, [], ◌∷◌, Option, Some, None, length, slice_index, slice_index_or, slice_get, is_none, count_by}
 use Rattle.std.specs.List.{filter, range_with_len}
 use Rattle.std.specs.Ordering.{nat_cmp}
@@ -22,7 +23,7 @@ abbrev pub is_for : Option ℕ → ℕ → Bool
 is_for None a = false
 is_for (Some b) a = b == a
 
--- the nodes that are kept stand each in one place: in the chain of the argument that it lacks, or else among the ready
+-- the nodes that are kept: each waits in the chain of the argument that it lacks, or else stands among the ready
 pub record IsKept (nodes : List Node) (kept : ℕ → Bool) (first next : List (Option ℕ)) (passed : List ℕ) (ready : List (Reverse ℕ)) : Type 0 where
   pub chains : ℕ → List ℕ
   pub chained : (a : ℕ) → a < length nodes → IsChain next (slice_index_or first a None) (chains a)
@@ -51,7 +52,7 @@ pub record IsPartial (nodes : List Node) (members : List Bool) (steps : List ℕ
   pub arguments_first : (j a : ℕ) → j < length steps → is_load nodes (slice_index steps j) ≡ false →
       contains (arguments nodes (slice_index steps j)) a ≡ true → (i : ℕ) × (i < j) × (slice_index steps i ≡ a)
 
--- what holds between two steps: the marks say what stands, what is passed stands, and the kept nodes are kept
+-- what holds between two steps: the marks say what stands, what is passed stands, and each kept node waits or is ready
 pub record IsQueue (nodes : List Node) (kept : ℕ → Bool) (members standing : List Bool) (steps : List ℕ) (first next : List (Option ℕ)) (passed : List ℕ) (ready : List (Reverse ℕ)) : Type 0 where
   pub marked : IsMarked standing steps
   pub partial : IsPartial nodes members steps

@@ -1,7 +1,7 @@
 -- Worked values: the order and the width of small graphs, found by hand.
 use Rattle.std.specs.Prelude.{◌≡◌, ℕ, true, false, List, [], ◌∷◌, refl}
 use Rattle.oe_order.specs.Graph.{Node, reaches_within, in_run, run_of}
-use Rattle.oe_order.specs.Order.{next_of, place, loads_of, order_of}
+use Rattle.oe_order.specs.Order.{next_of, extend_order, loads_of, order_of}
 use Rattle.oe_order.specs.Live.{taken_from, is_live, live_count, width_of}
 
 -- a node that loads, and a node that takes these
@@ -16,7 +16,7 @@ abbrev pub alone : List Node
 alone = loading ∷ []
 
 pub order_of-alone : order_of alone 0 ≡ 0 ∷ []
-unfolding reaches_within in_run run_of next_of place loads_of order_of
+unfolding reaches_within in_run run_of next_of extend_order loads_of order_of
 order_of-alone = refl
 
 pub width_of-alone : width_of alone 0 (0 ∷ []) ≡ 1
@@ -28,7 +28,7 @@ abbrev pub chain : List Node
 chain = loading ∷ taking (0 ∷ []) ∷ taking (1 ∷ []) ∷ []
 
 pub order_of-chain : order_of chain 2 ≡ 0 ∷ 1 ∷ 2 ∷ []
-unfolding reaches_within in_run run_of next_of place loads_of order_of
+unfolding reaches_within in_run run_of next_of extend_order loads_of order_of
 order_of-chain = refl
 
 pub width_of-chain : width_of chain 2 (0 ∷ 1 ∷ 2 ∷ []) ≡ 2
@@ -37,7 +37,7 @@ width_of-chain = refl
 
 -- the middle of the chain as the result: what lies behind it does not belong to the run
 pub order_of-chain_middle : order_of chain 1 ≡ 0 ∷ 1 ∷ []
-unfolding reaches_within in_run run_of next_of place loads_of order_of
+unfolding reaches_within in_run run_of next_of extend_order loads_of order_of
 order_of-chain_middle = refl
 
 -- two nodes read one load, and one node reads both
@@ -45,7 +45,7 @@ abbrev pub diamond : List Node
 diamond = loading ∷ taking (0 ∷ []) ∷ taking (0 ∷ []) ∷ taking (1 ∷ 2 ∷ []) ∷ []
 
 pub order_of-diamond : order_of diamond 3 ≡ 0 ∷ 1 ∷ 2 ∷ 3 ∷ []
-unfolding reaches_within in_run run_of next_of place loads_of order_of
+unfolding reaches_within in_run run_of next_of extend_order loads_of order_of
 order_of-diamond = refl
 
 pub width_of-diamond : width_of diamond 3 (0 ∷ 1 ∷ 2 ∷ 3 ∷ []) ≡ 3
@@ -69,7 +69,7 @@ abbrev pub late_loads : List Node
 late_loads = taking (2 ∷ 3 ∷ []) ∷ taking (0 ∷ []) ∷ loading ∷ loading ∷ []
 
 pub order_of-late_loads : order_of late_loads 1 ≡ 2 ∷ 3 ∷ 0 ∷ 1 ∷ []
-unfolding reaches_within in_run run_of next_of place loads_of order_of
+unfolding reaches_within in_run run_of next_of extend_order loads_of order_of
 order_of-late_loads = refl
 
 -- a node that the result does not reach is left out
@@ -77,7 +77,7 @@ abbrev pub unreached : List Node
 unreached = loading ∷ loading ∷ taking (0 ∷ []) ∷ []
 
 pub order_of-unreached : order_of unreached 2 ≡ 0 ∷ 2 ∷ []
-unfolding reaches_within in_run run_of next_of place loads_of order_of
+unfolding reaches_within in_run run_of next_of extend_order loads_of order_of
 order_of-unreached = refl
 
 -- an argument that is given twice is one node
@@ -85,7 +85,7 @@ abbrev pub squared : List Node
 squared = taking (1 ∷ 1 ∷ []) ∷ loading ∷ []
 
 pub order_of-squared : order_of squared 0 ≡ 1 ∷ 0 ∷ []
-unfolding reaches_within in_run run_of next_of place loads_of order_of
+unfolding reaches_within in_run run_of next_of extend_order loads_of order_of
 order_of-squared = refl
 
 pub width_of-squared : width_of squared 0 (1 ∷ 0 ∷ []) ≡ 2

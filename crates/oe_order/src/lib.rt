@@ -3,21 +3,25 @@
 //! `order` reads the references of the nodes and gives a `NodeOrder`: the nodes that the result needs, the load nodes
 //! first and every other behind its arguments, and for each a slot that no other node has while it is live. The number
 //! of slots is the largest number of nodes that are live at one step, so the layer above keeps so many results and no
-//! more. Its one contract is that of `order`: which list it is, that it lists the run, and that live nodes are apart.
+//! more. The contract of `order` says which list it is, that it lists the run, what an evaluation step by step rests
+//! on, and that live nodes are apart. `is_ranked` and `leads_back` tell a caller whether references lead back to a
+//! node.
 #![tactic(auto)]
 
 mod listing;
 mod pool;
+mod ranks;
 mod run;
-#[cfg(test)]
-mod tests;
 
-ghost use Rattle.std.specs.Prelude.{◌≡◌, ◌<◌, ◌^◌, IfOk, length, slice_index};
+ghost use Rattle.std.specs.Prelude.{◌≡◌, ◌<◌, ◌^◌, ◌↔◌, ℕ, Some, Contains, IfOk, IfSome, IsNone, length, slice_index};
 ghost use Rattle.oe_order.specs.Graph.{graph_of, RefersWithin, IsAcyclic};
 ghost use Rattle.oe_order.specs.Order.{order_of, IsListing};
 ghost use Rattle.oe_order.specs.Live.{width_of, IsSlotted};
+ghost use Rattle.oe_order.specs.Evaluation.{IsEvaluationOrder};
 
 use oe_memory::OutOfMemory;
+pub use ranks::is_ranked;
+pub use run::leads_back;
 use std::alloc::Global;
 use std::marker::Model;
 
@@ -36,17 +40,19 @@ pub struct NodeOrder {
     steps: Vec<u32>,
     slots: Vec<u32>,
     width: u32,
+    // The step of each node of the run, by the node; of any other node, any number.
+    by_node: Vec<u32>,
 }
 
 impl Model for NodeOrder {
-    ghost use Rattle.std.specs.Prelude.{◌≡◌, length};
+    ghost use Rattle.oe_order.specs.Evaluation.{IsKeptOrder};
     ghost use Rattle.oe_order.specs.Live.{Steps};
 
     ghost Value = { Steps };
 
     ghost view = { λ o. record { steps = o.steps.items; slots = o.slots.items; width = o.width } };
 
-    ghost invariant = { λ o. length o.slots.items ≡ length o.steps.items };
+    ghost invariant = { λ o. IsKeptOrder o.steps.items o.slots.items o.by_node.items o.width };
 }
 
 impl NodeOrder {
@@ -55,6 +61,24 @@ impl NodeOrder {
         ensures { result.now ≡ self.now.steps }
     {
         self.steps.as_slice()
+    }
+
+    /// The step of a node, which is the only one that it stands at. None exactly where it is not in the run.
+    pub fn step_of(&self, node: u32) -> Option<u32>
+        ensures within { IfSome result (λ step. step < length self.now.steps) }
+        ensures found { IfSome result (λ step. slice_index self.now.steps step ≡ node) }
+        ensures only { (i : ℕ) → i < length self.now.steps → slice_index self.now.steps i ≡ node
+            → result ≡ Some i }
+        ensures none { IsNone result ↔ (Contains self.now.steps node → ⊥) }
+    {
+        if node as usize >= self.by_node.len() {
+            return None;
+        }
+        let step = self.by_node[node as usize];
+        if step as usize >= self.steps.len() || self.steps[step as usize] != node {
+            return None;
+        }
+        Some(step)
     }
 
     /// How many slots the nodes of the run take in all.
@@ -67,7 +91,8 @@ impl NodeOrder {
     /// The slot of the node of a step, below `slots`.
     pub fn slot(&self, step: u32) -> u32
         requires { step < length self.now.steps }
-        ensures { result ≡ slice_index self.now.slots step }
+        ensures is { result ≡ slice_index self.now.slots step }
+        ensures below { result < self.now.width }
     {
         self.slots[step as usize]
     }
@@ -80,24 +105,33 @@ impl NodeOrder {
     }
 }
 
-/// The order of the nodes that `last` needs, and their slots. Memory is taken before the work; only its want is an
-/// error.
+/// The order of the nodes that `last` needs, and their slots. Memory is taken before the work.
+///
+/// Refuses: where an allocation was refused, and nowhere else.
 pub fn order(alloc: Global, nodes: &[Links], last: u32) -> Result<NodeOrder, OutOfMemory>
     requires few { length nodes.now < 2 ^ 32 }
     requires last_named { last < length nodes.now }
     requires named { RefersWithin (graph_of nodes.now) }
     requires acyclic { IsAcyclic (graph_of nodes.now) }
+    // Which order it is, and that it is one to evaluate by.
     ensures steps { IfOk result (λ o. o.steps ≡ order_of (graph_of nodes.now) last) }
     ensures listing { IfOk result (λ o. IsListing (graph_of nodes.now) last o.steps) }
+    ensures evaluation { IfOk result (λ o. IsEvaluationOrder (graph_of nodes.now) last o.steps) }
+    // The slots.
     ensures width { IfOk result (λ o. o.width ≡ width_of (graph_of nodes.now) last o.steps) }
     ensures slots { IfOk result (λ o. IsSlotted (graph_of nodes.now) last o) }
 {
     let steps = listing::steps_of(alloc, nodes, last)?;
     let slotting = pool::assign(alloc, nodes, last, steps.as_slice())?;
-    let pool::Slotting { slots, width } = slotting;
+    let pool::Slotting {
+        slots,
+        width,
+        by_node,
+    } = slotting;
     Ok(NodeOrder {
         steps,
         slots,
         width,
+        by_node,
     })
 }

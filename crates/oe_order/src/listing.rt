@@ -2,7 +2,7 @@
 ghost use Rattle.std.specs.Prelude.{◌≡◌, ◌≢◌, ◌<◌, ◌≤◌, ◌^◌, ◌-◌, ◌&&◌, ◌||◌, ◌==◌, ◌∷◌, ◌++◌, [], ℕ, Bool, List, Some, None, true, false, not, IfOk, IsTrue, OnOk, length, slice_index, slice_index_or, slice_set, slice_get, filter};
 ghost use Rattle.std.specs.BinaryHeap.{heap_items};
 ghost use Rattle.oe_order.specs.Graph.{Node, graph_of, arguments, is_load, RefersWithin, IsAcyclic};
-ghost use Rattle.oe_order.specs.Order.{contains, order_of, place, next_of, IsListing};
+ghost use Rattle.oe_order.specs.Order.{contains, order_of, extend_order, next_of, IsListing};
 ghost use Rattle.oe_order.specs.Waiting.{AllReleased, IsKept, IsPartial, IsQueue, is_wanted, marked_nodes};
 
 use crate::{Links, run};
@@ -30,7 +30,8 @@ impl Queue {
     fn new(alloc: Global, members: Vec<bool>) -> Result<Queue, OutOfMemory>
         ensures members { IfOk result (λ q. q.members.items ≡ members.items) }
         ensures none { IfOk result (λ q. q.steps.items ≡ []) }
-        ensures queue { IfOk result (λ q. (nodes : List Node) → length nodes ≡ length members.items →
+        ensures queue { IfOk result
+            (λ q. (nodes : List Node) → length nodes ≡ length members.items →
             IsQueue nodes (λ _. false) members.items q.standing.items q.steps.items
             q.first.items q.next.items q.passed.items (heap_items q.ready)) }
     {
@@ -50,15 +51,20 @@ impl Queue {
     fn park(&mut self, node: u32, named: &[u32]) -> Result<(), OutOfMemory>
         requires passes { node < length self.old.passed.items }
         requires nexts { node < length self.old.next.items }
-        requires within { (n : ℕ) → IsTrue (contains named.now n) → n < length self.old.first.items }
-        ensures kept { OnOk result ((nodes : List Node) (kept : ℕ → Bool) → arguments nodes node ≡ named.now →
+        requires within { (n : ℕ) → IsTrue (contains named.now n) →
+            n < length self.old.first.items }
+        ensures kept { OnOk result
+            ((nodes : List Node) (kept : ℕ → Bool) → arguments nodes node ≡ named.now →
             node < length nodes → kept node ≡ false →
-            IsKept nodes kept self.old.first.items self.old.next.items self.old.passed.items (heap_items self.old.ready) →
+            IsKept nodes kept self.old.first.items self.old.next.items self.old.passed.items
+            (heap_items self.old.ready) →
             IsKept nodes (λ n. kept n || n == node)
-            self.new.first.items self.new.next.items self.new.passed.items (heap_items self.new.ready)) }
+            self.new.first.items self.new.next.items self.new.passed.items
+            (heap_items self.new.ready)) }
         ensures others { OnOk result ((a : ℕ) →
             slice_get named.now (slice_index self.old.passed.items node) ≢ Some a →
-            slice_index_or self.new.first.items a None ≡ slice_index_or self.old.first.items a None) }
+            slice_index_or self.new.first.items a None
+            ≡ slice_index_or self.old.first.items a None) }
         ensures members { OnOk result (self.new.members.items ≡ self.old.members.items) }
         ensures steps { OnOk result (self.new.steps.items ≡ self.old.steps.items) }
         ensures standing { OnOk result (self.new.standing.items ≡ self.old.standing.items) }
@@ -82,13 +88,16 @@ impl Queue {
         requires queue { IsQueue (graph_of nodes.now)
             (is_wanted (graph_of nodes.now) self.old.members.items self.old.standing.items)
             self.old.members.items self.old.standing.items self.old.steps.items
-            self.old.first.items self.old.next.items self.old.passed.items (heap_items self.old.ready) }
-        requires released { (a : ℕ) → a ≢ node → slice_index_or self.old.standing.items a false ≡ true →
+            self.old.first.items self.old.next.items self.old.passed.items
+            (heap_items self.old.ready) }
+        requires released { (a : ℕ) → a ≢ node →
+            slice_index_or self.old.standing.items a false ≡ true →
             slice_index_or self.old.first.items a None ≡ None }
         ensures queue { OnOk result (IsQueue (graph_of nodes.now)
             (is_wanted (graph_of nodes.now) self.new.members.items self.new.standing.items)
             self.new.members.items self.new.standing.items self.new.steps.items
-            self.new.first.items self.new.next.items self.new.passed.items (heap_items self.new.ready)) }
+            self.new.first.items self.new.next.items self.new.passed.items
+            (heap_items self.new.ready)) }
         ensures released { OnOk result (AllReleased self.new.standing.items self.new.first.items) }
         ensures members { OnOk result (self.new.members.items ≡ self.old.members.items) }
         ensures steps { OnOk result (self.new.steps.items ≡ self.old.steps.items) }
@@ -98,7 +107,7 @@ impl Queue {
             self.first[node as usize] = self.next[waiting as usize];
             let arguments = nodes[waiting as usize].arguments.as_slice();
             let passed = self.passed[waiting as usize];
-            self.passed[waiting as usize] = passed_from(
+            self.passed[waiting as usize] = first_missing(
                 arguments,
                 self.standing.as_slice(),
                 passed,
@@ -109,26 +118,31 @@ impl Queue {
     }
 
     /// Puts the node behind those that stand.
-    fn place(&mut self, nodes: &[Links], node: u32) -> Result<(), OutOfMemory>
+    fn append(&mut self, nodes: &[Links], node: u32) -> Result<(), OutOfMemory>
         requires few { length nodes.now < 2 ^ 32 }
         requires named { RefersWithin (graph_of nodes.now) }
         requires member { slice_index_or self.old.members.items node false ≡ true }
         requires comes { slice_index_or self.old.standing.items node false ≡ false }
         requires arguments { is_load (graph_of nodes.now) node ≡ false →
-            (a : ℕ) → contains (arguments (graph_of nodes.now) node) a ≡ true → contains self.old.steps.items a ≡ true }
+            (a : ℕ) → contains (arguments (graph_of nodes.now) node) a ≡ true →
+            contains self.old.steps.items a ≡ true }
         requires queue { IsQueue (graph_of nodes.now)
-            (λ n. is_wanted (graph_of nodes.now) self.old.members.items self.old.standing.items n && not (n == node))
+            (λ n. is_wanted (graph_of nodes.now) self.old.members.items self.old.standing.items n
+            && not (n == node))
             self.old.members.items self.old.standing.items self.old.steps.items
-            self.old.first.items self.old.next.items self.old.passed.items (heap_items self.old.ready) }
+            self.old.first.items self.old.next.items self.old.passed.items
+            (heap_items self.old.ready) }
         requires released { AllReleased self.old.standing.items self.old.first.items }
         ensures queue { OnOk result (IsQueue (graph_of nodes.now)
             (is_wanted (graph_of nodes.now) self.new.members.items self.new.standing.items)
             self.new.members.items self.new.standing.items self.new.steps.items
-            self.new.first.items self.new.next.items self.new.passed.items (heap_items self.new.ready)) }
+            self.new.first.items self.new.next.items self.new.passed.items
+            (heap_items self.new.ready)) }
         ensures released { OnOk result (AllReleased self.new.standing.items self.new.first.items) }
         ensures members { OnOk result (self.new.members.items ≡ self.old.members.items) }
         ensures steps { OnOk result (self.new.steps.items ≡ self.old.steps.items ++ node ∷ []) }
-        ensures standing { OnOk result (self.new.standing.items ≡ slice_set self.old.standing.items node true) }
+        ensures standing { OnOk result
+            (self.new.standing.items ≡ slice_set self.old.standing.items node true) }
     {
         self.steps.push(node)?;
         self.standing[node as usize] = true;
@@ -142,11 +156,13 @@ impl Queue {
         requires none { self.old.steps.items ≡ [] }
         requires queue { IsQueue (graph_of nodes.now) (λ _. false)
             self.old.members.items self.old.standing.items self.old.steps.items
-            self.old.first.items self.old.next.items self.old.passed.items (heap_items self.old.ready) }
+            self.old.first.items self.old.next.items self.old.passed.items
+            (heap_items self.old.ready) }
         ensures queue { OnOk result (IsQueue (graph_of nodes.now)
             (is_wanted (graph_of nodes.now) self.new.members.items self.new.standing.items)
             self.new.members.items self.new.standing.items self.new.steps.items
-            self.new.first.items self.new.next.items self.new.passed.items (heap_items self.new.ready)) }
+            self.new.first.items self.new.next.items self.new.passed.items
+            (heap_items self.new.ready)) }
         ensures released { OnOk result (AllReleased self.new.standing.items self.new.first.items) }
         ensures members { OnOk result (self.new.members.items ≡ self.old.members.items) }
         ensures none { OnOk result (self.new.steps.items ≡ []) }
@@ -159,66 +175,74 @@ impl Queue {
         Ok(())
     }
 
-    /// Places the load nodes of the run, by index.
-    fn place_loads(&mut self, nodes: &[Links]) -> Result<(), OutOfMemory>
+    /// ByNode the load nodes of the run, by index.
+    fn append_loads(&mut self, nodes: &[Links]) -> Result<(), OutOfMemory>
         requires few { length nodes.now < 2 ^ 32 }
         requires named { RefersWithin (graph_of nodes.now) }
         requires none { self.old.steps.items ≡ [] }
         requires queue { IsQueue (graph_of nodes.now)
             (is_wanted (graph_of nodes.now) self.old.members.items self.old.standing.items)
             self.old.members.items self.old.standing.items self.old.steps.items
-            self.old.first.items self.old.next.items self.old.passed.items (heap_items self.old.ready) }
+            self.old.first.items self.old.next.items self.old.passed.items
+            (heap_items self.old.ready) }
         requires released { AllReleased self.old.standing.items self.old.first.items }
         ensures queue { OnOk result (IsQueue (graph_of nodes.now)
             (is_wanted (graph_of nodes.now) self.new.members.items self.new.standing.items)
             self.new.members.items self.new.standing.items self.new.steps.items
-            self.new.first.items self.new.next.items self.new.passed.items (heap_items self.new.ready)) }
+            self.new.first.items self.new.next.items self.new.passed.items
+            (heap_items self.new.ready)) }
         ensures released { OnOk result (AllReleased self.new.standing.items self.new.first.items) }
         ensures members { OnOk result (self.new.members.items ≡ self.old.members.items) }
         ensures loads { OnOk result (self.new.steps.items
-            ≡ filter (is_load (graph_of nodes.now)) (marked_nodes self.old.members.items (length nodes.now))) }
+            ≡ filter (is_load (graph_of nodes.now))
+            (marked_nodes self.old.members.items (length nodes.now))) }
     {
         for node in 0..nodes.len() {
             if self.members[node] && nodes[node].load {
-                self.place(nodes, node as u32)?;
+                self.append(nodes, node as u32)?;
             }
         }
         Ok(())
     }
 
-    /// Places the least ready node until none is ready.
-    fn place_ready(&mut self, nodes: &[Links]) -> Result<(), OutOfMemory>
+    /// Appends the least ready node until none is ready.
+    fn append_ready(&mut self, nodes: &[Links]) -> Result<(), OutOfMemory>
         requires few { length nodes.now < 2 ^ 32 }
         requires named { RefersWithin (graph_of nodes.now) }
         requires queue { IsQueue (graph_of nodes.now)
             (is_wanted (graph_of nodes.now) self.old.members.items self.old.standing.items)
             self.old.members.items self.old.standing.items self.old.steps.items
-            self.old.first.items self.old.next.items self.old.passed.items (heap_items self.old.ready) }
+            self.old.first.items self.old.next.items self.old.passed.items
+            (heap_items self.old.ready) }
         requires released { AllReleased self.old.standing.items self.old.first.items }
         requires loads { (n : ℕ) → slice_index_or self.old.members.items n false ≡ true →
             is_load (graph_of nodes.now) n ≡ true → contains self.old.steps.items n ≡ true }
-        ensures queue { OnOk result (IsPartial (graph_of nodes.now) self.old.members.items self.new.steps.items) }
+        ensures queue { OnOk result
+            (IsPartial (graph_of nodes.now) self.old.members.items self.new.steps.items) }
         ensures room { OnOk result (length self.new.steps.items ≤ length nodes.now) }
-        ensures placed { OnOk result (self.new.steps.items
-            ≡ place (graph_of nodes.now) (marked_nodes self.old.members.items (length nodes.now))
+        ensures extended { OnOk result (self.new.steps.items
+            ≡ extend_order (graph_of nodes.now)
+            (marked_nodes self.old.members.items (length nodes.now))
             (length nodes.now - length self.old.steps.items) self.old.steps.items) }
         ensures none { OnOk result
-            (next_of (graph_of nodes.now) (marked_nodes self.old.members.items (length nodes.now)) self.new.steps.items ≡ None) }
+            (next_of (graph_of nodes.now)
+            (marked_nodes self.old.members.items (length nodes.now)) self.new.steps.items ≡ None) }
     {
         while let Some(least) = self.ready.pop() {
-            self.place(nodes, least.0)?;
+            self.append(nodes, least.0)?;
         }
         Ok(())
     }
 }
 
-/// The place of the first argument that does not stand, from this place on; the number of arguments if all do.
-fn passed_from(arguments: &[u32], standing: &[bool], passed: usize) -> usize
+/// The index of the first argument that does not stand, from this index on; the number of arguments if all do.
+fn first_missing(arguments: &[u32], standing: &[bool], passed: usize) -> usize
     requires within { (n : ℕ) → contains arguments.now n ≡ true → n < length standing.now }
     ensures onwards { passed ≤ result }
     ensures stand { (k : ℕ) → passed ≤ k → k < result → k < length arguments.now →
         slice_index_or standing.now (slice_index arguments.now k) false ≡ true }
-    ensures lacks { (a : ℕ) → slice_get arguments.now result ≡ Some a → slice_index_or standing.now a false ≡ false }
+    ensures lacks { (a : ℕ) → slice_get arguments.now result ≡ Some a →
+        slice_index_or standing.now a false ≡ false }
 {
     let mut at = passed;
     while at < arguments.len() && standing[arguments[at] as usize] {
@@ -240,7 +264,7 @@ pub fn steps_of(alloc: Global, nodes: &[Links], last: u32) -> Result<Vec<u32>, O
     let members = run::members(alloc, nodes, last)?;
     let mut queue = Queue::new(alloc, members)?;
     queue.park_all(nodes)?;
-    queue.place_loads(nodes)?;
-    queue.place_ready(nodes)?;
+    queue.append_loads(nodes)?;
+    queue.append_ready(nodes)?;
     Ok(queue.steps)
 }

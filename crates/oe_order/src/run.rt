@@ -1,6 +1,6 @@
 // Which nodes a run has: the result, and all that it reaches by references.
-ghost use Rattle.std.specs.Prelude.{◌≡◌, ◌<◌, ◌||◌, ℕ, false, IfOk, IsTrue, OnOk, length, slice_index_or, take};
-ghost use Rattle.oe_order.specs.Graph.{graph_of, in_run, RefersWithin, IsAcyclic};
+ghost use Rattle.std.specs.Prelude.{◌≡◌, ◌<◌, ◌||◌, ◌↔◌, ℕ, true, false, IfOk, IsTrue, OnOk, length, slice_index_or, take};
+ghost use Rattle.oe_order.specs.Graph.{graph_of, in_run, Reaches, RefersWithin, IsAcyclic};
 ghost use Rattle.oe_order.specs.Order.{contains};
 ghost use Rattle.oe_order.specs.Marks.{IsMarked};
 
@@ -15,7 +15,8 @@ pub fn members(alloc: Global, nodes: &[Links], last: u32) -> Result<Vec<bool>, O
     requires acyclic { IsAcyclic (graph_of nodes.now) }
     ensures len { IfOk result (λ marks. length marks.items ≡ length nodes.now) }
     ensures marks { IfOk result
-        (λ marks. (n : ℕ) → slice_index_or marks.items n false ≡ in_run (graph_of nodes.now) last n) }
+        (λ marks. (n : ℕ) → slice_index_or marks.items n false
+        ≡ in_run (graph_of nodes.now) last n) }
 {
     let mut marks = vec![in alloc; false; nodes.len()]?;
     let mut found = Vec::with_capacity(alloc, nodes.len())?;
@@ -35,7 +36,9 @@ fn find(named: &[u32], marks: &mut Vec<bool>, found: &mut Vec<u32>) -> Result<()
     requires marked { IsMarked marks.old.items found.old.items }
     ensures len { OnOk result (length marks.new.items ≡ length marks.old.items) }
     ensures marked { OnOk result (IsMarked marks.new.items found.new.items) }
-    ensures found { OnOk result ((n : ℕ) → contains found.new.items n ≡ contains found.old.items n || contains named.now n) }
+    ensures found { OnOk result
+        ((n : ℕ) → contains found.new.items n ≡ contains found.old.items n
+        || contains named.now n) }
     ensures kept { OnOk result (take (length found.old.items) found.new.items ≡ found.old.items) }
 {
     for node in named {
@@ -45,4 +48,25 @@ fn find(named: &[u32], marks: &mut Vec<bool>, found: &mut Vec<u32>) -> Result<()
         }
     }
     Ok(())
+}
+
+/// Whether references lead from the node back to itself. The graph may have cycles.
+///
+/// Refuses: where an allocation was refused, and nowhere else.
+pub fn leads_back(alloc: Global, nodes: &[Links], node: u32) -> Result<bool, OutOfMemory>
+    requires node_named { node < length nodes.now }
+    requires named { RefersWithin (graph_of nodes.now) }
+    ensures { IfOk result (λ back. back ≡ true ↔ Reaches (graph_of nodes.now) node node) }
+{
+    let mut marks = vec![in alloc; false; nodes.len()]?;
+    let mut found = Vec::with_capacity(alloc, nodes.len())?;
+    let first = &nodes[node as usize];
+    find(first.arguments.as_slice(), &mut marks, &mut found)?;
+    let mut done = 0;
+    while done < found.len() {
+        let node = &nodes[found[done] as usize];
+        find(node.arguments.as_slice(), &mut marks, &mut found)?;
+        done += 1;
+    }
+    Ok(marks[node as usize])
 }

@@ -1,12 +1,12 @@
 use Rattle.std.proofs.Common.{◌≡◌, ℕ, ◌<◌, ◌≤◌, ◌+◌, ◌||◌, Bool, true, false, eqb, List, ◌∷◌, [], length, get_or, take, refl, sym, ap, ◌∙◌, inl, inr, arith}
 use Rattle.std.specs.List.{Contains}
 use Rattle.std.proofs.lemmas.Bool.{eq-eqb, eqb-true, or_left, or_right, or_cases, cases_lt}
-use Rattle.std.proofs.lemmas.List.{get_or-take, get_or_read, length-take}
+use Rattle.std.proofs.lemmas.List.{get_or_read, length-take}
 use Rattle.oe_order.specs.Graph.{Node, graph_of, arguments, IsInRun, in_run, IsAcyclic, RefersWithin}
 use Rattle.oe_order.specs.Order.{contains}
 use Rattle.oe_order.specs.Marks.{IsMarked}
 use Rattle.oe_order.proofs.Graphs.{length-graph_of, arguments-graph_of}
-use Rattle.oe_order.proofs.Lists.{bool_iff, contains-at, contains-place, contains-to, or_false}
+use Rattle.oe_order.proofs.Lists.{bool_iff, contains-at, contains-index, kept_index, contains-to, or_false}
 use Rattle.oe_order.proofs.Reach.{IsInRun-push, IsInRun-within, in_run-sound, in_run-complete, closed_has}
 use Rattle.std.proofs.lemmas.List.Sums.{count_by-le-length}
 use Rattle.oe_order.proofs.run.members.Invariants.{Searches}
@@ -22,10 +22,6 @@ Searches-begin nodes last found marks long marked has = record {
   behind = omega arith;
   closed = λ k a h. absurd (omega arith);
 }
-
--- a node that was found keeps its place
-kept_place : (old new : List ℕ) (k : ℕ) → take (length old) new ≡ old → k < length old → get_or new k 0 ≡ get_or old k 0
-kept_place old new k e h = sym (get_or-take (length old) new k 0 h) ∙ ap (λ ys. get_or ys k 0) e
 
 Searches-more : (nodes : List Node) (last done : ℕ) (found new named : List ℕ) (marks after : List Bool) → Searches nodes last done found marks →
     done < length found → arguments nodes (get_or found done 0) ≡ named → length after ≡ length marks → IsMarked after new →
@@ -43,9 +39,9 @@ Searches-more nodes last done found new named marks after s h is long marked has
   behind = omega (arith, ap length kept, length-take (length found) new);
   closed = λ k a lt q. elim (cases_lt k done) [
     | inl lt' ↦ has a ∙ or_left (contains found a) (contains named a)
-        (s.closed k a lt' (ap (λ m. contains (arguments nodes m) a) (sym (kept_place found new k kept (omega arith))) ∙ q))
+        (s.closed k a lt' (ap (λ m. contains (arguments nodes m) a) (sym (kept_index found new k kept (omega arith))) ∙ q))
     | inr ge ↦ has a ∙ or_right (contains found a) (contains named a) (let same : k ≡ done = omega arith in
-        ap (λ ys. contains ys a) (sym is) ∙ ap (λ m. contains (arguments nodes m) a) (sym (ap (λ i. get_or found i 0) same) ∙ sym (kept_place found new k kept (omega arith))) ∙ q)
+        ap (λ ys. contains ys a) (sym is) ∙ ap (λ m. contains (arguments nodes m) a) (sym (ap (λ i. get_or found i 0) same) ∙ sym (kept_index found new k kept (omega arith))) ∙ q)
   ];
 }
 
@@ -57,7 +53,7 @@ Searches-all nodes last done found marks acyclic w l s all n =
     (λ e. s.marked.same n ∙ has (in_run-sound nodes last n e))
   where
     closed : (m a : ℕ) → contains found m ≡ true → contains (arguments nodes m) a ≡ true → contains found a ≡ true
-    closed m a e q = let at = contains-place found m e in
+    closed m a e q = let at = contains-index found m e in
         s.closed at.0 a (omega (arith, at.1)) (ap (λ i. contains (arguments nodes i) a) at.2 ∙ q)
 
     has : IsInRun nodes last n → contains found n ≡ true

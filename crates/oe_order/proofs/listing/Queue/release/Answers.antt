@@ -122,8 +122,8 @@ index-passed-requires c =
     let h : u < length nodes = u_within _ _ u _ _ _ _ _ _ _ _ _ _ i st head in
     omega (arith, i.queue.keeping.passes, q.passed.ok.0)
 
-pub passed_from-requires : goal.passed_from-requires
-passed_from-requires c =
+pub first_missing-requires : goal.first_missing-requires
+first_missing-requires c =
     let q = c.loop-waiting.self in
     let nodes = graph_of c.args.nodes.now in
     let x = c.args.node in
@@ -164,7 +164,7 @@ park-requires-clause-passes c =
     let xin : x < length q.first.items = omega (arith, marked_within q.standing.items x st, i.queue.standing_len, i.queue.keeping.firsts) in
     let head : get_or q.first.items x None ≡ Some u = sym (get_or_read q.first.items x c.index.result.now xin c.index.ensures None) ∙ c.in-Some.is in
     let h : u < length nodes = u_within _ _ u _ _ _ _ _ _ _ _ _ _ i st head in
-    omega (arith, i.queue.keeping.passes, length-set q.passed.items u c.passed_from.result)
+    omega (arith, i.queue.keeping.passes, length-set q.passed.items u c.first_missing.result)
 
 pub park-requires-clause-nexts : goal.park-requires-clause-nexts
 park-requires-clause-nexts c =
@@ -209,13 +209,13 @@ loop-waiting-smaller c =
     let args : arguments nodes u ≡ c.as_slice-arguments.result.now = arguments-graph_of c.args.nodes.now u c.index-nodes-waiting.result (omega (arith, length-graph_of c.args.nodes.now)) c.index-nodes-waiting.is ∙ ap (λ (z : Links). z.arguments.items) c.index-nodes-waiting.is ∙ sym c.as_slice-arguments.ensures.value in
     let ps = q.passed.items in
     let was : c.index-passed.result.now ≡ get_or ps u 0 = get_or_read ps u c.index-passed.result.now (omega (arith, i.queue.keeping.passes)) c.index-passed.ensures 0 in
-    let e = c.passed_from.ensures in
-    let up : get_or ps u 0 ≤ c.passed_from.result = omega (arith, e.onwards) in
+    let e = c.first_missing.ensures in
+    let up : get_or ps u 0 ≤ c.first_missing.result = omega (arith, e.onwards) in
     let ss : c.as_slice.result.now ≡ q.standing.items = c.as_slice.ensures.value in
-    let lacks' : (a : ℕ) → slice_get (arguments nodes u) c.passed_from.result ≡ Some a → get_or q.standing.items a false ≡ false =
-    λ a g. ap (λ ys. get_or ys a false) (sym ss) ∙ e.lacks a (ap (λ ys. slice_get ys c.passed_from.result) (sym args) ∙ g) in
+    let lacks' : (a : ℕ) → slice_get (arguments nodes u) c.first_missing.result ≡ Some a → get_or q.standing.items a false ≡ false =
+    λ a g. ap (λ ys. get_or ys a false) (sym ss) ∙ e.lacks a (ap (λ ys. slice_get ys c.first_missing.result) (sym args) ∙ g) in
     subst (λ qs. to_pass nodes qs < to_pass nodes ps) (sym c.in_ok-park.ensures.passed)
-    (falls _ _ u _ _ _ _ _ _ _ _ _ _ i st head c.passed_from.result up lacks')
+    (falls _ _ u _ _ _ _ _ _ _ _ _ _ i st head c.first_missing.result up lacks')
 
 pub loop-waiting-preserved : goal.loop-waiting-preserved
 loop-waiting-preserved c =
@@ -231,17 +231,17 @@ loop-waiting-preserved c =
     let args : arguments nodes u ≡ c.as_slice-arguments.result.now = arguments-graph_of c.args.nodes.now u c.index-nodes-waiting.result (omega (arith, length-graph_of c.args.nodes.now)) c.index-nodes-waiting.is ∙ ap (λ (z : Links). z.arguments.items) c.index-nodes-waiting.is ∙ sym c.as_slice-arguments.ensures.value in
     let ps = q.passed.items in
     let was : c.index-passed.result.now ≡ get_or ps u 0 = get_or_read ps u c.index-passed.result.now (omega (arith, i.queue.keeping.passes)) c.index-passed.ensures 0 in
-    let e = c.passed_from.ensures in
-    let up : get_or ps u 0 ≤ c.passed_from.result = omega (arith, e.onwards) in
+    let e = c.first_missing.ensures in
+    let up : get_or ps u 0 ≤ c.first_missing.result = omega (arith, e.onwards) in
     let ss : c.as_slice.result.now ≡ q.standing.items = c.as_slice.ensures.value in
-    let lacks' : (a : ℕ) → slice_get (arguments nodes u) c.passed_from.result ≡ Some a → get_or q.standing.items a false ≡ false =
-    λ a g. ap (λ ys. get_or ys a false) (sym ss) ∙ e.lacks a (ap (λ ys. slice_get ys c.passed_from.result) (sym args) ∙ g) in
+    let lacks' : (a : ℕ) → slice_get (arguments nodes u) c.first_missing.result ≡ Some a → get_or q.standing.items a false ≡ false =
+    λ a g. ap (λ ys. get_or ys a false) (sym ss) ∙ e.lacks a (ap (λ ys. slice_get ys c.first_missing.result) (sym args) ∙ g) in
     let f : c.index-in-Some.result.now ≡ get_or q.next.items u None = get_or_read q.next.items u c.index-in-Some.result.now (omega (arith, i.queue.keeping.nexts)) c.index-in-Some.ensures None in
     let p = c.in_ok-park.ensures in
-    Releases-more nodes x u _ _ _ _ _ _ _ _ _ _ i st head c.passed_from.result _ _ _ _ _ _ _ up
+    Releases-more nodes x u _ _ _ _ _ _ _ _ _ _ i st head c.first_missing.result _ _ _ _ _ _ _ up
     (λ k lo hi lt. ap (λ ys. get_or q.standing.items (get_or ys k 0) false) args ∙ ap (λ ys. get_or ys (get_or c.as_slice-arguments.result.now k 0) false) (sym ss)
     ∙ e.stand k (omega arith) hi (omega (arith, ap length args)))
     lacks'
-    (λ kept out k. p.kept nodes kept args h out (subst (λ o. IsKept nodes kept (set q.first.items x o) q.next.items (set ps u c.passed_from.result) (heap_items q.ready)) (sym f) k))
-    (λ a ne. p.others a (λ g. ne (ap (λ ys. slice_get ys (get_or (set ps u c.passed_from.result) u 0)) args ∙ g)) ∙ ap (λ o. get_or (set q.first.items x o) a None) f)
+    (λ kept out k. p.kept nodes kept args h out (subst (λ o. IsKept nodes kept (set q.first.items x o) q.next.items (set ps u c.first_missing.result) (heap_items q.ready)) (sym f) k))
+    (λ a ne. p.others a (λ g. ne (ap (λ ys. slice_get ys (get_or (set ps u c.first_missing.result) u 0)) args ∙ g)) ∙ ap (λ o. get_or (set q.first.items x o) a None) f)
     p.members p.standing p.steps p.passed

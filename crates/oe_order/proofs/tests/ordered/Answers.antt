@@ -1,8 +1,0 @@
-use Rattle.std.proofs.Common.{refl}
-use Rattle.oe_order.proofs.tests.ordered.Goals as goal
-
-pub order-requires-clause-named : goal.order-requires-clause-named
-order-requires-clause-named c = c.if-not-is_ranked.ensures.named refl
-
-pub order-requires-clause-acyclic : goal.order-requires-clause-acyclic
-order-requires-clause-acyclic c = c.if-not-is_ranked.ensures.acyclic refl
