@@ -1,41 +1,39 @@
 -- Each position of a shape lies in exactly the chunk of its number.
-use Rattle.std.proofs.Common.{◌≡◌, ◌↔◌, ℕ, zero, suc, ◌+◌, ◌-◌, ◌*◌, ◌/◌, ◌%◌, ◌^◌, ◌<◌, ◌≤◌, ◌==◌, min, ◌⊎◌, Bool, true, false, if◌then◌else◌, refl, sym, ap, ◌∙◌, arith, inl, inr}
+use Rattle.std.proofs.Common.{◌≡◌, ◌↔◌, ℕ, ◌+◌, ◌-◌, ◌*◌, ◌/◌, ◌%◌, ◌<◌, ◌≤◌, ◌==◌, ◌⊎◌, Bool, true, false, if◌then◌else◌, refl, sym, ap, ◌∙◌, arith, inl, inr}
 use Rattle.std.proofs.Math.Nat.{div-mul-le_self}
 use Rattle.std.proofs.lemmas.Bool.{cases_lt}
 use Rattle.std.proofs.lemmas.Bool.Decides.{nat_tests}
 use Rattle.std.proofs.lemmas.Nat.{div-add-mod', mod_below, div-mul-add, mod-mul-add, mul-add-lt, div_below, le-div, mul-le}
-use Rattle.oe_dims.specs.Dimensions.{most_labels}
-use Rattle.oe_window.specs.Windows.{Position, IsAlong, IsIn, span_below, span_length}
-use Rattle.oe_window.specs.Chunks.{Tiling, IsTiling, IsSide, IsInside, FitsSides, part_count, chunk_count, chunk_number, part_span, chunk_window}
-use Rattle.oe_window.specs.declared.window.Span.{Span}
-use Rattle.oe_window.specs.declared.window.Window.{Window}
+use Rattle.oe_dims.specs.Positions.{Position}
+use Rattle.oe_window.specs.Windows.{IsAlong, IsIn, span_length}
+use Rattle.oe_window.specs.Chunks.{Tiling, IsTiling, IsInside, parts_along, chunk_count, chunk_number, part_span, chunk_window}
 
 -- ---- one dimension
 
--- there are no more parts than places
-pub part_count-le : (n s : ℕ) → 1 ≤ s → part_count n s ≤ n
-part_count-le n s h =
-    elim (cases_lt n (part_count n s)) [
+-- there are no more parts than indices
+pub parts_along-le : (n s : ℕ) → 1 ≤ s → parts_along n s ≤ n
+parts_along-le n s h =
+    elim (cases_lt n (parts_along n s)) [
       | inr le ↦ le
       | inl lt ↦ let back = div-mul-le_self (n + s - 1) s in
-          let more : (n + 1) * s ≤ part_count n s * s = mul-le (n + 1) s (part_count n s) s (omega arith) (omega arith) in
+          let more : (n + 1) * s ≤ parts_along n s * s = mul-le (n + 1) s (parts_along n s) s (omega arith) (omega arith) in
           let most : n * 1 ≤ n * s = mul-le n 1 n s (omega arith) h in
           absurd (omega arith)
     ]
 
--- a part begins at a place
-pub part_begins : (n s i : ℕ) → 1 ≤ s → i < part_count n s → i * s < n
+-- a part begins at an index
+pub part_begins : (n s i : ℕ) → 1 ≤ s → i < parts_along n s → i * s < n
 part_begins n s i h lt =
-    let back : part_count n s * s ≤ n + s - 1 = div-mul-le_self (n + s - 1) s in
-    let more : (i + 1) * s ≤ part_count n s * s = mul-le (i + 1) s (part_count n s) s (omega arith) (omega arith) in
+    let back : parts_along n s * s ≤ n + s - 1 = div-mul-le_self (n + s - 1) s in
+    let more : (i + 1) * s ≤ parts_along n s * s = mul-le (i + 1) s (parts_along n s) s (omega arith) (omega arith) in
     omega arith
 
--- a place lies in a part
-pub part_of : (n s p : ℕ) → 1 ≤ s → p < n → p / s < part_count n s
+-- an index lies in a part
+pub part_of : (n s p : ℕ) → 1 ≤ s → p < n → p / s < parts_along n s
 part_of n s p h lt =
     let back : p / s * s ≤ p = div-mul-le_self p s in
     let fits : (p / s + 1) * s ≤ n + s - 1 = omega arith in
-    let below : p / s + 1 ≤ part_count n s = le-div (p / s + 1) (n + s - 1) s (omega arith) fits in
+    let below : p / s + 1 ≤ parts_along n s = le-div (p / s + 1) (n + s - 1) s (omega arith) fits in
     omega arith
 
 -- and only in that one
@@ -54,7 +52,7 @@ part_along n s i p h lt e =
     let at_i : p / s * s ≡ i * s = ap (λ q. q * s) e in
     record { begun = omega arith; before = omega arith }
 
-pub part_filled : (n s i : ℕ) → 1 ≤ s → i < part_count n s → IsAlong (part_span n s i) (i * s)
+pub part_filled : (n s i : ℕ) → 1 ≤ s → i < parts_along n s → IsAlong (part_span n s i) (i * s)
 part_filled n s i h lt =
     let begins = part_begins n s i h lt in
     record { begun = omega arith; before = omega arith }
@@ -64,18 +62,18 @@ part_short n s i = omega arith
 
 -- ---- all dimensions
 
-none_or_more : (b : Bool) (n k : ℕ) → k < (if b then 0 else n) → (b ≡ false) × (k < n)
+pub none_or_more : (b : Bool) (n k : ℕ) → k < (if b then 0 else n) → (b ≡ false) × (k < n)
 none_or_more true n k h = absurd (omega arith)
 none_or_more false n k h = (refl, h)
 
 -- what it says that there is a chunk of a number
 pub record IsNumber (g : Tiling) (k : ℕ) : Type 0 where
   pub bands : 0 < g.bands
-  pub columns : 0 < part_count g.x g.side_x
-  pub rows : 0 < part_count g.y g.side_y
-  pub t : k / part_count g.x g.side_x / part_count g.y g.side_y < part_count g.t g.side_t
-  pub y : k / part_count g.x g.side_x % part_count g.y g.side_y < part_count g.y g.side_y
-  pub x : k % part_count g.x g.side_x < part_count g.x g.side_x
+  pub columns : 0 < parts_along g.x g.side_x
+  pub rows : 0 < parts_along g.y g.side_y
+  pub t : k / parts_along g.x g.side_x / parts_along g.y g.side_y < parts_along g.t g.side_t
+  pub y : k / parts_along g.x g.side_x % parts_along g.y g.side_y < parts_along g.y g.side_y
+  pub x : k % parts_along g.x g.side_x < parts_along g.x g.side_x
 
 pos_or_zero : (n : ℕ) → (0 < n) ⊎ (n ≡ 0)
 pos_or_zero n = elim (cases_lt 0 n) [ inl lt ↦ inl lt | inr ge ↦ inr (omega arith) ]
@@ -93,9 +91,9 @@ below_three a b c k h =
 pub is_number : (g : Tiling) (k : ℕ) → k < chunk_count g → IsNumber g k
 is_number g k h =
     let some = none_or_more (g.bands == 0) _ k h in
-    let pt = part_count g.t g.side_t in
-    let py = part_count g.y g.side_y in
-    let px = part_count g.x g.side_x in
+    let pt = parts_along g.t g.side_t in
+    let py = parts_along g.y g.side_y in
+    let px = parts_along g.x g.side_x in
     let below : k < pt * py * px = some.1 in
     let positive = below_three pt py px k below in
     let rows : 0 < py = positive.0 in
@@ -117,23 +115,23 @@ digits_number k rows columns =
 pub number_digits : (t y x rows columns k : ℕ) → y < rows → x < columns → (t * rows + y) * columns + x ≡ k → (t ≡ k / columns / rows) × (y ≡ k / columns % rows) × (x ≡ k % columns)
 number_digits t y x rows columns k hy hx e =
     let plane : k / columns ≡ t * rows + y = ap (λ n. n / columns) (sym e) ∙ div-mul-add (t * rows + y) columns x hx in
-    let place : k % columns ≡ x = ap (λ n. n % columns) (sym e) ∙ mod-mul-add (t * rows + y) columns x hx in
+    let column : k % columns ≡ x = ap (λ n. n % columns) (sym e) ∙ mod-mul-add (t * rows + y) columns x hx in
     let first : k / columns / rows ≡ t = ap (λ n. n / rows) plane ∙ div-mul-add t rows y hy in
     let second : k / columns % rows ≡ y = ap (λ n. n % rows) plane ∙ mod-mul-add t rows y hy in
-    (sym first, sym second, sym place)
+    (sym first, sym second, sym column)
 
 chunk_number_of : (g : Tiling) (k : ℕ) → IsTiling g → (p : Position) → IsIn (chunk_window g k) p → IsInside g p × (chunk_number g p ≡ k)
 chunk_number_of g k v p h =
     let t = along_part g.t g.side_t _ p.t v.side_t.0 h.t in
     let y = along_part g.y g.side_y _ p.y v.side_y.0 h.y in
     let x = along_part g.x g.side_x _ p.x v.side_x.0 h.x in
-    (record { t = t.0; bands = h.bands.before; y = y.0; x = x.0 }, rw (t.1, y.1, x.1) (digits_number k (part_count g.y g.side_y) (part_count g.x g.side_x)))
+    (record { t = t.0; bands = h.bands.before; y = y.0; x = x.0 }, rw (t.1, y.1, x.1) (digits_number k (parts_along g.y g.side_y) (parts_along g.x g.side_x)))
 
 in_chunk_of : (g : Tiling) (k : ℕ) → IsTiling g → (p : Position) → IsInside g p → chunk_number g p ≡ k → IsIn (chunk_window g k) p
 in_chunk_of g k v p h e =
     let below_y = part_of g.y g.side_y p.y v.side_y.0 h.y in
     let below_x = part_of g.x g.side_x p.x v.side_x.0 h.x in
-    let digits = number_digits (p.t / g.side_t) (p.y / g.side_y) (p.x / g.side_x) (part_count g.y g.side_y) (part_count g.x g.side_x) k below_y below_x e in
+    let digits = number_digits (p.t / g.side_t) (p.y / g.side_y) (p.x / g.side_x) (parts_along g.y g.side_y) (parts_along g.x g.side_x) k below_y below_x e in
     record {
       t = part_along g.t g.side_t _ p.t v.side_t.0 h.t digits.0;
       bands = record { begun = omega arith; before = h.bands };
@@ -159,11 +157,11 @@ chunk_filled g k v h =
     )
 
 -- each position of the shape has the number of a chunk
-pub number_below : (g : Tiling) (p : Position) → IsTiling g → IsInside g p → chunk_number g p < part_count g.t g.side_t * part_count g.y g.side_y * part_count g.x g.side_x
-number_below g p v h =
-    let pt = part_count g.t g.side_t in
-    let py = part_count g.y g.side_y in
-    let px = part_count g.x g.side_x in
+pub chunk_number_below : (g : Tiling) (p : Position) → IsTiling g → IsInside g p → chunk_number g p < parts_along g.t g.side_t * parts_along g.y g.side_y * parts_along g.x g.side_x
+chunk_number_below g p v h =
+    let pt = parts_along g.t g.side_t in
+    let py = parts_along g.y g.side_y in
+    let px = parts_along g.x g.side_x in
     let t = part_of g.t g.side_t p.t v.side_t.0 h.t in
     let y = part_of g.y g.side_y p.y v.side_y.0 h.y in
     let x = part_of g.x g.side_x p.x v.side_x.0 h.x in

@@ -1,14 +1,17 @@
 -- Runs at regular distances: what they lay end to end, and that they stand apart.
-use Rattle.std.proofs.Common.{◌≡◌, ℕ, zero, suc, ◌+◌, ◌-◌, ◌*◌, ◌/◌, ◌%◌, ◌^◌, ◌<◌, ◌≤◌, List, [], ◌∷◌, ◌++◌, length, map, refl, sym, ap, ◌∙◌, arith, ◌⊎◌, inl, inr}
-use Rattle.std.specs.List.{flat_map, range_with_len}
-use Rattle.std.proofs.Math.Nat.{le-mul_of_pos_right, mul-pos}
+use Rattle.std.proofs.Common.{◌≡◌, ℕ, zero, suc, ◌+◌, ◌-◌, ◌*◌, ◌/◌, ◌%◌, ◌<◌, ◌≤◌, List, [], ◌∷◌, ◌++◌, length, refl, sym, ap, ◌∙◌, arith, ◌⊎◌, inl, inr, Some}
+use Rattle.std.specs.List.{flat_map, range_with_len, slice_get, sum_by}
 use Rattle.std.proofs.lemmas.Bool.{cases_lt}
 use Rattle.std.proofs.lemmas.Grind.{flat_map-append}
-use Rattle.std.proofs.lemmas.List.{append-nil}
+use Rattle.std.proofs.lemmas.List.{append-nil, length-append}
+use Rattle.std.proofs.lemmas.List.Sums.{sum_by-cons}
+use Rattle.std.proofs.lemmas.List.FromFn.{length-range_with_len}
 use Rattle.std.proofs.lemmas.List.Folds.{flat_map-map}
 use Rattle.std.proofs.lemmas.Nat.{div-add-mod', mod_below, div-mul-add, mod-mul-add, div_below, mul-le}
-use Rattle.oe_window.specs.Runs.{laid, AreFilled, AreApart, AreRising}
-use Rattle.oe_window.specs.Layouts.{first_of_run, run_of, run_count, runs_from, all_runs, box_places, IsSpread, Fits, IsBox, Covers}
+use Rattle.oe_dims.proofs.FlatMapLemmas.{flat_map-same, slice_get-append_left, slice_get-append_right}
+use Rattle.oe_window.proofs.RangeLemmas.{slice_get-range}
+use Rattle.oe_window.specs.Runs.{laid, AreFilled, EndWithin, AreApart, AreRising}
+use Rattle.oe_window.specs.Layouts.{first_of_run, run_of, run_count, runs_from, all_runs, box_numbers, IsSpread, Fits, IsBox, Covers}
 use Rattle.oe_window.specs.declared.layout.Axis.{Axis}
 use Rattle.oe_window.specs.declared.layout.Layout.{Layout}
 use Rattle.oe_window.specs.declared.layout.Sides.{Sides}
@@ -30,10 +33,6 @@ flat_map-shift f a b zero = refl
 flat_map-shift f a b (suc n) =
     let next : a + b + 1 ≡ a + (b + 1) = omega arith in
     ap (λ c. f (a + b) ++ flat_map f (range_with_len c n)) next ∙ ap (λ ys. f (a + b) ++ ys) (flat_map-shift f a (b + 1) n)
-
-pub flat_map-same : {A X : Type 0} (f g : A → List X) → ((a : A) → f a ≡ g a) → (xs : List A) → flat_map f xs ≡ flat_map g xs
-flat_map-same f g same [] = refl
-flat_map-same f g same (x ∷ xs) = let here = same x in let rest = flat_map-same f g same xs in rw (here, rest) refl
 
 -- the same below a number
 flat_map-same_below : {X : Type 0} (f g : ℕ → List X) (a n : ℕ) → ((i : ℕ) → i < a + n → f i ≡ g i) → flat_map f (range_with_len a n) ≡ flat_map g (range_with_len a n)
@@ -76,7 +75,7 @@ one_step f = append-nil (f 0)
 
 -- ---- all runs of a layout, laid end to end
 
--- the places of the runs, by their steps along t, bands and y
+-- the numbers of the runs, by their steps along t, bands and y
 abbrev nest : Layout → List ℕ
 nest l =
     flat_map (λ t. flat_map (λ band. flat_map (λ y.
@@ -89,24 +88,24 @@ first_at l t b y hb hy =
     let ny = l.y.count in
     let k = (t * nb + b) * ny + y in
     let plane : k / ny ≡ t * nb + b = div-mul-add (t * nb + b) ny y hy in
-    let place : k % ny ≡ y = mod-mul-add (t * nb + b) ny y hy in
+    let column : k % ny ≡ y = mod-mul-add (t * nb + b) ny y hy in
     let first : (t * nb + b) / nb ≡ t = div-mul-add t nb b hb in
     let second : (t * nb + b) % nb ≡ b = mod-mul-add t nb b hb in
-    rw (plane, place, first, second) refl
+    rw (plane, column, first, second) refl
 
 pub laid-all_runs : (l : Layout) → laid (all_runs l) ≡ nest l
 laid-all_runs l =
     let nt = l.t.count in
     let nb = l.bands.count in
     let ny = l.y.count in
-    let places : ℕ → List ℕ = λ k. range_with_len (first_of_run l k) l.length in
+    let numbers : ℕ → List ℕ = λ k. range_with_len (first_of_run l k) l.length in
     let zero_y : 0 ≡ 0 * ny = omega arith in
     let zero_b : 0 ≡ 0 * nb = omega arith in
     flat_map-map (λ run. range_with_len run.0 run.1) (run_of l) (range_with_len 0 (nt * nb * ny))
-    ∙ ap (λ c. flat_map places (range_with_len c (nt * nb * ny))) zero_y
-    ∙ flat_map-rows places ny 0 (nt * nb)
-    ∙ ap (λ c. flat_map (λ q. flat_map (λ y. places (q * ny + y)) (range_with_len 0 ny)) (range_with_len c (nt * nb))) zero_b
-    ∙ flat_map-rows (λ q. flat_map (λ y. places (q * ny + y)) (range_with_len 0 ny)) nb 0 nt
+    ∙ ap (λ c. flat_map numbers (range_with_len c (nt * nb * ny))) zero_y
+    ∙ flat_map-rows numbers ny 0 (nt * nb)
+    ∙ ap (λ c. flat_map (λ q. flat_map (λ y. numbers (q * ny + y)) (range_with_len 0 ny)) (range_with_len c (nt * nb))) zero_b
+    ∙ flat_map-rows (λ q. flat_map (λ y. numbers (q * ny + y)) (range_with_len 0 ny)) nb 0 nt
     ∙ flat_map-same _ _ (λ t. flat_map-same_below _ _ 0 nb (λ b hb. flat_map-same_below _ _ 0 ny (λ y hy. ap (λ c. range_with_len c l.length) (first_at l t b y (omega arith) (omega arith))))) (range_with_len 0 nt)
 
 -- ---- runs that stand apart
@@ -127,9 +126,9 @@ next_digits k n h =
           inr (omega arith, ap (λ q. q / n) number ∙ div-mul-add (k / n + 1) n 0 h, ap (λ q. q % n) number ∙ mod-mul-add (k / n + 1) n 0 h)
     ]
 
--- the run of the next number begins past a place after the end of this one
-next_place : (first st sb sy nt nb ny long k : ℕ) → 0 < nb → 0 < ny → (1 < ny → long < sy) → (1 < nb → (ny - 1) * sy + long < sb) → (1 < nt → (nb - 1) * sb + (ny - 1) * sy + long < st) → k + 1 < nt * nb * ny → first + k / ny / nb * st + k / ny % nb * sb + k % ny * sy + long < first + (k + 1) / ny / nb * st + (k + 1) / ny % nb * sb + (k + 1) % ny * sy
-next_place first st sb sy nt nb ny long k hb hy ay ab at h =
+-- the run of the next number begins past a number after the end of this one
+next_first : (first st sb sy nt nb ny long k : ℕ) → 0 < nb → 0 < ny → (1 < ny → long < sy) → (1 < nb → (ny - 1) * sy + long < sb) → (1 < nt → (nb - 1) * sb + (ny - 1) * sy + long < st) → k + 1 < nt * nb * ny → first + k / ny / nb * st + k / ny % nb * sb + k % ny * sy + long < first + (k + 1) / ny / nb * st + (k + 1) / ny % nb * sb + (k + 1) % ny * sy
+next_first first st sb sy nt nb ny long k hb hy ay ab at h =
     elim (next_digits k ny hy) [
       | inl same ↦ let many : 1 < ny = omega (arith, same.0) in
           let apart = ay many in
@@ -150,7 +149,7 @@ next_place first st sb sy nt nb ny long k hb hy ay ab at h =
 
 next_run : (l : Layout) → Fits l → IsSpread l → (k : ℕ) → k + 1 < run_count l → first_of_run l k + l.length < first_of_run l (k + 1)
 next_run l fits spread k h =
-    next_place l.first l.t.stride l.bands.stride l.y.stride l.t.count l.bands.count l.y.count l.length k fits.bands fits.y spread.y spread.bands spread.t h
+    next_first l.first l.t.stride l.bands.stride l.y.stride l.t.count l.bands.count l.y.count l.length k fits.bands fits.y spread.y spread.bands spread.t h
 
 pub apart-runs_from : (l : Layout) → Fits l → IsSpread l → (k n : ℕ) → k + n ≤ run_count l → AreApart (runs_from l k n)
 apart-runs_from l fits spread k zero h = tt
@@ -162,7 +161,7 @@ apart-runs_from l fits spread k (suc (suc n)) h =
 
 abbrev StartsFrom : ℕ → List ℕ → Type 0
 StartsFrom least [] = Unit {0}
-StartsFrom least (place ∷ places) = least ≤ place
+StartsFrom least (number ∷ numbers) = least ≤ number
 
 rising_append : (a n : ℕ) (ys : List ℕ) → StartsFrom (a + n) ys → AreRising ys → AreRising (range_with_len a n ++ ys)
 rising_append a zero ys from rising = rising
@@ -187,6 +186,37 @@ rising-laid (run ∷ next ∷ runs) filled apart =
     rising_append run.0 run.1 (laid (next ∷ runs))
     (starts_later (run.0 + run.1) next.0 (laid (next ∷ runs)) (omega arith) (starts_at_run next.0 next.1 (laid runs) filled.1.0))
     (rising-laid (next ∷ runs) filled.1 apart.1)
+
+-- ---- filled runs of numbers below an end end within it
+
+-- each of the numbers is below an end
+unfoldable pub AreBelow : ℕ → List ℕ → Type 0
+AreBelow end numbers = (i k : ℕ) → slice_get numbers i ≡ Some k → k < end
+
+run_within : (end : ℕ) (run : ℕ × ℕ) (rest : List (ℕ × ℕ)) → 0 < run.1 → AreBelow end (laid (run ∷ rest)) → run.0 + run.1 ≤ end
+unfolding AreBelow
+run_within end run rest some below =
+    let long : run.1 - 1 < length (range_with_len run.0 run.1) = omega (arith, length-range_with_len run.0 run.1) in
+    let last : slice_get (laid (run ∷ rest)) (run.1 - 1) ≡ Some (run.0 + (run.1 - 1)) = slice_get-append_left (range_with_len run.0 run.1) (laid rest) (run.1 - 1) long ∙ slice_get-range run.0 run.1 (run.1 - 1) (omega arith) in
+    omega (arith, below (run.1 - 1) (run.0 + (run.1 - 1)) last)
+
+rest_below : (end : ℕ) (run : ℕ × ℕ) (rest : List (ℕ × ℕ)) → AreBelow end (laid (run ∷ rest)) → AreBelow end (laid rest)
+unfolding AreBelow
+rest_below end run rest below i k e =
+    below (length (range_with_len run.0 run.1) + i) k (slice_get-append_right (range_with_len run.0 run.1) (laid rest) i ∙ e)
+
+pub end_within : (end : ℕ) (runs : List (ℕ × ℕ)) → AreFilled runs → AreBelow end (laid runs) → EndWithin end runs
+end_within end [] filled below = tt
+end_within end (run ∷ runs) filled below =
+    (run_within end run runs filled.0 below, end_within end runs filled.1 (rest_below end run runs below))
+
+pub length-laid : (runs : List (ℕ × ℕ)) → length (laid runs) ≡ sum_by (λ run. run.1) runs
+length-laid [] = refl
+length-laid (run ∷ runs) =
+    let rest = length-laid runs in
+    let here = length-range_with_len run.0 run.1 in
+    let more = sum_by-cons (λ r. r.1) run runs in
+    length-append (range_with_len run.0 run.1) (laid runs) ∙ omega arith
 
 -- ---- where a run begins fits 64 bits
 
@@ -321,7 +351,7 @@ planes_touch b s c ex ey =
     flat_map-same _ _ (λ band. rows_touch (b + band * (c.y * c.x)) s c ex ∙ ap (λ n. range_with_len (b + band * (c.y * c.x)) (n * c.x)) ey) (range_with_len 0 s.bands)
     ∙ touching b (c.y * c.x) s.bands
 
-volumes_touch : (b : ℕ) (s c : Sides) → s.x ≡ c.x → s.y ≡ c.y → s.bands ≡ c.bands → box_places b s c ≡ range_with_len b (s.t * (c.bands * (c.y * c.x)))
+volumes_touch : (b : ℕ) (s c : Sides) → s.x ≡ c.x → s.y ≡ c.y → s.bands ≡ c.bands → box_numbers b s c ≡ range_with_len b (s.t * (c.bands * (c.y * c.x)))
 volumes_touch b s c ex ey eb =
     flat_map-same _ _ (λ t. planes_touch (b + t * (c.bands * (c.y * c.x))) s c ex ey ∙ ap (λ n. range_with_len (b + t * (c.bands * (c.y * c.x))) (n * (c.y * c.x))) eb) (range_with_len 0 s.t)
     ∙ touching b (c.bands * (c.y * c.x)) s.t
@@ -341,7 +371,7 @@ covers_rows first s c box short =
     record {
       laid = laid-all_runs (row_layout first s c);
       spread = record { y = λ _. short; bands = λ _. row; t = λ _. omega arith };
-      fits = record { bands = box.bands.0; y = box.y.0; length = box.x.0; count = omega (arith, most.many, box.cells); places = omega (arith, most.plane, most.bands, most.y, most.whole, box.cells, box.begins) };
+      fits = record { bands = box.bands.0; y = box.y.0; length = box.x.0; count = omega (arith, most.many, box.cells); numbers = omega (arith, most.plane, most.bands, most.y, most.whole, box.cells, box.begins) };
     }
 
 pub covers_planes : (first : ℕ) (s c : Sides) → IsBox first s c → s.x ≡ c.x → s.y < c.y → Covers first s c (plane_layout first s c)
@@ -355,7 +385,7 @@ covers_planes first s c box ex short =
           rows_touch (first + t * (c.bands * (c.y * c.x)) + band * (c.y * c.x)) s c ex
           ∙ sym (one_y (first + t * (c.bands * (c.y * c.x)) + band * (c.y * c.x)) (s.y * c.x))) (range_with_len 0 s.bands)) (range_with_len 0 s.t));
       spread = record { y = λ h. absurd (omega arith); bands = λ _. omega arith; t = λ _. omega arith };
-      fits = record { bands = box.bands.0; y = omega arith; length = most.least_y; count = omega (arith, most.some, box.cells); places = omega (arith, most.bands, most.whole, box.cells, box.begins) };
+      fits = record { bands = box.bands.0; y = omega arith; length = most.least_y; count = omega (arith, most.some, box.cells); numbers = omega (arith, most.bands, most.whole, box.cells, box.begins) };
     }
 
 pub covers_volumes : (first : ℕ) (s c : Sides) → IsBox first s c → s.x ≡ c.x → s.y ≡ c.y → s.bands < c.bands → Covers first s c (volume_layout first s c)
@@ -368,7 +398,7 @@ covers_volumes first s c box ex ey short =
           planes_touch (first + t * (c.bands * (c.y * c.x))) s c ex ey
           ∙ sym (one_band (first + t * (c.bands * (c.y * c.x))) (s.bands * (c.y * c.x)))) (range_with_len 0 s.t));
       spread = record { y = λ h. absurd (omega arith); bands = λ h. absurd (omega arith); t = λ _. omega arith };
-      fits = record { bands = omega arith; y = omega arith; length = most.least_bands; count = omega (arith, most.few, box.cells); places = omega (arith, most.whole, box.cells, box.begins) };
+      fits = record { bands = omega arith; y = omega arith; length = most.least_bands; count = omega (arith, most.few, box.cells); numbers = omega (arith, most.whole, box.cells, box.begins) };
     }
 
 pub covers_one : (first : ℕ) (s c : Sides) → IsBox first s c → s.x ≡ c.x → s.y ≡ c.y → s.bands ≡ c.bands → Covers first s c (one_layout first s c)
@@ -380,5 +410,5 @@ covers_one first s c box ex ey eb =
           ∙ flat_map-same _ _ (λ t. one_band (first + t * 0) n) (range_with_len 0 1) ∙ one_y first n
           ∙ sym (volumes_touch first s c ex ey eb);
       spread = record { y = λ h. absurd (omega arith); bands = λ h. absurd (omega arith); t = λ h. absurd (omega arith) };
-      fits = record { bands = omega arith; y = omega arith; length = most.least_t; count = omega arith; places = omega (arith, box.begins) };
+      fits = record { bands = omega arith; y = omega arith; length = most.least_t; count = omega arith; numbers = omega (arith, box.begins) };
     }

@@ -1,21 +1,22 @@
 -- Windows by their spans, and the positions of a window by their numbers.
-use Rattle.std.proofs.Common.{◌≡◌, ◌↔◌, ℕ, ◌+◌, ◌-◌, ◌*◌, ◌<◌, ◌≤◌, List, length, map, refl, sym, ap, ◌∙◌, subst, arith, Option, Some, None, Bool, true, false, IsTrue, ◌⊎◌, ◌||◌, ◌&&◌, min, max, inl, inr}
-use Rattle.std.specs.List.{slice_get, flat_map, range_with_len}
+use Rattle.std.proofs.Common.{◌≡◌, ◌↔◌, ℕ, ◌+◌, ◌-◌, ◌*◌, ◌<◌, ◌≤◌, List, length, map, refl, sym, ap, ◌∙◌, subst, arith, Some, Bool, true, false, IsTrue, ◌⊎◌, ◌||◌, ◌&&◌, min, max, inl, inr}
+use Rattle.std.specs.List.{slice_get, flat_map}
 use Rattle.std.specs.Option.{option_map}
 use Rattle.std.proofs.Math.Nat.{le-mul_of_pos_right}
 use Rattle.std.proofs.lemmas.Bool.{cases_lt}
 use Rattle.std.proofs.lemmas.List.{length-map}
 use Rattle.std.proofs.lemmas.List.FromFn.{length-range_with_len}
-use Rattle.std.proofs.lemmas.Nat.{mul-add-lt}
-use Rattle.std.proofs.lemmas.Option.{same_Some, slice_get-map}
-use Rattle.oe_window.proofs.ListLemmas.{length-flat_map, slice_get-flat_map, from_part, slice_get-range, range-slice_get}
-use Rattle.oe_window.specs.Windows.{Position, IsAlong, IsIn, IsEmpty, Holds, span_length, span_places, positions, position_count, number_in}
+use Rattle.std.proofs.lemmas.Option.{slice_get-map}
+use Rattle.oe_dims.proofs.FlatMapLemmas.{length-flat_map, slice_get-flat_map, from_part, below_product, value_inside}
+use Rattle.oe_window.proofs.RangeLemmas.{slice_get-range, range-slice_get}
+use Rattle.oe_dims.specs.Positions.{Position}
+use Rattle.oe_window.specs.Windows.{IsAlong, IsIn, IsEmpty, Holds, span_length, span_indices, positions, position_count, number_in}
 use Rattle.oe_window.specs.declared.window.Span.{Span}
 use Rattle.oe_window.specs.declared.window.Window.{Window}
 
 -- ---- empty windows, and windows that hold others
 
--- each span has a place
+-- each span has an index
 pub record IsFilled (window : Window) : Type 0 where
   pub t : window.t.from < window.t.to
   pub bands : window.bands.from < window.bands.to
@@ -23,7 +24,7 @@ pub record IsFilled (window : Window) : Type 0 where
   pub x : window.x.from < window.x.to
 
 -- the first position, and the last
-abbrev first_position : Window → Position
+abbrev pub first_position : Window → Position
 first_position window = record { t = window.t.from; band = window.bands.from; y = window.y.from; x = window.x.from }
 
 abbrev last_position : Window → Position
@@ -44,7 +45,7 @@ last_in window h = record { t = last_along window.t h.t; bands = last_along wind
 pub not_empty : (window : Window) → IsFilled window → ¬ IsEmpty window
 not_empty window h empty = empty (first_position window) (first_in window h)
 
--- what lies along a span makes it have a place
+-- what lies along a span makes it have an index
 filled_along : (s : Span) (p : ℕ) → IsAlong s p → s.from < s.to
 filled_along s p h = let begun = h.begun in let before = h.before in omega arith
 
@@ -90,45 +91,42 @@ within_from_holds inner outer h holds =
 -- ---- the positions of a window
 
 abbrev row_in : Window → ℕ → ℕ → ℕ → List Position
-row_in w t band y = map (λ x. record { t = t; band = band; y = y; x = x }) (span_places w.x)
+row_in w t band y = map (λ x. record { t = t; band = band; y = y; x = x }) (span_indices w.x)
 
 abbrev rows_in : Window → ℕ → ℕ → List Position
-rows_in w t band = flat_map (λ y. row_in w t band y) (span_places w.y)
+rows_in w t band = flat_map (λ y. row_in w t band y) (span_indices w.y)
 
 abbrev bands_in : Window → ℕ → List Position
-bands_in w t = flat_map (λ band. rows_in w t band) (span_places w.bands)
+bands_in w t = flat_map (λ band. rows_in w t band) (span_indices w.bands)
 
-length-span : (s : Span) → length (span_places s) ≡ span_length s
+length-span : (s : Span) → length (span_indices s) ≡ span_length s
 length-span s = length-range_with_len s.from (span_length s)
 
 length-row_in : (w : Window) (t band y : ℕ) → length (row_in w t band y) ≡ span_length w.x
-length-row_in w t band y = length-map (span_places w.x) _ ∙ length-span w.x
+length-row_in w t band y = length-map (span_indices w.x) _ ∙ length-span w.x
 
 length-rows_in : (w : Window) (t band : ℕ) → length (rows_in w t band) ≡ span_length w.y * span_length w.x
 length-rows_in w t band =
-    length-flat_map (λ y. row_in w t band y) (span_length w.x) (length-row_in w t band) (span_places w.y) ∙ ap (λ n. n * span_length w.x) (length-span w.y)
+    length-flat_map (λ y. row_in w t band y) (span_length w.x) (length-row_in w t band) (span_indices w.y) ∙ ap (λ n. n * span_length w.x) (length-span w.y)
 
 length-bands_in : (w : Window) (t : ℕ) → length (bands_in w t) ≡ span_length w.bands * (span_length w.y * span_length w.x)
 length-bands_in w t =
-    length-flat_map (λ band. rows_in w t band) (span_length w.y * span_length w.x) (length-rows_in w t) (span_places w.bands)
+    length-flat_map (λ band. rows_in w t band) (span_length w.y * span_length w.x) (length-rows_in w t) (span_indices w.bands)
     ∙ ap (λ n. n * (span_length w.y * span_length w.x)) (length-span w.bands)
 
 -- there are as many as the product of the spans
 pub length-positions : (w : Window) → length (positions w) ≡ position_count w
 length-positions w =
-    length-flat_map (λ t. bands_in w t) (span_length w.bands * (span_length w.y * span_length w.x)) (length-bands_in w) (span_places w.t)
+    length-flat_map (λ t. bands_in w t) (span_length w.bands * (span_length w.y * span_length w.x)) (length-bands_in w) (span_indices w.t)
     ∙ ap (λ n. n * (span_length w.bands * (span_length w.y * span_length w.x))) (length-span w.t) ∙ omega arith
 
-at_span : (s : Span) (p : ℕ) → IsAlong s p → slice_get (span_places s) (p - s.from) ≡ Some p
+at_span : (s : Span) (p : ℕ) → IsAlong s p → slice_get (span_indices s) (p - s.from) ≡ Some p
 at_span s p h =
     let begun = h.begun in
     let before = h.before in
     let short : p - s.from < span_length s = omega arith in
     let back : s.from + (p - s.from) ≡ p = omega arith in
     slice_get-range s.from (span_length s) (p - s.from) short ∙ ap Some back
-
-below_product : (a m b n : ℕ) → a < m → b < n → a * n + b < m * n
-below_product a m b n ha hb = omega (arith, mul-add-lt a n b m ha hb)
 
 short_along : (s : Span) (p : ℕ) → IsAlong s p → p - s.from < span_length s
 short_along s p h = let begun = h.begun in let before = h.before in omega arith
@@ -147,23 +145,19 @@ position_at w p h =
     let lb = below_product b nb (y * nx + x) (ny * nx) (short_along w.bands p.band h.bands) lx in
     let number : number_in w p ≡ t * (nb * (ny * nx)) + (b * (ny * nx) + (y * nx + x)) = omega arith in
     ap (slice_get (positions w)) number
-    ∙ slice_get-flat_map (λ l. bands_in w l) (nb * (ny * nx)) (length-bands_in w) (span_places w.t) t (b * (ny * nx) + (y * nx + x)) p.t (at_span w.t p.t h.t) lb
-    ∙ slice_get-flat_map (λ l. rows_in w p.t l) (ny * nx) (length-rows_in w p.t) (span_places w.bands) b (y * nx + x) p.band (at_span w.bands p.band h.bands) lx
-    ∙ slice_get-flat_map (λ l. row_in w p.t p.band l) nx (length-row_in w p.t p.band) (span_places w.y) y x p.y (at_span w.y p.y h.y) (short_along w.x p.x h.x)
-    ∙ slice_get-map _ (span_places w.x) x ∙ ap (option_map (λ l. record { t = p.t; band = p.band; y = p.y; x = l })) (at_span w.x p.x h.x)
+    ∙ slice_get-flat_map (λ l. bands_in w l) (nb * (ny * nx)) (length-bands_in w) (span_indices w.t) t (b * (ny * nx) + (y * nx + x)) p.t (at_span w.t p.t h.t) lb
+    ∙ slice_get-flat_map (λ l. rows_in w p.t l) (ny * nx) (length-rows_in w p.t) (span_indices w.bands) b (y * nx + x) p.band (at_span w.bands p.band h.bands) lx
+    ∙ slice_get-flat_map (λ l. row_in w p.t p.band l) nx (length-row_in w p.t p.band) (span_indices w.y) y x p.y (at_span w.y p.y h.y) (short_along w.x p.x h.x)
+    ∙ slice_get-map _ (span_indices w.x) x ∙ ap (option_map (λ l. record { t = p.t; band = p.band; y = p.y; x = l })) (at_span w.x p.x h.x)
 
-along_at : (s : Span) (i p : ℕ) → slice_get (span_places s) i ≡ Some p → IsAlong s p × (i ≡ p - s.from)
+along_at : (s : Span) (i p : ℕ) → slice_get (span_indices s) i ≡ Some p → IsAlong s p × (i ≡ p - s.from)
 along_at s i p e =
     let found = range-slice_get s.from (span_length s) i p e in
     let short = found.0 in
-    let at_place = found.1 in
+    let at_index = found.1 in
     (record { begun = omega arith; before = omega arith }, omega arith)
 
-value_inside : {L M : Type 0} (f : L → M) (o : Option L) (m : M) → option_map f o ≡ Some m → (l : L) × (o ≡ Some l) × (f l ≡ m)
-value_inside f None m e = cc
-value_inside f (Some l) m e = (l, refl, same_Some (f l) m e)
-
--- the number that the parts of a place among the positions make
+-- the number that the parts of an index among the positions make
 number_from_parts : (w : Window) (p : Position) (k t in_t b in_b y x : ℕ) → k ≡ t * (span_length w.bands * (span_length w.y * span_length w.x)) + in_t → in_t ≡ b * (span_length w.y * span_length w.x) + in_b → in_b ≡ y * span_length w.x + x → t ≡ p.t - w.t.from → b ≡ p.band - w.bands.from → y ≡ p.y - w.y.from → x ≡ p.x - w.x.from → k ≡ number_in w p
 number_from_parts w p k t in_t b in_b y x ek eb ey pt pb py px =
     rw (ek, eb, ey, ← pt, ← pb, ← py, ← px) (omega arith)
@@ -174,17 +168,17 @@ position_number w k p e =
     let nx = span_length w.x in
     let ny = span_length w.y in
     let nb = span_length w.bands in
-    let t = from_part (λ l. bands_in w l) (nb * (ny * nx)) (length-bands_in w) (span_places w.t) k p e in
-    let b = from_part (λ l. rows_in w t.item l) (ny * nx) (length-rows_in w t.item) (span_places w.bands) t.place p t.at_place in
-    let y = from_part (λ l. row_in w t.item b.item l) nx (length-row_in w t.item b.item) (span_places w.y) b.place p b.at_place in
+    let t = from_part (λ l. bands_in w l) (nb * (ny * nx)) (length-bands_in w) (span_indices w.t) k p e in
+    let b = from_part (λ l. rows_in w t.item l) (ny * nx) (length-rows_in w t.item) (span_indices w.bands) t.index p t.at_index in
+    let y = from_part (λ l. row_in w t.item b.item l) nx (length-row_in w t.item b.item) (span_indices w.y) b.index p b.at_index in
     let make : ℕ → Position = λ l. record { t = t.item; band = b.item; y = y.item; x = l } in
-    let x = value_inside make (slice_get (span_places w.x) y.place) p (sym (slice_get-map make (span_places w.x) y.place) ∙ y.at_place) in
+    let x = value_inside make (slice_get (span_indices w.x) y.index) p (sym (slice_get-map make (span_indices w.x) y.index) ∙ y.at_index) in
     let along_t = along_at w.t t.part t.item t.at_part in
     let along_b = along_at w.bands b.part b.item b.at_part in
     let along_y = along_at w.y y.part y.item y.at_part in
-    let along_x = along_at w.x y.place x.0 x.1 in
+    let along_x = along_at w.x y.index x.0 x.1 in
     let inside : IsIn w (make x.0) = record { t = along_t.0; bands = along_b.0; y = along_y.0; x = along_x.0 } in
-    let number : k ≡ number_in w (make x.0) = number_from_parts w (make x.0) k t.part t.place b.part b.place y.part y.place t.number b.number y.number along_t.1 along_b.1 along_y.1 along_x.1 in
+    let number : k ≡ number_in w (make x.0) = number_from_parts w (make x.0) k t.part t.index b.part b.index y.part y.index t.number b.number y.number along_t.1 along_b.1 along_y.1 along_x.1 in
     subst (λ v. IsIn w v × (k ≡ number_in w v)) x.2 (inside, number)
 
 pub numbered : (w : Window) (k : ℕ) (p : Position) → (slice_get (positions w) k ≡ Some p) ↔ (IsIn w p × (k ≡ number_in w p))
@@ -192,11 +186,11 @@ numbered w k p = (position_number w k p, λ h. ap (slice_get (positions w)) h.1 
 
 -- ---- what the code tests
 
--- some span has no place
-abbrev HasEmptySpan : Window → Type 0
+-- some span has no index
+abbrev pub HasEmptySpan : Window → Type 0
 HasEmptySpan w = (w.t.to ≤ w.t.from) ⊎ ((w.bands.to ≤ w.bands.from) ⊎ ((w.y.to ≤ w.y.from) ⊎ (w.x.to ≤ w.x.from)))
 
-filled_or_not : (w : Window) → IsFilled w ⊎ HasEmptySpan w
+pub filled_or_not : (w : Window) → IsFilled w ⊎ HasEmptySpan w
 filled_or_not w =
     elim (cases_lt w.t.from w.t.to) [
       | inr ge ↦ inr (inl ge)
@@ -279,7 +273,7 @@ holds_is a b t bands y x filled it ib iy ix = (
 )
 
 -- the count of an empty window, and the products on the way to the count of another
-count_zero : (w : Window) → HasEmptySpan w → position_count w ≡ 0
+pub count_zero : (w : Window) → HasEmptySpan w → position_count w ≡ 0
 count_zero w (inl t) = let none : span_length w.t ≡ 0 = omega arith in rw none (omega arith)
 count_zero w (inr (inl b)) = let none : span_length w.bands ≡ 0 = omega arith in rw none (omega arith)
 count_zero w (inr (inr (inl y))) = let none : span_length w.y ≡ 0 = omega arith in rw none (omega arith)

@@ -1,4 +1,6 @@
+pub mod Cells
 pub mod Chunks
 pub mod Layouts
+pub mod Parts
 pub mod Runs
 pub mod Windows

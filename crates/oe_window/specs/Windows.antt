@@ -1,23 +1,17 @@
 -- Windows of a cube, as sets of positions.
-use Rattle.std.specs.Prelude.{◌≡◌, ℕ, ◌+◌, ◌-◌, ◌*◌, ◌<◌, ◌≤◌, List, map}
+use Rattle.std.specs.Prelude.{ℕ, ◌+◌, ◌-◌, ◌*◌, ◌<◌, ◌≤◌, List, map}
 use Rattle.std.specs.List.{flat_map, range_with_len}
 use Rattle.oe_dims.specs.Dimensions.{Dimensions, extent}
+use Rattle.oe_dims.specs.Positions.{Position}
 use Rattle.oe_dims.specs.declared.kind.Kind.{Kind}
 use Rattle.oe_dims.specs.declared.kind.Kind.TheVariants.{Time, Bands, Y, X}
 use Rattle.oe_window.specs.declared.window.Span.{Span}
 use Rattle.oe_window.specs.declared.window.Window.{Window}
 
--- a position of a cube, by its places along the four dimensions
-pub record Position : Type 0 where
-  pub t : ℕ
-  pub band : ℕ
-  pub y : ℕ
-  pub x : ℕ
-
--- a place lies in a span: from its first place on, and before its end
-pub record IsAlong (span : Span) (place : ℕ) : Type 0 where
-  pub begun : span.from ≤ place
-  pub before : place < span.to
+-- an index lies in a span: from its first one on, and before its end
+pub record IsAlong (span : Span) (index : ℕ) : Type 0 where
+  pub begun : span.from ≤ index
+  pub before : index < span.to
 
 -- a position lies in a window: in each of its four spans
 pub record IsIn (window : Window) (p : Position) : Type 0 where
@@ -34,16 +28,20 @@ IsEmpty window = (p : Position) → ¬ IsIn window p
 abbrev pub Holds : Window → Window → Type 0
 Holds a b = (p : Position) → IsIn b p → IsIn a p
 
--- how many places a dimension gives: its labels, or one where it is missing
+-- how many indices a dimension has: one a label, or one where it is missing
 abbrev pub extent_along : Dimensions → Kind → ℕ
 extent_along d Time = extent d.t
 extent_along d Bands = extent d.bands
 extent_along d Y = extent d.y
 extent_along d X = extent d.x
 
--- the places from 0 to before an end
+-- the indices from 0 to before an end
 abbrev pub span_below : ℕ → Span
 span_below end = record { from = 0; to = end }
+
+-- one index alone
+abbrev pub span_at : ℕ → Span
+span_at index = record { from = index; to = index + 1 }
 
 -- all positions of a cube of these dimensions
 abbrev pub whole_window : Dimensions → Window
@@ -54,19 +52,19 @@ whole_window d = record {
   x = span_below (extent d.x);
 }
 
--- how many places a span has
+-- how many indices a span has
 abbrev pub span_length : Span → ℕ
 span_length span = span.to - span.from
 
--- the places of a span, in order
-abbrev pub span_places : Span → List ℕ
-span_places span = range_with_len span.from (span_length span)
+-- the indices of a span, in order
+abbrev pub span_indices : Span → List ℕ
+span_indices span = range_with_len span.from (span_length span)
 
 -- the positions of a window in row-major order: t, bands, y, x, the last running fastest
 abbrev pub positions : Window → List Position
 positions window =
     flat_map (λ t. flat_map (λ band. flat_map (λ y. map (λ x. record { t = t; band = band; y = y; x = x })
-    (span_places window.x)) (span_places window.y)) (span_places window.bands)) (span_places window.t)
+    (span_indices window.x)) (span_indices window.y)) (span_indices window.bands)) (span_indices window.t)
 
 -- how many positions a window has
 abbrev pub position_count : Window → ℕ

@@ -1,8 +1,10 @@
 // The chunks of a shape.
 ghost use Rattle.std.specs.Prelude.{◌≡◌, ◌↔◌, ◌<◌, ◌≤◌, ◌^◌};
-ghost use Rattle.oe_dims.specs.Dimensions.{extent};
-ghost use Rattle.oe_window.specs.Windows.{Position, IsIn};
-ghost use Rattle.oe_window.specs.Chunks.{Tiling, IsTiling, IsSide, IsInside, FitsSides, part_count, chunk_count, chunk_number, part_span, chunk_window};
+ghost use Rattle.oe_dims.specs.Dimensions.{cell_count};
+ghost use Rattle.oe_dims.specs.Positions.{Position, IsPosition};
+ghost use Rattle.oe_window.specs.Windows.{IsIn};
+ghost use Rattle.oe_window.specs.Chunks.{Tiling, IsTiling, IsSide, IsInside, FitsSides, PartNumbers, tiling_of};
+ghost use Rattle.oe_window.specs.Chunks.{parts_along, part_span, chunk_count, chunk_number, chunk_numbers, chunk_window};
 
 use crate::window::extent_of;
 use crate::{Span, Window};
@@ -28,32 +30,32 @@ pub struct Grid {
 }
 
 impl Model for Grid {
-    ghost use Rattle.oe_window.specs.Chunks.{Tiling};
+    ghost use Rattle.oe_window.specs.Chunks.{Tiling, tiling};
 
     ghost Value = { Tiling };
 
     ghost use Rattle.oe_window.specs.Chunks.{IsTiling};
 
-    ghost view = { λ g. record { t = g.t; bands = g.bands; y = g.y; x = g.x; side_t = g.size.t; side_y = g.size.y; side_x = g.size.x } };
+    ghost view = { λ g. tiling g.t g.bands g.y g.x g.size };
 
-    ghost invariant = { λ g. IsTiling (record { t = g.t; bands = g.bands; y = g.y; x = g.x; side_t = g.size.t; side_y = g.size.y; side_x = g.size.x }) };
+    ghost invariant = { λ g. IsTiling (tiling g.t g.bands g.y g.x g.size) };
 }
 
-fn parts(places: u32, side: u32) -> u64
+fn parts(indices: u32, side: u32) -> u64
     requires { IsSide side }
-    ensures value { result ≡ part_count places side }
-    ensures most { result ≤ places }
+    ensures value { result ≡ parts_along indices side }
+    ensures most { result ≤ indices }
 {
-    (u64::from(places) + u64::from(side) - 1) / u64::from(side)
+    (u64::from(indices) + u64::from(side) - 1) / u64::from(side)
 }
 
-fn part(places: u32, side: u32, number: u64) -> Span
+fn part(indices: u32, side: u32, number: u64) -> Span
     requires side { IsSide side }
-    requires number { number < part_count places side }
-    ensures { result ≡ part_span places side number }
+    requires number { number < parts_along indices side }
+    ensures { result ≡ part_span indices side number }
 {
     let from = number * u64::from(side);
-    let to = (from + u64::from(side)).min(u64::from(places));
+    let to = (from + u64::from(side)).min(u64::from(indices));
     Span {
         from: from as u32,
         to: to as u32,
@@ -66,11 +68,10 @@ impl Grid {
         requires x { IsSide size.x }
         requires y { IsSide size.y }
         requires t { IsSide size.t }
-        ensures t { result.t ≡ extent shape.now.t }
-        ensures bands { result.bands ≡ extent shape.now.bands }
-        ensures y { result.y ≡ extent shape.now.y }
-        ensures x { result.x ≡ extent shape.now.x }
-        ensures sides { (result.side_t ≡ size.t) × (result.side_y ≡ size.y) × (result.side_x ≡ size.x) }
+        // The positions of the shape, and each of its numbers in one chunk, once.
+        ensures value { result ≡ tiling_of shape.now size }
+        ensures inside { (p : Position) → IsInside result p ↔ IsPosition shape.now p }
+        ensures numbers { PartNumbers (chunk_count result) (chunk_numbers shape.now result) (cell_count shape.now) }
     {
         Grid {
             t: extent_of(shape, Kind::Time),
@@ -98,8 +99,10 @@ impl Grid {
     /// The chunk of a number: exactly the positions of the shape that have that number, of which there is one.
     pub fn chunk(&self, k: u64) -> Window
         requires { k < chunk_count self.now }
+        // Exactly the positions of that number, within the sides.
         ensures value { result ≡ chunk_window self.now k }
-        ensures positions { (p : Position) → IsIn result p ↔ (IsInside self.now p × (chunk_number self.now p ≡ k)) }
+        ensures positions { (p : Position) →
+            IsIn result p ↔ (IsInside self.now p × (chunk_number self.now p ≡ k)) }
         ensures filled { (p : Position) × IsIn result p }
         ensures sides { FitsSides self.now result }
     {

@@ -2,7 +2,7 @@
 ghost use Rattle.std.specs.Prelude.{◌≡◌, ◌<◌};
 ghost use Rattle.oe_window.specs.Layouts.{Covers, Fits, IsBox, first_of_run, run_count};
 
-/// How many places a box or a cube has along each dimension.
+/// How many indices a box or a cube has along each dimension.
 #[derive(Clone, Copy, Debug)]
 pub(crate) struct Sides {
     pub(crate) t: u64,
@@ -23,7 +23,7 @@ const ONE_STEP: Axis = Axis {
     stride: 0,
 };
 
-/// Runs of one length, whose first places stand at regular distances.
+/// Runs of one length, whose first numbers stand at regular distances.
 #[derive(Clone, Copy, Debug)]
 pub(crate) struct Layout {
     pub(crate) first: u64,
@@ -113,7 +113,7 @@ impl Layout {
         self.t.count * self.bands.count * self.y.count
     }
 
-    /// The first place of the run of a number.
+    /// The first number of the run of a number.
     pub(crate) fn first_of_run(&self, number: u64) -> u64
         requires fits { Fits self.now }
         requires number { number < run_count self.now }

@@ -1,9 +1,10 @@
-// The row-major places of a window, as runs.
+// The row-major numbers of a window, as runs.
 ghost use Rattle.std.specs.Prelude.{◌≡◌};
-ghost use Rattle.oe_dims.specs.Dimensions.{IsShape};
-ghost use Rattle.oe_window.specs.Windows.{Holds, IsEmpty, whole_window};
-ghost use Rattle.oe_window.specs.Runs.{laid, window_places, AreFilled, AreApart, AreRising};
-ghost use Rattle.oe_window.specs.Layouts.{Fits, IsSpread, all_runs, window_sides, cube_sides, first_place};
+ghost use Rattle.std.specs.List.{sum_by};
+ghost use Rattle.oe_dims.specs.Dimensions.{IsShape, cell_count};
+ghost use Rattle.oe_window.specs.Windows.{Holds, IsEmpty, position_count, whole_window};
+ghost use Rattle.oe_window.specs.Runs.{laid, window_numbers, AreFilled, EndWithin, AreApart, AreRising};
+ghost use Rattle.oe_window.specs.Layouts.{Fits, IsSpread, all_runs, window_sides, cube_sides, first_number};
 
 use crate::Window;
 use crate::layout::{Layout, Sides};
@@ -11,7 +12,7 @@ use crate::window::extent_of;
 use oe_dims::{Kind, Shape};
 use std::marker::Model;
 
-/// The runs of places that are still to come, each a first place and a number of places.
+/// The runs of numbers that are still to come, each a first number and a length.
 #[derive(Debug, Drop)]
 pub struct RunList {
     layout: Layout,
@@ -55,10 +56,10 @@ fn sides_of(window: &Window) -> Sides
     ensures { result ≡ window_sides window.now }
 {
     Sides {
-        t: window.t.places(),
-        bands: window.bands.places(),
-        y: window.y.places(),
-        x: window.x.places(),
+        t: window.t.length(),
+        bands: window.bands.length(),
+        y: window.y.length(),
+        x: window.x.length(),
     }
 }
 
@@ -74,10 +75,10 @@ fn cube_of(shape: &Shape) -> Sides
     }
 }
 
-fn first_place(window: &Window, shape: &Shape) -> u64
+fn first_number(window: &Window, shape: &Shape) -> u64
     requires within { Holds (whole_window shape.now) window.now }
     requires filled { ¬ IsEmpty window.now }
-    ensures { result ≡ first_place shape.now window.now }
+    ensures { result ≡ first_number shape.now window.now }
 {
     let cube = cube_of(shape);
     let band = u64::from(window.t.from) * cube.bands + u64::from(window.bands.from);
@@ -90,19 +91,23 @@ fn layout_of(window: &Window, shape: &Shape) -> Layout
     requires filled { ¬ IsEmpty window.now }
     ensures fits { Fits result }
     ensures spread { IsSpread result }
-    ensures places { laid (all_runs result) ≡ window_places shape.now window.now }
+    ensures numbers { laid (all_runs result) ≡ window_numbers shape.now window.now }
 {
     let cube = cube_of(shape);
-    Layout::of(first_place(window, shape), sides_of(window), cube)
+    Layout::of(first_number(window, shape), sides_of(window), cube)
 }
 
-/// The row-major places of a window in a cube of this shape, as the longest runs, in rising order.
+/// The row-major numbers of a window in a cube of this shape, as the longest runs, in rising order.
 pub fn runs(window: &Window, shape: &Shape) -> RunList
     requires { Holds (whole_window shape.now) window.now }
-    ensures places { laid result ≡ window_places shape.now window.now }
+    // What they are laid end to end, and how long each and all of them.
+    ensures numbers { laid result ≡ window_numbers shape.now window.now }
     ensures filled { AreFilled result }
+    ensures within { EndWithin (cell_count shape.now) result }
+    ensures lengths { sum_by (λ run. run.1) result ≡ position_count window.now }
+    // No two touch.
     ensures apart { AreApart result }
-    ensures rising { AreRising (window_places shape.now window.now) }
+    ensures rising { AreRising (window_numbers shape.now window.now) }
 {
     if window.is_empty() {
         return RunList {

@@ -1,11 +1,13 @@
 // Windows as sets of positions.
 ghost use Rattle.std.specs.Prelude.{◌≡◌, ◌↔◌, ℕ, ◌^◌, ◌<◌, ◌≤◌, min, max, length, slice_get, Some, IsTrue};
-ghost use Rattle.oe_dims.specs.Dimensions.{IsShape, most_labels};
-ghost use Rattle.oe_window.specs.Windows.{Position, IsAlong, IsIn, IsEmpty, Holds, extent_along, whole_window, span_length, positions, position_count, number_in};
+ghost use Rattle.oe_dims.specs.Dimensions.{IsShape, cell_count, most_labels};
+ghost use Rattle.oe_dims.specs.Positions.{Position, IsPosition, number_of};
+ghost use Rattle.oe_window.specs.Windows.{IsIn, IsEmpty, Holds, extent_along, whole_window, span_length};
+ghost use Rattle.oe_window.specs.Windows.{positions, position_count, number_in};
 
 use oe_dims::{Kind, Shape};
 
-/// Places along one dimension: from the place `from` on, and before `to`.
+/// Indices along one dimension: from the index `from` on, and before `to`.
 #[derive(Clone, Copy, Debug, PartialEq, Eq)]
 pub struct Span {
     pub from: u32,
@@ -19,10 +21,16 @@ impl Span {
         self.to <= self.from
     }
 
-    pub(crate) fn places(self) -> u64
+    pub(crate) fn count(self) -> u32
         ensures { result ≡ span_length self }
     {
-        u64::from(self.to.saturating_sub(self.from))
+        self.to.saturating_sub(self.from)
+    }
+
+    pub(crate) fn length(self) -> u64
+        ensures { result ≡ span_length self }
+    {
+        u64::from(self.count())
     }
 
     fn is_within(self, other: Span) -> bool
@@ -32,7 +40,7 @@ impl Span {
     }
 }
 
-/// The positions whose places lie in all four spans. A missing dimension has the span 0 to 1.
+/// The positions whose indices lie in the four spans. A missing dimension has the span 0 to 1.
 #[derive(Clone, Copy, Debug, PartialEq, Eq)]
 pub struct Window {
     pub t: Span,
@@ -42,7 +50,8 @@ pub struct Window {
 }
 
 impl Window {
-    pub(crate) fn is_empty(&self) -> bool
+    /// Whether no position lies in it.
+    pub fn is_empty(&self) -> bool
         ensures { IsTrue result ↔ IsEmpty self.now }
     {
         self.t.is_empty() | self.bands.is_empty() | self.y.is_empty() | self.x.is_empty()
@@ -72,7 +81,11 @@ fn span_of(shape: &Shape, kind: Kind) -> Span
 
 /// All positions of a cube of this shape.
 pub fn whole(shape: &Shape) -> Window
-    ensures { result ≡ whole_window shape.now }
+    // Its positions are those of the shape, by the same numbers.
+    ensures value { result ≡ whole_window shape.now }
+    ensures positions { (p : Position) → IsIn result p ↔ IsPosition shape.now p }
+    ensures numbers { (p : Position) → number_in result p ≡ number_of shape.now p }
+    ensures count { position_count result ≡ cell_count shape.now }
 {
     Window {
         t: span_of(shape, Kind::Time),
@@ -102,10 +115,12 @@ fn span_meet(a: Span, b: Span) -> Span
     }
 }
 
-/// The least window that holds both, which is the other one where one is empty.
+/// The least window that holds both. Where one is empty it is the other one, and where both are, the second.
 pub fn hull(a: &Window, b: &Window) -> Window
+    // One that is empty adds nothing.
     ensures first_empty { IsEmpty a.now → result ≡ b.now }
     ensures second_empty { ¬ IsEmpty a.now → IsEmpty b.now → result ≡ a.now }
+    // It is the least of those that hold both.
     ensures holds_first { Holds result a.now }
     ensures holds_second { Holds result b.now }
     ensures least { (window : _) → Holds window a.now → Holds window b.now → Holds window result }
@@ -140,18 +155,22 @@ pub fn meet(a: &Window, b: &Window) -> Window
 pub fn size(window: &Window) -> u64
     requires { position_count window.now < 2 ^ 64 }
     ensures value { result ≡ position_count window.now }
+    ensures empty { (result ≡ 0) ↔ IsEmpty window.now }
+    // The list of the positions, and where each stands in it.
     ensures listed { result ≡ length (positions window.now) }
-    ensures numbered { (k : ℕ) (p : Position) → (slice_get (positions window.now) k ≡ Some p) ↔ (IsIn window.now p × (k ≡ number_in window.now p)) }
+    ensures numbered { (k : ℕ) (p : Position) →
+        (slice_get (positions window.now) k ≡ Some p) ↔ (IsIn window.now p × (k ≡ number_in window.now p)) }
 {
     if window.is_empty() {
         return 0;
     }
-    window.t.places() * window.bands.places() * window.y.places() * window.x.places()
+    window.t.length() * window.bands.length() * window.y.length() * window.x.length()
 }
 
 /// Whether each position of the second window lies in the first.
 pub fn holds(a: &Window, b: &Window) -> bool
-    ensures { IsTrue result ↔ Holds a.now b.now }
+    ensures value { IsTrue result ↔ Holds a.now b.now }
+    ensures fewer { Holds a.now b.now → position_count b.now ≤ position_count a.now }
 {
     if b.is_empty() {
         return true;

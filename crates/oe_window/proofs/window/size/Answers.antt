@@ -1,6 +1,6 @@
-use Rattle.std.proofs.Common.{◌≡◌, ◌<◌, ◌≤◌, ◌*◌, arith, sym, ◌∙◌}
+use Rattle.std.proofs.Common.{arith, sym, ◌∙◌}
 use Rattle.std.proofs.lemmas.Bool.{false≢true}
-use Rattle.oe_window.specs.Windows.{position_count, span_length}
+use Rattle.oe_window.specs.Windows.{span_length}
 use Rattle.oe_window.proofs.WindowLemmas.{length-positions, numbered, count_of_empty, partial_products, filled_unless_empty}
 use Rattle.oe_window.proofs.window.size.Goals as goal
 
@@ -21,7 +21,7 @@ overflow_mul-result c =
     let y = f.y in
     let x = f.x in
     let fits = partial_products (span_length w.t) (span_length w.bands) (span_length w.y) (span_length w.x) _ (omega arith) (omega arith) c.requires in
-    rw (c.places.ensures, c.places-2.ensures) (omega (arith, fits.0))
+    rw (c.length.ensures, c.length-2.ensures) (omega (arith, fits.0))
 
 pub overflow_mul-result-2 : goal.overflow_mul-result-2
 overflow_mul-result-2 c =
@@ -30,11 +30,11 @@ overflow_mul-result-2 c =
     let y = f.y in
     let x = f.x in
     let fits = partial_products (span_length w.t) (span_length w.bands) (span_length w.y) (span_length w.x) _ (omega arith) (omega arith) c.requires in
-    rw (c.places.ensures, c.places-2.ensures, c.places-3.ensures) (omega (arith, fits.1))
+    rw (c.length.ensures, c.length-2.ensures, c.length-3.ensures) (omega (arith, fits.1))
 
 pub returns-clause-listed : goal.returns-clause-listed
 returns-clause-listed c =
-    rw (c.places.ensures, c.places-2.ensures, c.places-3.ensures, c.places-4.ensures) (sym (length-positions c.args.window.now))
+    rw (c.length.ensures, c.length-2.ensures, c.length-3.ensures, c.length-4.ensures) (sym (length-positions c.args.window.now))
 
 pub returns-clause-numbered : goal.returns-clause-numbered
 returns-clause-numbered c k p = numbered c.args.window.now k p

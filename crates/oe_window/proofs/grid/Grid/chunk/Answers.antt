@@ -1,5 +1,3 @@
-use Rattle.std.proofs.Common.{◌≡◌, ◌<◌, ◌/◌, ◌%◌, arith}
-use Rattle.oe_window.specs.Chunks.{Tiling, chunk_count, chunk_window}
 use Rattle.oe_window.proofs.ChunkLemmas.{is_number, chunk_positions, chunk_filled}
 use Rattle.oe_window.proofs.grid.Grid.chunk.Goals as goal
 

@@ -1,11 +1,11 @@
-use Rattle.std.proofs.Common.{◌+◌, ◌*◌, arith}
+use Rattle.std.proofs.Common.{arith}
 use Rattle.oe_window.proofs.RunLemmas.{first_within}
 use Rattle.oe_window.proofs.layout.Layout.first_of_run.Goals as goal
 
 pub overflow_add-result-2 : goal.overflow_add-result-2
 overflow_add-result-2 c =
-    omega (arith, first_within c.args.self.now c.requires.fits c.args.number c.requires.number, c.requires.fits.places)
+    omega (arith, first_within c.args.self.now c.requires.fits c.args.number c.requires.number, c.requires.fits.length)
 
 pub overflow_add-result-3 : goal.overflow_add-result-3
 overflow_add-result-3 c =
-    omega (arith, first_within c.args.self.now c.requires.fits c.args.number c.requires.number, c.requires.fits.places)
+    omega (arith, first_within c.args.self.now c.requires.fits c.args.number c.requires.number, c.requires.fits.length)

@@ -1,6 +1,6 @@
-use Rattle.std.proofs.Common.{◌≡◌, ◌+◌, ◌*◌, arith}
-use Rattle.oe_window.proofs.PlaceLemmas.{on_the_way, lies_in}
-use Rattle.oe_window.proofs.run_list.first_place.Goals as goal
+use Rattle.std.proofs.Common.{arith}
+use Rattle.oe_window.proofs.NumberLemmas.{on_the_way, lies_in}
+use Rattle.oe_window.proofs.run_list.first_number.Goals as goal
 
 pub overflow_mul-band : goal.overflow_mul-band
 overflow_mul-band c =
