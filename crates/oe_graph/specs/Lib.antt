@@ -1,0 +1,13 @@
+pub mod Tree
+pub mod Plain
+pub mod Codes
+pub mod Faults
+pub mod Form
+pub mod Built
+pub mod Parameters
+pub mod Walked
+pub mod Read
+pub mod Printed
+pub mod Catalogue
+pub mod References
+pub mod Resolved

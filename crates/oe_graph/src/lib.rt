@@ -1,0 +1,32 @@
+//! Process graphs as the openEO API sends them, and the catalogue of processes.
+//!
+//! [`read_graph`] and [`read_stored`] read a graph whole: they answer the tree that the bytes are, or the least fault of
+//! their form. A [`Graph`] holds [`Node`]s with [`Arg`]uments, and a callback is a graph inside an argument. [`Code`]
+//! has the faults of all phases, and `IsLeast` of `specs/Faults.antt` is the one order in which they are reported.
+//! [`PROCESSES`] is the catalogue: the one table that code, texts and definitions read. The layers above use that the
+//! readers refuse exactly where a fault stands, that [`process`] is none exactly for an id without a row, and the word
+//! `IsResolved` for a graph whose names all lead somewhere.
+#![tactic(auto)]
+
+mod build;
+mod catalogue;
+mod code;
+mod copy;
+mod fault;
+mod form;
+mod print;
+mod read;
+mod stored;
+mod table;
+mod tree;
+mod walk;
+
+pub use catalogue::{ParameterRow, ProcessRow, process, process_entry, processes_text};
+pub use code::Code;
+pub use copy::copy_arg;
+pub use fault::{Fault, Refusal, is_before, least};
+pub use print::print_graph;
+pub use read::{read_graph, read_stored, read_value};
+pub use stored::StoredProcess;
+pub use table::{Holds, Literal, PROCESS_COUNT, PROCESSES, ParameterEntry, ProcessEntry};
+pub use tree::{Arg, Graph, Node};
