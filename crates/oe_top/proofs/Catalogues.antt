@@ -20,7 +20,7 @@ use Rattle.oe_dims.specs.declared.kind.CellKind.TheVariants.{Numbers, Flags}
 use Rattle.oe_outside.specs.Faults.{NeverFalls}
 use Rattle.oe_outside.proofs.Causes.{NeverFalls-refl}
 use Rattle.oe_top.specs.Catalogue.{row_shown}
-use Rattle.oe_top.specs.Collection.{Collection, is_of_kind, loaded, Row, row_of, faults_at, shown, OnlyRead, IsCollection}
+use Rattle.oe_top.specs.Collection.{Collection, is_of_kind, loaded, Row, row_of, faults_at, row_without_faults, OnlyRead, IsCollection}
 use Rattle.oe_top.specs.declared.catalogue.Mounted.{Mounted}
 
 -- the row that stands for a mounted collection
@@ -67,15 +67,15 @@ faults_at-row (first ∷ rows) zero row below is = ap (λ r. r.source.faults) is
 faults_at-row (first ∷ rows) (suc place) row below is = faults_at-row rows place row (omega arith) is
 
 -- one row was read
-pub OnlyRead-set : (rows : List Row) (place : ℕ) (old new : Row) → place < length rows → get_or rows place old ≡ old → shown new ≡ shown old → NeverFalls old.source.faults new.source.faults → OnlyRead rows (set rows place new)
+pub OnlyRead-set : (rows : List Row) (place : ℕ) (old new : Row) → place < length rows → get_or rows place old ≡ old → row_without_faults new ≡ row_without_faults old → NeverFalls old.source.faults new.source.faults → OnlyRead rows (set rows place new)
 OnlyRead-set rows place old new below is same counts = record {
-  same = map-set_same shown rows place new old (same ∙ ap shown (sym is));
+  same = map-set_same row_without_faults rows place new old (same ∙ ap row_without_faults (sym is));
   counts = falls_at rows place new (rw (faults_at-row rows place old below is) counts);
 }
 
-shown_row : (found : Option Row) (row : Row) → option_map shown found ≡ Some (shown row) → (new : Row) × (found ≡ Some new) × (new.source.collection ≡ row.source.collection)
+shown_row : (found : Option Row) (row : Row) → option_map row_without_faults found ≡ Some (row_without_faults row) → (new : Row) × (found ≡ Some new) × (new.source.collection ≡ row.source.collection)
 shown_row None row e = cc
-shown_row (Some new) row e = (new, refl, ap (λ pair. pair.1) (same_Some (shown new) (shown row) e))
+shown_row (Some new) row e = (new, refl, ap (λ pair. pair.1) (same_Some (row_without_faults new) (row_without_faults row) e))
 
 -- reading nothing, and a row after reading
 pub OnlyRead-none : (rows : List Row) → OnlyRead rows rows
@@ -83,7 +83,7 @@ OnlyRead-none rows = record { same = refl; counts = λ place. NeverFalls-refl (f
 
 pub row_after : (before after : List Row) (place : ℕ) (row : Row) → OnlyRead before after → slice_get before place ≡ Some row → (new : Row) × (slice_get after place ≡ Some new) × (new.source.collection ≡ row.source.collection)
 row_after before after place row read is =
-    let shown_there : option_map shown (slice_get after place) ≡ Some (shown row) = sym (slice_get-map shown after place) ∙ ap (λ rows. slice_get rows place) read.same ∙ slice_get-map shown before place ∙ ap (option_map shown) is in
+    let shown_there : option_map row_without_faults (slice_get after place) ≡ Some (row_without_faults row) = sym (slice_get-map row_without_faults after place) ∙ ap (λ rows. slice_get rows place) read.same ∙ slice_get-map row_without_faults before place ∙ ap (option_map row_without_faults) is in
     shown_row (slice_get after place) row shown_there
 
 -- the text of a collection is that of its cube

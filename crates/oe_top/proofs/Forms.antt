@@ -1,4 +1,4 @@
--- Graphs of the form that is built.
+-- Graphs of the form that is built, by the maps of `serde_json`.
 use Rattle.std.proofs.Common.{◌≡◌, ℕ, nat_eq, false, List, [], ◌∷◌, length, slice_get, String, Global, string_bytes, refl, sym, ◌∙◌, ap, subst, Option, Some, None, arith}
 use Rattle.std.specs.Option.{option_map_or, option_and_then}
 use Rattle.serde_json.specs.Data.{Members}
@@ -11,8 +11,8 @@ use Rattle.oe_top.specs.Form.{form_id, the_member, Loads}
 -- the bytes load one collection
 pub loads_one : {bytes a b : List ℕ} → Loads bytes a → Loads bytes b → a ≡ b
 loads_one x y =
-    let same : x.value ≡ y.value = cc (x.is_read, y.is_read) in
-    let found : form_id x.value ≡ form_id y.value = ap form_id same in
+    let same : x.graph ≡ y.graph = cc (x.text.is_read, y.text.is_read) in
+    let found : form_id x.graph ≡ form_id y.graph = ap form_id same in
     cc (x.of_the_form, y.of_the_form, found)
 
 -- the number of an object's members is that of the map's entries

@@ -4,7 +4,6 @@ use Rattle.oe_cell.specs.declared.cell.Cell.{Cell}
 use Rattle.oe_cell.specs.declared.cell.Cell.TheVariants.{Over}
 use Rattle.oe_dims.specs.Dimensions.{Dimensions}
 use Rattle.oe_top.proofs.Catalogues.{row_after, loaded_is, none_is_over}
-use Rattle.oe_top.specs.Answer.{text_of}
 use Rattle.oe_top.specs.Collection.{Row, OnlyRead, IsCollection, loaded}
 use Rattle.oe_top.specs.Text.{cube_text}
 
@@ -28,7 +27,7 @@ pub record IsReadAt (rows : List Row) (place : ℕ) (shape : Dimensions) (cells 
   pub cells_are : IfSome (slice_get rows place) (λ row. cells ≡ row.source.collection.cells)
   pub sound : IfSome (slice_get rows place) (λ row. IsCollection row.source.collection)
 
-pub text_read : (before after : List Row) (place : ℕ) (shape : Dimensions) (cells : List Cell) (row : Row) → OnlyRead before after → IsReadAt after place shape cells → slice_get before place ≡ Some row → cube_text (record { shape = shape; cells = cells }) ≡ text_of row
+pub text_read : (before after : List Row) (place : ℕ) (shape : Dimensions) (cells : List Cell) (row : Row) → OnlyRead before after → IsReadAt after place shape cells → slice_get before place ≡ Some row → cube_text (record { shape = shape; cells = cells }) ≡ cube_text (loaded row.source.collection)
 text_read before after place shape cells row read found is =
     let new = row_after before after place row read is in
     let shape_is : shape ≡ new.0.source.collection.shape = at_some (λ row. shape ≡ row.source.collection.shape) (slice_get after place) new.0 new.1 found.shape_is in

@@ -12,9 +12,9 @@ use Rattle.oe_dims.proofs.ShapeLemmas.{t_in_range}
 use Rattle.oe_dims.specs.Dimensions.{Dimensions, IsShape, all_between, first_instant, last_instant, number_labels, label_count, band_names}
 use Rattle.oe_dims.specs.declared.kind.Kind.{Kind}
 use Rattle.oe_dims.specs.declared.kind.Kind.TheVariants.{Time, Bands, Y, X}
-use Rattle.oe_top.proofs.Streams.{has_sent_then, has_stopped_more}
-use Rattle.oe_top.specs.Stream.{HasSent}
-use Rattle.oe_top.specs.Text.{listed_text, separator, label_texts, part_text, part_count, present_text, dimension_text}
+use Rattle.oe_outside.proofs.Streams.{has_sent_then, has_stopped_more}
+use Rattle.oe_outside.specs.Stream.{HasSent}
+use Rattle.oe_top.specs.Text.{listed_text, separator, label_texts, part_text, parts_after, present_text, dimension_text}
 
 -- a part after the others
 pub listed_more : (parts : List (List ℕ)) (part : List ℕ) → listed_text (parts ++ part ∷ []) ≡ listed_text parts ++ (separator (length parts) ++ part)
@@ -24,13 +24,13 @@ listed_more (a ∷ b ∷ parts) part =
     ap (λ text. a ++ (44 ∷ text)) (listed_more (b ∷ parts) part)
     ∙ sym (append_assoc a (44 ∷ listed_text (b ∷ parts)) (separator (length (a ∷ b ∷ parts)) ++ part))
 
--- the parts up to a place, and then the one there
-pub listed_take : (parts : List (List ℕ)) (place : ℕ) → place < length parts → listed_text (take (place + 1) parts) ≡ listed_text (take place parts) ++ (separator place ++ get_or parts place [])
-listed_take parts place below =
-    let size : length (take place parts) ≡ place = omega (arith, length-take place parts) in
-    ap listed_text (take_more parts place [] below)
-    ∙ listed_more (take place parts) (get_or parts place [])
-    ∙ ap (λ n. listed_text (take place parts) ++ (separator n ++ get_or parts place [])) size
+-- the parts up to a index, and then the one there
+pub listed_take : (parts : List (List ℕ)) (index : ℕ) → index < length parts → listed_text (take (index + 1) parts) ≡ listed_text (take index parts) ++ (separator index ++ get_or parts index [])
+listed_take parts index below =
+    let size : length (take index parts) ≡ index = omega (arith, length-take index parts) in
+    ap listed_text (take_more parts index [] below)
+    ∙ listed_more (take index parts) (get_or parts index [])
+    ∙ ap (λ n. listed_text (take index parts) ++ (separator n ++ get_or parts index [])) size
 
 listed_option : (parts : List (List ℕ)) (part : Option (List ℕ)) → listed_text (parts ++ cons_option part []) ≡ listed_text parts ++ part_text part (length parts)
 listed_option parts None = ap listed_text (append-nil parts) ∙ sym (append-nil (listed_text parts))
@@ -59,18 +59,18 @@ le_from : (a b : ℤ) → le_z a b ≡ true → a ≤ℤ b
 le_from a b h = grind (arith, ints)
 
 -- a label that is tested with the others
-between_at : (low high : ℤ) (labels : List ℤ) (place : ℕ) (d : ℤ) → all_between low high labels ≡ true → place < length labels → (low ≤ℤ get_or labels place d) × (get_or labels place d ≤ℤ high)
-between_at low high [] place d h below = absurd (omega arith)
+between_at : (low high : ℤ) (labels : List ℤ) (index : ℕ) (d : ℤ) → all_between low high labels ≡ true → index < length labels → (low ≤ℤ get_or labels index d) × (get_or labels index d ≤ℤ high)
+between_at low high [] index d h below = absurd (omega arith)
 between_at low high (label ∷ labels) zero d h below =
     let parts = and_parts (le_z low label) (le_z label high) (and_parts _ _ h).0 in
     (le_from low label parts.0, le_from label high parts.1)
-between_at low high (label ∷ labels) (suc place) d h below =
-    between_at low high labels place d (and_parts _ _ h).1 (omega arith)
+between_at low high (label ∷ labels) (suc index) d h below =
+    between_at low high labels index d (and_parts _ _ h).1 (omega arith)
 
 -- each instant of a shape lies in the range of instants
-pub instant_in_range : (d : Dimensions) (place : ℕ) (other : ℤ) → IsShape d → place < length (number_labels d Time) → (first_instant ≤ℤ get_or (number_labels d Time) place other) × (get_or (number_labels d Time) place other ≤ℤ last_instant)
-instant_in_range d place other valid below =
-    between_at first_instant last_instant (number_labels d Time) place other (t_in_range d valid) below
+pub instant_in_range : (d : Dimensions) (index : ℕ) (other : ℤ) → IsShape d → index < length (number_labels d Time) → (first_instant ≤ℤ get_or (number_labels d Time) index other) × (get_or (number_labels d Time) index other ≤ℤ last_instant)
+instant_in_range d index other valid below =
+    between_at first_instant last_instant (number_labels d Time) index other (t_in_range d valid) below
 
 -- the others behind some parts
 listed_front : (front back : List (List ℕ)) → (rest : List ℕ) × (listed_text (front ++ back) ≡ listed_text front ++ rest)
@@ -82,8 +82,8 @@ listed_front (a ∷ b ∷ front) back =
     (more.0, ap (λ text. a ++ (44 ∷ text)) more.1 ∙ sym (append_assoc a (44 ∷ listed_text (b ∷ front)) more.0))
 
 -- the next part was sent after those before it
-pub sends_next : {O T U E F : Type 0} {written : O → Option (List ℕ)} {faults : O → ℕ} {before after end : O} {held left rest : List ℕ} {x : T} {r : Result U F} (parts : List (List ℕ)) (place : ℕ) (part : List ℕ) → HasSent {E = E} written faults before held (listed_text (take place parts)) after left (Ok x) → HasSent written faults after left (separator place ++ part) end rest r → place < length parts → get_or parts place [] ≡ part → HasSent written faults before held (listed_text (take (place + 1) parts)) end rest r
-sends_next parts place part sent next below same = rw (listed_take parts place below, same) (has_sent_then sent next)
+pub sends_next : {O T U E F : Type 0} {written : O → Option (List ℕ)} {faults : O → ℕ} {before after end : O} {held left rest : List ℕ} {x : T} {r : Result U F} (parts : List (List ℕ)) (index : ℕ) (part : List ℕ) → HasSent {E = E} written faults before held (listed_text (take index parts)) after left (Ok x) → HasSent written faults after left (separator index ++ part) end rest r → index < length parts → get_or parts index [] ≡ part → HasSent written faults before held (listed_text (take (index + 1) parts)) end rest r
+sends_next parts index part sent next below same = rw (listed_take parts index below, same) (has_sent_then sent next)
 
 -- where a part stopped, all the parts did
 pub stops_among : {O T E : Type 0} {written : O → Option (List ℕ)} {faults : O → ℕ} {before after : O} {held left : List ℕ} {r : Result T E} (parts : List (List ℕ)) (count : ℕ) → IsErr r → HasSent written faults before held (listed_text (take count parts)) after left r → HasSent written faults before held (listed_text parts) after left r
@@ -99,7 +99,7 @@ pub present_there : (d : Dimensions) (kind : Kind) (count : ℕ) → label_count
 present_there d kind count e = rw e refl
 
 -- four parts that may be missing
-pub listed_four : (a b c d : Option (List ℕ)) → listed_text (cons_option a (cons_option b (cons_option c (cons_option d [])))) ≡ part_text a 0 ++ part_text b (part_count a 0) ++ part_text c (part_count b (part_count a 0)) ++ part_text d (part_count c (part_count b (part_count a 0)))
+pub listed_four : (a b c d : Option (List ℕ)) → listed_text (cons_option a (cons_option b (cons_option c (cons_option d [])))) ≡ part_text a 0 ++ part_text b (parts_after a 0) ++ part_text c (parts_after b (parts_after a 0)) ++ part_text d (parts_after c (parts_after b (parts_after a 0)))
 listed_four None None None None = simp (append_assoc, append-nil)
 listed_four None None None (Some w) = simp (append_assoc, append-nil)
 listed_four None None (Some z) None = simp (append_assoc, append-nil)

@@ -1,4 +1,4 @@
--- Collections: a cube with the kind of its cells, and how often reading it failed.
+-- Collections: a cube with the kind of its cells, and its fault counter.
 use Rattle.std.specs.Prelude.{◌≡◌, ℕ, zero, suc, Bool, true, false, List, [], ◌∷◌, length, map, Option, unwrap_or}
 use Rattle.std.specs.List.{list_all, find}
 use Rattle.oe_cell.specs.declared.cell.Cell.{Cell}
@@ -16,7 +16,7 @@ pub record Collection : Type 0 where
   pub cells : List Cell
   pub kind : CellKind
 
--- the cell is empty or of the kind, and so never Over
+-- the cell is null or of the kind, and so never Over: `IsNumeric` or `IsLogical` of oe_cell without Over
 abbrev pub is_of_kind : CellKind → Cell → Bool
 is_of_kind kind Empty = true
 is_of_kind Numbers (Flag b) = false
@@ -31,7 +31,7 @@ pub record IsCollection (c : Collection) : Type 0 where
   pub counted : length c.cells ≡ cell_count c.shape
   pub of_kind : list_all (is_of_kind c.kind) c.cells ≡ true
 
--- a collection that is read, and how often that failed
+-- a collection that is read, and its fault counter
 pub record Readable : Type 0 where
   pub collection : Collection
   pub faults : ℕ
@@ -45,19 +45,19 @@ pub record Row : Type 0 where
 abbrev pub row_of : List Row → List ℕ → Option Row
 row_of rows id = find (λ row. same_name row.id id) rows
 
--- how often reading failed, of the row at a place
+-- the fault counter of a row
 abbrev pub faults_at : List Row → ℕ → ℕ
 faults_at [] place = 0
 faults_at (row ∷ rows) zero = row.source.faults
 faults_at (row ∷ rows) (suc place) = faults_at rows place
 
--- a row but for its count of faults
-abbrev pub shown : Row → List ℕ × Collection
-shown row = (row.id, row.source.collection)
+-- a row but for its fault counter
+abbrev pub row_without_faults : Row → List ℕ × Collection
+row_without_faults row = (row.id, row.source.collection)
 
--- reading changes no collection, and no count of faults falls
+-- reading changes no collection, and no fault counter falls
 pub record OnlyRead (before after : List Row) : Type 0 where
-  pub same : map shown after ≡ map shown before
+  pub same : map row_without_faults after ≡ map row_without_faults before
   pub counts : (place : ℕ) → NeverFalls (faults_at before place) (faults_at after place)
 
 -- the cube of a load without extents: every label is kept, and each tuple has the collection's cell

@@ -6,7 +6,10 @@ use Rattle.serde_json.specs.Events.{members_len}
 use Rattle.serde_json.specs.Find.{get, as_bool, as_null, as_object, as_str}
 use Rattle.serde_json.specs.Read.{read}
 use Rattle.oe_dims.specs.Names.{is_name, same_name}
-use Rattle.oe_top.specs.Input.{most_input}
+
+-- the most bytes that an input may have
+abbrev pub most_input : ℕ
+most_input = 1048576
 
 -- an object with so many members
 abbrev pub has_members : ℕ → Data → Bool
@@ -47,7 +50,7 @@ node_id d =
     if has_members 3 d && has_text (codes "process_id") (codes "load_collection") d && has_true (codes "result") d
     then option_and_then arguments_id (get (codes "arguments") d) else None
 
--- the node, where its name is in form
+-- the node, where its name is valid
 abbrev pub named_node_id : List ℕ × Data → Option (List ℕ)
 named_node_id named = if is_name named.0 then node_id named.1 else None
 
@@ -55,10 +58,14 @@ named_node_id named = if is_name named.0 then node_id named.1 else None
 abbrev pub form_id : Data → Option (List ℕ)
 form_id d = option_and_then named_node_id (option_and_then only_member (get (codes "process_graph") d))
 
--- the bytes are JSON of the form, and this is the id that they load
-pub record Loads (bytes id : List ℕ) : Type 0 where
+-- input bytes that are the JSON text of a graph, within the limit
+pub record IsGraphText (bytes : List ℕ) (graph : Data) : Type 0 where
   pub short : length bytes ≤ most_input
   pub utf8 : IsUtf8 bytes
-  pub value : Data
-  pub is_read : read bytes ≡ Some value
-  pub of_the_form : form_id value ≡ Some id
+  pub is_read : read bytes ≡ Some graph
+
+-- the input bytes are a graph of the form, and this is the id that it loads
+pub record Loads (bytes id : List ℕ) : Type 0 where
+  pub graph : Data
+  pub text : IsGraphText bytes graph
+  pub of_the_form : form_id graph ≡ Some id

@@ -2,8 +2,8 @@ pub mod Answer
 pub mod Catalogue
 pub mod Collection
 pub mod Form
-pub mod Input
+pub mod Lines
+pub mod Meaning
 pub mod MemoryCube
-pub mod Stream
 pub mod Text
 pub mod Words

@@ -14,16 +14,16 @@ use Rattle.oe_dims.specs.declared.kind.Kind.TheVariants.{Time, Bands, Y, X}
 abbrev pub listed_text : List (List ℕ) → List ℕ
 listed_text = join_with_byte 44
 
--- what stands before the part at a place: a comma, but before the first nothing
+-- what stands before the part at an index: a comma, but before the first nothing
 abbrev pub separator : ℕ → List ℕ
 separator zero = []
-separator (suc place) = codes ","
+separator (suc index) = codes ","
 
 -- the text in quotes
 abbrev pub quoted : List ℕ → List ℕ
 quoted text = codes "\"" ++ text ++ codes "\""
 
--- the labels of a dimension: instants and names in quotes, places in decimal
+-- the labels of a dimension: instants and names in quotes, coordinates in decimal
 abbrev pub label_texts : Dimensions → Kind → List (List ℕ)
 label_texts d Time = map (λ label. quoted (instant_text label)) (number_labels d Time)
 label_texts d Bands = map quoted (band_names d)
@@ -55,9 +55,9 @@ part_text None sent = []
 part_text (Some text) sent = separator sent ++ text
 
 -- how many parts there are with it
-abbrev pub part_count : Option (List ℕ) → ℕ → ℕ
-part_count None sent = sent
-part_count (Some text) sent = sent + 1
+abbrev pub parts_after : Option (List ℕ) → ℕ → ℕ
+parts_after None sent = sent
+parts_after (Some text) sent = sent + 1
 
 -- all up to the first cell
 abbrev pub head_text : Dimensions → List ℕ

@@ -1,25 +1,42 @@
--- The words of a command.
+-- The words of a command, and the command that they spell.
 use Rattle.std.specs.Prelude.{◌≡◌, ℕ, ◌≤◌, List, [], ◌∷◌, codes, decimal}
+use Rattle.oe_window.specs.declared.grid.ChunkSize.{ChunkSize}
+use Rattle.oe_top.specs.declared.words.Command.{Command}
+use Rattle.oe_top.specs.declared.words.Command.TheVariants.{Run}
 
 -- a number from low to high, spelled in decimal with no sign and no leading zero
-pub record IsNumberWord (low high : ℕ) (word : List ℕ) : Type 0 where
-  pub number : ℕ
+pub record IsNumberWord (low high : ℕ) (word : List ℕ) (number : ℕ) : Type 0 where
   pub above : low ≤ number
   pub below : number ≤ high
   pub spelled : word ≡ decimal number
 
--- the sides of a chunk along x, y and t
-pub record AreSides (cx cy ct : List ℕ) : Type 0 where
-  pub cx_side : IsNumberWord 1 4096 cx
-  pub cy_side : IsNumberWord 1 4096 cy
-  pub ct_side : IsNumberWord 1 4096 ct
+-- three words that spell the sides of a chunk along x, y and t, each from 1 to 4096
+pub record AreSides (cx cy ct : List ℕ) (size : ChunkSize) : Type 0 where
+  pub x : IsNumberWord 1 4096 cx size.x
+  pub y : IsNumberWord 1 4096 cy size.y
+  pub t : IsNumberWord 1 4096 ct size.t
 
--- `run CX CY CT W`: the sides of a chunk, and the number of workers
-pub record IsRun (words : List (List ℕ)) : Type 0 where
+-- these words spell the sides and the number of workers, from 1 to 64, of the run
+abbrev pub IsRunOf : List ℕ → List ℕ → List ℕ → List ℕ → Command → Type 0
+IsRunOf cx cy ct w (Run size workers) = AreSides cx cy ct size × IsNumberWord 1 64 w workers
+
+-- `run CX CY CT W`: the words spell this run
+pub record SpellsRun (words : List (List ℕ)) (command : Command) : Type 0 where
   pub cx : List ℕ
   pub cy : List ℕ
   pub ct : List ℕ
-  pub workers : List ℕ
-  pub words_are : words ≡ codes "run" ∷ cx ∷ cy ∷ ct ∷ workers ∷ []
-  pub sides : AreSides cx cy ct
-  pub workers_count : IsNumberWord 1 64 workers
+  pub w : List ℕ
+  pub words_are : words ≡ codes "run" ∷ cx ∷ cy ∷ ct ∷ w ∷ []
+  pub numbers : IsRunOf cx cy ct w command
+
+-- the words spell this command
+abbrev pub Spells : List (List ℕ) → Command → Type 0
+Spells words (Run size workers) = SpellsRun words (Run size workers)
+
+-- the words spell a command
+abbrev pub IsCommand : List (List ℕ) → Type 0
+IsCommand words = (command : Command) × Spells words command
+
+-- the words spell a run
+abbrev pub IsRunCommand : List (List ℕ) → Type 0
+IsRunCommand words = (command : Command) × SpellsRun words command

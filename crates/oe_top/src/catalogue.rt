@@ -12,7 +12,7 @@ use oe_outside::Failed;
 use std::alloc::Global;
 use std::marker::Model;
 
-/// A collection in memory.
+/// A collection in memory, whose reads fail at given numbers.
 #[derive(Drop)]
 pub struct MemoryCube {
     shape: Shape,
@@ -41,7 +41,15 @@ impl MemoryCube {
     pub fn new(shape: Shape, kind: CellKind, cells: Vec<Cell>, failing: Vec<u64>) -> MemoryCube
         requires counted { length cells.items ≡ cell_count shape }
         requires of_kind { list_all (is_of_kind kind) cells.items ≡ true }
-        ensures { result ≡ record { collection = record { shape = shape; cells = cells.items; kind = kind }; faults = 0 } }
+        ensures { result ≡ record {
+          collection = record {
+            shape = shape;
+            cells = cells.items;
+            kind
+                = kind;
+          };
+          faults = 0;
+        } }
     {
         let _epsg = shape.epsg();
         MemoryCube {
@@ -116,7 +124,9 @@ impl Catalogue {
         }
     }
 
-    /// Adds a collection under an id that is not mounted. After want of memory the catalogue is as before.
+    /// Adds a collection under an id that is not mounted.
+    ///
+    /// Refuses: where an allocation is refused; then the catalogue is as it was.
     pub fn mount(&mut self, id: Text, cube: MemoryCube) -> Result<(), OutOfMemory>
         requires { row_of self.old id ≡ None }
         ensures ok { OnOk result (self.new ≡ self.old ++ record { id = id; source = cube } ∷ []) }
@@ -128,7 +138,7 @@ impl Catalogue {
         }
     }
 
-    /// The place of the collection with this id, `None` exactly where none is mounted under it.
+    /// The row of the collection with this id, from 0 and `None` exactly where none is mounted under it.
     pub fn place(&self, id: &str) -> Option<usize>
         ensures found { IfSome result (λ place. slice_get self.now place ≡ row_of self.now id.now) }
         ensures within { IfSome result (λ place. place < length self.now) }
@@ -142,7 +152,7 @@ impl Catalogue {
         None
     }
 
-    /// Reads the collection at a place, so that its cells may be looked at.
+    /// Reads the collection of a row, so that its cells may be looked at.
     pub(crate) fn read(&mut self, place: usize) -> Result<(), Failed>
         requires { place < length self.old }
         ensures only { OnlyRead self.old self.new }
@@ -152,19 +162,22 @@ impl Catalogue {
         row.cube.read()
     }
 
-    /// The shape of the collection at a place.
+    /// The shape of the collection of a row.
     pub(crate) fn shape(&self, place: usize) -> &Shape
         requires { place < length self.now }
-        ensures { IfSome (slice_get self.now place) (λ row. result.now ≡ row.source.collection.shape) }
+        ensures { IfSome (slice_get self.now place) (λ row.
+            result.now ≡ row.source.collection.shape) }
     {
         self.rows[place].cube.shape()
     }
 
-    /// The cells of the collection at a place, in row-major order.
+    /// The cells of the collection of a row, in row-major order.
     pub(crate) fn cells(&self, place: usize) -> &[Cell]
         requires { place < length self.now }
-        ensures value { IfSome (slice_get self.now place) (λ row. result.now ≡ row.source.collection.cells) }
-        ensures sound { IfSome (slice_get self.now place) (λ row. IsCollection row.source.collection) }
+        ensures value { IfSome (slice_get self.now place) (λ row.
+            result.now ≡ row.source.collection.cells) }
+        ensures sound { IfSome (slice_get self.now place) (λ row.
+            IsCollection row.source.collection) }
     {
         self.rows[place].cube.cells()
     }

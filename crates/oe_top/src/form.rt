@@ -2,15 +2,16 @@
 ghost use Rattle.std.specs.Prelude.{◌≡◌, ◌<◌, ◌⊎◌, ℕ, List, length, IfOk, IfErr, IsErrOf};
 ghost use Rattle.std.specs.Option.{option_map};
 ghost use Rattle.serde_json.specs.View.{view};
-ghost use Rattle.oe_top.specs.Form.{Loads};
+ghost use Rattle.oe_top.specs.Form.{Loads, most_input};
 ghost use Rattle.oe_top.specs.Form as spec;
-ghost use Rattle.oe_top.specs.Input.{most_input};
 
-use crate::input::MOST_INPUT;
 use crate::refusal::Refusal;
 use oe_dims::{Text, is_name};
 use serde_json::Value;
 use std::alloc::Global;
+
+/// The most bytes that an input may have.
+pub const MOST_INPUT: usize = 1048576;
 
 /// The id of the collection that the graph loads, where the bytes are a graph of the form.
 pub fn read_form(alloc: Global, bytes: &[u8]) -> Result<Text, Refusal>

@@ -8,9 +8,9 @@ use std::alloc::AllocError;
 /// The endings of a command other than success, each with its status and its line.
 #[derive(Clone, Copy, Debug, PartialEq, Eq)]
 pub enum Refusal {
-    /// The words name no command.
+    /// The words spell no command.
     Usage,
-    /// The graph is of a form that is not built.
+    /// The input means nothing: it is no graph of the form that is built, or loads no mounted collection.
     NotBuilt,
     /// The input or a collection could not be read.
     ReadFault,
@@ -21,9 +21,10 @@ pub enum Refusal {
 }
 
 impl Refusal {
-    ghost use Rattle.oe_top.specs.Answer.{line_of, status_of_refusal};
+    ghost use Rattle.oe_top.specs.Answer.{status_of_refusal};
+    ghost use Rattle.oe_top.specs.Lines.{line_of};
 
-    /// The exit status.
+    /// The exit status: 1, 2, 5, 8 or 9.
     pub fn status(self) -> u8
         ensures { result ≡ status_of_refusal self }
     {
@@ -36,9 +37,9 @@ impl Refusal {
         }
     }
 
-    /// The line that goes to standard error.
+    /// The line that goes to standard error, with its line feed.
     pub fn line(self) -> &'static [u8]
-        ensures { result.now ≡ line_of (status_of_refusal self) }
+        ensures { result.now ≡ line_of self }
     {
         match self {
             Refusal::Usage => b"openeo: Usage\n",

@@ -7,26 +7,34 @@ ghost use Rattle.oe_cell.specs.declared.cell.Cell.TheVariants.{Over};
 ghost use Rattle.oe_dims.specs.Dimensions.{IsShape, all_kinds, label_count, number_labels};
 ghost use Rattle.oe_dims.specs.Instant.{instant_text};
 ghost use Rattle.oe_outside.specs.Faults.{HasCause};
-ghost use Rattle.oe_outside.specs.Told.{Appends, AppendsPrefix};
-ghost use Rattle.oe_top.specs.Stream.{HasSent};
+ghost use Rattle.oe_outside.specs.Visible.{Appends, AppendsPrefix};
+ghost use Rattle.oe_outside.specs.Stream.{HasSent};
 ghost use Rattle.oe_top.specs.Text as spec;
 
-use crate::stream::{Pending, flush, send};
 use itoa::Buffer;
 use oe_cell::{Cell, TextBuf, print_cell};
 use oe_dims::{Kind, Shape, print_instant};
-use oe_outside::{Failed, Sink};
+use oe_outside::{Failed, Pending, Sink, flush, send};
 
-/// Writes the result text of the cube with this shape and these cells. All up to the first cell goes out before it, in
-/// writes of its own.
-pub fn write_text<O: Sink>(shape: &Shape, cells: &[Cell], out: &mut O) -> Result<(), Failed>
-    requires { All (λ c. c ≢ Over) cells.now }
-    ensures text { OnOk result (Appends (O.written out.old) (spec.cube_text (record { shape = shape.now; cells = cells.now })) (O.written out.new)) }
-    ensures prefix { OnErr result (AppendsPrefix (O.written out.old) (spec.cube_text (record { shape = shape.now; cells = cells.now })) (O.written out.new)) }
+/// Writes the result text of the cube with this shape and these cells through an empty buffer. All up to the first cell
+/// goes out before it, in writes of its own.
+///
+/// Refuses: only where the output's fault counter rose. Then a prefix of the text was written.
+pub fn write_text<O: Sink>(
+    shape: &Shape,
+    cells: &[Cell],
+    pending: &mut Pending,
+    out: &mut O,
+) -> Result<(), Failed>
+    requires numbered { All (λ c. c ≢ Over) cells.now }
+    requires empty { pending.old ≡ [] }
+    ensures text { OnOk result (Appends (O.written out.old)
+        (spec.cube_text (record { shape = shape.now; cells = cells.now })) (O.written out.new)) }
+    ensures prefix { OnErr result (AppendsPrefix (O.written out.old)
+        (spec.cube_text (record { shape = shape.now; cells = cells.now })) (O.written out.new)) }
     ensures cause { HasCause (O.faults out.old) (O.faults out.new) result }
 {
-    let mut pending = Pending::new();
-    send_text(out, &mut pending, shape, cells)
+    send_text(out, pending, shape, cells)
 }
 
 fn send_text<O: Sink>(
@@ -36,7 +44,8 @@ fn send_text<O: Sink>(
     cells: &[Cell],
 ) -> Result<(), Failed>
     requires { All (λ c. c ≢ Over) cells.now }
-    ensures sent { HasSent O.written O.faults out.old pending.old (spec.cube_text (record { shape = shape.now; cells = cells.now })) out.new pending.new result }
+    ensures sent { HasSent O.written O.faults out.old pending.old (spec.cube_text
+        (record { shape = shape.now; cells = cells.now })) out.new pending.new result }
     ensures empty { OnOk result (pending.new ≡ []) }
 {
     send_head(out, pending, shape)?;
@@ -47,7 +56,8 @@ fn send_text<O: Sink>(
 
 /// The end of the text, and what is still held.
 fn send_end<O: Sink>(out: &mut O, pending: &mut Pending) -> Result<(), Failed>
-    ensures sent { HasSent O.written O.faults out.old pending.old (codes "]}") out.new pending.new result }
+    ensures sent { HasSent O.written O.faults out.old pending.old
+        (codes "]}") out.new pending.new result }
     ensures empty { OnOk result (pending.new ≡ []) }
 {
     send(out, pending, b"]}")?;
@@ -55,7 +65,8 @@ fn send_end<O: Sink>(out: &mut O, pending: &mut Pending) -> Result<(), Failed>
 }
 
 fn send_head<O: Sink>(out: &mut O, pending: &mut Pending, shape: &Shape) -> Result<(), Failed>
-    ensures { HasSent O.written O.faults out.old pending.old (spec.head_text shape.now) out.new pending.new result }
+    ensures { HasSent O.written O.faults out.old pending.old
+        (spec.head_text shape.now) out.new pending.new result }
 {
     send(out, pending, b"{\"type\":\"FractionCube\",\"dimensions\":[")?;
     send_dimensions(out, pending, shape)?;
@@ -63,7 +74,8 @@ fn send_head<O: Sink>(out: &mut O, pending: &mut Pending, shape: &Shape) -> Resu
 }
 
 fn send_dimensions<O: Sink>(out: &mut O, pending: &mut Pending, shape: &Shape) -> Result<(), Failed>
-    ensures { HasSent O.written O.faults out.old pending.old (spec.listed_text (filter_map (spec.present_text shape.now) all_kinds)) out.new pending.new result }
+    ensures { HasSent O.written O.faults out.old pending.old (spec.listed_text (filter_map
+        (spec.present_text shape.now) all_kinds)) out.new pending.new result }
 {
     let sent = send_present(out, pending, shape, Kind::Time, 0)?;
     let sent = send_present(out, pending, shape, Kind::Bands, sent)?;
@@ -81,8 +93,10 @@ fn send_present<O: Sink>(
     sent: u32,
 ) -> Result<u32, Failed>
     requires { sent < 4 }
-    ensures sent { HasSent O.written O.faults out.old pending.old (spec.part_text (spec.present_text shape.now kind) sent) out.new pending.new result }
-    ensures count { IfOk result (λ n. n ≡ spec.part_count (spec.present_text shape.now kind) sent) }
+    ensures sent { HasSent O.written O.faults out.old pending.old (spec.part_text
+        (spec.present_text shape.now kind) sent) out.new pending.new result }
+    ensures count { IfOk result (λ n. n ≡ spec.parts_after
+        (spec.present_text shape.now kind) sent) }
 {
     match shape.count(kind) {
         None => Ok(sent),
@@ -103,7 +117,8 @@ fn send_dimension<O: Sink>(
 ) -> Result<(), Failed>
     requires valid { IsShape shape.now }
     requires count { label_count shape.now kind ≡ Some count }
-    ensures { HasSent O.written O.faults out.old pending.old (spec.dimension_text shape.now kind) out.new pending.new result }
+    ensures { HasSent O.written O.faults out.old pending.old
+        (spec.dimension_text shape.now kind) out.new pending.new result }
 {
     send_dimension_head(out, pending, shape, kind)?;
     send(out, pending, b"\"labels\":[")?;
@@ -117,7 +132,8 @@ fn send_dimension_head<O: Sink>(
     shape: &Shape,
     kind: Kind,
 ) -> Result<(), Failed>
-    ensures { HasSent O.written O.faults out.old pending.old (spec.dimension_head shape.now kind) out.new pending.new result }
+    ensures { HasSent O.written O.faults out.old pending.old
+        (spec.dimension_head shape.now kind) out.new pending.new result }
 {
     match kind {
         Kind::Time => send(out, pending, b"{\"name\":\"t\",\"type\":\"temporal\","),
@@ -146,7 +162,8 @@ fn send_reference_system<O: Sink>(
     pending: &mut Pending,
     shape: &Shape,
 ) -> Result<(), Failed>
-    ensures { HasSent O.written O.faults out.old pending.old (spec.reference_system shape.now) out.new pending.new result }
+    ensures { HasSent O.written O.faults out.old pending.old
+        (spec.reference_system shape.now) out.new pending.new result }
 {
     let mut digits = Buffer::new();
     send(out, pending, b"\"reference_system\":")?;
@@ -163,10 +180,11 @@ fn send_labels<O: Sink>(
 ) -> Result<(), Failed>
     requires valid { IsShape shape.now }
     requires count { label_count shape.now kind ≡ Some count }
-    ensures { HasSent O.written O.faults out.old pending.old (spec.listed_text (spec.label_texts shape.now kind)) out.new pending.new result }
+    ensures { HasSent O.written O.faults out.old pending.old (spec.listed_text
+        (spec.label_texts shape.now kind)) out.new pending.new result }
 {
-    for place in 0..count {
-        send_next_label(out, pending, shape, kind, place)?;
+    for index in 0..count {
+        send_next_label(out, pending, shape, kind, index)?;
     }
     Ok(())
 }
@@ -176,14 +194,16 @@ fn send_next_label<O: Sink>(
     pending: &mut Pending,
     shape: &Shape,
     kind: Kind,
-    place: u32,
+    index: u32,
 ) -> Result<(), Failed>
     requires valid { IsShape shape.now }
-    requires there { place < length (spec.label_texts shape.now kind) }
-    ensures { HasSent O.written O.faults out.old pending.old (spec.separator place ++ slice_index_or (spec.label_texts shape.now kind) place []) out.new pending.new result }
+    requires there { index < length (spec.label_texts shape.now kind) }
+    ensures { HasSent O.written O.faults out.old pending.old
+        (spec.separator index ++ slice_index_or (spec.label_texts shape.now kind) index []) out.new
+        pending.new result }
 {
-    send_separator(out, pending, place as usize)?;
-    send_label(out, pending, shape, kind, place)
+    send_separator(out, pending, index as usize)?;
+    send_label(out, pending, shape, kind, index)
 }
 
 fn send_label<O: Sink>(
@@ -191,16 +211,17 @@ fn send_label<O: Sink>(
     pending: &mut Pending,
     shape: &Shape,
     kind: Kind,
-    place: u32,
+    index: u32,
 ) -> Result<(), Failed>
     requires valid { IsShape shape.now }
-    requires there { place < length (spec.label_texts shape.now kind) }
-    ensures { HasSent O.written O.faults out.old pending.old (slice_index_or (spec.label_texts shape.now kind) place []) out.new pending.new result }
+    requires there { index < length (spec.label_texts shape.now kind) }
+    ensures { HasSent O.written O.faults out.old pending.old (slice_index_or
+        (spec.label_texts shape.now kind) index []) out.new pending.new result }
 {
     match kind {
-        Kind::Time => send_instant(out, pending, shape, place),
-        Kind::Bands => send_quoted(out, pending, shape.band_at(place).as_str().as_bytes()),
-        Kind::Y | Kind::X => send_number(out, pending, shape.label_at(kind, place)),
+        Kind::Time => send_instant(out, pending, shape, index),
+        Kind::Bands => send_quoted(out, pending, shape.band_at(index).as_str().as_bytes()),
+        Kind::Y | Kind::X => send_number(out, pending, shape.label_at(kind, index)),
     }
 }
 
@@ -208,18 +229,21 @@ fn send_instant<O: Sink>(
     out: &mut O,
     pending: &mut Pending,
     shape: &Shape,
-    place: u32,
+    index: u32,
 ) -> Result<(), Failed>
     requires valid { IsShape shape.now }
-    requires there { place < length (number_labels shape.now Kind.Time) }
-    ensures { HasSent O.written O.faults out.old pending.old (spec.quoted (instant_text (slice_index_or (number_labels shape.now Kind.Time) place (pos 0)))) out.new pending.new result }
+    requires there { index < length (number_labels shape.now Kind.Time) }
+    ensures { HasSent O.written O.faults out.old pending.old (spec.quoted (instant_text
+        (slice_index_or (number_labels shape.now Kind.Time) index
+        (pos 0)))) out.new pending.new result }
 {
-    let text = print_instant(shape.label_at(Kind::Time, place));
+    let text = print_instant(shape.label_at(Kind::Time, index));
     send_quoted(out, pending, &text)
 }
 
 fn send_quoted<O: Sink>(out: &mut O, pending: &mut Pending, text: &[u8]) -> Result<(), Failed>
-    ensures { HasSent O.written O.faults out.old pending.old (spec.quoted text.now) out.new pending.new result }
+    ensures { HasSent O.written O.faults out.old pending.old
+        (spec.quoted text.now) out.new pending.new result }
 {
     send(out, pending, b"\"")?;
     send(out, pending, text)?;
@@ -227,7 +251,8 @@ fn send_quoted<O: Sink>(out: &mut O, pending: &mut Pending, text: &[u8]) -> Resu
 }
 
 fn send_number<O: Sink>(out: &mut O, pending: &mut Pending, number: i64) -> Result<(), Failed>
-    ensures { HasSent O.written O.faults out.old pending.old (signed_decimal number) out.new pending.new result }
+    ensures { HasSent O.written O.faults out.old pending.old
+        (signed_decimal number) out.new pending.new result }
 {
     let mut digits = Buffer::new();
     send(out, pending, digits.format(number).as_bytes())
@@ -235,11 +260,12 @@ fn send_number<O: Sink>(out: &mut O, pending: &mut Pending, number: i64) -> Resu
 
 fn send_cells<O: Sink>(out: &mut O, pending: &mut Pending, cells: &[Cell]) -> Result<(), Failed>
     requires { All (λ c. c ≢ Over) cells.now }
-    ensures { HasSent O.written O.faults out.old pending.old (spec.listed_text (map cell_text cells.now)) out.new pending.new result }
+    ensures { HasSent O.written O.faults out.old pending.old (spec.listed_text
+        (map cell_text cells.now)) out.new pending.new result }
 {
     let mut spelled = TextBuf::new();
-    for (place, cell) in cells.iter().enumerate() {
-        send_cell(out, pending, &mut spelled, place, *cell)?;
+    for (index, cell) in cells.iter().enumerate() {
+        send_cell(out, pending, &mut spelled, index, *cell)?;
     }
     Ok(())
 }
@@ -248,22 +274,24 @@ fn send_cell<O: Sink>(
     out: &mut O,
     pending: &mut Pending,
     spelled: &mut TextBuf,
-    place: usize,
+    index: usize,
     cell: Cell,
 ) -> Result<(), Failed>
     requires { cell ≢ Over }
-    ensures { HasSent O.written O.faults out.old pending.old (spec.separator place ++ cell_text cell) out.new pending.new result }
+    ensures { HasSent O.written O.faults out.old pending.old
+        (spec.separator index ++ cell_text cell) out.new pending.new result }
 {
-    send_separator(out, pending, place)?;
+    send_separator(out, pending, index)?;
     print_cell(cell, spelled);
     send(out, pending, spelled.bytes())
 }
 
 /// A comma before each part but the first.
-fn send_separator<O: Sink>(out: &mut O, pending: &mut Pending, place: usize) -> Result<(), Failed>
-    ensures { HasSent O.written O.faults out.old pending.old (spec.separator place) out.new pending.new result }
+fn send_separator<O: Sink>(out: &mut O, pending: &mut Pending, index: usize) -> Result<(), Failed>
+    ensures { HasSent O.written O.faults out.old pending.old
+        (spec.separator index) out.new pending.new result }
 {
-    if place == 0 {
+    if index == 0 {
         Ok(())
     } else {
         send(out, pending, b",")

@@ -1,50 +1,87 @@
 // The words of a command.
-ghost use Rattle.std.specs.Prelude.{◌≡◌, ◌≤◌, ◌↔◌, IsTrue, codes, decimal};
-ghost use Rattle.oe_top.specs.Words.{AreSides, IsNumberWord, IsRun};
+ghost use Rattle.std.specs.Prelude.{ℕ, ◌≡◌, ◌≤◌, ◌↔◌, IsTrue, IfSome, IfNone, codes, decimal};
+ghost use Rattle.oe_top.specs.declared.words.Command.{Command as Asked};
+ghost use Rattle.oe_window.specs.declared.grid.ChunkSize.{ChunkSize as Size};
+ghost use Rattle.oe_top.specs.Words.{AreSides, IsCommand, IsNumberWord, IsRunOf, Spells};
 
 use itoa::Buffer;
 use oe_dims::Text;
+use oe_window::ChunkSize;
 
-/// Whether the words are those of a run: `run CX CY CT W`, with chunk sides from 1 to 4096 and 1 to 64 workers.
-pub fn is_run(words: &[Text]) -> bool
-    ensures { IsTrue result ↔ IsRun words.now }
+/// What the words ask for: one variant a command.
+#[derive(Clone, Copy, Debug, PartialEq, Eq)]
+pub enum Command {
+    /// To evaluate the graph of the input, in chunks of this size, with 1 to 64 workers.
+    Run { size: ChunkSize, workers: u32 },
+}
+
+/// The command that the words spell, `None` exactly where they spell none.
+pub fn read_command(words: &[Text]) -> Option<Command>
+    ensures some { IfSome result (Spells words.now) }
+    ensures none { IfNone result (¬ IsCommand words.now) }
 {
     match words {
-        [verb, cx, cy, ct, workers] => is_verb(verb)
-            && (are_sides(cx, cy, ct) && is_number(workers, 1, 64)),
-        _ => false,
+        [verb, cx, cy, ct, workers] => {
+            if is_run(verb) {
+                read_run(cx, cy, ct, workers)
+            } else {
+                None
+            }
+        }
+        _ => None,
     }
 }
 
-fn is_verb(word: &Text) -> bool
-    ensures { IsTrue result ↔ word.now ≡ codes "run" }
+fn is_run(verb: &Text) -> bool
+    ensures { IsTrue result ↔ verb.now ≡ codes "run" }
 {
-    word.as_str() == "run"
+    verb.as_str() == "run"
 }
 
-fn are_sides(cx: &Text, cy: &Text, ct: &Text) -> bool
-    ensures { IsTrue result ↔ AreSides cx.now cy.now ct.now }
+/// A run with these chunk sides and this number of workers, `None` exactly where a word is no such number.
+fn read_run(cx: &Text, cy: &Text, ct: &Text, workers: &Text) -> Option<Command>
+    ensures some { IfSome result (IsRunOf cx.now cy.now ct.now workers.now) }
+    ensures none { IfNone result ((command : Asked) →
+        ¬ IsRunOf cx.now cy.now ct.now workers.now command) }
 {
-    if !is_side(cx) {
-        return false;
-    }
-    is_side(cy) && is_side(ct)
+    let size = read_size(cx, cy, ct)?;
+    let workers = read_number(workers, 1, 64)?;
+    Some(Command::Run { size, workers })
 }
 
-fn is_side(word: &Text) -> bool
-    ensures { IsTrue result ↔ IsNumberWord 1 4096 word.now }
+/// A chunk with these sides, `None` exactly where a word is no side.
+fn read_size(cx: &Text, cy: &Text, ct: &Text) -> Option<ChunkSize>
+    ensures some { IfSome result (AreSides cx.now cy.now ct.now) }
+    ensures none { IfNone result ((size : Size) → ¬ AreSides cx.now cy.now ct.now size) }
 {
-    is_number(word, 1, 4096)
+    let x = read_number(cx, 1, 4096)?;
+    let y = read_number(cy, 1, 4096)?;
+    let t = read_number(ct, 1, 4096)?;
+    Some(ChunkSize { x, y, t })
 }
 
-/// Whether the word is the decimal spelling, with no sign and no leading zero, of a number from `low` to `high`.
-fn is_number(word: &Text, low: u32, high: u32) -> bool
-    ensures { IsTrue result ↔ IsNumberWord low high word.now }
+/// The number from `low` to `high` that the word spells in decimal, with no sign and no leading zero. `None` exactly where
+/// it spells none.
+fn read_number(word: &Text, low: u32, high: u32) -> Option<u32>
+    ensures some { IfSome result (IsNumberWord low high word.now) }
+    ensures none { IfNone result ((number : ℕ) → ¬ IsNumberWord low high word.now number) }
 {
     match word.as_str().parse::<u32>() {
-        Ok(number) => is_within(number, low, high) && is_spelling(word, number),
-        Err(_) => false,
+        Ok(number) => {
+            if is_number(word, number, low, high) {
+                Some(number)
+            } else {
+                None
+            }
+        }
+        Err(_) => None,
     }
+}
+
+fn is_number(word: &Text, number: u32, low: u32, high: u32) -> bool
+    ensures { IsTrue result ↔ IsNumberWord low high word.now number }
+{
+    is_within(number, low, high) && is_spelling(word, number)
 }
 
 fn is_within(number: u32, low: u32, high: u32) -> bool

@@ -1,4 +1,4 @@
-use Rattle.oe_top.proofs.Streams.{has_sent_then, has_stopped, has_stopped_more}
+use Rattle.oe_outside.proofs.Streams.{has_sent_then, has_stopped, has_stopped_more}
 use Rattle.oe_cell.specs.Spelling.{cell_text}
 use Rattle.oe_top.proofs.text.send_cell.Goals as goal
 
@@ -8,4 +8,4 @@ returns-in_err-send_separator g c =
     has_stopped_more (cell_text c.args.cell) is (has_stopped is c.in_err-send_separator.ensures)
 
 pub returns : goal.returns
-returns g c = has_sent_then c.in_ok-send_separator.ensures (rw (c.bytes.ensures, c.print_cell.ensures) at c.send.ensures)
+returns g c = has_sent_then c.in_ok-send_separator.ensures (rw (c.bytes.ensures.value, c.print_cell.ensures.text) at c.send.ensures)

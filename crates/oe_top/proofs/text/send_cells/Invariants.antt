@@ -1,10 +1,10 @@
 use Rattle.std.proofs.Common.{Ok, take, map}
 use Rattle.oe_cell.specs.Spelling.{cell_text}
 use Rattle.oe_outside.specs.declared.failed.Failed.{Failed}
-use Rattle.oe_top.specs.Stream.{HasSent}
+use Rattle.oe_outside.specs.Stream.{HasSent}
 use Rattle.oe_top.specs.Text.{listed_text}
 use Rattle.oe_top.proofs.text.send_cells.Given as goal
 
-abbrev pub invariant-loop-place : goal.invariant-loop-place
-invariant-loop-place g l =
-    HasSent {E = Failed} g.O.Sink.written g.O.Sink.faults l.fn.out l.fn.pending (listed_text (take l.place (map cell_text l.cells))) l.out l.pending (Ok (tt {0}))
+abbrev pub invariant-loop-index : goal.invariant-loop-index
+invariant-loop-index g l =
+    HasSent {E = Failed} g.O.Sink.written g.O.Sink.faults l.fn.out l.fn.pending (listed_text (take l.index (map cell_text l.cells))) l.out l.pending (Ok (tt {0}))

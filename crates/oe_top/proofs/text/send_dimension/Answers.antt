@@ -1,6 +1,6 @@
 use Rattle.std.proofs.Common.{codes}
 use Rattle.oe_top.specs.Text.{label_texts, listed_text}
-use Rattle.oe_top.proofs.Streams.{has_sent_then, has_stopped, has_stopped_more}
+use Rattle.oe_outside.proofs.Streams.{has_sent_then, has_stopped, has_stopped_more}
 use Rattle.oe_top.proofs.text.send_dimension.Goals as goal
 
 pub returns-in_err-send_dimension_head : goal.returns-in_err-send_dimension_head

@@ -1,4 +1,4 @@
-use Rattle.oe_top.proofs.Streams.{has_sent_then, has_stopped, has_stopped_more}
+use Rattle.oe_outside.proofs.Streams.{has_sent_then, has_stopped, has_stopped_more}
 use Rattle.oe_top.specs.Text.{reference_system}
 use Rattle.oe_top.proofs.text.send_dimension_head.Goals as goal
 

@@ -1,4 +1,4 @@
-use Rattle.oe_top.proofs.Streams.{has_sent_then, has_stopped}
+use Rattle.oe_outside.proofs.Streams.{has_sent_then, has_stopped}
 use Rattle.oe_top.proofs.text.send_end.Goals as goal
 
 pub returns-in_err-send-clause-sent : goal.returns-in_err-send-clause-sent

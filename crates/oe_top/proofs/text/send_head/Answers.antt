@@ -2,7 +2,7 @@ use Rattle.std.proofs.Common.{codes}
 use Rattle.std.specs.List.{filter_map}
 use Rattle.oe_dims.specs.Dimensions.{all_kinds}
 use Rattle.oe_top.specs.Text.{listed_text, present_text}
-use Rattle.oe_top.proofs.Streams.{has_sent_then, has_stopped, has_stopped_more}
+use Rattle.oe_outside.proofs.Streams.{has_sent_then, has_stopped, has_stopped_more}
 use Rattle.oe_top.proofs.text.send_head.Goals as goal
 
 pub returns-in_err-send : goal.returns-in_err-send

@@ -10,18 +10,18 @@ use Rattle.oe_top.proofs.text.send_instant.Goals as goal
 pub print_instant-text-requires-clause-first : goal.print_instant-text-requires-clause-first
 print_instant-text-requires-clause-first g c =
     let fits : FitsSigned w64 c.label_at.result = search rules in
-    let label : get_or (number_labels c.args.shape.now Time) c.args.place (pos 0) ≡ c.label_at.result = get_or_from_slice_get (number_labels c.args.shape.now Time) c.args.place c.label_at.result (pos 0) c.label_at.ensures in
-    rw to_z-of_z (rw label at (instant_in_range c.args.shape.now c.args.place (pos 0) c.requires.valid c.requires.there).0)
+    let label : get_or (number_labels c.args.shape.now Time) c.args.index (pos 0) ≡ c.label_at.result = get_or_from_slice_get (number_labels c.args.shape.now Time) c.args.index c.label_at.result (pos 0) c.label_at.ensures.value in
+    rw to_z-of_z (rw label at (instant_in_range c.args.shape.now c.args.index (pos 0) c.requires.valid c.requires.there).0)
 
 pub print_instant-text-requires-clause-last : goal.print_instant-text-requires-clause-last
 print_instant-text-requires-clause-last g c =
     let fits : FitsSigned w64 c.label_at.result = search rules in
-    let label : get_or (number_labels c.args.shape.now Time) c.args.place (pos 0) ≡ c.label_at.result = get_or_from_slice_get (number_labels c.args.shape.now Time) c.args.place c.label_at.result (pos 0) c.label_at.ensures in
-    rw to_z-of_z (rw label at (instant_in_range c.args.shape.now c.args.place (pos 0) c.requires.valid c.requires.there).1)
+    let label : get_or (number_labels c.args.shape.now Time) c.args.index (pos 0) ≡ c.label_at.result = get_or_from_slice_get (number_labels c.args.shape.now Time) c.args.index c.label_at.result (pos 0) c.label_at.ensures.value in
+    rw to_z-of_z (rw label at (instant_in_range c.args.shape.now c.args.index (pos 0) c.requires.valid c.requires.there).1)
 
 pub returns : goal.returns
 returns g c =
     let fits : FitsSigned w64 c.label_at.result = search rules in
-    let label : get_or (number_labels c.args.shape.now Time) c.args.place (pos 0) ≡ c.label_at.result = get_or_from_slice_get (number_labels c.args.shape.now Time) c.args.place c.label_at.result (pos 0) c.label_at.ensures in
+    let label : get_or (number_labels c.args.shape.now Time) c.args.index (pos 0) ≡ c.label_at.result = get_or_from_slice_get (number_labels c.args.shape.now Time) c.args.index c.label_at.result (pos 0) c.label_at.ensures.value in
     let same : to_z w64 (of_z w64 c.label_at.result) ≡ c.label_at.result = to_z-of_z w64 _ fits in
     rw label (rw (c.print_instant-text.ensures.text, same) at c.send_quoted.ensures)

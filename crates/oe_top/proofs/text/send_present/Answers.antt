@@ -1,6 +1,6 @@
 use Rattle.std.proofs.Common.{◌≡◌, ◌+◌, Some, None, sym, refl}
 use Rattle.oe_top.specs.Text.{present_text, dimension_text}
-use Rattle.oe_top.proofs.Streams.{has_sent_then, has_stopped, has_stopped_more, has_sent_nothing, has_answered}
+use Rattle.oe_outside.proofs.Streams.{has_sent_then, has_stopped, has_stopped_more, has_sent_nothing, has_answered}
 use Rattle.oe_top.proofs.Texts.{present_missing, present_there}
 use Rattle.oe_top.proofs.text.send_present.Goals as goal
 

@@ -1,5 +1,5 @@
 use Rattle.std.proofs.Common.{◌++◌, codes}
-use Rattle.oe_top.proofs.Streams.{has_sent_then, has_stopped, has_stopped_more}
+use Rattle.oe_outside.proofs.Streams.{has_sent_then, has_stopped, has_stopped_more}
 use Rattle.oe_top.proofs.text.send_quoted.Goals as goal
 
 pub returns-in_err-send : goal.returns-in_err-send

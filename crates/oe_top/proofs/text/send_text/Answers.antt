@@ -2,7 +2,7 @@ use Rattle.std.proofs.Common.{codes, map}
 use Rattle.std.proofs.lemmas.List.{append-nil}
 use Rattle.oe_cell.specs.Spelling.{cell_text}
 use Rattle.oe_top.specs.Text.{listed_text, cube_text}
-use Rattle.oe_top.proofs.Streams.{has_sent_then, has_stopped, has_stopped_more}
+use Rattle.oe_outside.proofs.Streams.{has_sent_then, has_stopped, has_stopped_more}
 use Rattle.oe_top.proofs.text.send_text.Goals as goal
 
 pub returns-in_err-send_head-clause-sent : goal.returns-in_err-send_head-clause-sent

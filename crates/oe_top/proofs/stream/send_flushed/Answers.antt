@@ -1,5 +1,0 @@
-use Rattle.oe_top.proofs.Streams.{has_sent_piece}
-use Rattle.oe_top.proofs.stream.send_flushed.Goals as goal
-
-pub returns : goal.returns
-returns g c = rw c.requires (has_sent_piece c.write.result c.write.ensures.appended c.write.ensures.prefix c.write.ensures.cause)
