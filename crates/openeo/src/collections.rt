@@ -2,7 +2,7 @@
 ghost use Rattle.std.specs.Prelude.{◌≡◌, [], ◌∷◌, IfOk};
 ghost use Rattle.openeo.specs.One.{row_one};
 
-use crate::fault::Fault;
+use crate::fault::{Fault, Part};
 use oe_cell::{Cell, Frac};
 use oe_dims::{CellKind, Shape, Text};
 use oe_top::{Catalogue, MemoryCube};
@@ -28,7 +28,7 @@ fn collection_one(alloc: Global) -> Result<MemoryCube, Fault>
     ensures { IfOk result (λ cube. cube ≡ row_one.source) }
 {
     let Some(seven) = Frac::new(7, 1) else {
-        return Err(Fault::Setup("collections"));
+        return Err(Fault::Setup(Part::Collections));
     };
     let t = list(alloc, NEW_YEAR_2024)?;
     let bands = list(alloc, Text::of(alloc, "B1")?)?;
@@ -37,7 +37,7 @@ fn collection_one(alloc: Global) -> Result<MemoryCube, Fault>
     let cells = list(alloc, Cell::Number(seven))?;
     match Shape::new(WGS_84, Some(t), Some(bands), Some(y), Some(x)) {
         Ok(shape) => Ok(MemoryCube::new(shape, CellKind::Numbers, cells, Vec::new(alloc))),
-        Err(_) => Err(Fault::Setup("collections")),
+        Err(_) => Err(Fault::Setup(Part::Collections)),
     }
 }
 

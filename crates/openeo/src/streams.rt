@@ -1,10 +1,10 @@
-// Standard input, output and error as the top call sees them. They tell nothing of the bytes that pass.
-ghost use Rattle.std.specs.Prelude.{◌≡◌, None};
+// The streams of the process as the top call sees them. The bytes that pass are hidden.
+ghost use Rattle.std.specs.Prelude.{◌≡◌, ◌≤◌, length, None, IfSome};
 
 use oe_outside::{Failed, Sink, Source};
-use std::io::{Read, Write};
+use std::io::{ErrorKind, Read, Write};
 
-/// A reader of the system, with a count of how often it has failed.
+/// A reader of the system with its fault counter.
 #[derive(Drop)]
 pub struct Reader<R> {
     from: R,
@@ -25,10 +25,11 @@ impl<R: Read> Source for Reader<R> {
 
     ghost faults = { λ s. s.faults };
 
+    /// Reads once. A read that a signal interrupts is repeated, and is no fault.
     fn read(&mut self, into: &mut [u8]) -> Result<usize, Failed> {
-        match self.from.read(into) {
-            Ok(count) => Ok(count),
-            Err(_) => {
+        match read_again(&mut self.from, into) {
+            Some(count) => Ok(count),
+            None => {
                 self.faults = self.faults.saturating_add(1);
                 Err(Failed)
             }
@@ -36,7 +37,24 @@ impl<R: Read> Source for Reader<R> {
     }
 }
 
-/// A writer of the system, with a count of how often it has failed. A write that takes nothing of a piece fails.
+/// Reads until no signal interrupts it, `None` where that fails.
+fn read_again<R: Read>(from: &mut R, into: &mut [u8]) -> Option<usize>
+    ensures { IfSome result (λ count. count ≤ length into.old) }
+{
+    for _ in 0..u64::MAX {
+        match from.read(into) {
+            Ok(count) => return Some(count),
+            Err(error) => {
+                if error.kind() != ErrorKind::Interrupted {
+                    return None;
+                }
+            }
+        }
+    }
+    None
+}
+
+/// A writer of the system with its fault counter.
 #[derive(Drop)]
 pub struct Writer<W> {
     to: W,
@@ -57,8 +75,10 @@ impl<W: Write> Sink for Writer<W> {
 
     ghost faults = { λ s. s.faults };
 
+    /// Writes the whole piece. A write that a signal interrupts is repeated, and is no fault; one that takes nothing of what
+    /// is left of the piece is a fault.
     fn write(&mut self, piece: &[u8]) -> Result<(), Failed> {
-        if write_whole(&mut self.to, piece) {
+        if self.to.write_all(piece).is_ok() && self.to.flush().is_ok() {
             Ok(())
         } else {
             self.faults = self.faults.saturating_add(1);
@@ -67,44 +87,92 @@ impl<W: Write> Sink for Writer<W> {
     }
 }
 
-/// Writes the whole piece, and says whether it could.
-fn write_whole<W: Write>(to: &mut W, piece: &[u8]) -> bool {
-    let mut rest = piece;
-    while !rest.is_empty() {
-        match to.write(rest) {
-            Ok(0) => return false,
-            Ok(count) => rest = &rest[count..],
-            Err(_) => return false,
-        }
-    }
-    to.flush().is_ok()
-}
-
 #[cfg(test)]
 mod tests {
     use super::*;
+    use std::alloc::Global;
+    use std::io::Error;
     use std::test::Fail;
 
-    // A reader gives the bytes of what it stands over, and then the end.
+    /// A stream of the system in memory. The call with the number `stumbles` answers the error, and every other call passes two
+    /// bytes at most, of the letter `a` where it gives them.
+    #[derive(Drop)]
+    struct Stream {
+        calls: u64,
+        stumbles: u64,
+        error: ErrorKind,
+        taken: Vec<u8>,
+    }
+
+    impl Stream {
+        fn stumbles_at(alloc: Global, number: u64, error: ErrorKind) -> Stream {
+            Stream {
+                calls: 0,
+                stumbles: number,
+                error,
+                taken: Vec::new(alloc),
+            }
+        }
+
+        /// Counts a call, and answers whether it is the one that stumbles.
+        fn stumbles_now(&mut self) -> bool {
+            let number = self.calls;
+            self.calls = self.calls.saturating_add(1);
+            number == self.stumbles
+        }
+    }
+
+    impl Read for Stream {
+        fn read(&mut self, into: &mut [u8]) -> std::io::Result<usize> {
+            if self.stumbles_now() {
+                return Err(Error::from(self.error));
+            }
+            let count = into.len().min(2);
+            into[..count].fill(b'a');
+            Ok(count)
+        }
+    }
+
+    impl Write for Stream {
+        fn write(&mut self, piece: &[u8]) -> std::io::Result<usize> {
+            if self.stumbles_now() {
+                return Err(Error::from(self.error));
+            }
+            let count = piece.len().min(2);
+            self.taken.extend_from_slice(&piece[..count])?;
+            Ok(count)
+        }
+
+        fn flush(&mut self) -> std::io::Result<()> {
+            Ok(())
+        }
+    }
+
+    // A read that fails is a fault and no end of the input; one that is interrupted is neither.
     #[test]
-    fn reads_to_the_end(rt: HostRuntime) -> Result<(), Fail> {
-        let bytes = [1, 2, 3];
-        let mut reader = Reader::new(bytes.as_slice());
+    fn reads_on_after_an_interruption(rt: HostRuntime) -> Result<(), Fail> {
         let mut into = [0u8; 8];
-        assert_eq!(rt; reader.read(&mut into)?, 3);
-        assert_eq!(rt; &into[..3], [1, 2, 3].as_slice());
-        assert_eq!(rt; reader.read(&mut into)?, 0);
+        let mut reader = Reader::new(Stream::stumbles_at(rt.alloc(), 0, ErrorKind::Interrupted));
+        assert_eq!(rt; reader.read(&mut into), Ok(2));
+        assert_eq!(rt; &into[..3], b"aa\0".as_slice());
+        let mut broken = Reader::new(Stream::stumbles_at(rt.alloc(), 0, ErrorKind::BrokenPipe));
+        assert_eq!(rt; broken.read(&mut into), Err(Failed));
+        assert_eq!(rt; broken.read(&mut into), Ok(2));
         Ok(())
     }
 
-    // A writer that has no more room takes nothing, which is a fault.
+    // A write goes on until the whole piece is taken, also after an interruption; one that fails, or takes nothing, is a fault.
     #[test]
-    fn fails_where_nothing_is_taken(rt: HostRuntime) -> Result<(), Fail> {
-        let mut room = [0u8; 4];
-        let mut writer = Writer::new(room.as_mut_slice());
-        assert_eq!(rt; writer.write(&[1, 2, 3]), Ok(()));
-        assert_eq!(rt; writer.write(&[4, 5]), Err(Failed));
-        assert_eq!(rt; writer.faults, 1);
+    fn writes_the_whole_piece(rt: HostRuntime) -> Result<(), Fail> {
+        let mut writer = Writer::new(Stream::stumbles_at(rt.alloc(), 1, ErrorKind::Interrupted));
+        assert_eq!(rt; writer.write(b"abcde"), Ok(()));
+        assert_eq!(rt; writer.to.taken.as_slice(), b"abcde".as_slice());
+        let mut broken = Writer::new(Stream::stumbles_at(rt.alloc(), 1, ErrorKind::BrokenPipe));
+        assert_eq!(rt; broken.write(b"abcde"), Err(Failed));
+        assert_eq!(rt; broken.to.taken.as_slice(), b"ab".as_slice());
+        let mut room = [0u8; 3];
+        let mut full = Writer::new(room.as_mut_slice());
+        assert_eq!(rt; full.write(b"abcde"), Err(Failed));
         Ok(())
     }
 }
