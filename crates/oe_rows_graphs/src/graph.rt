@@ -1,10 +1,7 @@
 //! Graphs read whole: the fault of each row of the table of forms, by hand from its sentence; graphs printed again; stored
-//! processes; the catalogue.
+//! processes.
 use oe_dims::Text;
-use oe_graph::{
-    Code, Graph, Refusal, StoredProcess, print_graph, process, processes_text, read_graph,
-    read_stored,
-};
+use oe_graph::{Graph, Refusal, StoredProcess, print_graph, read_graph, read_stored};
 use oe_memory::OutOfMemory;
 use std::alloc::Global;
 use std::test::Fail;
@@ -59,6 +56,39 @@ const UNREADABLE: &[FaultRow] = &[
         r#"{"process_graph":{"a":{"process_id":"p","arguments":{},"result":true}},"process_graph":0}"#,
         "ProcessGraphMissing ",
     ),
+    (
+        "a float out of range in an argument",
+        r#"{"process_graph":{"a":{"process_id":"p","arguments":{"x":-1e400},"result":true}}}"#,
+        "GraphUnreadable ",
+    ),
+    (
+        "a byte behind the object",
+        r#"{"process_graph":{}}x"#,
+        "GraphUnreadable ",
+    ),
+    ("a number", "5", "GraphUnreadable "),
+    ("null", "null", "GraphUnreadable "),
+    ("no node", r#"{"process_graph":{}}"#, "ResultNodeCount "),
+    (
+        "a node that is no object, and no result",
+        r#"{"process_graph":{"a":5}}"#,
+        "ResultNodeCount ",
+    ),
+    (
+        "an id not in form, and no result",
+        r#"{"process_graph":{"":{"process_id":"p","arguments":{}}}}"#,
+        "NodeInvalid ",
+    ),
+    (
+        "a result that is false",
+        r#"{"process_graph":{"a":{"process_id":"p","arguments":{},"result":false}}}"#,
+        "ResultNodeCount ",
+    ),
+    (
+        "of equal nodes the last",
+        r#"{"process_graph":{"a":{"process_id":"p","arguments":{},"result":true},"a":5}}"#,
+        "ResultNodeCount ",
+    ),
 ];
 
 /// Nodes, beside a good result node `z`, each with the fault that it has.
@@ -98,6 +128,36 @@ const NODES: &[FaultRow] = &[
     (
         "a process of 65 bytes",
         r#""a":{"process_id":"aaaaaaaaaaaaaaaaaaaaaaaaaaaaaaaaaaaaaaaaaaaaaaaaaaaaaaaaaaaaaaaaa","arguments":{}}"#,
+        "NodeInvalid a",
+    ),
+    (
+        "a process of 33 letters of two bytes",
+        r#""a":{"process_id":"ééééééééééééééééééééééééééééééééé","arguments":{}}"#,
+        "NodeInvalid a",
+    ),
+    (
+        "a process that is a number",
+        r#""a":{"process_id":1,"arguments":{}}"#,
+        "NodeInvalid a",
+    ),
+    (
+        "a namespace without bytes",
+        r#""a":{"process_id":"p","arguments":{},"namespace":""}"#,
+        "NodeInvalid a",
+    ),
+    (
+        "a namespace with a capital",
+        r#""a":{"process_id":"p","arguments":{},"namespace":"User"}"#,
+        "NodeInvalid a",
+    ),
+    (
+        "a description in a list",
+        r#""a":{"process_id":"p","arguments":{},"description":[]}"#,
+        "NodeInvalid a",
+    ),
+    (
+        "of equal members the last",
+        r#""a":{"process_id":"p","process_id":1,"arguments":{}}"#,
         "NodeInvalid a",
     ),
     ("no arguments", r#""a":{"process_id":"p"}"#, "NodeInvalid a"),
@@ -178,6 +238,51 @@ const NODES: &[FaultRow] = &[
         "ResultNodeCount a/f/n/g",
     ),
     (
+        "a node of a callback in a callback",
+        r#""a":{"process_id":"p","arguments":{"f":{"process_graph":{"n":{"process_id":"p","arguments":{"g":{"process_graph":{"m":7,"o":{"process_id":"p","arguments":{},"result":true}}}},"result":true}}}}}"#,
+        "NodeInvalid a/f/n/g/m",
+    ),
+    (
+        "an id in a callback in a callback",
+        r#""a":{"process_id":"p","arguments":{"f":{"process_graph":{"n":{"process_id":"p","arguments":{"g":{"process_graph":{"":7,"o":{"process_id":"p","arguments":{},"result":true}}}},"result":true}}}}}"#,
+        "NodeInvalid a/f/n/g",
+    ),
+    (
+        "two results of a callback in a callback",
+        r#""a":{"process_id":"p","arguments":{"f":{"process_graph":{"n":{"process_id":"p","arguments":{"g":{"process_graph":{"m":{"process_id":"p","arguments":{},"result":true},"o":{"process_id":"p","arguments":{},"result":true}}}},"result":true}}}}}"#,
+        "ResultNodeCount a/f/n/g",
+    ),
+    (
+        "one name, the lesser number",
+        r#""a":{"process_id":"p","arguments":{"f":{"process_graph":{"n":{"process_id":"p","arguments":{"g":{"process_graph":{"":7}}},"result":true}}}}}"#,
+        "NodeInvalid a/f/n/g",
+    ),
+    (
+        "a callback before a node in it",
+        r#""a":{"process_id":"p","arguments":{"f":{"process_graph":{"n":{"process_id":"p","arguments":{"g":{"process_graph":{"m":7}}},"result":true}}}}}"#,
+        "ResultNodeCount a/f/n/g",
+    ),
+    (
+        "a node before a callback in it",
+        r#""a":{"process_id":"p","arguments":{"f":{"process_graph":{"n":{"process_id":"","arguments":{"g":{"process_graph":{}}},"result":true}}}}}"#,
+        "NodeInvalid a/f/n",
+    ),
+    (
+        "a callback before a callback in it",
+        r#""a":{"process_id":"p","arguments":{"f":{"process_graph":{"n":{"process_id":"p","arguments":{"g":{"process_graph":{}}}}}}}}"#,
+        "ResultNodeCount a/f",
+    ),
+    (
+        "an id before a number at the empty name",
+        r#""":5,"a":{"process_id":"p","arguments":{},"result":true}"#,
+        "NodeInvalid ",
+    ),
+    (
+        "a number at the empty name before a node",
+        r#""a":{"process_id":"p","arguments":{},"result":true},"b":5"#,
+        "ResultNodeCount ",
+    ),
+    (
         "name before number",
         r#""a":{"process_id":"p","arguments":{"f":{"process_graph":{}}}},"b":5"#,
         "ResultNodeCount a/f",
@@ -203,6 +308,14 @@ const NODES: &[FaultRow] = &[
 const ARGUMENTS: &[(&str, &str, &str)] = &[
     ("null", "null", "null"),
     ("a flag", "true", "true"),
+    ("the other flag", "false", "false"),
+    ("zero", "0", "0"),
+    ("below zero", "-1", "-1"),
+    ("zero with a point", "0.0", "9223372036854775808"),
+    ("a great float", "-1e308", "9223372036854775808"),
+    ("a text without bytes", r#""""#, r#""""#),
+    ("an object", "{}", "{}"),
+    ("a list without items", "[]", "[]"),
     (
         "the greatest whole number",
         "9223372036854775807",
@@ -232,6 +345,12 @@ const ARGUMENTS: &[(&str, &str, &str)] = &[
         r#"{"from_parameter":""}"#,
         r#"{"from_parameter":""}"#,
     ),
+    ("a text of other bytes", r#""é/\u00e9\\""#, r#""é/é\\""#),
+    (
+        "a callback in a callback",
+        r#"{"process_graph":{"n":{"arguments":{"g":{"process_graph":{"m":{"process_id":"p","arguments":{},"result":true}}}},"result":true,"process_id":"p"}}}"#,
+        r#"{"process_graph":{"n":{"arguments":{"g":{"process_graph":{"m":{"arguments":{},"process_id":"p","result":true}}}},"process_id":"p","result":true}}}"#,
+    ),
     ("no text", r#"{"from_node":5}"#, r#"{"from_node":5}"#),
     (
         "a second member",
@@ -252,6 +371,109 @@ const ARGUMENTS: &[(&str, &str, &str)] = &[
         "no callback",
         r#"{"process_graph":[]}"#,
         r#"{"process_graph":[]}"#,
+    ),
+];
+
+/// Whole inputs, by hand, and how they are printed again. The first is the example `load.json`.
+const WHOLE: &[(&str, &str, &str)] = &[
+    (
+        "one collection",
+        r#"{"process_graph":{"a":{"process_id":"load_collection","arguments":{"id":"ONE","spatial_extent":null,"temporal_extent":null},"result":true}}} "#,
+        r#"{"process_graph":{"a":{"arguments":{"id":"ONE","spatial_extent":null,"temporal_extent":null},"process_id":"load_collection","result":true}}}"#,
+    ),
+    (
+        "a namespace that is null",
+        r#"{"process_graph":{"a":{"process_id":"p","arguments":{},"result":true,"namespace":null}}}"#,
+        r#"{"process_graph":{"a":{"arguments":{},"process_id":"p","result":true}}}"#,
+    ),
+    (
+        "of users",
+        r#"{"process_graph":{"a":{"process_id":"p","arguments":{},"result":true,"namespace":"user"}}}"#,
+        r#"{"process_graph":{"a":{"arguments":{},"namespace":"user","process_id":"p","result":true}}}"#,
+    ),
+    (
+        "of the back end",
+        r#"{"process_graph":{"a":{"process_id":"p","arguments":{},"result":true,"namespace":"backend"}}}"#,
+        r#"{"process_graph":{"a":{"arguments":{},"namespace":"backend","process_id":"p","result":true}}}"#,
+    ),
+    (
+        "a description that is null",
+        r#"{"process_graph":{"a":{"process_id":"p","arguments":{},"result":true,"description":null}}}"#,
+        r#"{"process_graph":{"a":{"arguments":{},"process_id":"p","result":true}}}"#,
+    ),
+    (
+        "a description",
+        r#"{"process_graph":{"a":{"process_id":"p","arguments":{},"result":true,"description":"d"}}}"#,
+        r#"{"process_graph":{"a":{"arguments":{},"process_id":"p","result":true}}}"#,
+    ),
+    (
+        "other members",
+        r#"{"process_graph":{"a":{"process_id":"p","arguments":{},"result":true,"title":5}}}"#,
+        r#"{"process_graph":{"a":{"arguments":{},"process_id":"p","result":true}}}"#,
+    ),
+    (
+        "an id of 64 bytes",
+        r#"{"process_graph":{"aaaaaaaaaaaaaaaaaaaaaaaaaaaaaaaaaaaaaaaaaaaaaaaaaaaaaaaaaaaaaaaa":{"process_id":"p","arguments":{},"result":true}}}"#,
+        r#"{"process_graph":{"aaaaaaaaaaaaaaaaaaaaaaaaaaaaaaaaaaaaaaaaaaaaaaaaaaaaaaaaaaaaaaaa":{"arguments":{},"process_id":"p","result":true}}}"#,
+    ),
+    (
+        "every kind of byte in an id",
+        r#"{"process_graph":{"-._09AZaz":{"process_id":"p","arguments":{},"result":true}}}"#,
+        r#"{"process_graph":{"-._09AZaz":{"arguments":{},"process_id":"p","result":true}}}"#,
+    ),
+    (
+        "a process of 64 bytes",
+        r#"{"process_graph":{"a":{"process_id":"aaaaaaaaaaaaaaaaaaaaaaaaaaaaaaaaaaaaaaaaaaaaaaaaaaaaaaaaaaaaaaaa","arguments":{},"result":true}}}"#,
+        r#"{"process_graph":{"a":{"arguments":{},"process_id":"aaaaaaaaaaaaaaaaaaaaaaaaaaaaaaaaaaaaaaaaaaaaaaaaaaaaaaaaaaaaaaaa","result":true}}}"#,
+    ),
+    (
+        "a process of 32 letters of two bytes",
+        r#"{"process_graph":{"a":{"process_id":"éééééééééééééééééééééééééééééééé","arguments":{},"result":true}}}"#,
+        r#"{"process_graph":{"a":{"arguments":{},"process_id":"éééééééééééééééééééééééééééééééé","result":true}}}"#,
+    ),
+    (
+        "nodes in byte order",
+        r#"{"process_graph":{"b":{"process_id":"p","arguments":{},"result":true},"a-":{"process_id":"p","arguments":{}},"a":{"process_id":"p","arguments":{},"result":false},"B":{"process_id":"p","arguments":{}}}}"#,
+        r#"{"process_graph":{"B":{"arguments":{},"process_id":"p"},"a":{"arguments":{},"process_id":"p"},"a-":{"arguments":{},"process_id":"p"},"b":{"arguments":{},"process_id":"p","result":true}}}"#,
+    ),
+    (
+        "equal nodes",
+        r#"{"process_graph":{"a":5,"a":{"process_id":"p","arguments":{},"result":true}}}"#,
+        r#"{"process_graph":{"a":{"arguments":{},"process_id":"p","result":true}}}"#,
+    ),
+    (
+        "equal members of a node",
+        r#"{"process_graph":{"a":{"process_id":1,"arguments":0,"process_id":"p","arguments":{},"result":null,"result":true}}}"#,
+        r#"{"process_graph":{"a":{"arguments":{},"process_id":"p","result":true}}}"#,
+    ),
+    (
+        "equal graphs",
+        r#"{"process_graph":0,"id":1,"process_graph":{"a":{"process_id":"p","arguments":{},"result":true}}}"#,
+        r#"{"process_graph":{"a":{"arguments":{},"process_id":"p","result":true}}}"#,
+    ),
+];
+
+/// Values inside an argument, how they are printed again, and in how many lists or objects each is read: 127 levels are
+/// read, and the graph, its nodes, the node and its arguments are four of them.
+const INSIDE: &[(&str, &str, &str, usize)] = &[
+    ("null", "null", "null", 123),
+    ("false", "false", "false", 123),
+    ("a whole number", "-5", "-5", 123),
+    ("no literal", "0.5", "9223372036854775808", 123),
+    ("a text", r#""a""#, r#""a""#, 123),
+    ("a list", "[]", "[]", 122),
+    ("an object", "{}", "{}", 122),
+    (
+        "a node",
+        r#"{"from_node":"q"}"#,
+        r#"{"from_node":"q"}"#,
+        122,
+    ),
+    (
+        "a parameter",
+        r#"{"from_parameter":"q"}"#,
+        r#"{"from_parameter":"q"}"#,
+        122,
     ),
 ];
 
@@ -298,6 +520,90 @@ fn prints_arguments_again(rt: HostRuntime) -> Result<(), Fail> {
     Ok(())
 }
 
+/// A graph whose argument `x` is a value in so many lists or objects.
+fn inside(
+    alloc: Global,
+    value: &str,
+    depth: usize,
+    open: &str,
+    close: &str,
+) -> Result<String, OutOfMemory> {
+    let mut text = String::from_str(alloc, r#"{"process_graph":{"a":{"arguments":{"x":"#)?;
+    for _ in 0..depth {
+        text.push_str(open)?;
+    }
+    text.push_str(value)?;
+    for _ in 0..depth {
+        text.push_str(close)?;
+    }
+    text.push_str(r#"},"process_id":"p","result":true}}}"#)?;
+    Ok(text)
+}
+
+/// Whether a value is printed again at this depth.
+fn is_kept(
+    alloc: Global,
+    value: &str,
+    wanted: &str,
+    depth: usize,
+    open: &str,
+    close: &str,
+) -> Result<bool, OutOfMemory> {
+    let input = inside(alloc, value, depth, open, close)?;
+    let wanted = inside(alloc, wanted, depth, open, close)?;
+    let found = answer(alloc, input.as_bytes())?;
+    Ok(found.as_str() == wanted.as_str())
+}
+
+/// Whether a value is unreadable in one list more.
+fn is_too_deep(
+    alloc: Global,
+    value: &str,
+    depth: usize,
+    open: &str,
+    close: &str,
+) -> Result<bool, OutOfMemory> {
+    let deeper = format!(in alloc; "[{value}]")?;
+    let input = inside(alloc, deeper.as_str(), depth, open, close)?;
+    let found = answer(alloc, input.as_bytes())?;
+    Ok(found.as_str() == "GraphUnreadable ")
+}
+
+/// How a value is put in a list or in an object.
+const BRACKETS: &[(&str, &str)] = &[("[", "]"), (r#"{"k":"#, "}")];
+
+#[test]
+fn prints_whole_graphs_again(rt: HostRuntime) -> Result<(), Fail> {
+    for (name, input, wanted) in WHOLE {
+        let found = answer(rt.alloc(), input.as_bytes())?;
+        assert_eq!(rt; found.as_str(), *wanted, "{name}");
+    }
+    Ok(())
+}
+
+#[test]
+fn keeps_values_at_each_depth(rt: HostRuntime) -> Result<(), Fail> {
+    let alloc = rt.alloc();
+    for (name, value, wanted, deepest) in INSIDE {
+        for (open, close) in BRACKETS {
+            assert!(rt; is_kept(alloc, value, wanted, 0, open, close)?, "{name}");
+            assert!(rt;
+                is_kept(alloc, value, wanted, 1, open, close)?,
+                "{name} in {open}"
+            );
+            assert!(rt;
+                is_kept(alloc, value, wanted, *deepest, open, close)?,
+                "{name} deep in {open}"
+            );
+            assert!(rt;
+                is_too_deep(alloc, value, *deepest, open, close)?,
+                "{name} too deep in {open}"
+            );
+        }
+    }
+    Ok(())
+}
+
 /// The text of a stored process of the id `p`, as its parameters, in words, or its fault.
 fn stored_answer(alloc: Global, parameters: &str) -> Result<Text, OutOfMemory> {
     let input = format!(in alloc;
@@ -336,6 +642,63 @@ const PARAMETERS: &[FaultRow] = &[
     ),
     ("an object", r#","parameters":{}"#, "ParametersInvalid "),
     ("a flag", r#","parameters":false"#, "ParametersInvalid "),
+    ("a text", r#","parameters":"a""#, "ParametersInvalid "),
+    ("a number", r#","parameters":0"#, "ParametersInvalid "),
+    (
+        "null in the list",
+        r#","parameters":[null]"#,
+        "ParametersInvalid ",
+    ),
+    (
+        "a list in the list",
+        r#","parameters":[[]]"#,
+        "ParametersInvalid ",
+    ),
+    (
+        "a name that is null",
+        r#","parameters":[{"name":null}]"#,
+        "ParametersInvalid ",
+    ),
+    (
+        "a name in a list",
+        r#","parameters":[{"name":["a"]}]"#,
+        "ParametersInvalid ",
+    ),
+    (
+        "optional is a text",
+        r#","parameters":[{"name":"a","optional":"true"}]"#,
+        "ParametersInvalid ",
+    ),
+    (
+        "optional is a number",
+        r#","parameters":[{"name":"a","optional":1}]"#,
+        "ParametersInvalid ",
+    ),
+    (
+        "the second is no parameter",
+        r#","parameters":[{"name":"a"},{}]"#,
+        "ParametersInvalid ",
+    ),
+    (
+        "two names without bytes",
+        r#","parameters":[{"name":""},{"name":"","optional":true}]"#,
+        "ParametersInvalid ",
+    ),
+    (
+        "of equal names the last",
+        r#","parameters":[{"name":1,"name":"a","optional":0,"optional":true}]"#,
+        "a? ",
+    ),
+    (
+        "of equal parameters the last",
+        r#","parameters":5,"parameters":[{"name":"a","default":1}]"#,
+        "a = ",
+    ),
+    (
+        "optional with a default",
+        r#","parameters":[{"name":"a","optional":true,"default":{"from_node":"z"}}]"#,
+        "a? = ",
+    ),
     ("no object", r#","parameters":["a"]"#, "ParametersInvalid "),
     (
         "no name",
@@ -432,26 +795,6 @@ fn bounds_the_depth(rt: HostRuntime) -> Result<(), Fail> {
     assert_eq!(rt;
         answer(alloc, deeper.as_bytes())?.as_str(),
         "GraphUnreadable "
-    );
-    Ok(())
-}
-
-#[test]
-fn lists_the_processes(rt: HostRuntime) -> Result<(), Fail> {
-    let alloc = rt.alloc();
-    assert!(rt; process(alloc, "absolute")?.is_some());
-    assert!(rt; process(alloc, "nothing")?.is_none());
-    assert!(rt; process(alloc, "Absolute")?.is_none());
-    let text = processes_text(alloc)?;
-    assert!(rt;
-        text.as_str().starts_with(
-            r#"{"links":[],"processes":[{"description":"openEO process absolute","id":"absolute","parameters":[{"description":"x","name":"x","schema":{}}],"returns":{"description":"result","schema":{}}},{"description":"openEO process add","#
-        )
-    );
-    assert!(rt;
-        text.as_str().ends_with(
-            r#",{"description":"openEO process xor","id":"xor","parameters":[{"description":"x","name":"x","schema":{}},{"description":"y","name":"y","schema":{}}],"returns":{"description":"result","schema":{}}}]}"#
-        )
     );
     Ok(())
 }

@@ -5,6 +5,8 @@
 #![tactic(auto)]
 
 #[cfg(test)]
+mod catalogue;
+#[cfg(test)]
 mod graph;
 #[cfg(test)]
 mod top;
