@@ -19,10 +19,10 @@ fn refused(alloc: Global, refusal: Refusal) -> Result<Text, OutOfMemory> {
     }
 }
 
-/// The text of the graph of an input, or its fault.
+/// The text of a copy of the graph of an input, or its fault.
 fn answer(alloc: Global, input: &[u8]) -> Result<Text, OutOfMemory> {
     match read_graph(alloc, input) {
-        Ok(graph) => print_graph(alloc, &graph),
+        Ok(graph) => print_graph(alloc, &graph.copy()?),
         Err(refusal) => refused(alloc, refusal),
     }
 }
@@ -604,13 +604,13 @@ fn keeps_values_at_each_depth(rt: HostRuntime) -> Result<(), Fail> {
     Ok(())
 }
 
-/// The text of a stored process of the id `p`, as its parameters, in words, or its fault.
+/// The parameters of a copy of a stored process of the id `p`, in words, or its fault.
 fn stored_answer(alloc: Global, parameters: &str) -> Result<Text, OutOfMemory> {
     let input = format!(in alloc;
         r#"{{"process_graph":{{"z":{{"process_id":"p","arguments":{{}},"result":true}}}}{parameters}}}"#
     )?;
     match read_stored(alloc, "p", input.as_bytes()) {
-        Ok(process) => parameters_text(alloc, &process),
+        Ok(process) => parameters_text(alloc, &process.copy()?),
         Err(refusal) => refused(alloc, refusal),
     }
 }
