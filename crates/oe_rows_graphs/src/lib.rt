@@ -9,4 +9,6 @@ mod catalogue;
 #[cfg(test)]
 mod graph;
 #[cfg(test)]
+mod render;
+#[cfg(test)]
 mod top;

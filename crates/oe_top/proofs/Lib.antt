@@ -5,5 +5,4 @@ pub mod Forms
 pub mod Loads
 pub mod Numbers
 pub mod Said
-pub mod Texts
 mod Worked

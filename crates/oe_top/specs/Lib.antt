@@ -5,5 +5,4 @@ pub mod Form
 pub mod Lines
 pub mod Meaning
 pub mod MemoryCube
-pub mod Text
 pub mod Words

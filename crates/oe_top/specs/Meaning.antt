@@ -4,9 +4,9 @@ use Rattle.std.specs.Option.{option_map}
 use Rattle.serde_json.specs.Data.{Data}
 use Rattle.oe_cell.specs.declared.cell.Cell.{Cell}
 use Rattle.oe_dims.specs.Cube.{Cube}
+use Rattle.oe_render.specs.Text.{cube_text}
 use Rattle.oe_top.specs.Collection.{Row, row_of, loaded}
 use Rattle.oe_top.specs.Form.{IsGraphText, form_id}
-use Rattle.oe_top.specs.Text.{cube_text}
 
 -- the row that a graph loads
 abbrev pub row_loaded : List Row → Data → Option Row

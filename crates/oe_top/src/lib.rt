@@ -11,7 +11,6 @@ mod command;
 mod form;
 mod refusal;
 mod run;
-mod text;
 mod words;
 
 pub use catalogue::{Catalogue, MemoryCube};

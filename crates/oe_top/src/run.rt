@@ -9,8 +9,8 @@ ghost use Rattle.oe_top.specs.Words.{IsRunCommand};
 use crate::Catalogue;
 use crate::form::{MOST_INPUT, read_form};
 use crate::refusal::Refusal;
-use crate::text::write_text;
 use oe_outside::{Pending, ReadRefusal, Sink, Source, read_up_to};
+use oe_render::write_text;
 use std::alloc::Global;
 
 /// Writes the text of what the input means. Chunks and workers have no part in it yet.

@@ -1,0 +1,3 @@
+pub mod Rendered
+pub mod Stored
+pub mod Text

@@ -1,0 +1,48 @@
+-- What rendering leaves: the text of the cells that stand in a store, or a prefix of it.
+use Rattle.std.specs.Prelude.{◌≡◌, ⊤, ℕ, ◌<◌, ◌≤◌, List, map, Option, None, Result, Ok, Err, OnOk, OnErr}
+use Rattle.oe_cell.specs.Spelling.{cell_text}
+use Rattle.oe_cell.specs.declared.cell.Cell.{Cell}
+use Rattle.oe_dims.specs.Dimensions.{Dimensions, cell_count}
+use Rattle.oe_outside.specs.Faults.{HasCauseOf}
+use Rattle.oe_outside.specs.Stream.{Sends, Stops}
+use Rattle.oe_outside.specs.Visible.{Appends, AppendsPrefix}
+use Rattle.oe_outside.specs.declared.failed.Failed.{Failed}
+use Rattle.oe_render.specs.Stored.{AreStored}
+use Rattle.oe_render.specs.Text.{cube_text, more_text}
+use Rattle.oe_render.specs.declared.rendering.RenderFail.{RenderFail}
+use Rattle.oe_render.specs.declared.rendering.RenderFail.TheVariants.{SpoolFailed, SpoolDamaged, SinkFailed}
+
+-- cells that are stored at an offset, as many as the shape has, and their text follows what was written
+abbrev pub AppendsCube : Option (List ℕ) → ℕ → Dimensions → Option (List ℕ) → Option (List ℕ) → Type 0
+AppendsCube store at shape before after =
+    (cells : List Cell) × AreStored store at (cell_count shape) cells
+    × Appends before (cube_text (record { shape = shape; cells = cells })) after
+
+-- the same of a prefix of their text
+abbrev pub AppendsCubePrefix : Option (List ℕ) → ℕ → Dimensions → Option (List ℕ) → Option (List ℕ) → Type 0
+AppendsCubePrefix store at shape before after =
+    (cells : List Cell) × AreStored store at (cell_count shape) cells
+    × AppendsPrefix before (cube_text (record { shape = shape; cells = cells })) after
+
+-- what may be refused at the cells from an index to before an end: damage only in a store whose bytes are hidden
+abbrev pub IsRefusalWithin : Option (List ℕ) → ℕ → ℕ → RenderFail → Type 0
+IsRefusalWithin store from end SpoolFailed = ⊤
+IsRefusalWithin store from end SinkFailed = ⊤
+IsRefusalWithin store from end (SpoolDamaged position) = (store ≡ None) × (from ≤ position) × (position < end)
+
+-- a failed write as what it refuses
+abbrev pub sink_answer : {T : Type 0} → Result T Failed → Result T RenderFail
+sink_answer (Ok x) = Ok x
+sink_answer (Err e) = Err SinkFailed
+
+-- What a call that sends a text, part of which may have to be read first, promises of a sink of type O.
+pub record HasRendered {O T : Type 0} (written : O → Option (List ℕ)) (faults : O → ℕ) (before : O) (held text : List ℕ) (after : O) (left : List ℕ) (result : Result T RenderFail) : Type 0 where
+  pub sent : OnOk result (Sends (written before) held text (written after) left)
+  pub stopped : OnErr result (Stops (written before) held text (written after))
+  pub cause : HasCauseOf SinkFailed (faults before) (faults after) result
+
+-- The same of cells that are stored at an offset, after so many others were sent.
+abbrev pub HasSentStored : {O T : Type 0} → Option (List ℕ) → ℕ → ℕ → ℕ → (O → Option (List ℕ)) → (O → ℕ) → O → List ℕ → O → List ℕ → Result T RenderFail → Type 0
+HasSentStored store at count index written faults before held after left result =
+    (cells : List Cell) × AreStored store at count cells
+    × HasRendered written faults before held (more_text index (map cell_text cells)) after left result

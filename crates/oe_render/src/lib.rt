@@ -1,0 +1,13 @@
+//! The result text of a cube, both ways.
+//!
+//! [`render`] writes the text of the cube whose records stand in a store, and [`write_text`] that of a cube in memory;
+//! both go through a buffer of bytes that the caller lends, into any sink. The text of a cube is one definition, which
+//! the layers above cite: what was written is that text, or a prefix of it where a call refused.
+#![tactic(auto)]
+
+mod batch;
+mod rendering;
+mod text;
+
+pub use rendering::{RenderFail, render};
+pub use text::write_text;
