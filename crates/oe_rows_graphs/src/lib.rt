@@ -7,6 +7,8 @@
 #[cfg(test)]
 mod catalogue;
 #[cfg(test)]
+mod cube;
+#[cfg(test)]
 mod graph;
 #[cfg(test)]
 mod render;

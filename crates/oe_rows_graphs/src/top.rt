@@ -2,7 +2,7 @@
 ghost use Rattle.std.specs.Prelude.{◌≡◌, true, [], ◌∷◌, IfOk};
 ghost use Rattle.oe_dims.specs.Dimensions.{cell_count};
 ghost use Rattle.oe_dims.specs.declared.kind.CellKind.TheVariants as kind;
-ghost use Rattle.oe_top.specs.Collection.{is_of_kind};
+ghost use Rattle.oe_cube.specs.Kinds.{is_null_or_of};
 
 use oe_cell::{Cell, Frac};
 use oe_dims::{CellKind, Shape, Text};
@@ -118,7 +118,7 @@ fn pair<T: Drop>(alloc: Global, first: T, second: T) -> Result<Vec<T>, Fail>
 
 /// The number with these parts in lowest terms. A pair that is none fails the test.
 fn number(num: i64, den: u64) -> Result<Cell, Fail>
-    ensures { IfOk result (λ cell. is_of_kind kind.Numbers cell ≡ true) }
+    ensures { IfOk result (λ cell. is_null_or_of kind.Numbers cell ≡ true) }
 {
     match Frac::new(num, den) {
         Some(number) => Ok(Cell::Number(number)),
@@ -150,7 +150,7 @@ fn numbers(alloc: Global) -> Result<MemoryCube, Fail> {
 }
 
 fn flag(value: bool) -> Cell
-    ensures { is_of_kind kind.Flags result ≡ true }
+    ensures { is_null_or_of kind.Flags result ≡ true }
 {
     Cell::Flag(value)
 }

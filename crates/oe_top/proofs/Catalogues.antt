@@ -20,7 +20,9 @@ use Rattle.oe_dims.specs.declared.kind.CellKind.TheVariants.{Numbers, Flags}
 use Rattle.oe_outside.specs.Faults.{NeverFalls}
 use Rattle.oe_outside.proofs.Causes.{NeverFalls-refl}
 use Rattle.oe_top.specs.Catalogue.{row_shown}
-use Rattle.oe_top.specs.Collection.{Collection, is_of_kind, loaded, Row, row_of, faults_at, row_without_faults, OnlyRead, IsCollection}
+use Rattle.oe_cube.specs.Collections.{Collection, IsCollection}
+use Rattle.oe_cube.specs.Kinds.{is_null_or_of}
+use Rattle.oe_top.specs.Collection.{loaded, Row, row_of, faults_at, row_without_faults, OnlyRead}
 use Rattle.oe_top.specs.declared.catalogue.Mounted.{Mounted}
 
 -- the row that stands for a mounted collection
@@ -99,7 +101,7 @@ same_cells cells shape valid counted =
 pub loaded_is : (c : Collection) → IsCollection c → loaded c ≡ record { shape = c.shape; cells = c.cells }
 loaded_is c sound = rw (same_cells c.cells c.shape sound.valid sound.counted) refl
 
-is_not_over : (kind : CellKind) (cell : Cell) → is_of_kind kind cell ≡ true → cell ≢ Over
+is_not_over : (kind : CellKind) (cell : Cell) → is_null_or_of kind cell ≡ true → cell ≢ Over
 is_not_over Numbers Empty ok same = cc
 is_not_over Numbers (Flag b) ok same = cc
 is_not_over Numbers (Number q) ok same = cc
@@ -109,11 +111,11 @@ is_not_over Flags (Flag b) ok same = cc
 is_not_over Flags (Number q) ok same = cc
 is_not_over Flags Over ok same = cc
 
-not_over : (kind : CellKind) (cells : List Cell) → list_all (is_of_kind kind) cells ≡ true → (place : ℕ) → place < length cells → get_or cells place Empty ≢ Over
+not_over : (kind : CellKind) (cells : List Cell) → list_all (is_null_or_of kind) cells ≡ true → (place : ℕ) → place < length cells → get_or cells place Empty ≢ Over
 not_over kind [] of_kind place below = absurd (omega arith)
 not_over kind (cell ∷ cells) of_kind zero below = is_not_over kind cell (and_parts _ _ of_kind).0
 not_over kind (cell ∷ cells) of_kind (suc place) below = not_over kind cells (and_parts _ _ of_kind).1 place (omega arith)
 
 -- no cell of a collection is Over
-pub none_is_over : (kind : CellKind) (cells : List Cell) → list_all (is_of_kind kind) cells ≡ true → All (λ cell. cell ≢ Over) cells
+pub none_is_over : (kind : CellKind) (cells : List Cell) → list_all (is_null_or_of kind) cells ≡ true → All (λ cell. cell ≢ Over) cells
 none_is_over kind cells of_kind = All-from_get_or (λ cell. cell ≢ Over) cells Empty (not_over kind cells of_kind)

@@ -5,7 +5,8 @@ use Rattle.oe_cell.specs.declared.cell.Cell.TheVariants.{Over}
 use Rattle.oe_dims.specs.Dimensions.{Dimensions}
 use Rattle.oe_render.specs.Text.{cube_text}
 use Rattle.oe_top.proofs.Catalogues.{row_after, loaded_is, none_is_over}
-use Rattle.oe_top.specs.Collection.{Row, OnlyRead, IsCollection, loaded}
+use Rattle.oe_cube.specs.Collections.{IsCollection}
+use Rattle.oe_top.specs.Collection.{Row, OnlyRead, loaded}
 
 -- a fact of the value, from how it was found
 pub if_some : {X : Type 0} {P : X → Type 0} (found : Option X) → ((x : X) → found ≡ Some x → P x) → IfSome found P

@@ -1,35 +1,12 @@
--- Collections: a cube with the kind of its cells, and its fault counter.
-use Rattle.std.specs.Prelude.{◌≡◌, ℕ, zero, suc, Bool, true, false, List, [], ◌∷◌, length, map, Option, unwrap_or}
-use Rattle.std.specs.List.{list_all, find}
+-- Collections that are read, each with its fault counter.
+use Rattle.std.specs.Prelude.{◌≡◌, ℕ, zero, suc, List, [], ◌∷◌, map, Option, unwrap_or}
+use Rattle.std.specs.List.{find}
 use Rattle.oe_cell.specs.declared.cell.Cell.{Cell}
-use Rattle.oe_cell.specs.declared.cell.Cell.TheVariants.{Empty, Flag, Number, Over}
+use Rattle.oe_cell.specs.declared.cell.Cell.TheVariants.{Empty}
+use Rattle.oe_cube.specs.Collections.{Collection}
 use Rattle.oe_dims.specs.Cube.{Cube, at, tabulate}
-use Rattle.oe_dims.specs.Dimensions.{Dimensions, IsShape, cell_count}
 use Rattle.oe_dims.specs.Names.{same_name}
-use Rattle.oe_dims.specs.declared.kind.CellKind.{CellKind}
-use Rattle.oe_dims.specs.declared.kind.CellKind.TheVariants.{Numbers, Flags}
 use Rattle.oe_outside.specs.Faults.{NeverFalls}
-
--- a shape, the cells in row-major order and their kind
-pub record Collection : Type 0 where
-  pub shape : Dimensions
-  pub cells : List Cell
-  pub kind : CellKind
-
--- the cell is null or of the kind, and so never Over: `IsNumeric` or `IsLogical` of oe_cell without Over
-abbrev pub is_of_kind : CellKind → Cell → Bool
-is_of_kind kind Empty = true
-is_of_kind Numbers (Flag b) = false
-is_of_kind Numbers (Number q) = true
-is_of_kind Flags (Flag b) = true
-is_of_kind Flags (Number q) = false
-is_of_kind kind Over = false
-
--- the shape is valid, there is one cell for each position, and each is of the kind
-pub record IsCollection (c : Collection) : Type 0 where
-  pub valid : IsShape c.shape
-  pub counted : length c.cells ≡ cell_count c.shape
-  pub of_kind : list_all (is_of_kind c.kind) c.cells ≡ true
 
 -- a collection that is read, and its fault counter
 pub record Readable : Type 0 where

@@ -1,5 +1,6 @@
 -- What contracts see of a collection in memory.
-use Rattle.oe_top.specs.Collection.{Collection, Readable}
+use Rattle.oe_cube.specs.Collections.{Collection}
+use Rattle.oe_top.specs.Collection.{Readable}
 use Rattle.oe_top.specs.declared.catalogue.MemoryCube.TheInside.{Inside}
 
 abbrev pub collection_of : Inside → Collection

@@ -3,7 +3,9 @@ ghost use Rattle.std.specs.Prelude.{◌≡◌, ◌≢◌, ◌+◌, ◌<◌, ◌�
 ghost use Rattle.std.specs.List.{list_all};
 ghost use Rattle.oe_dims.specs.Dimensions.{cell_count};
 ghost use Rattle.oe_outside.specs.Faults.{HasCause, Rose};
-ghost use Rattle.oe_top.specs.Collection.{Collection, IsCollection, OnlyRead, Row, faults_at, is_of_kind, row_of};
+ghost use Rattle.oe_cube.specs.Collections.{Collection, IsCollection};
+ghost use Rattle.oe_cube.specs.Kinds.{is_null_or_of};
+ghost use Rattle.oe_top.specs.Collection.{OnlyRead, Row, faults_at, row_of};
 
 use oe_cell::Cell;
 use oe_dims::{CellKind, Shape, Text};
@@ -28,7 +30,7 @@ impl Model for MemoryCube {
 
     ghost Value = { Readable };
 
-    ghost use Rattle.oe_top.specs.Collection.{IsCollection};
+    ghost use Rattle.oe_cube.specs.Collections.{IsCollection};
     ghost use Rattle.oe_top.specs.MemoryCube.{collection_of, readable_of};
 
     ghost view = { readable_of };
@@ -40,7 +42,7 @@ impl MemoryCube {
     /// A collection of these cells, in row-major order. `failing` has the numbers of the reads that fail, counted from 0.
     pub fn new(shape: Shape, kind: CellKind, cells: Vec<Cell>, failing: Vec<u64>) -> MemoryCube
         requires counted { length cells.items ≡ cell_count shape }
-        requires of_kind { list_all (is_of_kind kind) cells.items ≡ true }
+        requires of_kind { list_all (is_null_or_of kind) cells.items ≡ true }
         ensures { result ≡ record {
           collection = record {
             shape = shape;
