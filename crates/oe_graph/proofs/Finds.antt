@@ -10,7 +10,7 @@ use Rattle.oe_dims.proofs.OrderLemmas.{same_name-bytes_eq}
 use Rattle.oe_graph.specs.Form.{arguments_in, nodes_in}
 use Rattle.oe_graph.specs.Tree as tree
 use Rattle.oe_graph.specs.Tree.{Argument, Named}
-use Rattle.oe_graph.specs.Built.{arguments_of, arguments_among, named_in, each_argument, argument_of, callback_among, callback_in, value_of, nodes_of, result_index}
+use Rattle.oe_graph.specs.Built.{arguments_from_data, arguments_among, named_in, each_argument, argument_of, callback_among, callback_in, value_of, nodes_from_data, result_index}
 use Rattle.oe_graph.specs.Walked.{inside_fault, arguments_fault, each_fault, callbacks_fault, callback_fault, graph_among, graph_in, graph_fault}
 use Rattle.oe_graph.specs.declared.fault.Fault.{Fault}
 
@@ -61,7 +61,7 @@ module _ {A : Type 0} (none : A) (some : Members → A) (key : List ℕ) (of : D
 
 -- ---- the arguments of a node
 
-arguments_by : (d : Data) → of_found tree.no_named each_argument (arguments_in d) ≡ arguments_of d
+arguments_by : (d : Data) → of_found tree.no_named each_argument (arguments_in d) ≡ arguments_from_data d
 arguments_by null = refl
 arguments_by (boolean b) = refl
 arguments_by (number n) = refl
@@ -71,23 +71,23 @@ arguments_by (object ms) =
     object_among tree.no_named each_argument (codes "arguments") named_in arguments_among
     refl (λ b. refl) (λ n. refl) (λ s. refl) (λ ds. refl) (λ ns. refl) refl (λ k d rest. refl) ms
 
-pub arguments_with : (d : Data) (ms : Members) → Some ms ≡ arguments_in d → each_argument ms ≡ arguments_of d
+pub arguments_with : (d : Data) (ms : Members) → Some ms ≡ arguments_in d → each_argument ms ≡ arguments_from_data d
 arguments_with d ms is = ap (of_found tree.no_named each_argument) is ∙ arguments_by d
 
-pub arguments_without : (d : Data) → None ≡ arguments_in d → tree.no_named ≡ arguments_of d
+pub arguments_without : (d : Data) → None ≡ arguments_in d → tree.no_named ≡ arguments_from_data d
 arguments_without d is = ap (of_found tree.no_named each_argument) is ∙ arguments_by d
 
 -- ---- a whole argument
 
 abbrev callback_of : Members → Option Argument
-callback_of ns = Some (tree.callback (nodes_of ns) (result_index ns))
+callback_of ns = Some (tree.callback (nodes_from_data ns) (result_index ns))
 
 callback_by : (ms : Members) → of_found None callback_of (nodes_in (object ms)) ≡ callback_among ms
 callback_by ms =
     object_among None callback_of (codes "process_graph") callback_in callback_among
     refl (λ b. refl) (λ n. refl) (λ s. refl) (λ ds. refl) (λ ns. refl) refl (λ k d rest. refl) ms
 
-pub argument_with : (d : Data) (ns : Members) → Some ns ≡ nodes_in d → tree.callback (nodes_of ns) (result_index ns) ≡ argument_of d
+pub argument_with : (d : Data) (ns : Members) → Some ns ≡ nodes_in d → tree.callback (nodes_from_data ns) (result_index ns) ≡ argument_of d
 argument_with null ns is = absurd cc
 argument_with (boolean b) ns is = absurd cc
 argument_with (number n) ns is = absurd cc

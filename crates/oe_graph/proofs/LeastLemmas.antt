@@ -1,12 +1,12 @@
--- The least of several faults: what is least among some and among others is least among both, so that a pass may hand the
--- least so far along.
+-- The least of several faults: what is least among some and among others is least among both, so that a pass may hand
+-- the least that it found along.
 use Rattle.std.proofs.Common.{zero, suc, ◌+◌, length, slice_index_or, Contains, arith, ◌≡◌, ◌⊎◌, inl, inr, ℕ, List, Bool, true, false, if◌then◌else◌, Ordering, Less, Equal, Greater, Option, Some, None, [], ◌∷◌, ◌-◌, ◌<◌, option_and_then, slice_get, subst, nat_cmp, refl, sym, ap, ◌∙◌, true≢false}
 use Rattle.std.specs.Cmp.{IsTotalOrder, nat_cmp_is}
 use Rattle.std.specs.FinMap.{slice_cmp-IsAntisymmetric, nat_cmp-IsAntisymmetric}
 use Rattle.std.specs.Cmp.Lexicographic.{slice_cmp}
 use Rattle.std.specs.Ordering.{ordering_reverse, ordering_then, is_lt, is_gt}
 use Rattle.std.proofs.lemmas.Cmp.{upto, nat_cmp_total, nat_list_cmp_total, on_total, then_total, tied_itself}
-use Rattle.oe_graph.specs.Codes.{phase_of, number_of}
+use Rattle.oe_graph.specs.Codes.{phase_of, number_in_phase}
 use Rattle.oe_graph.specs.Faults.{fault_cmp, is_before, least, least_from, IsLeast}
 use Rattle.oe_graph.specs.declared.code.Code.{Code}
 use Rattle.oe_graph.specs.declared.code.Code.TheVariants.{InputTooLong, GraphUnreadable, ProcessGraphMissing, NodeInvalid, ResultNodeCount, ParametersInvalid, ProcessUnsupported, ProcessRecursive, GraphTooLarge, ArgumentUnknown, ProcessParameterMissing, ParameterUnknown, NodeUnknown, GraphCycle, ProcessParameterInvalid, CollectionNotFound, CrsUnsupported, FormatUnsupported, DimensionNotAvailable, TemporalExtentEmpty, BandFilterParameterMissing, BandNotAvailable, KernelDimensionsUneven, KernelTooLarge, DistinctDimensionLabelsRequired, MergeDimensionsDiffer, OverlapResolverMissing, MaskDimensionsDiffer, ArrayElementParameterMissing, ArrayElementParameterConflict, ArrayElementNotAvailable, CellKindInvalid, CubeTooLarge}
@@ -15,7 +15,7 @@ use Rattle.oe_graph.specs.declared.fault.Fault.{Fault}
 pub fault_cmp_total : IsTotalOrder fault_cmp
 fault_cmp_total =
     then_total (on_total (λ f. phase_of f.code) nat_cmp_total)
-    (then_total (on_total (λ f. f.node) nat_list_cmp_total) (on_total (λ f. number_of f.code) nat_cmp_total))
+    (then_total (on_total (λ f. f.node) nat_list_cmp_total) (on_total (λ f. number_in_phase f.code) nat_cmp_total))
 
 lt_gt : (o p : Ordering) → o ≡ ordering_reverse p → is_lt o ≡ is_gt p
 lt_gt Less Less is = absurd cc
@@ -130,7 +130,7 @@ codes_of = (InputTooLong ∷ GraphUnreadable ∷ ProcessGraphMissing ∷ NodeInv
 abbrev code_at : ℕ → ℕ → Option Code
 code_at phase number = option_and_then (λ row. slice_get row (number - 1)) (slice_get codes_of (phase - 1))
 
-is_at_row : (c : Code) → code_at (phase_of c) (number_of c) ≡ Some c
+is_at_row : (c : Code) → code_at (phase_of c) (number_in_phase c) ≡ Some c
 is_at_row InputTooLong = refl
 is_at_row GraphUnreadable = refl
 is_at_row ProcessGraphMissing = refl
@@ -165,10 +165,10 @@ is_at_row ArrayElementNotAvailable = refl
 is_at_row CellKindInvalid = refl
 is_at_row CubeTooLarge = refl
 
-same_code : (a b : Code) → phase_of a ≡ phase_of b → number_of a ≡ number_of b → a ≡ b
+same_code : (a b : Code) → phase_of a ≡ phase_of b → number_in_phase a ≡ number_in_phase b → a ≡ b
 same_code a b phase number =
     let both : Some a ≡ Some b =
-    sym (is_at_row a) ∙ ap (λ p. code_at p (number_of a)) phase ∙ ap (code_at (phase_of b)) number ∙ is_at_row b in cc
+    sym (is_at_row a) ∙ ap (λ p. code_at p (number_in_phase a)) phase ∙ ap (code_at (phase_of b)) number ∙ is_at_row b in cc
 
 same_fault : (a b : Fault) → a.code ≡ b.code → a.node ≡ b.node → a ≡ b
 same_fault a b code node =

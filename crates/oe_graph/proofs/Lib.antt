@@ -5,6 +5,10 @@ pub mod LeastLemmas
 mod NamesLemmas
 mod WalkLemmas
 mod ReadLemmas
+pub mod AsReadLemmas
+mod PrintableLemmas
+pub mod ValidLemmas
+pub mod ReadAgain
 mod PrintLemmas
 mod Straight
 mod PrintBack

@@ -5,11 +5,11 @@ use Rattle.serde_json.specs.Data.{Data, Members, no_members, member, object}
 use Rattle.serde_json.specs.Find.{of_integer}
 use Rattle.oe_dims.specs.Names.{is_name, same_name}
 use Rattle.oe_graph.specs.Tree as tree
-use Rattle.oe_graph.specs.Tree.{Argument, Arguments, Named, Nodes}
+use Rattle.oe_graph.specs.Tree.{Argument, ListValues, Named, Nodes}
 use Rattle.oe_graph.specs.Built as built
 use Rattle.oe_graph.specs.Faults.{least}
 use Rattle.oe_graph.specs.declared.fault.Fault.{Fault}
-use Rattle.oe_graph.specs.Built.{graph_of, number_of, reference, reference_by, reference_unless, value_of, values_of, members_of, argument_of, each_argument, callback_among, callback_in, process_id_of, namespace_of, result_index}
+use Rattle.oe_graph.specs.Built.{graph_of, number_argument, reference, reference_by, reference_unless, value_of, values_of, members_of, argument_of, each_argument, callback_among, callback_in, process_id_of, namespace_of, result_index}
 use Rattle.oe_graph.specs.Form.{is_node, is_result, result_count, node_name, callback_name}
 use Rattle.oe_graph.specs.Walked.{nodes_fault, node_fault, inside_fault, callbacks_fault, callback_fault, graph_among, graph_in, count_fault, graph_fault}
 use Rattle.oe_graph.specs.Printed.{argument_data, arguments_data, named_data, nodes_data, node_data, node_count, is_whole, is_object, is_reference_like, is_callback_like, is_process_text, is_namespace_text, is_plain_value, are_plain_values, are_plain_members, is_printable_argument, are_printable_arguments, are_printable_nodes}
@@ -24,7 +24,7 @@ not_true true h = absurd (false≢true h)
 not_least : (n : ℕ) → nat_lt n 9223372036854775807 ≡ true → (n == 9223372036854775807) ≡ false
 not_least n h = grind (arith, h)
 
-whole_back : (z : ℤ) → is_whole z ≡ true → number_of (of_integer z) ≡ tree.whole z
+whole_back : (z : ℤ) → is_whole z ≡ true → number_argument (of_integer z) ≡ tree.whole z
 whole_back (pos n) h = rw h refl
 whole_back (negsuc n) h = rw (not_least n h) refl
 
@@ -84,7 +84,7 @@ mutual
   value_back (tree.from_parameter name) h = refl
   value_back (tree.callback ns result) h = absurd (false≢true h)
 
-  values_back : (args : Arguments) → are_plain_values args ≡ true → values_of false (arguments_data args) ≡ args
+  values_back : (args : ListValues) → are_plain_values args ≡ true → values_of false (arguments_data args) ≡ args
   values_back tree.no_arguments h = refl
   values_back (tree.argument a rest) h =
       let parts = and_parts _ _ h in
@@ -216,7 +216,7 @@ plain_back : (ds : Members) (ms : Named) → callback_among ds ≡ None → valu
     → argument_of (object ds) ≡ tree.object ms
 plain_back ds ms none is = ap (λ o. unwrap_or o (value_of false (object ds))) none ∙ is
 
-callback_back : (ds : Members) (ns : Nodes) (result : ℕ) → built.nodes_of ds ≡ ns → result_index ds ≡ result
+callback_back : (ds : Members) (ns : Nodes) (result : ℕ) → built.nodes_from_data ds ≡ ns → result_index ds ≡ result
     → argument_of (object (member (codes "process_graph") (object ds) no_members)) ≡ tree.callback ns result
 callback_back ds ns result nodes index = cc
 
@@ -248,7 +248,7 @@ mutual
       let within : suc result ≤ node_count ns = leb-true _ _ heads.0 in
       let at : 0 + result_index (nodes_list 0 result ns) ≡ result = result_back 0 result ns (omega arith) (omega arith) in
       callback_back (nodes_data 0 result ns no_members) ns result
-      (ap built.nodes_of straight ∙ nodes_back 0 result ns parts.1) (ap result_index straight ∙ omega arith)
+      (ap built.nodes_from_data straight ∙ nodes_back 0 result ns parts.1) (ap result_index straight ∙ omega arith)
 
   named_back : (ms : Named) → are_printable_arguments ms ≡ true → each_argument (named_list ms) ≡ ms
   named_back tree.no_named h = refl
@@ -259,7 +259,7 @@ mutual
       cc
 
   nodes_back : (index result : ℕ) (ns : Nodes) → are_printable_nodes ns ≡ true
-      → built.nodes_of (nodes_list index result ns) ≡ ns
+      → built.nodes_from_data (nodes_list index result ns) ≡ ns
   nodes_back index result tree.no_nodes h = refl
   nodes_back index result (tree.node id process_id namespace arguments rest) h =
       let parts = and_parts _ _ h in
@@ -269,7 +269,7 @@ mutual
       ap each_argument (named_straight arguments rise) ∙ named_back arguments heads.1 in
       let process = process_of_node (named_data arguments no_members) namespace process_id (index == result) in
       let space = namespace_of_node (named_data arguments no_members) namespace process_id (index == result) in
-      let others : built.nodes_of (nodes_list (suc index) result rest) ≡ rest = nodes_back (suc index) result rest parts.1 in
+      let others : built.nodes_from_data (nodes_list (suc index) result rest) ≡ rest = nodes_back (suc index) result rest parts.1 in
       same_node id _ process_id _ namespace _ arguments _ rest process space inner others
 
 -- ---- no fault stands
@@ -371,7 +371,7 @@ graph_back ns result h =
     let straight = nodes_straight 0 result ns heads.1 in
     let within : suc result ≤ node_count ns = leb-true _ _ heads.0 in
     let at : 0 + result_index (nodes_list 0 result ns) ≡ result = result_back 0 result ns (omega arith) (omega arith) in
-    let nodes : built.nodes_of (nodes_data 0 result ns no_members) ≡ ns = ap built.nodes_of straight ∙ nodes_back 0 result ns parts.1 in
+    let nodes : built.nodes_from_data (nodes_data 0 result ns no_members) ≡ ns = ap built.nodes_from_data straight ∙ nodes_back 0 result ns parts.1 in
     let index : result_index (nodes_data 0 result ns no_members) ≡ result = ap result_index straight ∙ omega arith in
     cc
 

@@ -9,7 +9,7 @@ use Rattle.serde_json.specs.Find.{of_integer}
 use Rattle.serde_json.specs.View.{items_of}
 use Rattle.serde_json.specs.Written.{has_float, items_have_float, members_have_float}
 use Rattle.oe_graph.specs.Tree as tree
-use Rattle.oe_graph.specs.Tree.{Argument, Arguments, Named, Nodes, PlainNode}
+use Rattle.oe_graph.specs.Tree.{Argument, ListValues, Named, Nodes, PlainNode}
 use Rattle.oe_graph.specs.Plain.{plain_arg, plain_args, plain_named, plain_nodes, plain_node}
 use Rattle.oe_graph.specs.Printed.{argument_data, arguments_data, named_data, nodes_data, node_data}
 use Rattle.oe_graph.specs.declared.tree.Arg.{Arg}
@@ -80,7 +80,7 @@ mutual
   argument_no_float (tree.from_parameter name) = refl
   argument_no_float (tree.callback ns result) = or_from _ _ (nodes_no_float 0 result ns no_members refl) refl
 
-  arguments_no_float : (args : Arguments) → items_have_float (arguments_data args) ≡ false
+  arguments_no_float : (args : ListValues) → items_have_float (arguments_data args) ≡ false
   arguments_no_float tree.no_arguments = refl
   arguments_no_float (tree.argument a rest) = or_from _ _ (argument_no_float a) (arguments_no_float rest)
 

@@ -5,7 +5,7 @@ use Rattle.serde_json.specs.Find.{as_object}
 use Rattle.serde_json.specs.Read.{read}
 use Rattle.oe_graph.specs.Faults.{least, IsLeast, is_before}
 use Rattle.oe_graph.specs.Form as form
-use Rattle.oe_graph.specs.Form.{nodes_in, is_absent_or, IsWithin, IsGraphObject, IsReading, StandsIn, Stands, most_input}
+use Rattle.oe_graph.specs.Form.{nodes_in, is_absent_or, IsNamedWithin, IsGraphObject, IsReading, StandsIn, Stands, most_input}
 use Rattle.oe_graph.specs.Parameters.{are_parameters, StandsStored, of_graph, parameters_invalid}
 use Rattle.oe_graph.specs.Walked.{fault_at, graph_fault, parameters_fault}
 use Rattle.oe_graph.specs.declared.code.Code.{Code}
@@ -50,7 +50,7 @@ in_main : (d : Data) (main : Members) → nodes_in d ≡ Some main → (nodes : 
 in_main d main is nodes name f g local = record {
   nodes = nodes;
   name = name;
-  within = subst (λ ms. IsWithin nodes name ms []) (same_members g.main main (nodes_in d) g.is_main is) g.within;
+  within = subst (λ ms. IsNamedWithin nodes name ms []) (same_members g.main main (nodes_in d) g.is_main is) g.within;
   local = local;
 }
 
@@ -107,7 +107,7 @@ unreadable_least d none =
 
 -- ---- in bytes
 
-same_value : (bytes : List ℕ) (d e : Data) → IsReading bytes d → IsReading bytes e → d ≡ e
+pub same_value : (bytes : List ℕ) (d e : Data) → IsReading bytes d → IsReading bytes e → d ≡ e
 same_value bytes d e a b = let both : Some d ≡ Some e = sym a.value ∙ b.value in cc
 
 stands_out : (bytes : List ℕ) (d : Data) → IsReading bytes d → length bytes ≤ most_input

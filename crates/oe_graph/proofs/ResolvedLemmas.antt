@@ -14,7 +14,7 @@ use Rattle.oe_dims.proofs.OrderLemmas.{same_name_is, same_name_refl}
 use Rattle.oe_graph.specs.Catalogue.{Process, process_named}
 use Rattle.oe_graph.specs.Printed.{ids_of, names_of, node_count}
 use Rattle.oe_graph.specs.References.{each_node, argument_named, references_in, references_named, parameters_in, parameters_named, callbacks_in, callbacks_named, Refers, Leads, refers, onwards, Chain, none, more}
-use Rattle.oe_graph.specs.Resolved.{IsResolvedNode, IsResolvedObject, IsResolvedUnder, IsWithin, itself, inside, scope_inside, parameter_names}
+use Rattle.oe_graph.specs.Resolved.{IsResolvedNode, IsResolvedObject, IsResolvedUnder, IsScopedWithin, itself, inside, scope_inside, parameter_names}
 use Rattle.oe_graph.specs.Tree.{Argument, Named, no_named, named, Nodes, no_nodes, node, PlainGraph, PlainNode}
 use Rattle.oe_graph.proofs.NamesLemmas.{same_name-sym}
 
@@ -249,7 +249,7 @@ resolved_callback in_callback scope g n inner is has calls =
 -- and a graph whose own object and whose callbacks are resolved
 within_parts : (deep : Bool) (deep_scope : List (List ℕ)) (nodes : Nodes) (result : ℕ) (in_callback : Bool)
     (scope : List (List ℕ)) (outer : Nodes) (outer_result : ℕ)
-    → IsWithin deep deep_scope nodes result in_callback scope outer outer_result
+    → IsScopedWithin deep deep_scope nodes result in_callback scope outer outer_result
     → IsResolvedObject in_callback scope outer outer_result
     → ((n : PlainNode) (inner : PlainGraph) → Contains (each_node outer) n → Contains (callbacks_named n.arguments) inner
     → IsResolvedUnder true (scope_inside n scope) inner)

@@ -4,7 +4,7 @@ use Rattle.std.proofs.lemmas.List.{map-append}
 use Rattle.serde_json.specs.View.{view, items_view, members_view}
 use Rattle.serde_json.specs.declared.value.Value.{Value}
 use Rattle.serde_json.proofs.Views.{Entry}
-use Rattle.oe_graph.specs.Tree.{Argument, argument, named, callback, node, arguments_of, named_of, nodes_of, PlainGraph, PlainNode}
+use Rattle.oe_graph.specs.Tree.{Argument, argument, named, callback, node, values_from_list, named_from_list, nodes_from_list, PlainGraph, PlainNode}
 use Rattle.oe_graph.specs.Plain.{plain_arg, plain_pair, plain_node, plain_named, plain_graph, arg_step, graph_step, node_step}
 use Rattle.oe_graph.specs.declared.tree.Arg.{Arg}
 use Rattle.oe_graph.specs.declared.tree.Arg.TheFolds.{fold_out-Node, fold-roll-Arg}
@@ -20,17 +20,17 @@ abbrev pub entry_pair : (Value → Argument) → Entry → List ℕ × Argument
 entry_pair f e = (string_bytes e.0, f (e.1))
 
 pub values_each : (plain : Bool) (vs : List Value)
-    → arguments_of (map (λ v. value_of plain (view v)) vs) ≡ values_of plain (items_view vs)
+    → values_from_list (map (λ v. value_of plain (view v)) vs) ≡ values_of plain (items_view vs)
 values_each plain [] = refl
 values_each plain (v ∷ vs) = ap (argument (value_of plain (view v))) (values_each plain vs)
 
 pub members_each : (plain : Bool) (es : List Entry)
-    → named_of (map (entry_pair (λ v. value_of plain (view v))) es) ≡ members_of plain (members_view es)
+    → named_from_list (map (entry_pair (λ v. value_of plain (view v))) es) ≡ members_of plain (members_view es)
 members_each plain [] = refl
 members_each plain (e ∷ es) = ap (named (string_bytes e.0) (value_of plain (view e.1))) (members_each plain es)
 
 pub arguments_each : (es : List Entry)
-    → named_of (map (entry_pair (λ v. argument_of (view v))) es) ≡ each_argument (members_view es)
+    → named_from_list (map (entry_pair (λ v. argument_of (view v))) es) ≡ each_argument (members_view es)
 arguments_each [] = refl
 arguments_each (e ∷ es) = ap (named (string_bytes e.0) (argument_of (view e.1))) (arguments_each es)
 
@@ -40,13 +40,13 @@ entry_node e = record {
   id = string_bytes e.0;
   process_id = built.process_id_of (view e.1);
   namespace = built.namespace_of (view e.1);
-  arguments = built.arguments_of (view e.1);
+  arguments = built.arguments_from_data (view e.1);
 }
 
-pub nodes_each : (es : List Entry) → nodes_of (map entry_node es) ≡ built.nodes_of (members_view es)
+pub nodes_each : (es : List Entry) → nodes_from_list (map entry_node es) ≡ built.nodes_from_data (members_view es)
 nodes_each [] = refl
 nodes_each (e ∷ es) =
-    ap (node (string_bytes e.0) (built.process_id_of (view e.1)) (built.namespace_of (view e.1)) (built.arguments_of (view e.1)))
+    ap (node (string_bytes e.0) (built.process_id_of (view e.1)) (built.namespace_of (view e.1)) (built.arguments_from_data (view e.1)))
     (nodes_each es)
 
 pub not_only : (es : List Entry) → (length es ≡ 1 → ⊥) → None ≡ the_member (members_view es)
@@ -85,7 +85,7 @@ plain_callback g =
 -- a node is the one that its member makes, part by part
 pub is_entry_node : (n : Node) (e : Entry) → n.id ≡ string_bytes e.0
     → n.process_id ≡ built.process_id_of (view e.1) → n.namespace ≡ built.namespace_of (view e.1)
-    → plain_named n.arguments.items ≡ built.arguments_of (view e.1)
+    → plain_named n.arguments.items ≡ built.arguments_from_data (view e.1)
     → plain_node n ≡ entry_node e
 is_entry_node n e id process namespace arguments =
     plain_parts n ∙ (ap (λ i. record { id = i; process_id = n.process_id; namespace = n.namespace; arguments = plain_named n.arguments.items }) id

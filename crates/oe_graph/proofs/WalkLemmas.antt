@@ -3,7 +3,7 @@ use Rattle.std.proofs.Common.{◌≡◌, ◌≢◌, ◌⊎◌, inl, inr, ℕ, ze
 use Rattle.serde_json.specs.Data.{Data, Members, no_members, member, depth, members_depth}
 use Rattle.oe_dims.specs.Names.{is_name}
 use Rattle.oe_graph.specs.Faults.{least, IsLeast, is_before}
-use Rattle.oe_graph.specs.Form.{is_node, arguments_in, nodes_in, result_count, node_name, callback_name, IsMember, first, later, IsWithin, itself, in_callback}
+use Rattle.oe_graph.specs.Form.{is_node, arguments_in, nodes_in, result_count, node_name, callback_name, IsMember, first, later, IsNamedWithin, itself, in_callback}
 use Rattle.oe_graph.specs.Walked.{fault_at, count_fault, own_fault, node_fault, nodes_fault, inside_fault, callbacks_fault, callback_fault, graph_fault}
 use Rattle.oe_graph.specs.declared.code.Code.{Code}
 use Rattle.oe_graph.specs.declared.code.Code.TheVariants.{NodeInvalid, ResultNodeCount}
@@ -28,7 +28,7 @@ pub data Local (nodes : Members) (name : List ℕ) : Fault → Type 0 where
 pub record FaultIn (outer : Members) (at : List ℕ) (f : Fault) : Type 0 where
   pub nodes : Members
   pub name : List ℕ
-  pub within : IsWithin nodes name outer at
+  pub within : IsNamedWithin nodes name outer at
   pub local : Local nodes name f
 
 -- a fault that one of the members of an object has
@@ -62,7 +62,7 @@ data OfNode (at id : List ℕ) (d : Data) : Fault → Type 0 where
 data Miscount (nodes : Members) (name : List ℕ) : Fault → Type 0 where
   miscount : result_count nodes ≢ 1 → Miscount nodes name (at_code ResultNodeCount name)
 
--- ---- a pass over members, which hands the least so far along
+-- ---- a pass over members, which hands the least fault found along
 
 no_member : {k : List ℕ} {d : Data} → IsMember k d no_members → ⊥
 no_member m = elim m [ ]
@@ -238,7 +238,7 @@ local_faults nodes at f (node_invalid m valid is) =
 local_faults nodes at f (miscounted other) = inl (miscount other)
 
 within_faults : (inner : Members) (name : List ℕ) (nodes : Members) (at : List ℕ) (f : Fault)
-    → IsWithin inner name nodes at → Local inner name f → Faults nodes at f
+    → IsNamedWithin inner name nodes at → Local inner name f → Faults nodes at f
 within_faults inner name nodes at f itself local = local_faults inner name f local
 within_faults inner name nodes at f (in_callback m valid is_arguments n is_callback within) local =
     inr (record {

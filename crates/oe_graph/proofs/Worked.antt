@@ -10,6 +10,8 @@ use Rattle.oe_graph.specs.Walked.{graph_fault}
 use Rattle.oe_graph.specs.Built.{value_of, argument_of, graph_of}
 use Rattle.oe_graph.specs.Parameters.{are_parameters, parameters_of}
 use Rattle.oe_graph.specs.Printed.{graph_data}
+use Rattle.oe_graph.specs.AsRead.{is_as_read}
+use Rattle.oe_graph.specs.Valid.{is_valid, is_plain}
 use Rattle.oe_graph.specs.Catalogue.{catalogue, process_named, Process, Parameter}
 use Rattle.oe_graph.specs.declared.code.Code.TheVariants.{NodeInvalid, ResultNodeCount, ParametersInvalid, GraphTooLarge, ProcessUnsupported}
 
@@ -137,6 +139,28 @@ deep_object = refl
 
 printed : graph_data (graph_of one_node) ≡ graph_with one_node
 printed = refl
+
+-- ---- the form that reading gives
+
+names_fall : is_as_read (object (member (codes "b") null (member (codes "a") null no_members))) ≡ false
+names_fall = refl
+
+least_of_64_bits : is_as_read (number (negative (negsuc 9223372036854775807))) ≡ true
+least_of_64_bits = refl
+
+one_node_valid : is_valid (tree.callback (graph_of one_node).nodes (graph_of one_node).result) ≡ true
+one_node_valid = refl
+
+-- an index that is that of no node
+no_result : is_valid (tree.callback (graph_of one_node).nodes 1) ≡ false
+no_result = refl
+
+-- members of an object in any order
+members_fall : is_valid (tree.object (tree.named (codes "b") tree.null (tree.named (codes "a") tree.null tree.no_named))) ≡ true
+members_fall = refl
+
+reference_in_a_list : is_plain (tree.list (tree.argument (tree.from_parameter (codes "x")) tree.no_arguments)) ≡ false
+reference_in_a_list = refl
 
 -- ---- parameters
 

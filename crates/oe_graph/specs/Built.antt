@@ -8,7 +8,7 @@ use Rattle.oe_graph.specs.Form.{is_result}
 use Rattle.oe_graph.specs.Tree as tree
 use Rattle.oe_graph.specs.declared.build.Referred.{Referred}
 use Rattle.oe_graph.specs.declared.build.Referred.TheVariants.{Node, Parameter}
-use Rattle.oe_graph.specs.Tree.{Argument, Arguments, Named, Nodes, PlainGraph}
+use Rattle.oe_graph.specs.Tree.{Argument, ListValues, Named, Nodes, PlainGraph}
 
 -- −2^63 is no literal, since numbers are symmetric about 0
 abbrev pub is_literal : ℤ → Bool
@@ -16,8 +16,8 @@ is_literal (pos n) = true
 is_literal (negsuc n) = not (nat_eq n 9223372036854775807)
 
 -- a whole number that is a literal, or a number that is none
-abbrev pub number_of : Num → Argument
-number_of n = unwrap_or (option_map (λ z. if is_literal z then tree.whole z else tree.inexact) (as_i64 n)) tree.inexact
+abbrev pub number_argument : Num → Argument
+number_argument n = unwrap_or (option_map (λ z. if is_literal z then tree.whole z else tree.inexact) (as_i64 n)) tree.inexact
 
 -- the name and the value of the member of an object that has just one
 abbrev pub the_member : Members → Option (List ℕ × Data)
@@ -50,12 +50,12 @@ abbrev mutual
   pub value_of : Bool → Data → Argument
   value_of plain null = tree.null
   value_of plain (boolean b) = tree.flag b
-  value_of plain (number n) = number_of n
+  value_of plain (number n) = number_argument n
   value_of plain (string s) = tree.text s
   value_of plain (array ds) = tree.list (values_of plain ds)
   value_of plain (object ms) = unwrap_or (reference_unless plain ms) (tree.object (members_of plain ms))
 
-  pub values_of : Bool → Items → Arguments
+  pub values_of : Bool → Items → ListValues
   values_of plain no_items = tree.no_arguments
   values_of plain (item d ds) = tree.argument (value_of plain d) (values_of plain ds)
 
@@ -81,18 +81,18 @@ result_index (member id d rest) = if is_result d then 0 else suc (result_index r
 -- A whole argument is a callback where it is an object with a member `process_graph` that is an object. Nodes and
 -- arguments stand as the reading has them, in byte order.
 abbrev mutual
-  pub nodes_of : Members → Nodes
-  nodes_of no_members = tree.no_nodes
-  nodes_of (member id d rest) = tree.node id (process_id_of d) (namespace_of d) (arguments_of d) (nodes_of rest)
+  pub nodes_from_data : Members → Nodes
+  nodes_from_data no_members = tree.no_nodes
+  nodes_from_data (member id d rest) = tree.node id (process_id_of d) (namespace_of d) (arguments_from_data d) (nodes_from_data rest)
 
   -- the arguments of a node
-  pub arguments_of : Data → Named
-  arguments_of null = tree.no_named
-  arguments_of (boolean b) = tree.no_named
-  arguments_of (number n) = tree.no_named
-  arguments_of (string s) = tree.no_named
-  arguments_of (array ds) = tree.no_named
-  arguments_of (object ms) = arguments_among ms
+  pub arguments_from_data : Data → Named
+  arguments_from_data null = tree.no_named
+  arguments_from_data (boolean b) = tree.no_named
+  arguments_from_data (number n) = tree.no_named
+  arguments_from_data (string s) = tree.no_named
+  arguments_from_data (array ds) = tree.no_named
+  arguments_from_data (object ms) = arguments_among ms
 
   -- the member `arguments`
   pub arguments_among : Members → Named
@@ -114,7 +114,7 @@ abbrev mutual
   pub argument_of : Data → Argument
   argument_of null = tree.null
   argument_of (boolean b) = tree.flag b
-  argument_of (number n) = number_of n
+  argument_of (number n) = number_argument n
   argument_of (string s) = tree.text s
   argument_of (array ds) = tree.list (values_of false ds)
   argument_of (object ms) = unwrap_or (callback_among ms) (value_of false (object ms))
@@ -130,7 +130,7 @@ abbrev mutual
   callback_in (number n) = None
   callback_in (string s) = None
   callback_in (array ds) = None
-  callback_in (object ms) = Some (tree.callback (nodes_of ms) (result_index ms))
+  callback_in (object ms) = Some (tree.callback (nodes_from_data ms) (result_index ms))
 
 abbrev pub graph_of : Members → PlainGraph
-graph_of nodes = record { nodes = nodes_of nodes; result = result_index nodes }
+graph_of nodes = record { nodes = nodes_from_data nodes; result = result_index nodes }

@@ -6,7 +6,7 @@ use Rattle.serde_json.specs.Find.{of_integer}
 use Rattle.oe_dims.specs.Names.{same_name}
 use Rattle.oe_graph.specs.Tree as tree
 use Rattle.oe_graph.specs.Tree.{Argument, PlainParameter, PlainProcess}
-use Rattle.oe_graph.specs.declared.table.Holds.{Holds}
+use Rattle.oe_graph.specs.declared.table.ArgumentKind.{ArgumentKind}
 use Rattle.oe_graph.specs.declared.table.Literal.{Literal}
 use Rattle.oe_graph.specs.declared.table.Literal.TheVariants as literal
 use Rattle.oe_graph.specs.declared.table.TheConstants.{PROCESSES}
@@ -14,7 +14,7 @@ use Rattle.oe_graph.specs.declared.table.TheConstants.{PROCESSES}
 -- a parameter: what it may hold, and its default where it is optional
 pub record Parameter : Type 0 where
   pub name : List ℕ
-  pub holds : Holds
+  pub holds : ArgumentKind
   pub default : Option Literal
 
 -- a process: whether it stands in callbacks or in the main graph, its parameters, and those that its callbacks see
@@ -24,7 +24,7 @@ pub record Process : Type 0 where
   pub parameters : List Parameter
   pub callback_parameters : List (List ℕ)
 
-abbrev pub parameter_from : List ℕ → Holds → Option Literal → Parameter
+abbrev pub parameter_from : List ℕ → ArgumentKind → Option Literal → Parameter
 parameter_from name holds default = record { name = name; holds = holds; default = default }
 
 abbrev pub process_from : List ℕ → Bool → List Parameter → List (List ℕ) → Process
@@ -37,7 +37,7 @@ process_from id in_callback parameters callback_parameters = record {
 
 -- an entry of the table behind a reference
 abbrev pub ParameterEntry : Type 0
-ParameterEntry = Bor (List ℕ) × Holds × Option Literal
+ParameterEntry = Bor (List ℕ) × ArgumentKind × Option Literal
 
 abbrev pub ProcessEntry : Type 0
 ProcessEntry = Bor (List ℕ) × Bool × Bor (List ParameterEntry) × Bor (List (Bor (List ℕ)))

@@ -50,8 +50,8 @@ row_of CubeTooLarge = row 5 19 (codes "CubeTooLarge")
 abbrev pub phase_of : Code → ℕ
 phase_of code = (row_of code).phase
 
-abbrev pub number_of : Code → ℕ
-number_of code = (row_of code).number
+abbrev pub number_in_phase : Code → ℕ
+number_in_phase code = (row_of code).number
 
 abbrev pub name_of : Code → List ℕ
 name_of code = (row_of code).name

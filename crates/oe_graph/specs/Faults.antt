@@ -3,7 +3,7 @@ use Rattle.std.specs.Prelude.{◌≡◌, ℕ, List, [], ◌∷◌, Bool, false, 
 use Rattle.std.specs.Cmp.Lexicographic.{slice_cmp}
 use Rattle.std.specs.declared.cmp.Ordering.{Ordering}
 use Rattle.std.specs.Ordering.{nat_cmp, then_cmp, on, is_lt}
-use Rattle.oe_graph.specs.Codes.{phase_of, number_of}
+use Rattle.oe_graph.specs.Codes.{phase_of, number_in_phase}
 use Rattle.oe_graph.specs.declared.code.Code.{Code}
 use Rattle.oe_graph.specs.declared.fault.Fault.{Fault}
 
@@ -11,7 +11,7 @@ use Rattle.oe_graph.specs.declared.fault.Fault.{Fault}
 abbrev pub fault_cmp : Fault → Fault → Ordering
 fault_cmp =
     then_cmp (on (λ f. phase_of f.code) nat_cmp) (
-    then_cmp (on (λ f. f.node) (slice_cmp nat_cmp)) (on (λ f. number_of f.code) nat_cmp))
+    then_cmp (on (λ f. f.node) (slice_cmp nat_cmp)) (on (λ f. number_in_phase f.code) nat_cmp))
 
 -- the first is reported rather than the other
 abbrev pub is_before : Fault → Fault → Bool

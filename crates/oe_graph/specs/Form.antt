@@ -80,21 +80,21 @@ pub data IsMember (name : List ℕ) (value : Data) : Members → Type 0 where
 
 -- A graph object, by its nodes and its name, stands within one at a name: it is that one itself, or stands within the
 -- callback of a node of it. A node whose id is not valid has no name, and nor has what stands in it.
-pub data IsWithin (nodes : Members) (name : List ℕ) : Members → List ℕ → Type 0 where
-  itself : IsWithin nodes name nodes name
+pub data IsNamedWithin (nodes : Members) (name : List ℕ) : Members → List ℕ → Type 0 where
+  itself : IsNamedWithin nodes name nodes name
   in_callback :
       {outer : Members} {at id : List ℕ} {d : Data} {arguments : Members} {a : List ℕ} {value : Data} {inner : Members}
       → IsMember id d outer → is_name id ≡ true
       → arguments_in d ≡ Some arguments → IsMember a value arguments
       → nodes_in value ≡ Some inner
-      → IsWithin nodes name inner (callback_name (node_name at id) a)
-      → IsWithin nodes name outer at
+      → IsNamedWithin nodes name inner (callback_name (node_name at id) a)
+      → IsNamedWithin nodes name outer at
 
 -- the graph objects of an input: the main graph, whose name is empty, and the callbacks within it
 pub record IsGraphObject (input : Data) (nodes : Members) (name : List ℕ) : Type 0 where
   pub main : Members
   pub is_main : nodes_in input ≡ Some main
-  pub within : IsWithin nodes name main []
+  pub within : IsNamedWithin nodes name main []
 
 -- ---- where a fault stands
 

@@ -11,3 +11,5 @@ pub mod Printed
 pub mod Catalogue
 pub mod References
 pub mod Resolved
+pub mod AsRead
+pub mod Valid

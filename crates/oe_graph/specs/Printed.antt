@@ -4,7 +4,7 @@ use Rattle.serde_json.specs.Data.{Data, null, boolean, number, string, array, ob
 use Rattle.serde_json.specs.Find.{of_integer}
 use Rattle.oe_dims.specs.Names.{is_name, same_name, names_rise}
 use Rattle.oe_graph.specs.Tree as tree
-use Rattle.oe_graph.specs.Tree.{Argument, Arguments, Named, Nodes, PlainGraph}
+use Rattle.oe_graph.specs.Tree.{Argument, ListValues, Named, Nodes, PlainGraph}
 
 -- the value of an object with just one member
 abbrev pub single : List ℕ → Data → Data
@@ -49,7 +49,7 @@ abbrev mutual
   argument_data (tree.from_parameter name) = single (codes "from_parameter") (string name)
   argument_data (tree.callback ns result) = single (codes "process_graph") (object (nodes_data 0 result ns no_members))
 
-  pub arguments_data : Arguments → Items
+  pub arguments_data : ListValues → Items
   arguments_data tree.no_arguments = no_items
   arguments_data (tree.argument a rest) = item (argument_data a) (arguments_data rest)
 
@@ -130,7 +130,7 @@ abbrev mutual
   is_plain_value (tree.from_parameter name) = true
   is_plain_value (tree.callback ns result) = false
 
-  pub are_plain_values : Arguments → Bool
+  pub are_plain_values : ListValues → Bool
   are_plain_values tree.no_arguments = true
   are_plain_values (tree.argument a rest) = is_plain_value a && are_plain_values rest
 

@@ -1,7 +1,7 @@
 -- What the arguments of a node refer to, and where references lead (openEO API, process graphs).
 use Rattle.std.specs.Prelude.{◌≡◌, ℕ, suc, List, [], ◌∷◌, ◌++◌, Option, Some, None, if◌then◌else◌, Contains}
 use Rattle.oe_dims.specs.Names.{same_name}
-use Rattle.oe_graph.specs.Tree.{Argument, null, flag, whole, inexact, text, list, object, from_node, from_parameter, callback, Arguments, no_arguments, argument, Named, no_named, named, Nodes, no_nodes, node, PlainGraph, PlainNode}
+use Rattle.oe_graph.specs.Tree.{Argument, null, flag, whole, inexact, text, list, object, from_node, from_parameter, callback, ListValues, no_arguments, argument, Named, no_named, named, Nodes, no_nodes, node, PlainGraph, PlainNode}
 
 -- the nodes of a graph object, one by one
 abbrev pub each_node : Nodes → List PlainNode
@@ -28,7 +28,7 @@ abbrev mutual
   references_in (from_parameter name) = []
   references_in (callback ns result) = []
 
-  pub references_each : Arguments → List (List ℕ)
+  pub references_each : ListValues → List (List ℕ)
   references_each no_arguments = []
   references_each (argument a rest) = references_in a ++ references_each rest
 
@@ -50,7 +50,7 @@ abbrev mutual
   parameters_in (from_parameter name) = name ∷ []
   parameters_in (callback ns result) = []
 
-  pub parameters_each : Arguments → List (List ℕ)
+  pub parameters_each : ListValues → List (List ℕ)
   parameters_each no_arguments = []
   parameters_each (argument a rest) = parameters_in a ++ parameters_each rest
 
@@ -72,7 +72,7 @@ abbrev mutual
   callbacks_in (from_parameter name) = []
   callbacks_in (callback ns result) = record { nodes = ns; result = result } ∷ []
 
-  pub callbacks_each : Arguments → List PlainGraph
+  pub callbacks_each : ListValues → List PlainGraph
   callbacks_each no_arguments = []
   callbacks_each (argument a rest) = callbacks_in a ++ callbacks_each rest
 

@@ -43,21 +43,21 @@ scope_inside n scope = option_map_or (λ (p : Process). p.callback_parameters) (
 
 -- A graph object stands within one, each with whether it is a callback's and with its scope: it is that one itself, or
 -- stands within a callback in an argument of a node of it.
-pub data IsWithin (in_callback : Bool) (scope : List (List ℕ)) (nodes : Nodes) (result : ℕ)
+pub data IsScopedWithin (in_callback : Bool) (scope : List (List ℕ)) (nodes : Nodes) (result : ℕ)
     : Bool → List (List ℕ) → Nodes → ℕ → Type 0 where
-  itself : IsWithin in_callback scope nodes result in_callback scope nodes result
+  itself : IsScopedWithin in_callback scope nodes result in_callback scope nodes result
   inside :
       {outer_in_callback : Bool} {outer_scope : List (List ℕ)} {outer : Nodes} {outer_result : ℕ}
       {n : PlainNode} {g : PlainGraph}
       → Contains (each_node outer) n → Contains (callbacks_named n.arguments) g
-      → IsWithin in_callback scope nodes result true (scope_inside n outer_scope) g.nodes g.result
-      → IsWithin in_callback scope nodes result outer_in_callback outer_scope outer outer_result
+      → IsScopedWithin in_callback scope nodes result true (scope_inside n outer_scope) g.nodes g.result
+      → IsScopedWithin in_callback scope nodes result outer_in_callback outer_scope outer outer_result
 
 -- a graph, or a callback under a scope, is resolved at any depth of its callbacks
 abbrev pub IsResolvedUnder : Bool → List (List ℕ) → PlainGraph → Type 0
 IsResolvedUnder in_callback scope g =
     (inner_in_callback : Bool) (inner_scope : List (List ℕ)) (nodes : Nodes) (result : ℕ)
-    → IsWithin inner_in_callback inner_scope nodes result in_callback scope g.nodes g.result
+    → IsScopedWithin inner_in_callback inner_scope nodes result in_callback scope g.nodes g.result
     → IsResolvedObject inner_in_callback inner_scope nodes result
 
 -- the main graph, whose nodes see no parameter

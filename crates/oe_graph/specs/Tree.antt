@@ -10,7 +10,7 @@ mutual
     whole : ℤ → Argument
     inexact : Argument
     text : List ℕ → Argument
-    list : Arguments → Argument
+    list : ListValues → Argument
     object : Named → Argument
     from_node : List ℕ → Argument
     from_parameter : List ℕ → Argument
@@ -18,9 +18,9 @@ mutual
     callback : Nodes → ℕ → Argument
 
   -- the values of a list
-  pub data Arguments : Type 0 where
-    no_arguments : Arguments
-    argument : Argument → Arguments → Arguments
+  pub data ListValues : Type 0 where
+    no_arguments : ListValues
+    argument : Argument → ListValues → ListValues
 
   -- the arguments of a node, or the members of an object, by name
   pub data Named : Type 0 where
@@ -63,14 +63,14 @@ pub record PlainStored : Type 0 where
   pub text : List ℕ
 
 -- lists as members of the family
-abbrev pub arguments_of : List Argument → Arguments
-arguments_of [] = no_arguments
-arguments_of (a ∷ rest) = argument a (arguments_of rest)
+abbrev pub values_from_list : List Argument → ListValues
+values_from_list [] = no_arguments
+values_from_list (a ∷ rest) = argument a (values_from_list rest)
 
-abbrev pub named_of : List (List ℕ × Argument) → Named
-named_of [] = no_named
-named_of (m ∷ rest) = named m.0 m.1 (named_of rest)
+abbrev pub named_from_list : List (List ℕ × Argument) → Named
+named_from_list [] = no_named
+named_from_list (m ∷ rest) = named m.0 m.1 (named_from_list rest)
 
-abbrev pub nodes_of : List PlainNode → Nodes
-nodes_of [] = no_nodes
-nodes_of (n ∷ rest) = node n.id n.process_id n.namespace n.arguments (nodes_of rest)
+abbrev pub nodes_from_list : List PlainNode → Nodes
+nodes_from_list [] = no_nodes
+nodes_from_list (n ∷ rest) = node n.id n.process_id n.namespace n.arguments (nodes_from_list rest)

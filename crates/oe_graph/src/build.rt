@@ -26,7 +26,7 @@ pub(crate) fn build_graph(alloc: Global, nodes: &Map<String, Value>) -> Result<G
 #[cycle(graphs)]
 fn build_nodes(alloc: Global, nodes: &Map<String, Value>) -> Result<Vec<Node>, OutOfMemory>
     ensures { IfOk result
-        (λ v. plain_nodes v.items ≡ spec.nodes_of (members_view nodes.now.entries)) }
+        (λ v. plain_nodes v.items ≡ spec.nodes_from_data (members_view nodes.now.entries)) }
 {
     let mut built = Vec::with_capacity(alloc, nodes.len())?;
     for (id, node) in nodes.iter() {
@@ -41,7 +41,7 @@ fn build_node(alloc: Global, id: &str, node: &Value) -> Result<Node, OutOfMemory
     ensures process { IfOk result (λ n. n.process_id ≡ spec.process_id_of (view node.now)) }
     ensures namespace { IfOk result (λ n. n.namespace ≡ spec.namespace_of (view node.now)) }
     ensures arguments { IfOk result
-        (λ n. plain_named n.arguments.items ≡ spec.arguments_of (view node.now)) }
+        (λ n. plain_named n.arguments.items ≡ spec.arguments_from_data (view node.now)) }
 {
     let arguments = node_arguments(alloc, node)?;
     Ok(Node {
@@ -55,7 +55,7 @@ fn build_node(alloc: Global, id: &str, node: &Value) -> Result<Node, OutOfMemory
 /// The arguments of a node.
 #[cycle(graphs)]
 fn node_arguments(alloc: Global, node: &Value) -> Result<Vec<(Text, Arg)>, OutOfMemory>
-    ensures { IfOk result (λ v. plain_named v.items ≡ spec.arguments_of (view node.now)) }
+    ensures { IfOk result (λ v. plain_named v.items ≡ spec.arguments_from_data (view node.now)) }
 {
     match arguments_in(node) {
         Some(members) => build_arguments(alloc, members),
@@ -170,7 +170,7 @@ fn build_members(
 
 /// A literal, or a number that is none.
 fn number_arg(number: &Number) -> Arg
-    ensures { plain_arg result ≡ spec.number_of (number_view number.now) }
+    ensures { plain_arg result ≡ spec.number_argument (number_view number.now) }
 {
     match number.as_i64() {
         Some(whole) if whole != i64::MIN => Arg::Whole(whole),

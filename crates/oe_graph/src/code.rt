@@ -1,6 +1,6 @@
 // The codes of the faults of a graph, in the order of their table.
 ghost use Rattle.std.specs.Prelude.{◌≡◌};
-ghost use Rattle.oe_graph.specs.Codes.{phase_of, number_of, name_of};
+ghost use Rattle.oe_graph.specs.Codes.{phase_of, number_in_phase, name_of};
 
 /// What is wrong with a graph. The table of faults has one code a row, in this order.
 #[derive(Clone, Copy, Debug, PartialEq, Eq)]
@@ -88,7 +88,7 @@ impl Code {
 
     /// The number of the fault in its phase, from 1.
     pub fn number(self) -> u8
-        ensures { result ≡ number_of self }
+        ensures { result ≡ number_in_phase self }
     {
         match self {
             Code::InputTooLong => 1,

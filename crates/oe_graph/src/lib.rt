@@ -4,8 +4,9 @@
 //! their form. A [`Graph`] holds [`Node`]s with [`Arg`]uments, and a callback is a graph inside an argument. [`Code`]
 //! has the faults of all phases, and `IsLeast` of `specs/Faults.antt` is the one order in which they are reported.
 //! [`PROCESSES`] is the catalogue: the one table that code, texts and definitions read. The layers above use that the
-//! readers refuse exactly where a fault stands, that [`process`] is none exactly for an id without a row, and the word
-//! `IsResolved` for a graph whose names all lead somewhere.
+//! readers refuse exactly where a fault stands, that what they read from bytes has the form that resolving rests on
+//! (`IsValidGraph`, `IsValidStored`), that [`process`] is none exactly for an id without a row, and the word `IsResolved`
+//! for a graph whose names all lead somewhere.
 #![tactic(auto)]
 
 mod build;
@@ -28,5 +29,5 @@ pub use fault::{Fault, Refusal, is_before, least};
 pub use print::print_graph;
 pub use read::{read_graph, read_stored, read_value};
 pub use stored::StoredProcess;
-pub use table::{Holds, Literal, PROCESS_COUNT, PROCESSES, ParameterEntry, ProcessEntry};
+pub use table::{ArgumentKind, Literal, PROCESS_COUNT, PROCESSES, ParameterEntry, ProcessEntry};
 pub use tree::{Arg, Graph, Node};

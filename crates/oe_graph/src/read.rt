@@ -1,9 +1,12 @@
 // Graphs and stored processes, read whole.
-ghost use Rattle.std.specs.Prelude.{◌≡◌, ◌≤◌, length, IfOk, IfErr, IsUtf8, OnOk, Some};
+ghost use Rattle.std.specs.Prelude.{◌≡◌, ◌≤◌, length, IfOk, IfErr, IsUtf8, OnOk, Some, true};
 ghost use Rattle.serde_json.specs.View.{view, members_view};
+ghost use Rattle.oe_graph.specs.AsRead.{is_as_read};
 ghost use Rattle.oe_graph.specs.Form.{IsReading, Stands, StandsIn, most_input, nodes_in};
 ghost use Rattle.oe_graph.specs.Parameters.{StandsStored};
 ghost use Rattle.oe_graph.specs.Plain.{plain_graph, plain_stored};
+ghost use Rattle.oe_graph.specs.Printed.{IsPrintable};
+ghost use Rattle.oe_graph.specs.Valid.{IsValidGraph, IsValidStored};
 ghost use Rattle.oe_graph.specs.Walked as spec;
 ghost use Rattle.oe_graph.specs.Read.{IsFault, IsFaultless, IsGraphOf, PrecedesParameters, Reads, ReadsStored};
 
@@ -28,6 +31,8 @@ const MOST_INPUT: usize = 1048576;
 /// Refuses: the least fault of the form, exactly where one stands.
 pub fn read_graph(alloc: Global, bytes: &[u8]) -> Result<Graph, Refusal>
     ensures graph { IfOk result (λ graph. Reads bytes.now (plain_graph graph)) }
+    ensures valid { IfOk result (λ graph. IsValidGraph (plain_graph graph)) }
+    ensures printable { IfOk result (λ graph. IsPrintable (plain_graph graph)) }
     ensures refused { IfErr result (IsFault (Stands bytes.now)) }
 {
     let value = read_json(alloc, bytes)?;
@@ -40,6 +45,8 @@ pub fn read_graph(alloc: Global, bytes: &[u8]) -> Result<Graph, Refusal>
 pub fn read_value(alloc: Global, value: &Value) -> Result<Graph, Refusal>
     ensures graph { IfOk result (λ graph. IsGraphOf (view value.now) (plain_graph graph)) }
     ensures valid { OnOk result (IsFaultless (StandsIn (view value.now))) }
+    ensures printable { IfOk result
+        (λ graph. is_as_read (view value.now) ≡ true → IsPrintable (plain_graph graph)) }
     ensures refused { IfErr result (IsFault (StandsIn (view value.now))) }
 {
     let nodes = main_nodes(alloc, value)?;
@@ -56,6 +63,8 @@ pub fn read_value(alloc: Global, value: &Value) -> Result<Graph, Refusal>
 pub fn read_stored(alloc: Global, id: &str, bytes: &[u8]) -> Result<StoredProcess, Refusal>
     ensures process { IfOk result
         (λ process. ReadsStored id.now bytes.now (plain_stored process)) }
+    ensures valid { IfOk result (λ process. IsValidStored (plain_stored process)) }
+    ensures printable { IfOk result (λ process. IsPrintable (plain_graph process.graph)) }
     ensures refused { IfErr result (IsFault (StandsStored bytes.now)) }
 {
     let value = read_json(alloc, bytes)?;

@@ -2,7 +2,7 @@
 
 /// What a parameter may hold.
 #[derive(Clone, Copy, Debug, PartialEq, Eq)]
-pub enum Holds {
+pub enum ArgumentKind {
     /// A reference to a node of the main graph.
     Cube,
     /// A callback.
@@ -78,7 +78,7 @@ pub enum Literal {
 }
 
 /// A parameter: its name, what it may hold, and its default, where it is optional.
-pub type ParameterEntry = (&'static str, Holds, Option<Literal>);
+pub type ParameterEntry = (&'static str, ArgumentKind, Option<Literal>);
 
 /// A process: its id, whether it stands in callbacks (or in the main graph), its parameters in order, and the
 /// parameters that its callbacks see.
@@ -95,43 +95,49 @@ pub const PROCESS_COUNT: usize = 44;
 // Null as a default, and the parameter without effect that callbacks see.
 const NULL: Option<Literal> = Some(Literal::Null);
 
-const CONTEXT: ParameterEntry = ("context", Holds::ScalarLiteral, NULL);
+const CONTEXT: ParameterEntry = ("context", ArgumentKind::ScalarLiteral, NULL);
 
-const DATA: ParameterEntry = ("data", Holds::Cube, None);
+const DATA: ParameterEntry = ("data", ArgumentKind::Cube, None);
 
-const DIMENSION: ParameterEntry = ("dimension", Holds::TextOrNull, NULL);
+const DIMENSION: ParameterEntry = ("dimension", ArgumentKind::TextOrNull, NULL);
 
 const IGNORE: ParameterEntry = (
     "ignore_nodata",
-    Holds::FlagLiteral,
+    ArgumentKind::FlagLiteral,
     Some(Literal::Flag(true)),
 );
 
 // The parameters that several processes share.
-const NUMBER: &[ParameterEntry] = &[("x", Holds::Number, None)];
+const NUMBER: &[ParameterEntry] = &[("x", ArgumentKind::Number, None)];
 
-const TWO_NUMBERS: &[ParameterEntry] = &[("x", Holds::Number, None), ("y", Holds::Number, None)];
+const TWO_NUMBERS: &[ParameterEntry] = &[
+    ("x", ArgumentKind::Number, None),
+    ("y", ArgumentKind::Number, None),
+];
 
-const FLAG: &[ParameterEntry] = &[("x", Holds::Flag, None)];
+const FLAG: &[ParameterEntry] = &[("x", ArgumentKind::Flag, None)];
 
-const TWO_FLAGS: &[ParameterEntry] = &[("x", Holds::Flag, None), ("y", Holds::Flag, None)];
+const TWO_FLAGS: &[ParameterEntry] = &[
+    ("x", ArgumentKind::Flag, None),
+    ("y", ArgumentKind::Flag, None),
+];
 
 const TWO_CELLS: &[ParameterEntry] = &[
-    ("x", Holds::Cell, None),
-    ("y", Holds::Cell, None),
-    ("delta", Holds::Null, NULL),
+    ("x", ArgumentKind::Cell, None),
+    ("y", ArgumentKind::Cell, None),
+    ("delta", ArgumentKind::Null, NULL),
     (
         "case_sensitive",
-        Holds::FlagLiteral,
+        ArgumentKind::FlagLiteral,
         Some(Literal::Flag(true)),
     ),
 ];
 
-const NUMBERS: &[ParameterEntry] = &[("data", Holds::Numbers, None), IGNORE];
+const NUMBERS: &[ParameterEntry] = &[("data", ArgumentKind::Numbers, None), IGNORE];
 
-const FLAGS: &[ParameterEntry] = &[("data", Holds::Flags, None), IGNORE];
+const FLAGS: &[ParameterEntry] = &[("data", ArgumentKind::Flags, None), IGNORE];
 
-const CELLS: &[ParameterEntry] = &[("data", Holds::Cells, None), IGNORE];
+const CELLS: &[ParameterEntry] = &[("data", ArgumentKind::Cells, None), IGNORE];
 
 /// All processes, their ids in byte order.
 pub static PROCESSES: [ProcessEntry; PROCESS_COUNT] = [
@@ -142,9 +148,13 @@ pub static PROCESSES: [ProcessEntry; PROCESS_COUNT] = [
         false,
         &[
             DATA,
-            ("intervals", Holds::Intervals, None),
-            ("reducer", Holds::Callback, None),
-            ("labels", Holds::IntervalLabels, Some(Literal::EmptyList)),
+            ("intervals", ArgumentKind::Intervals, None),
+            ("reducer", ArgumentKind::Callback, None),
+            (
+                "labels",
+                ArgumentKind::IntervalLabels,
+                Some(Literal::EmptyList),
+            ),
             DIMENSION,
             CONTEXT,
         ],
@@ -156,7 +166,7 @@ pub static PROCESSES: [ProcessEntry; PROCESS_COUNT] = [
     (
         "apply",
         false,
-        &[DATA, ("process", Holds::Callback, None), CONTEXT],
+        &[DATA, ("process", ArgumentKind::Callback, None), CONTEXT],
         &["x", "context"],
     ),
     (
@@ -164,10 +174,14 @@ pub static PROCESSES: [ProcessEntry; PROCESS_COUNT] = [
         false,
         &[
             DATA,
-            ("kernel", Holds::KernelRows, None),
-            ("factor", Holds::Whole, Some(Literal::Whole(1))),
-            ("border", Holds::Border, Some(Literal::Whole(0))),
-            ("replace_invalid", Holds::Whole, Some(Literal::Whole(0))),
+            ("kernel", ArgumentKind::KernelRows, None),
+            ("factor", ArgumentKind::Whole, Some(Literal::Whole(1))),
+            ("border", ArgumentKind::Border, Some(Literal::Whole(0))),
+            (
+                "replace_invalid",
+                ArgumentKind::Whole,
+                Some(Literal::Whole(0)),
+            ),
         ],
         &[],
     ),
@@ -175,12 +189,12 @@ pub static PROCESSES: [ProcessEntry; PROCESS_COUNT] = [
         "array_element",
         true,
         &[
-            ("data", Holds::Cells, None),
-            ("index", Holds::IndexOrNull, NULL),
-            ("label", Holds::LabelOrNull, NULL),
+            ("data", ArgumentKind::Cells, None),
+            ("index", ArgumentKind::IndexOrNull, NULL),
+            ("label", ArgumentKind::LabelOrNull, NULL),
             (
                 "return_nodata",
-                Holds::FlagLiteral,
+                ArgumentKind::FlagLiteral,
                 Some(Literal::Flag(false)),
             ),
         ],
@@ -191,8 +205,8 @@ pub static PROCESSES: [ProcessEntry; PROCESS_COUNT] = [
         "count",
         true,
         &[
-            ("data", Holds::Cells, None),
-            ("condition", Holds::TrueOrNull, NULL),
+            ("data", ArgumentKind::Cells, None),
+            ("condition", ArgumentKind::TrueOrNull, NULL),
             CONTEXT,
         ],
         &[],
@@ -204,21 +218,29 @@ pub static PROCESSES: [ProcessEntry; PROCESS_COUNT] = [
         false,
         &[
             DATA,
-            ("bands", Holds::Bands, Some(Literal::EmptyList)),
-            ("wavelengths", Holds::EmptyList, Some(Literal::EmptyList)),
+            ("bands", ArgumentKind::Bands, Some(Literal::EmptyList)),
+            (
+                "wavelengths",
+                ArgumentKind::EmptyList,
+                Some(Literal::EmptyList),
+            ),
         ],
         &[],
     ),
     (
         "filter_bbox",
         false,
-        &[DATA, ("extent", Holds::SpatialExtent, None)],
+        &[DATA, ("extent", ArgumentKind::SpatialExtent, None)],
         &[],
     ),
     (
         "filter_temporal",
         false,
-        &[DATA, ("extent", Holds::TemporalExtent, None), DIMENSION],
+        &[
+            DATA,
+            ("extent", ArgumentKind::TemporalExtent, None),
+            DIMENSION,
+        ],
         &[],
     ),
     ("first", true, CELLS, &[]),
@@ -229,9 +251,9 @@ pub static PROCESSES: [ProcessEntry; PROCESS_COUNT] = [
         "if",
         true,
         &[
-            ("value", Holds::Flag, None),
-            ("accept", Holds::Cell, None),
-            ("reject", Holds::Cell, NULL),
+            ("value", ArgumentKind::Flag, None),
+            ("accept", ArgumentKind::Cell, None),
+            ("reject", ArgumentKind::Cell, NULL),
         ],
         &[],
     ),
@@ -241,11 +263,11 @@ pub static PROCESSES: [ProcessEntry; PROCESS_COUNT] = [
         "load_collection",
         false,
         &[
-            ("id", Holds::Text, None),
-            ("spatial_extent", Holds::SpatialExtentOrNull, None),
-            ("temporal_extent", Holds::TemporalExtentOrNull, None),
-            ("bands", Holds::BandsOrNull, NULL),
-            ("properties", Holds::EmptyObjectOrNull, NULL),
+            ("id", ArgumentKind::Text, None),
+            ("spatial_extent", ArgumentKind::SpatialExtentOrNull, None),
+            ("temporal_extent", ArgumentKind::TemporalExtentOrNull, None),
+            ("bands", ArgumentKind::BandsOrNull, NULL),
+            ("properties", ArgumentKind::EmptyObjectOrNull, NULL),
         ],
         &[],
     ),
@@ -256,8 +278,8 @@ pub static PROCESSES: [ProcessEntry; PROCESS_COUNT] = [
         false,
         &[
             DATA,
-            ("mask", Holds::Cube, None),
-            ("replacement", Holds::ScalarLiteral, NULL),
+            ("mask", ArgumentKind::Cube, None),
+            ("replacement", ArgumentKind::ScalarLiteral, NULL),
         ],
         &[],
     ),
@@ -268,9 +290,9 @@ pub static PROCESSES: [ProcessEntry; PROCESS_COUNT] = [
         "merge_cubes",
         false,
         &[
-            ("cube1", Holds::Cube, None),
-            ("cube2", Holds::Cube, None),
-            ("overlap_resolver", Holds::CallbackOrNull, NULL),
+            ("cube1", ArgumentKind::Cube, None),
+            ("cube2", ArgumentKind::Cube, None),
+            ("overlap_resolver", ArgumentKind::CallbackOrNull, NULL),
             CONTEXT,
         ],
         &["x", "y", "context"],
@@ -287,8 +309,8 @@ pub static PROCESSES: [ProcessEntry; PROCESS_COUNT] = [
         false,
         &[
             DATA,
-            ("reducer", Holds::Callback, None),
-            ("dimension", Holds::Text, None),
+            ("reducer", ArgumentKind::Callback, None),
+            ("dimension", ArgumentKind::Text, None),
             CONTEXT,
         ],
         &["data", "context"],
@@ -298,8 +320,12 @@ pub static PROCESSES: [ProcessEntry; PROCESS_COUNT] = [
         false,
         &[
             DATA,
-            ("format", Holds::Text, None),
-            ("options", Holds::EmptyObject, Some(Literal::EmptyObject)),
+            ("format", ArgumentKind::Text, None),
+            (
+                "options",
+                ArgumentKind::EmptyObject,
+                Some(Literal::EmptyObject),
+            ),
         ],
         &[],
     ),

@@ -2,7 +2,7 @@ use Rattle.std.proofs.Common.{rules, ◌≡◌, [], ◌∷◌, ◌++◌, map, co
 use Rattle.std.proofs.lemmas.Result.{IfOk-weaker}
 use Rattle.serde_json.specs.View.{view, members_view}
 use Rattle.serde_json.proofs.Views.{Entry}
-use Rattle.oe_graph.specs.Tree.{PlainGraph, callback, named_of, nodes_of}
+use Rattle.oe_graph.specs.Tree.{PlainGraph, callback, named_from_list, nodes_from_list}
 use Rattle.oe_graph.specs.Built as built
 use Rattle.oe_graph.specs.Built.{argument_of, each_argument}
 use Rattle.oe_graph.proofs.Depths.{inner_depth, within}
@@ -50,7 +50,7 @@ pub build_arguments-returns : goal.build_arguments-returns
 build_arguments-returns t c =
     let l = c.loop-key in
     let all : l.invariant.0 ≡ c.args.members.now.entries = search rules in
-    ap named_of l.invariant.2 ∙ (arguments_each l.invariant.0 ∙ ap (λ es. each_argument (members_view es)) all)
+    ap named_from_list l.invariant.2 ∙ (arguments_each l.invariant.0 ∙ ap (λ es. each_argument (members_view es)) all)
 
 pub node_arguments-build_arguments-requires : goal.node_arguments-build_arguments-requires
 node_arguments-build_arguments-requires t c =
@@ -64,7 +64,7 @@ node_arguments-returns-in-Some t c =
 
 pub node_arguments-returns-in-None : goal.node_arguments-returns-in-None
 node_arguments-returns-in-None t c =
-    ap (λ vs. named_of (map plain_pair vs)) c.new.ensures.items ∙ arguments_without (view c.args.node.now) c.in-None.ensures
+    ap (λ vs. named_from_list (map plain_pair vs)) c.new.ensures.items ∙ arguments_without (view c.args.node.now) c.in-None.ensures
 
 pub build_nodes-build_node-requires : goal.build_nodes-build_node-requires
 build_nodes-build_node-requires t c =
@@ -92,4 +92,4 @@ pub build_nodes-returns : goal.build_nodes-returns
 build_nodes-returns t c =
     let l = c.loop-id in
     let all : l.invariant.0 ≡ c.args.nodes.now.entries = search rules in
-    ap nodes_of l.invariant.2 ∙ (nodes_each l.invariant.0 ∙ ap (λ es. built.nodes_of (members_view es)) all)
+    ap nodes_from_list l.invariant.2 ∙ (nodes_each l.invariant.0 ∙ ap (λ es. built.nodes_from_data (members_view es)) all)

@@ -2,7 +2,7 @@ use Rattle.std.proofs.Common.{rules, ◌≡◌, [], ◌∷◌, ◌++◌, map, sy
 use Rattle.std.proofs.lemmas.List.{take_all}
 use Rattle.serde_json.specs.View.{view, members_view}
 use Rattle.serde_json.proofs.Views.{Entry}
-use Rattle.oe_graph.specs.Tree.{arguments_of, named_of}
+use Rattle.oe_graph.specs.Tree.{values_from_list, named_from_list}
 use Rattle.oe_graph.specs.Plain.{plain_arg}
 use Rattle.oe_graph.specs.Built.{value_of, members_of}
 use Rattle.oe_graph.proofs.Views.{values_each, members_each, one_more}
@@ -13,7 +13,7 @@ build_items-returns t c =
     let full : take c.loop-item.item-index c.deref-item-items.result.now ≡ c.deref-item-items.result.now = take_all _ _ c.loop-item-test.false in
     let all : map plain_arg c.loop-item.built.items ≡ map (λ v. value_of c.args.plain (view v)) c.args.items.now.items =
     rw (c.loop-item.invariant, full, c.deref-item-items.ensures.value) refl in
-    ap arguments_of all ∙ values_each c.args.plain c.args.items.now.items
+    ap values_from_list all ∙ values_each c.args.plain c.args.items.now.items
 
 pub build_members-loop-key-preserved : goal.build_members-loop-key-preserved
 build_members-loop-key-preserved t c =
@@ -32,4 +32,4 @@ pub build_members-returns : goal.build_members-returns
 build_members-returns t c =
     let l = c.loop-key in
     let all : l.invariant.0 ≡ c.args.members.now.entries = search rules in
-    ap named_of l.invariant.2 ∙ (members_each c.args.plain l.invariant.0 ∙ ap (λ es. members_of c.args.plain (members_view es)) all)
+    ap named_from_list l.invariant.2 ∙ (members_each c.args.plain l.invariant.0 ∙ ap (λ es. members_of c.args.plain (members_view es)) all)

@@ -2,9 +2,11 @@ use Rattle.std.proofs.Common.{◌≡◌, sym, ap, ◌∙◌, None, []}
 use Rattle.serde_json.specs.View.{view, members_view}
 use Rattle.oe_graph.specs.Faults.{least}
 use Rattle.oe_graph.specs.Parameters.{StandsStored}
+use Rattle.oe_graph.specs.Plain.{plain_stored}
 use Rattle.oe_graph.specs.Read.{IsFault}
 use Rattle.oe_graph.specs.Walked.{graph_fault, parameters_fault}
 use Rattle.oe_graph.proofs.ReadLemmas.{handed_on, stored_refused, refused_by, stored_least, stored_valid}
+use Rattle.oe_graph.proofs.ValidLemmas.{ReadsStored-printable, ReadsStored-valid}
 use Rattle.oe_graph.proofs.read.read_stored.Goals as goal
 
 pub returns-in_err-value-clause-refused : goal.returns-in_err-value-clause-refused
@@ -50,3 +52,14 @@ returns-clause-process c =
       valid = stored_valid c.args.bytes.now d c.in_ok-value.ensures.value c.in_ok-value.ensures.within main
           c.in_ok-nodes.ensures.nodes none;
     }
+
+pub returns-clause-valid : goal.returns-clause-valid
+returns-clause-valid c = ReadsStored-valid c.args.id.now c.args.bytes.now _ (returns-clause-process c)
+
+pub returns-clause-printable : goal.returns-clause-printable
+returns-clause-printable c = ReadsStored-printable c.args.id.now c.args.bytes.now (plain_stored (record {
+  id = c.in_ok-of.field-0;
+  parameters = c.in_ok-build_parameters.field-0;
+  graph = c.in_ok-build_graph.field-0;
+  text = c.in_ok-text_of.field-0;
+})) (returns-clause-process c)
