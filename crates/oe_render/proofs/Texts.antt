@@ -55,7 +55,7 @@ length-label_texts d Bands count e = length-map (band_names d) _ ∙ length-unwr
 length-label_texts d Y count e = length-map (number_labels d Y) _ ∙ length-unwrap d.y count e
 length-label_texts d X count e = length-map (number_labels d X) _ ∙ length-unwrap d.x count e
 
-le_from : (a b : ℤ) → le_z a b ≡ true → a ≤ℤ b
+pub le_from : (a b : ℤ) → le_z a b ≡ true → a ≤ℤ b
 le_from a b h = grind (arith, ints)
 
 -- a label that is tested with the others

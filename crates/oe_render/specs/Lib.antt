@@ -1,3 +1,5 @@
+pub mod CubeText
 pub mod Rendered
+pub mod Seen
 pub mod Stored
 pub mod Text

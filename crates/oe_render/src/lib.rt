@@ -3,11 +3,18 @@
 //! [`render`] writes the text of the cube whose records stand in a store, and [`write_text`] that of a cube in memory;
 //! both go through a buffer of bytes that the caller lends, into any sink. The text of a cube is one definition, which
 //! the layers above cite: what was written is that text, or a prefix of it where a call refused.
+//!
+//! [`read_cube_text`] reads it again, and any other JSON that says the same.
 #![tactic(auto)]
 
 mod batch;
+mod cells;
+mod dimensions;
+mod members;
+mod reading;
 mod rendering;
 mod text;
 
+pub use reading::{CubeText, CubeTextFail, read_cube_text};
 pub use rendering::{RenderFail, render};
 pub use text::write_text;
