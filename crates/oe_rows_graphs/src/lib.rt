@@ -11,6 +11,4 @@ mod cube;
 #[cfg(test)]
 mod graph;
 #[cfg(test)]
-mod render;
-#[cfg(test)]
 mod top;
