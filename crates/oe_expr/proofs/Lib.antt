@@ -1,0 +1,22 @@
+pub mod NodeLemmas
+pub mod RequestLemmas
+pub mod FitLemmas
+pub mod SoundLemmas
+pub mod ProgramLemmas
+pub mod StripLemmas
+pub mod RunLemmas
+pub mod StateLemmas
+pub mod WalkLemmas
+pub mod KindLemmas
+pub mod KindCountLemmas
+pub mod ArgumentLemmas
+pub mod JudgeLemmas
+pub mod VerdictLemmas
+pub mod RoundLemmas
+pub mod LackLemmas
+pub mod BuildLemmas
+pub mod LabelLemmas
+pub mod PlaceLemmas
+pub mod MarkLemmas
+pub mod LoopLemmas
+mod Worked

@@ -1,0 +1,278 @@
+-- The nodes of a callback by their names and their indices, and what is known of those that one refers to.
+use Rattle.std.proofs.Common.{◌≡◌, ◌⊎◌, inl, inr, ℕ, zero, suc, ◌+◌, ◌<◌, Bool, true, false, cond, List, [], ◌∷◌, ◌++◌, append_assoc, take, map, length, slice_get, slice_index_or, get_or, Contains, Option, Some, None, option_map, refl, sym, ap, ◌∙◌, subst, true≢false, arith, add-one}
+use Rattle.std.specs.Option.{option_and_then, option_map_or}
+use Rattle.std.proofs.lemmas.Option.{slice_get-map}
+use Rattle.oe_dims.specs.Names.{same_name}
+use Rattle.oe_dims.proofs.IndexLemmas.{index_where_none}
+use Rattle.oe_dims.proofs.OrderLemmas.{same_name_is, same_name_refl}
+use Rattle.std.proofs.lemmas.Grind.{take_at_read}
+use Rattle.oe_graph.specs.Plain.{plain_arg, plain_args, plain_node, plain_nodes, plain_named, arg_step, graph_step, node_step}
+use Rattle.oe_graph.specs.Printed.{node_count}
+use Rattle.oe_graph.specs.References.{each_node, references_in, references_each, references_named}
+use Rattle.oe_graph.specs.Tree.{Argument, PlainGraph, PlainNode, Nodes, no_nodes, node}
+use Rattle.oe_graph.specs.declared.tree.Arg.{Arg}
+use Rattle.oe_graph.specs.declared.tree.Arg.TheFolds.{fold_out-Node}
+use Rattle.oe_graph.specs.declared.tree.Node.{Node}
+use Rattle.oe_graph.proofs.ResolvedLemmas.{NodeAt, node_unique}
+use Rattle.oe_expr.specs.Below.{worse_of, below_state, below_names}
+use Rattle.oe_expr.specs.Nodes.{node_named}
+use Rattle.oe_expr.specs.States.{index_named, state_named}
+use Rattle.oe_expr.specs.Walked.{AreResolved, IsNodeAt, state_at}
+use Rattle.oe_expr.specs.Scope.{PlainScope}
+use Rattle.oe_expr.specs.declared.references.Below.{Below}
+use Rattle.oe_expr.specs.declared.references.Below.TheVariants as below
+use Rattle.oe_expr.specs.declared.state.State.{State}
+use Rattle.oe_expr.specs.declared.state.State.TheVariants.{Unseen, Faulty, Sound}
+
+-- ---- nodes by their parts
+
+pub plain_parts : (n : Node)
+    → plain_node n ≡ record { id = n.id; process_id = n.process_id; namespace = n.namespace; arguments = plain_named n.arguments.items }
+plain_parts n = fold_out-Node Argument PlainGraph PlainNode arg_step graph_step node_step n
+
+pub plain_id : (n : Node) → (plain_node n).id ≡ n.id
+plain_id n = ap (λ (p : PlainNode). p.id) (plain_parts n)
+
+pub each_plain : (nodes : List Node) → each_node (plain_nodes nodes) ≡ map plain_node nodes
+each_plain [] = refl
+each_plain (n ∷ nodes) = ap (λ (rest : List PlainNode). plain_node n ∷ rest) (each_plain nodes)
+
+pub count_plain : (nodes : List Node) → node_count (plain_nodes nodes) ≡ length nodes
+count_plain [] = refl
+count_plain (n ∷ nodes) = ap suc (count_plain nodes)
+
+pub node_at_index : (nodes : List Node) (k : ℕ) (n : Node) → slice_get nodes k ≡ Some n → IsNodeAt nodes k (plain_node n)
+node_at_index nodes k n is =
+    ap (λ ns. slice_get ns k) (each_plain nodes) ∙ (slice_get-map plain_node nodes k ∙ ap (option_map plain_node) is)
+
+within_nodes : (ns : Nodes) (k : ℕ) (n : PlainNode) → slice_get (each_node ns) k ≡ Some n → k < node_count ns
+within_nodes no_nodes k n is = absurd cc
+within_nodes (node id p s args rest) zero n is = omega arith
+within_nodes (node id p s args rest) (suc k) n is = let below = within_nodes rest k n is in omega arith
+
+pub node_within : (nodes : List Node) (k : ℕ) (n : PlainNode) → IsNodeAt nodes k n → k < length nodes
+node_within nodes k n is = subst (λ c. k < c) (count_plain nodes) (within_nodes (plain_nodes nodes) k n is)
+
+-- ---- nodes by their names
+
+shift : (p : PlainNode) (rest : List PlainNode) (o : Option ℕ)
+    → option_and_then (slice_get (p ∷ rest)) (option_map (λ n. n + 1) o) ≡ option_and_then (slice_get rest) o
+shift p rest None = refl
+shift p rest (Some k) = ap (slice_get (p ∷ rest)) (add-one k)
+
+pub found_node : (nodes : List Node) (name : List ℕ)
+    → node_named name (plain_nodes nodes) ≡ option_and_then (slice_get (each_node (plain_nodes nodes))) (index_named nodes name)
+found_node [] name = refl
+found_node (x ∷ xs) name = by (same_name x.id name) refl (found_node xs name)
+  where
+    by : (b : Bool) → same_name x.id name ≡ b
+        → node_named name (plain_nodes xs) ≡ option_and_then (slice_get (each_node (plain_nodes xs))) (index_named xs name)
+        → node_named name (plain_nodes (x ∷ xs)) ≡ option_and_then (slice_get (each_node (plain_nodes (x ∷ xs)))) (index_named (x ∷ xs) name)
+    by true e rest =
+        let same : same_name (plain_node x).id name ≡ true = ap (λ id. same_name id name) (plain_id x) ∙ e in
+        rw (same, e) refl
+    by false e rest =
+        let same : same_name (plain_node x).id name ≡ false = ap (λ id. same_name id name) (plain_id x) ∙ e in
+        rw (same, e) (rest ∙ sym (shift (plain_node x) (each_node (plain_nodes xs)) (index_named xs name)))
+
+-- a name that no node has
+pub none_named : (nodes : List Node) (name : List ℕ)
+    → ((k : ℕ) (d : Node) → k < length nodes → same_name (get_or nodes k d).id name ≡ false) → index_named nodes name ≡ None
+none_named [] name none = refl
+none_named (x ∷ xs) name none = index_where_none (λ (n : Node). same_name n.id name) (x ∷ xs) x (λ k below. none k x below)
+
+-- what an index that is found says
+found_there : (nodes : List Node) (name : List ℕ) (k : ℕ) → index_named nodes name ≡ Some k
+    → (n : Node) × (slice_get nodes k ≡ Some n) × (n.id ≡ name)
+found_there [] name k e = absurd cc
+found_there (x ∷ xs) name k e = by (same_name x.id name) refl e (found_there xs name)
+  where
+    later : (o : Option ℕ) → index_named xs name ≡ o → option_map (λ n. n + 1) o ≡ Some k
+        → ((j : ℕ) → index_named xs name ≡ Some j → (n : Node) × (slice_get xs j ≡ Some n) × (n.id ≡ name))
+        → (n : Node) × (slice_get (x ∷ xs) k ≡ Some n) × (n.id ≡ name)
+    later None is e rest = absurd cc
+    later (Some j) is e rest =
+        let one : j + 1 ≡ k = cc in
+        let at : suc j ≡ k = sym (add-one j) ∙ one in
+        let there = rest j is in
+        (there.0, ap (slice_get (x ∷ xs)) (sym at) ∙ there.1, there.2)
+
+    by : (b : Bool) → same_name x.id name ≡ b → cond b (Some 0) (option_map (λ n. n + 1) (index_named xs name)) ≡ Some k
+        → ((j : ℕ) → index_named xs name ≡ Some j → (n : Node) × (slice_get xs j ≡ Some n) × (n.id ≡ name))
+        → (n : Node) × (slice_get (x ∷ xs) k ≡ Some n) × (n.id ≡ name)
+    by true same e rest =
+        let at : 0 ≡ k = cc in
+        (x, ap (slice_get (x ∷ xs)) (sym at), sym (same_name_is x.id name same))
+    by false same e rest = later (index_named xs name) refl e rest
+
+none_there : (nodes : List Node) (name : List ℕ) → index_named nodes name ≡ None → (k : ℕ) (n : PlainNode)
+    → IsNodeAt nodes k n → n.id ≡ name → ⊥
+none_there [] name none k n is same = absurd cc
+none_there (x ∷ xs) name none k n is same = by (same_name x.id name) refl none k is (none_there xs name)
+  where
+    rest_none : (o : Option ℕ) → option_map (λ n. n + 1) o ≡ None → o ≡ None
+    rest_none None e = refl
+    rest_none (Some j) e = absurd cc
+
+    by : (b : Bool) → same_name x.id name ≡ b → cond b (Some 0) (option_map (λ n. n + 1) (index_named xs name)) ≡ None
+        → (k : ℕ) → IsNodeAt (x ∷ xs) k n
+        → (index_named xs name ≡ None → (k : ℕ) (n : PlainNode) → IsNodeAt xs k n → n.id ≡ name → ⊥) → ⊥
+    by true e none k is rest = absurd cc
+    by false e none zero is rest =
+        let first : plain_node x ≡ n = cc in
+        let id : x.id ≡ name = sym (plain_id x) ∙ (ap (λ (p : PlainNode). p.id) first ∙ same) in
+        true≢false (sym (same_name_refl name) ∙ (ap (λ i. same_name i name) (sym id) ∙ e))
+    by false e none (suc j) is rest = rest (rest_none (index_named xs name) none) j n is same
+
+module _ (scope : PlainScope) (nodes : List Node) (is : AreResolved scope nodes) where
+  at_id : (k : ℕ) (n : PlainNode) (name : List ℕ) → IsNodeAt nodes k n → n.id ≡ name → NodeAt (plain_nodes nodes) name
+  at_id k n name at same = record {
+    index = k;
+    below = within_nodes (plain_nodes nodes) k n at;
+    node = n;
+    is_there = at;
+    is_named = same;
+  }
+
+  -- the index of a node's name is its own
+  pub index_of : (k : ℕ) (n : PlainNode) → IsNodeAt nodes k n → index_named nodes n.id ≡ Some k
+  unfolding at_id
+  index_of k n at = by (index_named nodes n.id) refl
+    where
+      by : (o : Option ℕ) → index_named nodes n.id ≡ o → index_named nodes n.id ≡ Some k
+      by None e = absurd (none_there nodes n.id e k n at refl)
+      by (Some j) e =
+          let there = found_there nodes n.id j e in
+          let same : j ≡ k =
+          node_unique (plain_nodes nodes) is.result n.id is.resolved
+          (at_id j (plain_node there.0) n.id (node_at_index nodes j there.0 there.1) (plain_id there.0 ∙ there.2))
+          (at_id k n n.id at refl) in
+          e ∙ ap Some same
+
+  pub named_at : (k : ℕ) (n : PlainNode) → IsNodeAt nodes k n → node_named n.id (plain_nodes nodes) ≡ Some n
+  named_at k n at =
+      found_node nodes n.id ∙ (ap (option_and_then (slice_get (each_node (plain_nodes nodes)))) (index_of k n at) ∙ at)
+
+  -- the state of a node's name is its own
+  pub state_of_id : (states : List State) (k : ℕ) (n : PlainNode) → IsNodeAt nodes k n
+      → state_named nodes states n.id ≡ state_at states k
+  state_of_id states k n at = ap (λ o. option_map_or (state_at states) o Unseen) (index_of k n at)
+
+-- ---- what is known of several nodes
+
+first_of : {X : Type 0} (x : X) (xs : List X) → Contains (x ∷ xs) x
+first_of x xs = (0, omega arith, refl)
+
+later_of : {X : Type 0} (x : X) (xs : List X) (y : X) → Contains xs y → Contains (x ∷ xs) y
+later_of x xs y has = let below = has.1 in (suc has.0, omega arith, has.2)
+
+first_or_later : {X : Type 0} (x : X) (xs : List X) (y : X) (k : ℕ) → k < length (x ∷ xs) → slice_index_or (x ∷ xs) k y ≡ y
+    → (x ≡ y) ⊎ Contains xs y
+first_or_later x xs y zero below is = inl is
+first_or_later x xs y (suc k) below is = inr (k, omega arith, is)
+
+unseen_one : (s : State) (b : Below) → worse_of (below_state s) b ≡ below.Unseen → (s ≡ Unseen) ⊎ (b ≡ below.Unseen)
+unseen_one Unseen b e = inl refl
+unseen_one Faulty below.Unseen e = inr refl
+unseen_one Faulty below.Faulty e = absurd cc
+unseen_one Faulty below.Sound e = absurd cc
+unseen_one (Sound kind) b e = inr e
+
+faulty_one : (s : State) (b : Below) → worse_of (below_state s) b ≡ below.Faulty → (s ≡ Faulty) ⊎ (b ≡ below.Faulty)
+faulty_one Unseen b e = absurd cc
+faulty_one Faulty b e = inl refl
+faulty_one (Sound kind) b e = inr e
+
+sound_one : (s : State) (b : Below) → worse_of (below_state s) b ≡ below.Sound → (kind : _) × (s ≡ Sound kind) × (b ≡ below.Sound)
+sound_one Unseen b e = absurd cc
+sound_one Faulty below.Unseen e = absurd cc
+sound_one Faulty below.Faulty e = absurd cc
+sound_one Faulty below.Sound e = absurd cc
+sound_one (Sound kind) b e = (kind, refl, e)
+
+module _ (nodes : List Node) (states : List State) where
+  -- one of the names has this state
+  abbrev pub OneIs : State → List (List ℕ) → Type 0
+  OneIs s names = (name : List ℕ) × Contains names name × (state_named nodes states name ≡ s)
+
+  one_later : (s : State) (name : List ℕ) (names : List (List ℕ)) → OneIs s names → OneIs s (name ∷ names)
+  one_later s name names o = (o.0, later_of name names o.0 o.1, o.2)
+
+  pub unseen_below : (names : List (List ℕ)) → below_names nodes states names ≡ below.Unseen → OneIs Unseen names
+  unseen_below [] e = absurd cc
+  unseen_below (name ∷ names) e =
+      elim (unseen_one (state_named nodes states name) (below_names nodes states names) e) [
+        | inl here ↦ (name, first_of name names, here)
+        | inr rest ↦ one_later Unseen name names (unseen_below names rest)
+      ]
+
+  pub faulty_below : (names : List (List ℕ)) → below_names nodes states names ≡ below.Faulty → OneIs Faulty names
+  faulty_below [] e = absurd cc
+  faulty_below (name ∷ names) e =
+      elim (faulty_one (state_named nodes states name) (below_names nodes states names) e) [
+        | inl here ↦ (name, first_of name names, here)
+        | inr rest ↦ one_later Faulty name names (faulty_below names rest)
+      ]
+
+  pub sound_below : (names : List (List ℕ)) → below_names nodes states names ≡ below.Sound → (name : List ℕ) → Contains names name
+      → (kind : _) × (state_named nodes states name ≡ Sound kind)
+  sound_below [] e name has = let below : has.0 < 0 = has.1 in absurd (omega arith)
+  sound_below (first ∷ names) e name has =
+      let parts = sound_one (state_named nodes states first) (below_names nodes states names) e in
+      elim (first_or_later first names name has.0 has.1 has.2) [
+        | inl is ↦ (parts.0, subst (λ n. state_named nodes states n ≡ Sound parts.0) is parts.1)
+        | inr later ↦ sound_below names parts.2 name later
+      ]
+
+-- ---- several lists of names
+
+append_nil : (xs : List (List ℕ)) → xs ≡ xs ++ []
+append_nil [] = refl
+append_nil (x ∷ xs) = ap (λ (rest : List (List ℕ)). x ∷ rest) (append_nil xs)
+
+worse_twice : (a b c : Below) → worse_of (worse_of a b) c ≡ worse_of a (worse_of b c)
+worse_twice below.Unseen b c = refl
+worse_twice below.Faulty below.Unseen c = refl
+worse_twice below.Faulty below.Faulty below.Unseen = refl
+worse_twice below.Faulty below.Faulty below.Faulty = refl
+worse_twice below.Faulty below.Faulty below.Sound = refl
+worse_twice below.Faulty below.Sound c = refl
+worse_twice below.Sound b c = refl
+
+module _ (nodes : List Node) (states : List State) where
+  below_both : (xs ys : List (List ℕ)) → below_names nodes states (xs ++ ys) ≡ worse_of (below_names nodes states xs) (below_names nodes states ys)
+  below_both [] ys = refl
+  below_both (x ∷ xs) ys =
+      ap (worse_of (below_state (state_named nodes states x))) (below_both xs ys)
+      ∙ sym (worse_twice (below_state (state_named nodes states x)) (below_names nodes states xs) (below_names nodes states ys))
+
+  each_last : (xs : List Arg) (x : Arg) → references_each (plain_args (xs ++ x ∷ [])) ≡ references_each (plain_args xs) ++ references_in (plain_arg x)
+  each_last [] x = sym (append_nil (references_in (plain_arg x)))
+  each_last (y ∷ xs) x =
+      ap (λ names. references_in (plain_arg y) ++ names) (each_last xs x)
+      ∙ sym (append_assoc (references_in (plain_arg y)) (references_each (plain_args xs)) (references_in (plain_arg x)))
+
+  named_last : (xs : List (List ℕ × Arg)) (x : List ℕ × Arg)
+      → references_named (plain_named (xs ++ x ∷ [])) ≡ references_named (plain_named xs) ++ references_in (plain_arg x.1)
+  named_last [] x = sym (append_nil (references_in (plain_arg x.1)))
+  named_last (y ∷ xs) x =
+      ap (λ names. references_in (plain_arg y.1) ++ names) (named_last xs x)
+      ∙ sym (append_assoc (references_in (plain_arg y.1)) (references_named (plain_named xs)) (references_in (plain_arg x.1)))
+
+  pub below_each_more : (xs : List Arg) (i : ℕ) (x : Arg) → i < length xs → x ≡ get_or xs i x
+      → below_names nodes states (references_each (plain_args (take (i + 1) xs)))
+      ≡ worse_of (below_names nodes states (references_each (plain_args (take i xs)))) (below_names nodes states (references_in (plain_arg x)))
+  below_each_more xs i x within is =
+      let more : take (i + 1) xs ≡ take i xs ++ x ∷ [] = (take_at_read xs i x within).1 ∙ ap (λ y. take i xs ++ y ∷ []) (sym is) in
+      ap (λ ys. below_names nodes states (references_each (plain_args ys))) more
+      ∙ (ap (below_names nodes states) (each_last (take i xs) x)
+      ∙ below_both (references_each (plain_args (take i xs))) (references_in (plain_arg x)))
+
+  pub below_named_more : (xs : List (List ℕ × Arg)) (i : ℕ) (x : List ℕ × Arg) → i < length xs → x ≡ get_or xs i x
+      → below_names nodes states (references_named (plain_named (take (i + 1) xs)))
+      ≡ worse_of (below_names nodes states (references_named (plain_named (take i xs)))) (below_names nodes states (references_in (plain_arg x.1)))
+  below_named_more xs i x within is =
+      let more : take (i + 1) xs ≡ take i xs ++ x ∷ [] = (take_at_read xs i x within).1 ∙ ap (λ y. take i xs ++ y ∷ []) (sym is) in
+      ap (λ ys. below_names nodes states (references_named (plain_named ys))) more
+      ∙ (ap (below_names nodes states) (named_last (take i xs) x)
+      ∙ below_both (references_named (plain_named (take i xs))) (references_in (plain_arg x.1)))

@@ -1,0 +1,14 @@
+use Rattle.std.proofs.Common.{ℕ, ap, ◌∙◌, arith, get_or}
+use Rattle.std.proofs.lemmas.List.{get_or_read}
+use Rattle.oe_cell.specs.declared.cell.Cell.{Cell}
+use Rattle.oe_cell.specs.declared.cell.Cell.TheVariants.{Empty}
+use Rattle.oe_expr.specs.Operations.{binary_of}
+use Rattle.oe_expr.proofs.StripLemmas.{written}
+use Rattle.oe_expr.proofs.row.each_with_each.Goals as goal
+
+pub loop-k-preserved : goal.loop-k-preserved
+loop-k-preserved c =
+    written (λ (j : ℕ). binary_of c.args.f (get_or c.args.xs.now j Empty) (get_or c.args.ys.now j Empty)) c.loop-k.out c.loop-k.k c.on_two.result (omega arith) c.loop-k.invariant
+    (c.on_two.ensures
+    ∙ ap (λ (x : Cell). binary_of c.args.f x c.index-ys-k.result) (get_or_read c.args.xs.now c.loop-k.k c.index-xs-k.result (omega arith) c.index-xs-k.is Empty)
+    ∙ ap (binary_of c.args.f (get_or c.args.xs.now c.loop-k.k Empty)) (get_or_read c.args.ys.now c.loop-k.k c.index-ys-k.result (omega arith) c.index-ys-k.is Empty))

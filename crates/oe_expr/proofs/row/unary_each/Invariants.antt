@@ -1,0 +1,8 @@
+use Rattle.std.proofs.Common.{◌≡◌, ℕ, ◌<◌}
+use Rattle.std.specs.List.{slice_index_or}
+use Rattle.oe_cell.specs.declared.cell.Cell.TheVariants.{Empty}
+use Rattle.oe_expr.specs.Operations.{unary_of}
+use Rattle.oe_expr.proofs.row.unary_each.Given as goal
+
+abbrev pub invariant-loop-k : goal.invariant-loop-k
+invariant-loop-k l = (j : ℕ) → j < l.k → slice_index_or l.out j Empty ≡ unary_of l.f (slice_index_or l.xs j Empty)

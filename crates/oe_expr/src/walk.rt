@@ -1,0 +1,227 @@
+// The walk over the nodes of a callback: those that a node refers to before the node itself.
+ghost use Rattle.std.specs.Prelude.{◌≡◌, ◌<◌, ℕ, suc, [], length, replicate, IfOk, OnOk, None, Some, string_bytes};
+ghost use Rattle.oe_graph.specs.Faults as faults;
+ghost use Rattle.oe_graph.specs.Form as form;
+ghost use Rattle.oe_graph.specs.Plain.{plain_node};
+ghost use Rattle.oe_expr.specs.Scope.{IsScope, plain_scope};
+ghost use Rattle.oe_expr.specs.Walked.{AreResolved, AreDeep, IsChecked, IsNodeAt, IsStep, IsVerdict, IsWalked, state_at};
+ghost use Rattle.oe_expr.specs.declared.state.State.TheVariants.{Unseen};
+
+use crate::judge::judge;
+use crate::references::{Below, below_named};
+use crate::request::{Request, request_at};
+use crate::scope::Scope;
+use crate::state::State;
+use oe_cell::Cell;
+use oe_dims::{CellKind, Text};
+use oe_graph::{Code, Fault, Node, least};
+use oe_memory::OutOfMemory;
+use std::alloc::Global;
+
+/// A node without a fault at or below it, by its index, and what it asks for.
+#[derive(Drop)]
+pub(crate) struct Judged<'a> {
+    pub node: usize,
+    pub request: Request<'a>,
+}
+
+/// How far the walk has come: the state of each node, the sound ones in the order in which they were found, and the
+/// least fault.
+#[derive(Drop)]
+pub(crate) struct Walk<'a> {
+    pub states: Vec<State>,
+    pub order: Vec<Judged<'a>>,
+    pub found: Option<Fault>,
+}
+
+/// What one node is.
+#[derive(Drop)]
+enum Verdict<'a> {
+    /// One that it refers to is not yet judged.
+    Later,
+    /// There is a fault below it.
+    Below,
+    /// This fault stands at it.
+    Stands(Code),
+    Sound(Option<CellKind>, Request<'a>),
+}
+
+/// The walk over all nodes, where no references lead from a node back to itself. In each round the nodes are judged whose
+/// references were judged before, so that as many rounds as there are nodes are enough.
+pub(crate) fn walk_nodes<'a>(
+    alloc: Global,
+    scope: &Scope,
+    context: &Cell,
+    nodes: &'a Vec<Node>,
+    path: &str,
+) -> Result<Walk<'a>, OutOfMemory>
+    requires resolved { AreResolved (plain_scope scope.now) nodes.now.items }
+    requires scope { IsScope (plain_scope scope.now) }
+    ensures { IfOk result (λ walk. IsChecked (plain_scope scope.now) context.now nodes.now.items path.now
+        walk.states.items walk.order.items walk.found) }
+{
+    let mut walk = first_walk(alloc, nodes)?;
+    for _round in 0..nodes.len() {
+        visit_each(alloc, scope, context, nodes, path, &mut walk)?;
+    }
+    Ok(walk)
+}
+
+/// The walk before its first step.
+fn first_walk<'a>(alloc: Global, nodes: &Vec<Node>) -> Result<Walk<'a>, OutOfMemory>
+    ensures states { IfOk result (λ walk. length walk.states.items ≡ length nodes.now.items) }
+    ensures unseen { IfOk result (λ walk. (k : ℕ) → state_at walk.states.items k ≡ Unseen) }
+    ensures order { IfOk result (λ walk. walk.order.items ≡ []) }
+    ensures found { IfOk result (λ walk. walk.found ≡ None) }
+{
+    Ok(Walk {
+        states: unseen_states(alloc, nodes.len())?,
+        order: Vec::with_capacity(alloc, nodes.len())?,
+        found: None,
+    })
+}
+
+fn unseen_states(alloc: Global, count: usize) -> Result<Vec<State>, OutOfMemory>
+    ensures { IfOk result (λ states. states.items ≡ replicate count Unseen) }
+{
+    let mut states = Vec::with_capacity(alloc, count)?;
+    for _index in 0..count {
+        states.push(State::Unseen)?;
+    }
+    Ok(states)
+}
+
+/// One round.
+fn visit_each<'a>(
+    alloc: Global,
+    scope: &Scope,
+    context: &Cell,
+    nodes: &'a Vec<Node>,
+    path: &str,
+    walk: &mut Walk<'a>,
+) -> Result<(), OutOfMemory>
+    requires resolved { AreResolved (plain_scope scope.now) nodes.now.items }
+    requires scope { IsScope (plain_scope scope.now) }
+    requires states { length walk.old.states.items ≡ length nodes.now.items }
+    requires walked { IsWalked (plain_scope scope.now) context.now nodes.now.items path.now
+        walk.old.states.items walk.old.order.items walk.old.found }
+    ensures states { OnOk result (length walk.new.states.items ≡ length nodes.now.items) }
+    ensures walked { OnOk result (IsWalked (plain_scope scope.now) context.now nodes.now.items path.now
+        walk.new.states.items walk.new.order.items walk.new.found) }
+    // a node that was not judged waits for one more
+    ensures deeper { OnOk result ((count : ℕ)
+        → AreDeep (plain_scope scope.now) context.now nodes.now.items count walk.old.states.items
+        → AreDeep (plain_scope scope.now) context.now nodes.now.items (suc count) walk.new.states.items) }
+{
+    for index in 0..nodes.len() {
+        if matches!(walk.states[index], State::Unseen) {
+            visit(alloc, scope, context, nodes, path, index, walk)?;
+        }
+    }
+    Ok(())
+}
+
+/// Judges a node where the nodes that it refers to were judged.
+fn visit<'a>(
+    alloc: Global,
+    scope: &Scope,
+    context: &Cell,
+    nodes: &'a Vec<Node>,
+    path: &str,
+    index: usize,
+    walk: &mut Walk<'a>,
+) -> Result<(), OutOfMemory>
+    requires resolved { AreResolved (plain_scope scope.now) nodes.now.items }
+    requires scope { IsScope (plain_scope scope.now) }
+    requires within { index < length nodes.now.items }
+    requires states { length walk.old.states.items ≡ length nodes.now.items }
+    requires unseen { state_at walk.old.states.items index ≡ Unseen }
+    requires walked { IsWalked (plain_scope scope.now) context.now nodes.now.items path.now
+        walk.old.states.items walk.old.order.items walk.old.found }
+    ensures states { OnOk result (length walk.new.states.items ≡ length nodes.now.items) }
+    ensures walked { OnOk result (IsWalked (plain_scope scope.now) context.now nodes.now.items path.now
+        walk.new.states.items walk.new.order.items walk.new.found) }
+    ensures step { OnOk result (IsStep nodes.now.items index walk.old.states.items walk.new.states.items) }
+{
+    let node = &nodes[index];
+    match judge_node(alloc, scope, context, nodes, &walk.states, node)? {
+        Verdict::Later => Ok(()),
+        Verdict::Below => {
+            walk.states[index] = State::Faulty;
+            Ok(())
+        }
+        Verdict::Stands(code) => {
+            let fault = fault_at(alloc, code, path, node.id.as_str())?;
+            walk.states[index] = State::Faulty;
+            note(&mut walk.found, fault);
+            Ok(())
+        }
+        Verdict::Sound(kind, request) => {
+            walk.states[index] = State::Sound(kind);
+            walk.order.push(Judged {
+                node: index,
+                request,
+            })?;
+            Ok(())
+        }
+    }
+}
+
+/// What a node is, by what is known of those that it refers to.
+fn judge_node<'a>(
+    alloc: Global,
+    scope: &Scope,
+    context: &Cell,
+    nodes: &[Node],
+    states: &[State],
+    node: &'a Node,
+) -> Result<Verdict<'a>, OutOfMemory>
+    requires scope { IsScope (plain_scope scope.now) }
+    requires states { length states.now ≡ length nodes.now }
+    ensures { IfOk result (IsVerdict (plain_scope scope.now) context.now nodes.now states.now (plain_node node.now)) }
+{
+    match below_named(&node.arguments, nodes, states) {
+        Below::Unseen => return Ok(Verdict::Later),
+        Below::Faulty => return Ok(Verdict::Below),
+        Below::Sound => (),
+    }
+    let Some(request) = request_at(alloc, node)? else {
+        return Ok(Verdict::Stands(Code::ProcessParameterInvalid));
+    };
+    match judge(scope, context, nodes, states, &request) {
+        Ok(kind) => Ok(Verdict::Sound(kind, request)),
+        Err(code) => Ok(Verdict::Stands(code)),
+    }
+}
+
+/// Keeps the lesser of the fault that was found and another.
+fn note(found: &mut Option<Fault>, fault: Fault)
+    ensures { found.new ≡ faults.least found.old (Some fault) }
+{
+    let kept = least(found.take(), Some(fault));
+    *found = kept;
+}
+
+/// A fault at the node of an id in the callback of a path.
+fn fault_at(alloc: Global, code: Code, path: &str, id: &str) -> Result<Fault, OutOfMemory>
+    ensures code { IfOk result (λ fault. fault.code ≡ code) }
+    ensures node { IfOk result (λ fault. fault.node ≡ form.node_name path.now id.now) }
+{
+    let name = node_name(alloc, path, id)?;
+    Ok(Fault {
+        code,
+        node: Text::of(alloc, name.as_str())?,
+    })
+}
+
+/// The name of a node in the callback of a path.
+fn node_name(alloc: Global, path: &str, id: &str) -> Result<String, OutOfMemory>
+    ensures { IfOk result (λ name. string_bytes name ≡ form.node_name path.now id.now) }
+{
+    let mut name = String::from_str(alloc, path)?;
+    if !path.is_empty() {
+        name.push('/')?;
+    }
+    name.push_str(id)?;
+    Ok(name)
+}
