@@ -1,0 +1,14 @@
+pub mod Extents
+pub mod Parameters
+pub mod Requests
+pub mod Labels
+pub mod Operations
+pub mod Meaning
+pub mod Graphs
+pub mod Laws
+pub mod Reach
+pub mod CellKinds
+pub mod ValidShapes
+pub mod Scopes
+pub mod SoundNodes
+pub mod Brings

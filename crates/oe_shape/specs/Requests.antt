@@ -1,0 +1,194 @@
+-- What the arguments of a node of the main graph ask for, where each is what its parameter may hold. Cubes are named by
+-- the nodes that they are results of; arguments that have no effect are looked at and left out.
+use Rattle.std.specs.Prelude.{ℕ, List, [], ◌∷◌, Option, codes, find, option_map, option_and_then}
+use Rattle.oe_cell.specs.Fraction.{Fraction}
+use Rattle.oe_cell.specs.declared.cell.Cell.{Cell}
+use Rattle.oe_dims.specs.Names.{same_name}
+use Rattle.oe_graph.specs.Tree.{Named, PlainGraph, PlainNode}
+use Rattle.oe_kernel.specs.Kernels.{KernelValues}
+use Rattle.oe_kernel.specs.declared.border.Border.{Border}
+use Rattle.oe_expr.specs.Requests.{with_both, read, passes, where_passed}
+use Rattle.oe_shape.specs.Extents.{BoundingBox, TemporalExtent}
+use Rattle.oe_shape.specs.Parameters.{Interval, cube_in, callback_in, text_in, number_in, literal_in, box_in, extent_in, instant_in, bands_in, some_bands_in, kernel_in, border_in, list_in, null_or, intervals_of, is_empty_list, is_empty_object, is_null_or_empty_object}
+
+-- ---- the processes, by the ids that openEO Processes gives them
+
+pub data CubeProcess : Type 0 where
+  AggregateTemporal : CubeProcess
+  Apply : CubeProcess
+  ApplyKernel : CubeProcess
+  FilterBands : CubeProcess
+  FilterBbox : CubeProcess
+  FilterTemporal : CubeProcess
+  LoadCollection : CubeProcess
+  Mask : CubeProcess
+  MergeCubes : CubeProcess
+  ReduceDimension : CubeProcess
+  SaveResult : CubeProcess
+
+abbrev pub NamedProcess : Type 0
+NamedProcess = List ℕ × CubeProcess
+
+abbrev pub cube_processes : List NamedProcess
+cube_processes =
+    (codes "aggregate_temporal", AggregateTemporal)
+    ∷ (codes "apply", Apply)
+    ∷ (codes "apply_kernel", ApplyKernel)
+    ∷ (codes "filter_bands", FilterBands)
+    ∷ (codes "filter_bbox", FilterBbox)
+    ∷ (codes "filter_temporal", FilterTemporal)
+    ∷ (codes "load_collection", LoadCollection)
+    ∷ (codes "mask", Mask)
+    ∷ (codes "merge_cubes", MergeCubes)
+    ∷ (codes "reduce_dimension", ReduceDimension)
+    ∷ (codes "save_result", SaveResult)
+    ∷ []
+
+abbrev pub cube_process_named : List ℕ → Option CubeProcess
+cube_process_named id =
+    option_map (λ (p : NamedProcess). p.1) (find (λ (p : NamedProcess). same_name p.0 id) cube_processes)
+
+-- ---- requests
+
+-- a callback with the literal `context` that it sees
+pub record Called : Type 0 where
+  pub graph : PlainGraph
+  pub context : Cell
+
+abbrev pub called : PlainGraph → Cell → Called
+called graph context = record { graph = graph; context = context }
+
+-- what each process asks for; the cubes come first
+pub data Request : Type 0 where
+  -- a collection by its id
+  load_collection : List ℕ → Option BoundingBox → Option TemporalExtent → Option (List (List ℕ)) → Request
+  filter_bbox : List ℕ → BoundingBox → Request
+  -- perhaps with the name of the dimension
+  filter_temporal : List ℕ → TemporalExtent → Option (List ℕ) → Request
+  filter_bands : List ℕ → List (List ℕ) → Request
+  apply : List ℕ → Called → Request
+  -- kernel, factor, border, and what counts for null
+  apply_kernel : List ℕ → KernelValues → Fraction → Border → Fraction → Request
+  -- by the name of the dimension
+  reduce_dimension : List ℕ → List ℕ → Called → Request
+  -- perhaps with the name of the dimension
+  aggregate_temporal : List ℕ → List Interval → Option (List ℕ) → Called → Request
+  -- perhaps with a resolver
+  merge_cubes : List ℕ → List ℕ → Option Called → Request
+  -- data, mask and replacement
+  mask : List ℕ → List ℕ → Cell → Request
+  -- the format
+  save_result : List ℕ → List ℕ → Request
+
+-- the nodes whose cubes a request works on, in their order
+abbrev pub cube_ids : Request → List (List ℕ)
+cube_ids (load_collection id box time bands) = []
+cube_ids (filter_bbox data_id box) = data_id ∷ []
+cube_ids (filter_temporal data_id time dimension) = data_id ∷ []
+cube_ids (filter_bands data_id bands) = data_id ∷ []
+cube_ids (apply data_id callback) = data_id ∷ []
+cube_ids (apply_kernel data_id kernel factor border replace) = data_id ∷ []
+cube_ids (reduce_dimension data_id dimension callback) = data_id ∷ []
+cube_ids (aggregate_temporal data_id intervals dimension callback) = data_id ∷ []
+cube_ids (merge_cubes one two resolver) = one ∷ two ∷ []
+cube_ids (mask data_id mask_id replacement) = data_id ∷ mask_id ∷ []
+cube_ids (save_result data_id format) = data_id ∷ []
+
+-- ---- from the arguments of a node
+
+-- `load_collection`: `properties` is null or empty
+abbrev pub load_request : Named → Option Request
+load_request arguments =
+    where_passed (passes is_null_or_empty_object (codes "properties") arguments)
+    (option_and_then (λ id. option_and_then (λ box. with_both (load_collection id box)
+    (read (null_or extent_in) (codes "temporal_extent") arguments)
+    (read (null_or some_bands_in) (codes "bands") arguments))
+    (read (null_or box_in) (codes "spatial_extent") arguments)) (read text_in (codes "id") arguments))
+
+abbrev pub filter_bbox_request : Named → Option Request
+filter_bbox_request arguments =
+    with_both filter_bbox (read cube_in (codes "data") arguments) (read box_in (codes "extent") arguments)
+
+abbrev pub filter_temporal_request : Named → Option Request
+filter_temporal_request arguments =
+    option_and_then (λ data_id. with_both (filter_temporal data_id)
+    (read extent_in (codes "extent") arguments) (read (null_or text_in) (codes "dimension") arguments))
+    (read cube_in (codes "data") arguments)
+
+-- `filter_bands`: `wavelengths` is the empty list
+abbrev pub filter_bands_request : Named → Option Request
+filter_bands_request arguments =
+    where_passed (passes is_empty_list (codes "wavelengths") arguments)
+    (with_both filter_bands (read cube_in (codes "data") arguments) (read bands_in (codes "bands") arguments))
+
+-- a callback under a name, with `context`
+abbrev pub called_in : List ℕ → Named → Option Called
+called_in name arguments =
+    with_both called (read callback_in name arguments) (read literal_in (codes "context") arguments)
+
+abbrev pub apply_request : Named → Option Request
+apply_request arguments =
+    with_both apply (read cube_in (codes "data") arguments) (called_in (codes "process") arguments)
+
+abbrev pub apply_kernel_request : Named → Option Request
+apply_kernel_request arguments =
+    option_and_then (λ data_id. option_and_then (λ kernel. option_and_then (λ factor.
+    with_both (apply_kernel data_id kernel factor)
+    (read border_in (codes "border") arguments) (read number_in (codes "replace_invalid") arguments))
+    (read number_in (codes "factor") arguments)) (read kernel_in (codes "kernel") arguments))
+    (read cube_in (codes "data") arguments)
+
+abbrev pub reduce_request : Named → Option Request
+reduce_request arguments =
+    option_and_then (λ data_id. with_both (reduce_dimension data_id)
+    (read text_in (codes "dimension") arguments) (called_in (codes "reducer") arguments))
+    (read cube_in (codes "data") arguments)
+
+-- the intervals with their labels; `labels` has as many, or is empty where the starts stand for the intervals
+abbrev pub intervals_in : Named → Option (List Interval)
+intervals_in arguments =
+    option_and_then (λ extents. option_and_then (intervals_of extents)
+    (read (list_in instant_in) (codes "labels") arguments))
+    (read (list_in extent_in) (codes "intervals") arguments)
+
+abbrev pub aggregate_request : Named → Option Request
+aggregate_request arguments =
+    option_and_then (λ data_id. option_and_then (λ intervals. with_both (aggregate_temporal data_id intervals)
+    (read (null_or text_in) (codes "dimension") arguments) (called_in (codes "reducer") arguments))
+    (intervals_in arguments)) (read cube_in (codes "data") arguments)
+
+abbrev pub merge_request : Named → Option Request
+merge_request arguments =
+    option_and_then (λ one. option_and_then (λ two. with_both (λ resolver context. merge_cubes one two
+    (option_map (λ graph. called graph context) resolver))
+    (read (null_or callback_in) (codes "overlap_resolver") arguments) (read literal_in (codes "context") arguments))
+    (read cube_in (codes "cube2") arguments)) (read cube_in (codes "cube1") arguments)
+
+abbrev pub mask_request : Named → Option Request
+mask_request arguments =
+    option_and_then (λ data_id. with_both (mask data_id)
+    (read cube_in (codes "mask") arguments) (read literal_in (codes "replacement") arguments))
+    (read cube_in (codes "data") arguments)
+
+-- `save_result`: `options` is the empty object
+abbrev pub save_request : Named → Option Request
+save_request arguments =
+    where_passed (passes is_empty_object (codes "options") arguments)
+    (with_both save_result (read cube_in (codes "data") arguments) (read text_in (codes "format") arguments))
+
+abbrev pub request_of : CubeProcess → Named → Option Request
+request_of AggregateTemporal arguments = aggregate_request arguments
+request_of Apply arguments = apply_request arguments
+request_of ApplyKernel arguments = apply_kernel_request arguments
+request_of FilterBands arguments = filter_bands_request arguments
+request_of FilterBbox arguments = filter_bbox_request arguments
+request_of FilterTemporal arguments = filter_temporal_request arguments
+request_of LoadCollection arguments = load_request arguments
+request_of Mask arguments = mask_request arguments
+request_of MergeCubes arguments = merge_request arguments
+request_of ReduceDimension arguments = reduce_request arguments
+request_of SaveResult arguments = save_request arguments
+
+-- what a node asks for: none where an argument is not what its parameter may hold
+abbrev pub request_at : PlainNode → Option Request
+request_at n = option_and_then (λ process. request_of process n.arguments) (cube_process_named n.process_id)
