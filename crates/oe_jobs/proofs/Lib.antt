@@ -1,0 +1,11 @@
+mod Worked
+mod MachineLemmas
+mod ChangeLemmas
+mod RoomLemmas
+mod LineLemmas
+mod ValidLemmas
+mod KeepLemmas
+mod PutLemmas
+mod StoredLemmas
+mod RanLemmas
+mod DecideLemmas
