@@ -15,8 +15,8 @@ use crate::operands::{Operands, operands_of};
 use crate::wide::{floor_rest, product, scaled, wide_product, wide_quotient};
 use crate::{Cell, Frac};
 
-/// `add` of openEO Processes: the exact sum, and Over where it does not fit. Over in an operand gives Over; otherwise an
-/// operand that is no number gives null.
+/// `add` of openEO Processes: the exact sum, and Over where it does not fit. Over in an operand gives Over; otherwise
+/// an operand that is no number gives null.
 #[inline(always)]
 pub fn add(x: Cell, y: Cell) -> Cell
     ensures value { result ≡ add_of x y }
@@ -249,7 +249,8 @@ fn times(p: Frac, q: Frac) -> Cell
 
 #[inline(always)]
 fn quotient_or_null(p: Frac, q: Frac) -> Cell
-    ensures value { result ≡ (if unsigned_abs q.num == 0 then Cell.Empty else exact_value (quotient_of p q)) }
+    ensures value { result
+        ≡ (if unsigned_abs q.num == 0 then Cell.Empty else exact_value (quotient_of p q)) }
     ensures exact { 0 < unsigned_abs q.num → IsExactValue (quotient_of p q) result }
     ensures operands { IsNumber p × IsNumber q }
     ensures cell { IsCell result }
@@ -310,7 +311,8 @@ fn fraction_quotient(p: Frac, q: Frac) -> Cell
 
 fn reciprocal(p: Frac) -> Frac
     requires { 0 < unsigned_abs p.num }
-    ensures value { result ≡ record { num = int_signum p.num *ℤ pos p.den; den = unsigned_abs p.num } }
+    ensures value { result
+        ≡ record { num = int_signum p.num *ℤ pos p.den; den = unsigned_abs p.num } }
     ensures number { IsNumber p }
 {
     let (num, den) = p.parts();
@@ -318,9 +320,11 @@ fn reciprocal(p: Frac) -> Frac
 }
 
 fn remainder_or_null(p: Frac, q: Frac) -> Cell
-    ensures value { result ≡ (if unsigned_abs q.num == 0 then Cell.Empty else exact_value (remainder_of p q)) }
+    ensures value { result
+        ≡ (if unsigned_abs q.num == 0 then Cell.Empty else exact_value (remainder_of p q)) }
     ensures exact { 0 < unsigned_abs q.num → IsExactValue (remainder_of p q) result }
-    ensures floor { 0 < unsigned_abs q.num → IsFloor (quotient_of p q) (floor_int (quotient_of p q)) }
+    ensures floor { 0 < unsigned_abs q.num
+        → IsFloor (quotient_of p q) (floor_int (quotient_of p q)) }
     ensures sign { 0 < unsigned_abs q.num → IfNumber result (λ r. HasSignOf q r) }
     ensures operands { IsNumber p × IsNumber q }
     ensures cell { IsCell result }

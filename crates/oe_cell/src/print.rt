@@ -69,7 +69,8 @@ impl TextBuf {
 pub fn print_cell(cell: Cell, into: &mut TextBuf)
     requires { cell ≢ Over }
     ensures text { into.new ≡ cell_text cell }
-    ensures one_spelling { (other : Cell) → IsCell other → other ≢ Over → cell_text other ≡ into.new → other ≡ cell }
+    ensures one_spelling { (other : Cell) → IsCell other → other ≢ Over
+        → cell_text other ≡ into.new → other ≡ cell }
 {
     into.clear();
     match cell {

@@ -45,7 +45,8 @@ fn pack(tag: u8, num: i64, den: u64) -> [u8; 17]
 pub fn write_records(cells: &[Cell], into: &mut [u8])
     requires { length into.old ≡ 17 * length cells.now }
     ensures records { into.new ≡ records_of cells.now }
-    ensures each { (k : ℕ) → k < length cells.now → take 17 (drop (17 * k) into.new) ≡ record_of (get_or cells.now k Cell.Empty) }
+    ensures each { (k : ℕ) → k < length cells.now → take 17 (drop (17 * k) into.new)
+        ≡ record_of (get_or cells.now k Cell.Empty) }
 {
     for k in 0..cells.len() {
         put_record(cells[k], into, 17 * k);
@@ -63,8 +64,8 @@ fn put_record(cell: Cell, into: &mut [u8], at: usize)
 
 /// The cell whose record the bytes are.
 ///
-/// Refuses: exactly bytes that are no record: an unknown tag, a number that is not in lowest terms or out of range, or a
-/// byte that should be 0 and is not.
+/// Refuses: exactly bytes that are no record: an unknown tag, a number that is not in lowest terms or out of range, or
+/// a byte that should be 0 and is not.
 pub fn read_record(bytes: &[u8; 17]) -> Option<Cell>
     ensures round_trip { (c : Cell) → IsCell c → record_of c ≡ bytes.now → result ≡ Some c }
     ensures record { IfSome result (λ c. IsCell c × (record_of c ≡ bytes.now)) }
@@ -81,7 +82,8 @@ pub fn read_records(bytes: &[u8], into: &mut [Cell]) -> usize
     ensures read { records_of (take result into.new) ≡ take (17 * result) bytes.now }
     ensures cells { All IsCell (take result into.new) }
     ensures others { drop result into.new ≡ drop result into.old }
-    ensures stop { result < length into.old → ¬ (IsRecord (take 17 (drop (17 * result) bytes.now))) }
+    ensures stop { result < length into.old
+        → ¬ (IsRecord (take 17 (drop (17 * result) bytes.now))) }
     ensures round_trip { (cells : List Cell) → All IsCell cells → length cells ≤ length into.old →
         records_of cells ≡ take (17 * length cells) bytes.now →
         (length cells ≤ result) × (take (length cells) into.new ≡ cells) }
@@ -100,7 +102,8 @@ pub fn read_records(bytes: &[u8], into: &mut [Cell]) -> usize
 #[inline(always)]
 fn read_at(bytes: &[u8], at: usize) -> Option<Cell>
     requires { at + 17 ≤ length bytes.now }
-    ensures round_trip { (c : Cell) → IsCell c → record_of c ≡ take 17 (drop at bytes.now) → result ≡ Some c }
+    ensures round_trip { (c : Cell) → IsCell c → record_of c ≡ take 17 (drop at bytes.now)
+        → result ≡ Some c }
     ensures record { IfSome result (λ c. IsCell c × (record_of c ≡ take 17 (drop at bytes.now))) }
     ensures none { IfNone result (¬ (IsRecord (take 17 (drop at bytes.now)))) }
 {
@@ -121,7 +124,8 @@ fn eight(bytes: &[u8], at: usize) -> [u8; 8]
 
 #[inline(always)]
 fn unpack(tag: u8, num: i64, den: u64) -> Option<Cell>
-    ensures round_trip { (c : Cell) → IsCell c → record_of c ≡ bytes_of tag num den → result ≡ Some c }
+    ensures round_trip { (c : Cell) → IsCell c → record_of c ≡ bytes_of tag num den
+        → result ≡ Some c }
     ensures record { IfSome result (λ c. IsCell c × (record_of c ≡ bytes_of tag num den)) }
 {
     if tag == 3 {

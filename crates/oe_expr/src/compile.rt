@@ -283,8 +283,8 @@ fn place_of(
 ) -> Result<Operand, OutOfMemory>
     requires few { length program.old.steps.items < 64 }
     requires scope { IsScope (plain_scope scope.now) }
-    ensures place { IfOk result (λ place. place ≡ (spec.addition_of (plain_scope scope.now) context.now
-        nodes.now.items places.now.items (length program.old.steps.items)
+    ensures place { IfOk result (λ place. place ≡ (spec.addition_of (plain_scope scope.now)
+        context.now nodes.now.items places.now.items (length program.old.steps.items)
         (length program.old.elements.items) (plain_request request.now)).place) }
     ensures follows { OnOk result (spec.Follows program.old program.new
         (spec.addition_of (plain_scope scope.now) context.now
@@ -327,9 +327,9 @@ fn reduction_place(
     program: &mut Program,
 ) -> Result<Operand, OutOfMemory>
     requires few { length program.old.steps.items < 64 }
-    ensures place { IfOk result (λ place. place ≡ (spec.reduction_addition context.now nodes.now.items
-        places.now.items (length program.old.steps.items) (length program.old.elements.items)
-        reducer ignore (plain_items items.now)).place) }
+    ensures place { IfOk result (λ place. place ≡ (spec.reduction_addition context.now
+        nodes.now.items places.now.items (length program.old.steps.items)
+        (length program.old.elements.items) reducer ignore (plain_items items.now)).place) }
     ensures follows { OnOk result (spec.Follows program.old program.new
         (spec.reduction_addition context.now nodes.now.items
         places.now.items (length program.old.steps.items) (length program.old.elements.items)

@@ -23,7 +23,8 @@ pub const SCRATCH: usize = MOST_STEPS + 2 * MOST_ELEMENTS;
 ///
 /// `scratch` has at least [`SCRATCH`] cells and as many as the list besides. Takes no memory.
 pub fn eval(expr: &Expr, env: &Env<'_>, scratch: &mut [Cell]) -> Cell
-    requires environment { IsEnvironment expr.now env.now.x env.now.y env.now.cells.now env.now.list }
+    requires environment { IsEnvironment expr.now env.now.x env.now.y env.now.cells.now
+        env.now.list }
     requires room { 192 + length env.now.cells.now ≤ length scratch.old }
     ensures value { result ≡ callback_value expr.now
         (environment expr.now env.now.x env.now.y env.now.cells.now env.now.list) }

@@ -114,7 +114,8 @@ fn lists_lack(
 /// Whether a list has no element of an index.
 fn any_list_ends_before(lists: &[ListPart], index: u64) -> bool
     requires { All (λ (part : ListPart). part.from ≤ part.to) lists.now }
-    ensures { result ≡ list_any (λ (part : ListPart). nat_le (part.to - part.from) index) lists.now }
+    ensures { result
+        ≡ list_any (λ (part : ListPart). nat_le (part.to - part.from) index) lists.now }
 {
     for part in lists {
         if index >= part.to as u64 - part.from as u64 {

@@ -20,8 +20,8 @@ use oe_cell::{Cell, choose};
 use oe_fold::{Reducer, fold, fold_columns};
 
 /// A row of environments. Environment k has the cells k of `x` and `y`, and the list of the `count` cells `cells[k]`,
-/// `cells[k + stride]`, `cells[k + 2 * stride]` and so on, which is the list of the number `list` of the scope. What the
-/// scope lacks is not looked at.
+/// `cells[k + stride]`, `cells[k + 2 * stride]` and so on, which is the list of the number `list` of the scope. What
+/// the scope lacks is not looked at.
 #[derive(Clone, Copy)]
 pub struct EnvRow<'a> {
     pub x: &'a [Cell],
@@ -35,8 +35,8 @@ pub struct EnvRow<'a> {
 /// The values of a callback in a row of environments of its scope: each cell of `out` is what [`eval`](crate::eval)
 /// gives in the environment of its index.
 ///
-/// `scratch` has at least [`SCRATCH`] cells and twice as many as a list besides; with more of them more is done at once.
-/// Takes no memory.
+/// `scratch` has at least [`SCRATCH`] cells and twice as many as a list besides; with more of them more is done at
+/// once. Takes no memory.
 pub fn eval_row(expr: &Expr, row: &EnvRow<'_>, out: &mut [Cell], scratch: &mut [Cell])
     requires environments { AreEnvironments expr.now row.now (length out.old) }
     requires room { 192 + 2 * row.now.count ≤ length scratch.old }
@@ -277,7 +277,8 @@ fn step_row(
     out: &mut [Cell],
     lists: &mut [Cell],
 )
-    requires step { HasStep row.now from (length out.old) (length registers.now) program.now.elements.items step }
+    requires step { HasStep row.now from (length out.old) (length registers.now)
+        program.now.elements.items step }
     requires lists { 128 + 2 * row.now.count ≤ length lists.old }
     ensures { (j : ℕ) → j < length out.old → slice_index_or out.new j Empty
         ≡ step_value program.now.elements.items (row_inputs row.now start (from + j))
@@ -338,7 +339,8 @@ fn written_row(
     lists: &mut [Cell],
 )
     requires few { length elements.now ≤ 64 }
-    requires each { All (HasOperand row.now from (length out.old) (length registers.now)) elements.now }
+    requires each { All (HasOperand row.now from (length out.old) (length registers.now))
+        elements.now }
     requires lists { 128 ≤ length lists.old }
     ensures { (j : ℕ) → j < length out.old → slice_index_or out.new j Empty
         ≡ reduction_of reducer ignore

@@ -46,8 +46,8 @@ enum Verdict<'a> {
     Sound(Option<CellKind>, Request<'a>),
 }
 
-/// The walk over all nodes, where no references lead from a node back to itself. In each round the nodes are judged whose
-/// references were judged before, so that as many rounds as there are nodes are enough.
+/// The walk over all nodes, where no references lead from a node back to itself. In each round the nodes are judged
+/// whose references were judged before, so that as many rounds as there are nodes are enough.
 pub(crate) fn walk_nodes<'a>(
     alloc: Global,
     scope: &Scope,
@@ -57,7 +57,8 @@ pub(crate) fn walk_nodes<'a>(
 ) -> Result<Walk<'a>, OutOfMemory>
     requires resolved { AreResolved (plain_scope scope.now) nodes.now.items }
     requires scope { IsScope (plain_scope scope.now) }
-    ensures { IfOk result (λ walk. IsChecked (plain_scope scope.now) context.now nodes.now.items path.now
+    ensures { IfOk result (λ walk. IsChecked (plain_scope scope.now) context.now
+        nodes.now.items path.now
         walk.states.items walk.order.items walk.found) }
 {
     let mut walk = first_walk(alloc, nodes)?;
@@ -106,7 +107,8 @@ fn visit_each<'a>(
     requires walked { IsWalked (plain_scope scope.now) context.now nodes.now.items path.now
         walk.old.states.items walk.old.order.items walk.old.found }
     ensures states { OnOk result (length walk.new.states.items ≡ length nodes.now.items) }
-    ensures walked { OnOk result (IsWalked (plain_scope scope.now) context.now nodes.now.items path.now
+    ensures walked { OnOk result (IsWalked (plain_scope scope.now) context.now
+        nodes.now.items path.now
         walk.new.states.items walk.new.order.items walk.new.found) }
     // a node that was not judged waits for one more
     ensures deeper { OnOk result ((count : ℕ)
@@ -139,9 +141,11 @@ fn visit<'a>(
     requires walked { IsWalked (plain_scope scope.now) context.now nodes.now.items path.now
         walk.old.states.items walk.old.order.items walk.old.found }
     ensures states { OnOk result (length walk.new.states.items ≡ length nodes.now.items) }
-    ensures walked { OnOk result (IsWalked (plain_scope scope.now) context.now nodes.now.items path.now
+    ensures walked { OnOk result (IsWalked (plain_scope scope.now) context.now
+        nodes.now.items path.now
         walk.new.states.items walk.new.order.items walk.new.found) }
-    ensures step { OnOk result (IsStep nodes.now.items index walk.old.states.items walk.new.states.items) }
+    ensures step { OnOk result
+        (IsStep nodes.now.items index walk.old.states.items walk.new.states.items) }
 {
     let node = &nodes[index];
     match judge_node(alloc, scope, context, nodes, &walk.states, node)? {
@@ -178,7 +182,8 @@ fn judge_node<'a>(
 ) -> Result<Verdict<'a>, OutOfMemory>
     requires scope { IsScope (plain_scope scope.now) }
     requires states { length states.now ≡ length nodes.now }
-    ensures { IfOk result (IsVerdict (plain_scope scope.now) context.now nodes.now states.now (plain_node node.now)) }
+    ensures { IfOk result (IsVerdict (plain_scope scope.now) context.now nodes.now states.now
+        (plain_node node.now)) }
 {
     match below_named(&node.arguments, nodes, states) {
         Below::Unseen => return Ok(Verdict::Later),

@@ -1,12 +1,12 @@
 //! Process graphs as the openEO API sends them, and the catalogue of processes.
 //!
-//! [`read_graph`] and [`read_stored`] read a graph whole: they answer the tree that the bytes are, or the least fault of
-//! their form. A [`Graph`] holds [`Node`]s with [`Arg`]uments, and a callback is a graph inside an argument. [`Code`]
-//! has the faults of all phases, and `IsLeast` of `specs/Faults.antt` is the one order in which they are reported.
-//! [`PROCESSES`] is the catalogue: the one table that code, texts and definitions read. The layers above use that the
-//! readers refuse exactly where a fault stands, that what they read from bytes has the form that resolving rests on
-//! (`IsValidGraph`, `IsValidStored`), that [`process`] is none exactly for an id without a row, and the word `IsResolved`
-//! for a graph whose names all lead somewhere.
+//! [`read_graph`] and [`read_stored`] read a graph whole: they answer the tree that the bytes are, or the least fault
+//! of their form. A [`Graph`] holds [`Node`]s with [`Arg`]uments, and a callback is a graph inside an argument.
+//! [`Code`] has the faults of all phases, and `IsLeast` of `specs/Faults.antt` is the one order in which they are
+//! reported. [`PROCESSES`] is the catalogue: the one table that code, texts and definitions read. The layers above use
+//! that the readers refuse exactly where a fault stands, that what they read from bytes has the form that resolving
+//! rests on (`IsValidGraph`, `IsValidStored`), that [`process`] is none exactly for an id without a row, and the word
+//! `IsResolved` for a graph whose names all lead somewhere.
 #![tactic(auto)]
 
 mod build;

@@ -12,9 +12,9 @@ pub struct Owned {
 
 /// All jobs and stored processes of all users.
 ///
-/// A valid book (`IsBook`) keeps these rules: the numbers of jobs rise and are below the next one, at most one job runs,
-/// jobs that are queued or running differ in their turns, and the limits of each user hold. Every change that the calls
-/// of this crate give of a valid book makes a valid one.
+/// A valid book (`IsBook`) keeps these rules: the numbers of jobs rise and are below the next one, at most one job
+/// runs, jobs that are queued or running differ in their turns, and the limits of each user hold. Every change that
+/// the calls of this crate give of a valid book makes a valid one.
 #[derive(Drop)]
 pub struct Book {
     /// The number of the next job, and the next turn.

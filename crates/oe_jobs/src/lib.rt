@@ -4,8 +4,8 @@
 //! changes and is answered, [`step`] what an event of a run changes, and [`reopen`] what the opening of a book after a
 //! stop changes; each gives a [`Change`] and touches no book. [`Book::ready`] makes the room for a change and
 //! [`Book::install`] then makes it without memory; in between a [`Keeper`] commits it. The layers above use that these
-//! calls are the functions of `specs/`, whose one table `step_of` is the status machine, and that every change that they
-//! give of a valid book makes a valid one.
+//! calls are the functions of `specs/`, whose one table `step_of` is the status machine, and that every change that
+//! they give of a valid book makes a valid one.
 #![tactic(auto)]
 
 mod book;

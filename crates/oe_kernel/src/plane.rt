@@ -30,8 +30,8 @@ pub struct Plane<'a> {
 }
 
 impl Plane<'_> {
-    /// Whether this is a box of a plane: the sides are 1 to 65536, the box lies within them, and there are as many cells
-    /// as it has rows times columns.
+    /// Whether this is a box of a plane: the sides are 1 to 65536, the box lies within them, and there are as many
+    /// cells as it has rows times columns.
     pub fn is_valid(&self) -> bool
         ensures valid { IsTrue result → IsPlane self.now }
         ensures exact { IsPlane self.now → IsTrue result }

@@ -39,7 +39,8 @@ impl Model for MemoryCube {
 }
 
 impl MemoryCube {
-    /// A collection of these cells, in row-major order. `failing` has the numbers of the reads that fail, counted from 0.
+    /// A collection of these cells, in row-major order. `failing` has the numbers of the reads that fail, counted from
+    /// 0.
     pub fn new(shape: Shape, kind: CellKind, cells: Vec<Cell>, failing: Vec<u64>) -> MemoryCube
         requires counted { length cells.items ≡ cell_count shape }
         requires of_kind { list_all (is_null_or_of kind) cells.items ≡ true }

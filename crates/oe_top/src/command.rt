@@ -10,8 +10,8 @@ use oe_dims::Text;
 use oe_outside::{Sink, Source};
 use std::alloc::Global;
 
-/// Carries out the command that the words spell, and answers its exit status. `run CX CY CT W` reads a process graph from
-/// `input` and writes the text of its result to `out`.
+/// Carries out the command that the words spell, and answers its exit status. `run CX CY CT W` reads a process graph
+/// from `input` and writes the text of its result to `out`.
 ///
 /// | Status | Line on `err` | Comes |
 /// |---|---|---|
@@ -22,8 +22,8 @@ use std::alloc::Global;
 /// | 8 | `openeo: WriteFault` | only where the fault counter of `out` rose; a prefix of the text stands there |
 /// | 9 | `openeo: OutOfMemory` | an allocation was refused |
 ///
-/// Where the input means no cube, the status is 2, 5 or 9; where it means one and no fault counter rose, 0 or 9. A fault of
-/// `err` changes nothing. In every status but 0 and 8 nothing is written to `out`.
+/// Where the input means no cube, the status is 2, 5 or 9; where it means one and no fault counter rose, 0 or 9. A
+/// fault of `err` changes nothing. In every status but 0 and 8 nothing is written to `out`.
 pub fn openeo<I: Source, O: Sink, E: Sink>(
     alloc: Global,
     words: &[Text],

@@ -1,9 +1,10 @@
 //! The top call of the program.
 //!
 //! [`openeo`] takes the words of a command, the bytes of a process graph and a [`Catalogue`] of collections, and writes
-//! the text of what the graph means. It answers a status, and says on `err` in one line why a command did not finish. The
-//! table of statuses with the cause of each is the contract of [`openeo`] itself. So far it has the command `run` over
-//! graphs of one `load_collection` node without extents; the size of chunks and the number of workers have no effect yet.
+//! the text of what the graph means. It answers a status, and says on `err` in one line why a command did not finish.
+//! The table of statuses with the cause of each is the contract of [`openeo`] itself. So far it has the command `run`
+//! over graphs of one `load_collection` node without extents; the size of chunks and the number of workers have no
+//! effect yet.
 #![tactic(auto)]
 
 mod catalogue;

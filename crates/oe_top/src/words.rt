@@ -60,8 +60,8 @@ fn read_size(cx: &Text, cy: &Text, ct: &Text) -> Option<ChunkSize>
     Some(ChunkSize { x, y, t })
 }
 
-/// The number from `low` to `high` that the word spells in decimal, with no sign and no leading zero. `None` exactly where
-/// it spells none.
+/// The number from `low` to `high` that the word spells in decimal, with no sign and no leading zero. `None` exactly
+/// where it spells none.
 fn read_number(word: &Text, low: u32, high: u32) -> Option<u32>
     ensures some { IfSome result (IsNumberWord low high word.now) }
     ensures none { IfNone result ((number : ℕ) → ¬ IsNumberWord low high word.now number) }

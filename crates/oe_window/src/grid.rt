@@ -71,7 +71,8 @@ impl Grid {
         // The positions of the shape, and each of its numbers in one chunk, once.
         ensures value { result ≡ tiling_of shape.now size }
         ensures inside { (p : Position) → IsInside result p ↔ IsPosition shape.now p }
-        ensures numbers { PartNumbers (chunk_count result) (chunk_numbers shape.now result) (cell_count shape.now) }
+        ensures numbers { PartNumbers (chunk_count result) (chunk_numbers shape.now result)
+            (cell_count shape.now) }
     {
         Grid {
             t: extent_of(shape, Kind::Time),

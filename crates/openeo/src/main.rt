@@ -1,9 +1,9 @@
 //! The program `openeo`: an openEO back end over exact datacubes.
 //!
-//! `main` makes a text of each word and hands these with standard input, output and error to [`program::run`], which prints
-//! a text about the program, or mounts the collections and calls `oe_top`, whose answer is the exit status. The bytes that
-//! pass the adapters are hidden, so over them the causes by fault counters hold; what the top call writes is its own
-//! contract.
+//! `main` makes a text of each word and hands these with standard input, output and error to [`program::run`], which
+//! prints a text about the program, or mounts the collections and calls `oe_top`, whose answer is the exit status. The
+//! bytes that pass the adapters are hidden, so over them the causes by fault counters hold; what the top call writes
+//! is its own contract.
 #![tactic(auto)]
 
 mod collections;

@@ -10,8 +10,8 @@ use oe_dims::Text;
 use oe_outside::{Sink, Source};
 use std::alloc::Global;
 
-/// Runs the program with these words, where they could be had, and answers the exit status. A fault of the program's own is
-/// one line on `err`.
+/// Runs the program with these words, where they could be had, and answers the exit status. A fault of the program's
+/// own is one line on `err`.
 pub fn run<I: Source, O: Sink, E: Sink>(
     alloc: Global,
     words: Result<Vec<Text>, Fault>,
@@ -19,7 +19,8 @@ pub fn run<I: Source, O: Sink, E: Sink>(
     out: &mut O,
     err: &mut E,
 ) -> u8
-    ensures { IfErr words (λ fault. Ends fault result (error_output E.written E.faults err.old err.new)) }
+    ensures { IfErr words (λ fault. Ends fault result
+        (error_output E.written E.faults err.old err.new)) }
 {
     match words {
         Ok(words) => match start(alloc, &words, input, out, err) {

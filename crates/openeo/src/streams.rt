@@ -75,8 +75,8 @@ impl<W: Write> Sink for Writer<W> {
 
     ghost faults = { λ s. s.faults };
 
-    /// Writes the whole piece. A write that a signal interrupts is repeated, and is no fault; one that takes nothing of what
-    /// is left of the piece is a fault.
+    /// Writes the whole piece. A write that a signal interrupts is repeated, and is no fault; one that takes nothing
+    /// of what is left of the piece is a fault.
     fn write(&mut self, piece: &[u8]) -> Result<(), Failed> {
         if self.to.write_all(piece).is_ok() && self.to.flush().is_ok() {
             Ok(())
@@ -94,8 +94,8 @@ mod tests {
     use std::io::Error;
     use std::test::Fail;
 
-    /// A stream of the system in memory. The call with the number `stumbles` answers the error, and every other call passes two
-    /// bytes at most, of the letter `a` where it gives them.
+    /// A stream of the system in memory. The call with the number `stumbles` answers the error, and every other call
+    /// passes two bytes at most, of the letter `a` where it gives them.
     #[derive(Drop)]
     struct Stream {
         calls: u64,
@@ -161,7 +161,8 @@ mod tests {
         Ok(())
     }
 
-    // A write goes on until the whole piece is taken, also after an interruption; one that fails, or takes nothing, is a fault.
+    // A write goes on until the whole piece is taken, also after an interruption; one that fails, or takes nothing, is
+    // a fault.
     #[test]
     fn writes_the_whole_piece(rt: HostRuntime) -> Result<(), Fail> {
         let mut writer = Writer::new(Stream::stumbles_at(rt.alloc(), 1, ErrorKind::Interrupted));
