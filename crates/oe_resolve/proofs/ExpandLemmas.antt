@@ -1,0 +1,174 @@
+-- Expanding round by round.
+use Rattle.std.proofs.Common.{◌≡◌, ℕ, zero, suc, ◌+◌, ◌-◌, ◌<◌, ◌≤◌, ◌⊎◌, inl, inr, Bool, true, false, List, [], Option, Some, None, is_some, is_none, option_map, Contains, length, map, refl, sym, ap, ◌∙◌, subst, true≢false, arith}
+use Rattle.oe_dims.specs.Names.{names_rise}
+use Rattle.oe_graph.specs.Codes.{phase_of}
+use Rattle.oe_graph.specs.Faults.{least}
+use Rattle.oe_graph.specs.Printed.{ids_of}
+use Rattle.oe_graph.specs.Resolved as resolved
+use Rattle.oe_graph.specs.Tree.{Nodes, PlainGraph, PlainNode, PlainStored}
+use Rattle.oe_graph.specs.declared.code.Code.{Code}
+use Rattle.oe_graph.specs.declared.fault.Fault.{Fault}
+use Rattle.oe_graph.proofs.LeastLemmas.{IsLeastOf, IsLeastOf-iff, IsLeastOf-least, Either}
+use Rattle.oe_resolve.specs.Called.{nodes_call}
+use Rattle.oe_resolve.specs.Calls.{callee}
+use Rattle.oe_resolve.specs.Expansion.{IsNameFault, IsExpansion, IsEarly, IsSettled}
+use Rattle.oe_resolve.specs.Faults.{Stands}
+use Rattle.oe_resolve.specs.Judged as judged
+use Rattle.oe_resolve.specs.Judged.{IdsRise, IsInside, HasFault, OfItself, OfObject}
+use Rattle.oe_resolve.specs.Rounds.{round, expanded_by, expanded, known_stored, known_graph}
+use Rattle.oe_graph.specs.Valid.{IsValidGraph, AreValidStored}
+use Rattle.oe_resolve.proofs.CountLemmas.{callee_known}
+use Rattle.oe_resolve.proofs.ExpansionLemmas.{Standing, Formed, expanded_in_order}
+use Rattle.oe_resolve.proofs.OrderLemmas.{each_ordered}
+use Rattle.oe_resolve.proofs.SettledLemmas.{settled}
+use Rattle.oe_resolve.proofs.StandingLemmas.{early_stands, last_stands, InRound, earlier, last_round, in_round}
+
+-- ---- ids rise in each round
+
+record Within (inner : Nodes) (outer_in_callback : Bool) (outer_scope : List (List ℕ)) (outer : Nodes) (outer_result : ℕ) : Type 0 where
+  pub in_callback : Bool
+  pub scope : List (List ℕ)
+  pub result : ℕ
+  pub within : resolved.IsScopedWithin in_callback scope inner result outer_in_callback outer_scope outer outer_result
+
+within_of : (inner outer : Nodes) (in_callback : Bool) (scope : List (List ℕ)) (result : ℕ) → IsInside inner outer
+    → Within inner in_callback scope outer result
+within_of inner outer in_callback scope result judged.itself =
+    record { in_callback = in_callback; scope = scope; result = result; within = resolved.itself }
+within_of inner outer in_callback scope result (judged.deeper {n = n} {g = g} there has rest) =
+    let w = within_of inner g.nodes true (resolved.scope_inside n scope) g.result rest in
+    record { in_callback = w.in_callback; scope = w.scope; result = w.result; within = resolved.inside there has w.within }
+
+module _ (stored : List PlainStored) (g : PlainGraph) (stored_valid : AreValidStored stored) (valid : IsValidGraph g) where
+  pub rise_by : (times : ℕ) → IdsRise (expanded_by times stored g).nodes
+  rise_by times inner inside =
+      let h = expanded_by times stored g in
+      let w = within_of inner h.nodes false [] h.result inside in
+      (each_ordered (Standing stored g times) (Formed stored g times) h (expanded_in_order stored g stored_valid times valid)
+      w.in_callback w.scope inner w.result w.within).ids_rise
+
+  -- ---- rounds that change nothing
+
+  leaf_by : (o : Option PlainStored) → is_some o ≡ false → option_map known_stored o ≡ None
+  leaf_by None is = refl
+  leaf_by (Some s) is = absurd (true≢false is)
+
+  leaf : (namespace : Option (List ℕ)) (p : List ℕ) → is_some (callee stored namespace p) ≡ false
+      → callee (map known_stored stored) namespace p ≡ None
+  leaf namespace p is = callee_known stored namespace p ∙ leaf_by (callee stored namespace p) is
+
+  -- where no call is left
+  pub settled_by : (times more : ℕ) → nodes_call stored (expanded_by times stored g).nodes ≡ false
+      → expanded_by (times + more) stored g ≡ expanded_by times stored g
+  settled_by times zero is = let same : times + 0 ≡ times = omega arith in ap (λ k. expanded_by k stored g) same
+  settled_by times (suc more) is =
+      let next : times + suc more ≡ suc (times + more) = omega arith in
+      ap (λ k. expanded_by k stored g) next
+      ∙ ap (round (map known_stored stored)) (settled_by times more is)
+      ∙ settled stored (map known_stored stored) leaf (Standing stored g times) (Formed stored g times) false (expanded_by times stored g) is
+      (expanded_in_order stored g stored_valid times valid)
+
+-- ---- the least fault so far
+
+module _ (stored : List PlainStored) (g : PlainGraph) where
+  pub early_none : IsLeastOf (IsEarly stored g 0) None
+  early_none = λ f e. let below = e.below in absurd (omega arith)
+
+  early_into : (times : ℕ) (f : Fault) → Either (IsEarly stored g times) (λ h. OfObject stored false h [] [] (expanded_by times stored g).nodes) f
+      → IsEarly stored g (times + 1) f
+  early_into times f (inl e) = let below = e.below in record { round = e.round; below = omega arith; has = e.has }
+  early_into times f (inr has) = record { round = times; below = omega arith; has = has }
+
+  round_cases : (k n : ℕ) → k < n + 1 → (k < n) ⊎ (k ≡ n)
+  round_cases k zero below = inr (omega arith)
+  round_cases zero (suc n) below = inl (omega arith)
+  round_cases (suc k) (suc n) below = elim (round_cases k n (omega arith)) [ inl less ↦ inl (omega arith) | inr is ↦ inr (omega arith) ]
+
+  early_out_by : (times round : ℕ) (f : Fault) → OfObject stored false f [] [] (expanded_by round stored g).nodes
+      → (round < times) ⊎ (round ≡ times)
+      → Either (IsEarly stored g times) (λ h. OfObject stored false h [] [] (expanded_by times stored g).nodes) f
+  early_out_by times round f has (inl below) = inl (record { round = round; below = below; has = has })
+  early_out_by times round f has (inr is) = inr (subst (λ k. OfObject stored false f [] [] (expanded_by k stored g).nodes) is has)
+
+  pub early_more : (times : ℕ) (fault found : Option Fault) → IsLeastOf (IsEarly stored g times) fault
+      → IsLeastOf (λ f. OfObject stored false f [] [] (expanded_by times stored g).nodes) found
+      → IsLeastOf (IsEarly stored g (times + 1)) (least fault found)
+  early_more times fault found early is =
+      IsLeastOf-iff (Either (IsEarly stored g times) (λ f. OfObject stored false f [] [] (expanded_by times stored g).nodes))
+      (IsEarly stored g (times + 1)) (least fault found) (early_into times)
+      (λ f e. early_out_by times e.round f e.has (round_cases e.round times e.below))
+      (IsLeastOf-least (IsEarly stored g times) (λ f. OfObject stored false f [] [] (expanded_by times stored g).nodes) fault found early is)
+
+  -- ---- all rounds
+
+  later_fault : (scope : List (List ℕ)) (nodes : Nodes) (n : PlainNode) (code : Code) → HasFault stored false scope nodes n code
+      → HasFault stored true scope nodes n code
+  later_fault scope nodes n code (judged.argument_unknown same there absent) = judged.argument_unknown same there absent
+  later_fault scope nodes n code (judged.process_parameter_missing same there default optional absent) =
+      judged.process_parameter_missing same there default optional absent
+  later_fault scope nodes n code (judged.parameter_unknown is there absent) = absurd (true≢false (sym is))
+  later_fault scope nodes n code (judged.node_unknown there absent) = judged.node_unknown there absent
+  later_fault scope nodes n code (judged.graph_cycle is leads) = absurd (true≢false (sym is))
+
+  later : (f : Fault) (at : List ℕ) (scope : List (List ℕ)) (nodes : Nodes) → OfObject stored false f at scope nodes
+      → OfObject stored true f at scope nodes
+  later f at scope nodes (judged.by_itself {n = n} there own) =
+      judged.by_itself there (record { at = own.at; has = later_fault scope nodes n f.code own.has })
+  later f at scope nodes (judged.inside there argument callback of) = judged.inside there argument callback (later f _ _ _ of)
+
+  phase_by : (last : Bool) (scope : List (List ℕ)) (nodes : Nodes) (n : PlainNode) (code : Code) → HasFault stored last scope nodes n code
+      → phase_of code ≡ 4
+  phase_by last scope nodes n code (judged.argument_unknown same there absent) = refl
+  phase_by last scope nodes n code (judged.process_parameter_missing same there default optional absent) = refl
+  phase_by last scope nodes n code (judged.parameter_unknown is there absent) = refl
+  phase_by last scope nodes n code (judged.node_unknown there absent) = refl
+  phase_by last scope nodes n code (judged.graph_cycle is leads) = refl
+
+  phase : (last : Bool) (f : Fault) (at : List ℕ) (scope : List (List ℕ)) (nodes : Nodes) → OfObject stored last f at scope nodes
+      → phase_of f.code ≡ 4
+  phase last f at scope nodes (judged.by_itself {n = n} there own) = phase_by last scope nodes n f.code own.has
+  phase last f at scope nodes (judged.inside there argument callback of) = phase last f _ _ _ of
+
+  module _ (after : PlainGraph) (fault found : Option Fault) (is : IsSettled stored g after fault) where
+    pub all_rounds : after ≡ expanded stored g
+    all_rounds =
+        let few = is.few in
+        let enough : is.times + (length stored - is.times) ≡ length stored = omega arith in
+        sym (is.settled (length stored - is.times) (omega arith)) ∙ ap (λ k. expanded_by k stored g) enough
+
+    abbrev LastFault : Fault → Type 0
+    LastFault f = OfObject stored true f [] [] after.nodes
+
+    stands_all : (f : Fault) → Either (IsEarly stored g is.times) LastFault f → IsNameFault stored g f
+    stands_all f (inl e) =
+        let below = e.below in
+        let few = is.few in
+        (phase false f [] [] (expanded_by e.round stored g).nodes e.has, early_stands stored g e.round f (omega arith) e.has)
+    stands_all f (inr has) = (
+      phase true f [] [] after.nodes has,
+      last_stands stored g f (subst (λ (h : PlainGraph). OfObject stored true f [] [] h.nodes) all_rounds has),
+    )
+
+    past_or_early : (k n : ℕ) → (k < n) ⊎ (n ≤ k)
+    past_or_early k zero = inr (omega arith)
+    past_or_early zero (suc n) = inl (omega arith)
+    past_or_early (suc k) (suc n) = elim (past_or_early k n) [ inl less ↦ inl (omega arith) | inr past ↦ inr (omega arith) ]
+
+    round_found : (f : Fault) (k : ℕ) → k ≤ length stored → OfObject stored false f [] [] (expanded_by k stored g).nodes → (k < is.times) ⊎ (is.times ≤ k)
+        → Either (IsEarly stored g is.times) LastFault f
+    round_found f k few has (inl below) = inl (record { round = k; below = below; has = has })
+    round_found f k few has (inr past) =
+        let enough : is.times + (k - is.times) ≡ k = omega arith in
+        let same : expanded_by k stored g ≡ after =
+        ap (λ j. expanded_by j stored g) (sym enough) ∙ is.settled (k - is.times) (omega arith) in
+        inr (later f [] [] after.nodes (subst (λ (h : PlainGraph). OfObject stored false f [] [] h.nodes) same has))
+
+    found_all : (f : Fault) → InRound stored g f → Either (IsEarly stored g is.times) LastFault f
+    found_all f (earlier k few has) = round_found f k few has (past_or_early k is.times)
+    found_all f (last_round has) = inr (subst (λ (h : PlainGraph). OfObject stored true f [] [] h.nodes) (sym all_rounds) has)
+
+    pub all_faults : IsLeastOf LastFault found → IsLeastOf (IsNameFault stored g) (least fault found)
+    all_faults last =
+        IsLeastOf-iff (Either (IsEarly stored g is.times) LastFault) (IsNameFault stored g) (least fault found) stands_all
+        (λ f stands. found_all f (in_round stored g f.code f.node stands.1 stands.0))
+        (IsLeastOf-least (IsEarly stored g is.times) LastFault fault found is.early last)

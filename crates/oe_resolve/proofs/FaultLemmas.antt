@@ -1,0 +1,302 @@
+-- The faults of graph objects, node by node and argument by argument.
+use Rattle.std.proofs.Common.{◌≡◌, ◌↔◌, ℕ, zero, suc, ◌+◌, ◌<◌, ◌≤◌, ◌⊎◌, inl, inr, Bool, true, false, not, ◌&&◌, ◌||◌, List, [], ◌∷◌, ◌++◌, Option, Some, None, is_none, Contains, length, map, option_map, get_or, slice_get, slice_index_or, refl, sym, ap, ◌∙◌, subst, true≢false, Vec, Global, arith}
+use Rattle.std.specs.Cmp.Lexicographic.{slice_cmp}
+use Rattle.std.specs.List.{list_any}
+use Rattle.std.specs.Ordering.{nat_cmp, is_lt}
+use Rattle.std.proofs.lemmas.Cmp.{nat_cmp_total, nat_list_cmp_total, tied_itself}
+use Rattle.std.proofs.lemmas.List.Elements.{Contains-append_left, Contains-append_right, Contains-append_cases}
+use Rattle.oe_dims.specs.Names.{same_name, names_rise}
+use Rattle.oe_dims.proofs.OrderLemmas.{same_name_is, same_name_refl}
+use Rattle.oe_graph.specs.Codes.{phase_of, number_in_phase}
+use Rattle.oe_graph.specs.Faults.{is_before, least}
+use Rattle.oe_graph.specs.Form.{node_name, callback_name}
+use Rattle.oe_graph.specs.Plain.{plain_arg, plain_args, plain_graph, plain_named, plain_node, plain_nodes, plain_pair, arg_step, graph_step, node_step}
+use Rattle.oe_graph.specs.Printed.{ids_of, names_of}
+use Rattle.oe_graph.specs.References.{each_node, argument_named, references_in, references_named, references_each, parameters_in, parameters_named, parameters_each, callbacks_in, callbacks_named, callbacks_each, Leads}
+use Rattle.oe_graph.specs.Resolved.{scope_inside}
+use Rattle.oe_graph.specs.Tree.{Argument, null, flag, whole, inexact, text, list, object, from_node, from_parameter, callback, ListValues, no_arguments, argument, Named, no_named, named, Nodes, PlainGraph, PlainNode, PlainParameter, PlainStored, named_from_list, values_from_list, nodes_from_list}
+use Rattle.oe_graph.specs.declared.code.Code.{Code}
+use Rattle.oe_graph.specs.declared.code.Code.TheVariants.{ArgumentUnknown, ProcessParameterMissing, ParameterUnknown, NodeUnknown, GraphCycle}
+use Rattle.oe_graph.specs.declared.fault.Fault.{Fault}
+use Rattle.oe_graph.specs.declared.tree.Arg.{Arg}
+use Rattle.oe_graph.specs.declared.tree.Arg.TheFolds.{fold_out-Graph, fold-roll-Arg}
+use Rattle.oe_graph.specs.declared.tree.Arg.TheOpen.{Arg-F}
+use Rattle.oe_graph.specs.declared.tree.Arg.TheVariants as variant
+use Rattle.oe_graph.specs.declared.tree.Graph.{Graph, out-Graph}
+use Rattle.oe_graph.specs.declared.tree.Node.{Node}
+use Rattle.oe_graph.proofs.LeastLemmas.{IsLeastOf, IsLeastOf-iff, IsLeastOf-least, OneOf}
+use Rattle.oe_resolve.specs.Faults.{each_argument}
+use Rattle.oe_resolve.specs.Judged.{AreMarks, IsMark, IdsRise, IdsRiseIn, itself, deeper, OfArgument, OfArguments, OfItself, OfNode, OfObject, by_itself, inside, node_code}
+use Rattle.oe_resolve.proofs.Along.{first_there, later_there, none_there, there_cases, map_there, map_back, one_mapped, one_back}
+use Rattle.oe_resolve.proofs.CodeLemmas.{own_least}
+use Rattle.oe_resolve.proofs.CycleLemmas.{each_nodes}
+use Rattle.oe_resolve.proofs.JudgeLemmas.{node_is}
+
+-- ---- the plain values of lists, objects and callbacks
+
+pub list_is : (a : Arg) (v : Vec Arg Global) → a ≡ variant.List v → plain_arg a ≡ list (plain_args v.items)
+list_is a v is =
+    ap plain_arg (is ∙ sym (variant.rolls-List v))
+    ∙ fold-roll-Arg Argument PlainGraph PlainNode arg_step graph_step node_step (Arg-F.List v)
+
+pub object_is : (a : Arg) (v : Vec (List ℕ × Arg) Global) → a ≡ variant.Object v → plain_arg a ≡ object (plain_named v.items)
+object_is a v is =
+    ap plain_arg (is ∙ sym (variant.rolls-Object v))
+    ∙ fold-roll-Arg Argument PlainGraph PlainNode arg_step graph_step node_step (Arg-F.Object v)
+
+pub graph_is : (g : Graph) → plain_graph g ≡ record { nodes = plain_nodes (out-Graph g).nodes.items; result = (out-Graph g).result }
+graph_is g = fold_out-Graph Argument PlainGraph PlainNode arg_step graph_step node_step g
+
+pub callback_is : (a : Arg) (g : Graph) → a ≡ variant.Callback g
+    → plain_arg a ≡ callback (plain_nodes (out-Graph g).nodes.items) (out-Graph g).result
+callback_is a g is =
+    ap plain_arg (is ∙ sym (variant.rolls-Callback g))
+    ∙ fold-roll-Arg Argument PlainGraph PlainNode arg_step graph_step node_step (Arg-F.Callback g)
+    ∙ ap (λ (p : PlainGraph). callback p.nodes p.result) (graph_is g)
+
+-- ---- where callbacks stand
+
+-- one of a list has this callback
+pub record Holder {X : Type 0} (callbacks : X → List PlainGraph) (xs : List X) (g : PlainGraph) : Type 0 where
+  pub one : X
+  pub is_there : Contains xs one
+  pub has : Contains (callbacks one) g
+
+module _ (g : PlainGraph) where
+  pub callback_named : (ms : List (List ℕ × Arg)) (m : List ℕ × Arg) → Contains ms m → Contains (callbacks_in (plain_arg m.1)) g
+      → Contains (callbacks_named (plain_named ms)) g
+  callback_named [] m there has = absurd (none_there m there)
+  callback_named (x ∷ ms) m there has = elim (there_cases x ms m there) [
+    | inl is ↦ Contains-append_left (callbacks_in (plain_arg x.1)) (callbacks_named (plain_named ms)) g
+        (subst (λ (y : List ℕ × Arg). Contains (callbacks_in (plain_arg y.1)) g) (sym is) has)
+    | inr later ↦ Contains-append_right (callbacks_in (plain_arg x.1)) (callbacks_named (plain_named ms)) g
+        (callback_named ms m later has)
+  ]
+
+  pub named_holder : (ms : List (List ℕ × Arg)) → Contains (callbacks_named (plain_named ms)) g
+      → Holder (λ (m : List ℕ × Arg). callbacks_in (plain_arg m.1)) ms g
+  named_holder [] has = absurd (none_there g has)
+  named_holder (x ∷ ms) has =
+      elim (Contains-append_cases (callbacks_in (plain_arg x.1)) (callbacks_named (plain_named ms)) g has) [
+        | inl first ↦ record { one = x; is_there = first_there x ms; has = first }
+        | inr rest ↦
+            let at = named_holder ms rest in
+            record { one = at.one; is_there = later_there x ms at.one at.is_there; has = at.has }
+      ]
+
+  pub callback_each : (xs : List Arg) (a : Arg) → Contains xs a → Contains (callbacks_in (plain_arg a)) g
+      → Contains (callbacks_each (plain_args xs)) g
+  callback_each [] a there has = absurd (none_there a there)
+  callback_each (x ∷ xs) a there has = elim (there_cases x xs a there) [
+    | inl is ↦ Contains-append_left (callbacks_in (plain_arg x)) (callbacks_each (plain_args xs)) g
+        (subst (λ (y : Arg). Contains (callbacks_in (plain_arg y)) g) (sym is) has)
+    | inr later ↦ Contains-append_right (callbacks_in (plain_arg x)) (callbacks_each (plain_args xs)) g
+        (callback_each xs a later has)
+  ]
+
+  pub each_holder : (xs : List Arg) → Contains (callbacks_each (plain_args xs)) g
+      → Holder (λ (a : Arg). callbacks_in (plain_arg a)) xs g
+  each_holder [] has = absurd (none_there g has)
+  each_holder (x ∷ xs) has =
+      elim (Contains-append_cases (callbacks_in (plain_arg x)) (callbacks_each (plain_args xs)) g has) [
+        | inl first ↦ record { one = x; is_there = first_there x xs; has = first }
+        | inr rest ↦
+            let at = each_holder xs rest in
+            record { one = at.one; is_there = later_there x xs at.one at.is_there; has = at.has }
+      ]
+
+-- ---- where ids rise
+
+pub rise_of_node : (nodes : Nodes) (n : PlainNode) → IdsRise nodes → Contains (each_node nodes) n
+    → IdsRiseIn (callbacks_named n.arguments)
+rise_of_node nodes n rise there = λ g has inner within. rise inner (deeper there has within)
+
+pub rise_of_object : (nodes : Nodes) → IdsRise nodes → names_rise (ids_of nodes) ≡ true
+rise_of_object nodes rise = rise nodes itself
+
+pub rise_of_member : (ms : List (List ℕ × Arg)) (m : List ℕ × Arg) → IdsRiseIn (callbacks_named (plain_named ms))
+    → Contains ms m → IdsRiseIn (callbacks_in (plain_arg m.1))
+rise_of_member ms m rise there = λ g has. rise g (callback_named g ms m there has)
+
+pub rise_of_item : (xs : List Arg) (a : Arg) → IdsRiseIn (callbacks_each (plain_args xs))
+    → Contains xs a → IdsRiseIn (callbacks_in (plain_arg a))
+rise_of_item xs a rise there = λ g has. rise g (callback_each g xs a there has)
+
+pub there_by : {X : Type 0} (xs : List X) (i : ℕ) (x : X) → i < length xs → x ≡ get_or xs i x → Contains xs x
+there_by xs i x below is = (i, below, sym is)
+
+-- ---- the node at an index
+
+get_mapped : {X Y : Type 0} (f : X → Y) (xs : List X) (i : ℕ) (x : X) → i < length xs → x ≡ get_or xs i x
+    → slice_get (map f xs) i ≡ Some (f x)
+get_mapped f [] i x below is = absurd (omega arith)
+get_mapped f (y ∷ xs) zero x below is = ap (λ z. Some (f z)) (sym is)
+get_mapped f (y ∷ xs) (suc i) x below is = get_mapped f xs i x (omega arith) is
+
+pub node_there : (ns : List Node) (i : ℕ) (n : Node) → i < length ns → n ≡ get_or ns i n
+    → slice_get (each_node (plain_nodes ns)) i ≡ Some (plain_node n)
+node_there ns i n below is =
+    ap (λ ms. slice_get ms i) (each_nodes (map plain_node ns)) ∙ get_mapped plain_node ns i n below is
+
+pub there_node : (ns : List Node) (i : ℕ) (n : Node) → i < length ns → n ≡ get_or ns i n
+    → Contains (each_node (plain_nodes ns)) (plain_node n)
+there_node ns i n below is =
+    subst (λ ms. Contains ms (plain_node n)) (sym (each_nodes (map plain_node ns)))
+    (map_there plain_node ns n (there_by ns i n below is))
+
+pub mark_there : (last : Bool) (ns : List Node) (i : ℕ) (n : Node) (marks : List Bool) (mark : Bool) → i < length ns
+    → n ≡ get_or ns i n → AreMarks last (plain_nodes ns) marks → mark ≡ slice_index_or marks i false
+    → IsMark last (plain_nodes ns) (plain_node n) mark
+mark_there last ns i n marks mark below is marked same =
+    subst (IsMark last (plain_nodes ns) (plain_node n)) (sym same)
+    (marked.exact i (plain_node n) (node_there ns i n below is))
+
+-- ---- faults
+
+each_named : (ms : List (List ℕ × Argument)) → each_argument (named_from_list ms) ≡ ms
+each_named [] = refl
+each_named (m ∷ ms) = ap (λ rest. m ∷ rest) (each_named ms)
+
+module _ (stored : List PlainStored) (last : Bool) where
+  -- of the arguments of a node
+  pub arguments_least : (node_at : List ℕ) (scope : List (List ℕ)) (ms : List (List ℕ × Arg)) (o : Option Fault)
+      → IsLeastOf (OneOf (λ (m : List ℕ × Arg). OfArgument stored last node_at m.0 scope (plain_arg m.1)) ms) o
+      → IsLeastOf (OfArguments stored last node_at scope (plain_named ms)) o
+  arguments_least node_at scope ms o is =
+      IsLeastOf-iff (OneOf (λ (m : List ℕ × Arg). OfArgument stored last node_at m.0 scope (plain_arg m.1)) ms)
+      (OfArguments stored last node_at scope (plain_named ms)) o
+      (λ f one.
+      let there = map_there plain_pair ms one.one one.is_there in record {
+        one = plain_pair one.one;
+        is_there = subst (λ xs. Contains xs (plain_pair one.one)) (sym (each_named (map plain_pair ms))) there;
+        has = one.has;
+      })
+      (λ f of. one_back plain_pair (λ (m : List ℕ × Argument). OfArgument stored last node_at m.0 scope m.1) ms f (record {
+        one = of.one;
+        is_there = subst (λ xs. Contains xs of.one) (each_named (map plain_pair ms)) of.is_there;
+        has = of.has;
+      })) is
+
+  -- of the values of a list, and of the members of an object
+  pub items_least : (node_at name : List ℕ) (scope : List (List ℕ)) (xs : List Arg) (o : Option Fault)
+      → IsLeastOf (OneOf (λ (a : Arg). OfArgument stored last node_at name scope (plain_arg a)) xs) o
+      → IsLeastOf (OfArgument stored last node_at name scope (list (plain_args xs))) o
+  items_least node_at name scope xs o is =
+      IsLeastOf-iff (OneOf (λ (a : Arg). OfArgument stored last node_at name scope (plain_arg a)) xs)
+      (OfArgument stored last node_at name scope (list (plain_args xs))) o
+      (λ f one. record {
+        graph = one.has.graph;
+        is_there = callback_each one.has.graph xs one.one one.is_there one.has.is_there;
+        has = one.has.has;
+      })
+      (λ f of.
+      let at = each_holder of.graph xs of.is_there in record {
+        one = at.one;
+        is_there = at.is_there;
+        has = record { graph = of.graph; is_there = at.has; has = of.has };
+      }) is
+
+  pub members_least : (node_at name : List ℕ) (scope : List (List ℕ)) (ms : List (List ℕ × Arg)) (o : Option Fault)
+      → IsLeastOf (OneOf (λ (m : List ℕ × Arg). OfArgument stored last node_at name scope (plain_arg m.1)) ms) o
+      → IsLeastOf (OfArgument stored last node_at name scope (object (plain_named ms))) o
+  members_least node_at name scope ms o is =
+      IsLeastOf-iff (OneOf (λ (m : List ℕ × Arg). OfArgument stored last node_at name scope (plain_arg m.1)) ms)
+      (OfArgument stored last node_at name scope (object (plain_named ms))) o
+      (λ f one. record {
+        graph = one.has.graph;
+        is_there = callback_named one.has.graph ms one.one one.is_there one.has.is_there;
+        has = one.has.has;
+      })
+      (λ f of.
+      let at = named_holder of.graph ms of.is_there in record {
+        one = at.one;
+        is_there = at.is_there;
+        has = record { graph = of.graph; is_there = at.has; has = of.has };
+      }) is
+
+  pub callback_least : (node_at name : List ℕ) (scope : List (List ℕ)) (g : PlainGraph) (o : Option Fault)
+      → IsLeastOf (λ f. OfObject stored last f (callback_name node_at name) scope g.nodes) o
+      → IsLeastOf (OfArgument stored last node_at name scope (callback g.nodes g.result)) o
+  callback_least node_at name scope g o is =
+      IsLeastOf-iff (λ f. OfObject stored last f (callback_name node_at name) scope g.nodes)
+      (OfArgument stored last node_at name scope (callback g.nodes g.result)) o
+      (λ f has. record { graph = g; is_there = first_there g []; has = has })
+      (λ f of. elim (there_cases g [] of.graph of.is_there) [
+        | inl same ↦ subst (λ (h : PlainGraph). OfObject stored last f (callback_name node_at name) scope h.nodes) (sym same) of.has
+        | inr none ↦ absurd (none_there of.graph none)
+      ]) is
+
+  pub none_least : (node_at name : List ℕ) (scope : List (List ℕ)) (a : Argument) → callbacks_in a ≡ []
+      → IsLeastOf (OfArgument stored last node_at name scope a) None
+  none_least node_at name scope a empty =
+      λ f of. absurd (none_there of.graph (subst (λ gs. Contains gs of.graph) empty of.is_there))
+
+  -- of the nodes of a graph object
+  of_node : (name : List ℕ) (scope : List (List ℕ)) (nodes : Nodes) (n : PlainNode) (f : Fault) → Contains (each_node nodes) n
+      → OfNode stored last name scope nodes n f → OfObject stored last f name scope nodes
+  of_node name scope nodes n f there (inl own) = by_itself there own
+  of_node name scope nodes n f there (inr of) = inside there of.is_there of.has.is_there of.has.has
+
+  to_node : (name : List ℕ) (scope : List (List ℕ)) (nodes : Nodes) (f : Fault) → OfObject stored last f name scope nodes
+      → OneOf (OfNode stored last name scope nodes) (each_node nodes) f
+  to_node name scope nodes f (by_itself {n = n} there own) = record { one = n; is_there = there; has = inl own }
+  to_node name scope nodes f (inside {n = n} {a = a} {g = g} there argument_there callback_there of) = record {
+    one = n;
+    is_there = there;
+    has = inr (record {
+      one = a;
+      is_there = argument_there;
+      has = record { graph = g; is_there = callback_there; has = of };
+    });
+  }
+
+  pub object_least : (name : List ℕ) (scope : List (List ℕ)) (ns : List Node) (o : Option Fault)
+      → IsLeastOf (OneOf (λ (n : Node). OfNode stored last name scope (plain_nodes ns) (plain_node n)) ns) o
+      → IsLeastOf (λ f. OfObject stored last f name scope (plain_nodes ns)) o
+  object_least name scope ns o is =
+      IsLeastOf-iff (OneOf (λ (n : Node). OfNode stored last name scope (plain_nodes ns) (plain_node n)) ns)
+      (λ f. OfObject stored last f name scope (plain_nodes ns)) o
+      (λ f one. of_node name scope (plain_nodes ns) (plain_node one.one) f
+      (subst (λ ms. Contains ms (plain_node one.one)) (sym (each_nodes (map plain_node ns))) (map_there plain_node ns one.one one.is_there))
+      one.has)
+      (λ f of.
+      let one = to_node name scope (plain_nodes ns) f of in
+      one_back plain_node (OfNode stored last name scope (plain_nodes ns)) ns f (record {
+        one = one.one;
+        is_there = subst (λ ms. Contains ms one.one) (each_nodes (map plain_node ns)) one.is_there;
+        has = one.has;
+      })) is
+
+  -- of the callback that an argument is
+  pub callback_argument : (node_at name at : List ℕ) (scope : List (List ℕ)) (a : Arg) (g : Graph) (o : Option Fault)
+      → a ≡ variant.Callback g → at ≡ callback_name node_at name
+      → (IdsRise (plain_nodes (out-Graph g).nodes.items)
+      → IsLeastOf (λ f. OfObject stored last f at scope (plain_nodes (out-Graph g).nodes.items)) o)
+      → IdsRiseIn (callbacks_in (plain_arg a)) → IsLeastOf (OfArgument stored last node_at name scope (plain_arg a)) o
+  callback_argument node_at name at scope a g o is same found rise =
+      let ns = plain_nodes (out-Graph g).nodes.items in
+      let h : PlainGraph = record { nodes = ns; result = (out-Graph g).result } in
+      let whole : plain_arg a ≡ callback h.nodes h.result = callback_is a g is in
+      let inner : IdsRise ns = subst (λ p. IdsRiseIn (callbacks_in p)) whole rise h (first_there h []) in
+      subst (λ p. IsLeastOf (OfArgument stored last node_at name scope p) o) (sym whole)
+      (callback_least node_at name scope h o
+      (subst (λ n. IsLeastOf (λ f. OfObject stored last f n scope ns) o) same (found inner)))
+
+  -- of a node
+  pub node_least : (name : List ℕ) (scope : List (List ℕ)) (nodes : Nodes) (n : Node) (mark : Bool) (own inner : Option Fault)
+      (at : List ℕ) (inner_scope : List (List ℕ))
+      → at ≡ node_name name n.id → inner_scope ≡ scope_inside (plain_node n) scope
+      → own ≡ option_map (λ code. record { code = code; node = at }) (node_code stored last scope (ids_of nodes) (plain_node n) mark)
+      → IsMark last nodes (plain_node n) mark
+      → IsLeastOf (OfArguments stored last at inner_scope (plain_named n.arguments.items)) inner
+      → IsLeastOf (OfNode stored last name scope nodes (plain_node n)) (least own inner)
+  node_least name scope nodes n mark own inner at inner_scope called_at scoped is marked found =
+      let m = plain_node n in
+      let called : at ≡ node_name name m.id = called_at ∙ ap (λ (k : PlainNode). node_name name k.id) (sym (node_is n)) in
+      IsLeastOf-least (OfItself stored last (node_name name m.id) scope nodes m)
+      (OfArguments stored last (node_name name m.id) (scope_inside m scope) m.arguments) own inner
+      (subst (λ a. IsLeastOf (OfItself stored last a scope nodes m) own) called
+      (subst (IsLeastOf (OfItself stored last at scope nodes m)) (sym is) (own_least stored last scope nodes m mark at marked)))
+      (subst (λ a. IsLeastOf (OfArguments stored last a (scope_inside m scope) m.arguments) inner) called
+      (subst (λ sc. IsLeastOf (OfArguments stored last at sc m.arguments) inner) scoped
+      (subst (λ (k : PlainNode). IsLeastOf (OfArguments stored last at inner_scope k.arguments) inner) (sym (node_is n)) found)))

@@ -1,0 +1,85 @@
+-- Nodes of the code beside the plain ones: their parts, and what stands at an index.
+use Rattle.std.proofs.Common.{◌≡◌, ℕ, zero, suc, ◌+◌, ◌<◌, ◌≤◌, ◌||◌, Bool, true, false, if◌then◌else◌, nat_lt, List, [], ◌∷◌, ◌++◌, map, length, get_or, take, drop, refl, sym, ap, ◌∙◌, subst, true≢false, arith}
+use Rattle.std.specs.List.{list_any}
+use Rattle.std.proofs.lemmas.Bool.Decides.{nat_tests}
+use Rattle.oe_dims.specs.Names.{same_name}
+use Rattle.oe_dims.proofs.OrderLemmas.{same_name_is, same_name_refl}
+use Rattle.oe_graph.specs.Plain.{plain_arg, plain_graph, plain_node, plain_named, plain_nodes, arg_step, graph_step, node_step}
+use Rattle.oe_graph.specs.Printed.{ids_of}
+use Rattle.oe_graph.specs.Tree.{Argument, from_parameter, PlainGraph, PlainNode}
+use Rattle.oe_graph.specs.declared.tree.Arg.TheFolds.{fold_out-Graph, fold_out-Node, fold-roll-Arg}
+use Rattle.oe_graph.specs.declared.tree.Arg.TheOpen.{Arg-F}
+use Rattle.oe_graph.specs.declared.tree.Arg.TheVariants.{FromParameter, rolls-FromParameter}
+use Rattle.oe_graph.specs.declared.tree.Graph.{Graph, out-Graph}
+use Rattle.oe_graph.specs.declared.tree.Node.{Node}
+use Rattle.oe_resolve.specs.Rounds.{id_at, index_of}
+
+pub node_parts : (n : Node)
+    → plain_node n ≡ record { id = n.id; process_id = n.process_id; namespace = n.namespace; arguments = plain_named n.arguments.items }
+node_parts n = fold_out-Node Argument PlainGraph PlainNode arg_step graph_step node_step n
+
+pub graph_parts : (g : Graph) → plain_graph g ≡ record { nodes = plain_nodes (out-Graph g).nodes.items; result = (out-Graph g).result }
+graph_parts g = fold_out-Graph Argument PlainGraph PlainNode arg_step graph_step node_step g
+
+pub plain_from_parameter : (name : List ℕ) → plain_arg (FromParameter name) ≡ from_parameter name
+plain_from_parameter name =
+    ap plain_arg (sym (rolls-FromParameter name))
+    ∙ fold-roll-Arg Argument PlainGraph PlainNode arg_step graph_step node_step (Arg-F.FromParameter name)
+
+pub id_of : (n : Node) → (plain_node n).id ≡ n.id
+id_of n = ap (λ m. m.id) (node_parts n)
+
+-- ---- the same name, whichever is asked first
+
+turned : (a b : List ℕ) (x y : Bool) → same_name a b ≡ x → same_name b a ≡ y → x ≡ y
+turned a b true true p q = refl
+turned a b false false p q = refl
+turned a b true false p q =
+    let is : b ≡ a = same_name_is a b p in
+    sym (subst (λ n. same_name n a ≡ true) (sym is) (same_name_refl a)) ∙ q
+turned a b false true p q =
+    let is : a ≡ b = same_name_is b a q in
+    sym p ∙ subst (λ n. same_name n b ≡ true) (sym is) (same_name_refl b)
+
+pub same_name-turned : (a b : List ℕ) → same_name a b ≡ same_name b a
+same_name-turned a b = turned a b (same_name a b) (same_name b a) refl refl
+
+-- ---- at an index
+
+pub id_at-found : (ns : List Node) (k : ℕ) (n : Node) → k < length ns → n ≡ get_or ns k n → n.id ≡ id_at (plain_nodes ns) k
+id_at-found [] k n more is = absurd (omega arith)
+id_at-found (m ∷ ns) zero n more is = ap (λ x. x.id) is ∙ sym (id_of m)
+id_at-found (m ∷ ns) (suc k) n more is = id_at-found ns k n (omega arith) is
+
+pub id_at-none : (ns : List Node) (k : ℕ) → length ns ≤ k → [] ≡ id_at (plain_nodes ns) k
+id_at-none [] k past = refl
+id_at-none (m ∷ ns) zero past = absurd (omega arith)
+id_at-none (m ∷ ns) (suc k) past = id_at-none ns k (omega arith)
+
+or_true : (b : Bool) → (b || true) ≡ true
+or_true true = refl
+or_true false = refl
+
+pub id-among : (id : List ℕ) (ns : List Node) (k : ℕ) (n : Node) → k < length ns → n ≡ get_or ns k n → same_name id n.id ≡ true
+    → list_any (same_name id) (ids_of (plain_nodes ns)) ≡ true
+id-among id [] k n more is same = absurd (omega arith)
+id-among id (m ∷ ns) zero n more is same =
+    let here : same_name id (plain_node m).id ≡ true =
+    ap (same_name id) (id_of m ∙ sym (ap (λ x. x.id) is)) ∙ same in
+    ap (λ b. b || list_any (same_name id) (ids_of (plain_nodes ns))) here
+id-among id (m ∷ ns) (suc k) n more is same =
+    ap (λ b. same_name id (plain_node m).id || b) (id-among id ns k n (omega arith) is same)
+    ∙ or_true (same_name id (plain_node m).id)
+
+before_count : (b : Bool) (i n : ℕ) (rest : Bool) → nat_lt i n ≡ rest
+    → nat_lt (if b then 0 else suc i) (suc n) ≡ (b || rest)
+before_count true i n rest is = grind (arith, nat_tests)
+before_count false i n rest is = grind (arith, nat_tests)
+
+-- an index was found exactly where one of the ids is the one looked for
+pub index_of-below : (id : List ℕ) (ns : List Node)
+    → nat_lt (index_of id (plain_nodes ns)) (length ns) ≡ list_any (same_name id) (ids_of (plain_nodes ns))
+index_of-below id [] = refl
+index_of-below id (m ∷ ns) =
+    before_count (same_name (plain_node m).id id) (index_of id (plain_nodes ns)) (length ns) _ (index_of-below id ns)
+    ∙ ap (λ b. b || list_any (same_name id) (ids_of (plain_nodes ns))) (same_name-turned (plain_node m).id id)

@@ -1,0 +1,88 @@
+use Rattle.std.proofs.Common.{◌≡◌, ◌<◌, ◌≤◌, ◌+◌, ℕ, zero, suc, true, false, List, [], length, map, refl, sym, ap, ◌∙◌, subst, arith}
+use Rattle.std.proofs.lemmas.List.{length-map}
+use Rattle.std.proofs.lemmas.Result.{IfOk-weaker}
+use Rattle.oe_graph.proofs.LeastLemmas.{IsLeastOf}
+use Rattle.oe_graph.specs.Plain.{plain_graph, plain_stored}
+use Rattle.oe_graph.specs.Tree.{PlainGraph, PlainStored}
+use Rattle.oe_resolve.specs.Called.{nodes_call}
+use Rattle.oe_resolve.specs.Expansion.{IsEarly, IsExpansion, IsSettled}
+use Rattle.oe_resolve.specs.Judged.{IdsRise, OfObject}
+use Rattle.oe_resolve.specs.Rounds as rounds
+use Rattle.oe_resolve.specs.Rounds.{expanded_by, known_graph}
+use Rattle.oe_resolve.proofs.ExpandLemmas.{rise_by, early_none, early_more, settled_by}
+use Rattle.oe_resolve.proofs.expand.Goals as goal
+use Rattle.oe_resolve.proofs.expand.Goals.{then-loop-times-test+else-has_call, else-loop-times-test}
+
+pub loop-times-init : goal.loop-times-init
+loop-times-init c =
+    (omega arith, c.in_ok-first.ensures, early_none (map plain_stored c.args.stored.now) (plain_graph c.args.graph.now), λ below. absurd (omega arith))
+
+pub names_fault-requires : goal.names_fault-requires
+names_fault-requires c =
+    let stored = map plain_stored c.args.stored.now in
+    let g = plain_graph c.args.graph.now in
+    record {
+      rise = subst (λ (h : PlainGraph). IdsRise h.nodes) (sym c.loop-times.invariant.1)
+          (rise_by stored g c.requires.stored_valid c.requires.graph_valid c.loop-times.times);
+    }
+
+-- a later graph comes of a call in the first
+first_calls : (stored : List PlainStored) (g h : PlainGraph) (times : ℕ) → h ≡ expanded_by times stored g
+    → (0 < times → nodes_call stored (known_graph g).nodes ≡ true) → nodes_call stored h.nodes ≡ true
+    → nodes_call stored (known_graph g).nodes ≡ true
+first_calls stored g h zero is before here = subst (λ (k : PlainGraph). nodes_call stored k.nodes ≡ true) is here
+first_calls stored g h (suc times) is before here = before (omega arith)
+
+pub loop-times-preserved : goal.loop-times-preserved
+loop-times-preserved c =
+    let stored = map plain_stored c.args.stored.now in
+    let g = plain_graph c.args.graph.now in
+    let times = c.loop-times.times in
+    let called = first_calls stored g (plain_graph c.loop-times.expanded) times c.loop-times.invariant.1 c.loop-times.invariant.3
+    (sym c.has_call.ensures ∙ c.if-has_call.true) in
+    let known = c.in_ok-known.ensures (subst (λ (h : PlainGraph). nodes_call stored h.nodes ≡ true) (sym c.in_ok-first.ensures) called) in
+    let next : suc times ≡ times + 1 = omega arith in (
+      omega (arith, c.loop-times-test.true),
+      c.in_ok-expanded.ensures
+          ∙ ap (λ xs. rounds.round (map plain_stored xs) (plain_graph c.loop-times.expanded)) c.as_slice.ensures.value
+          ∙ ap (λ xs. rounds.round xs (plain_graph c.loop-times.expanded)) known
+          ∙ ap (rounds.round (map rounds.known_stored stored)) c.loop-times.invariant.1
+          ∙ ap (λ k. expanded_by k stored g) next,
+      subst (IsLeastOf (IsEarly stored g (times + 1))) (sym c.least-fault.ensures)
+          (early_more stored g times c.loop-times.fault c.in_ok-found.found c.loop-times.invariant.2
+          (subst (λ (h : PlainGraph). IsLeastOf (λ f. OfObject stored false f [] [] h.nodes) c.in_ok-found.found) c.loop-times.invariant.1 c.in_ok-found.ensures)),
+      λ below. called,
+    )
+
+pub last_judged-requires : goal.last_judged-requires
+last_judged-requires c =
+    let stored = map plain_stored c.args.stored.now in
+    let g = plain_graph c.args.graph.now in
+    record {
+      rise = subst (λ (h : PlainGraph). IdsRise h.nodes) (sym c.loop-times.invariant.1)
+          (rise_by stored g c.requires.stored_valid c.requires.graph_valid c.loop-times.times);
+    }
+
+pub returns : goal.returns
+returns c =
+    let stored = map plain_stored c.args.stored.now in
+    let g = plain_graph c.args.graph.now in
+    let after = plain_graph c.loop-times.expanded in
+    let times = c.loop-times.times in
+    let is : IsSettled stored g after c.loop-times.fault = record {
+      times = times;
+      is = c.loop-times.invariant.1;
+      settled = λ more fits. elim c.loop-times-test.branch [
+        | then-loop-times-test+else-has_call w ↦
+            settled_by stored g c.requires.stored_valid c.requires.graph_valid times more
+            (subst (λ (h : PlainGraph). nodes_call stored h.nodes ≡ false) c.loop-times.invariant.1
+            (sym w.has_call.ensures ∙ w.if-has_call.false))
+            ∙ sym c.loop-times.invariant.1
+        | else-loop-times-test w ↦
+            let none : times + more ≡ times = omega (arith, w.loop-times-test.false, length-map c.args.stored.now plain_stored) in
+            ap (λ k. expanded_by k stored g) none ∙ sym c.loop-times.invariant.1
+      ];
+      few = omega (arith, c.loop-times.invariant.0, length-map c.args.stored.now plain_stored);
+      early = c.loop-times.invariant.2;
+    } in
+    IfOk-weaker c.last_judged.result _ (IsExpansion stored g) (λ r each. each g is) c.last_judged.ensures

@@ -1,0 +1,17 @@
+use Rattle.std.proofs.Common.{◌≡◌, ◌<◌, ◌≤◌, ◌-◌, true, length, map}
+use Rattle.oe_graph.specs.Plain.{plain_graph, plain_stored}
+use Rattle.oe_resolve.specs.Called.{nodes_call}
+use Rattle.oe_resolve.specs.Expansion.{IsEarly}
+use Rattle.oe_resolve.specs.Judged.{IsLeastFault}
+use Rattle.oe_resolve.specs.Rounds.{expanded_by, known_graph}
+use Rattle.oe_resolve.proofs.expand.Given as goal
+
+abbrev pub decreases-loop-times : goal.decreases-loop-times
+decreases-loop-times l = length l.stored - l.times
+
+abbrev pub invariant-loop-times : goal.invariant-loop-times
+invariant-loop-times l =
+    (l.times ≤ length l.stored)
+    × (plain_graph l.expanded ≡ expanded_by l.times (map plain_stored l.stored) (plain_graph l.graph))
+    × IsLeastFault (IsEarly (map plain_stored l.stored) (plain_graph l.graph) l.times) l.fault
+    × (0 < l.times → nodes_call (map plain_stored l.stored) (known_graph (plain_graph l.graph)).nodes ≡ true)

@@ -1,0 +1,16 @@
+use Rattle.std.proofs.Common.{List, [], map, sym, ap, subst}
+use Rattle.oe_graph.proofs.LeastLemmas.{IsLeastOf}
+use Rattle.oe_graph.specs.Plain.{plain_graph, plain_stored}
+use Rattle.oe_resolve.specs.Expansion.{IsNameFault}
+use Rattle.oe_resolve.proofs.ExpandLemmas.{all_rounds, all_faults}
+use Rattle.oe_resolve.proofs.last_judged.Goals as goal
+
+pub returns : goal.returns
+returns c g settled =
+    let stored = map plain_stored c.args.stored.now in
+    let after = plain_graph c.args.expanded in
+    record {
+      graph = all_rounds stored g after c.args.fault c.in_ok-found.found settled;
+      fault = subst (IsLeastOf (IsNameFault stored g)) (sym c.least.ensures)
+          (all_faults stored g after c.args.fault c.in_ok-found.found settled c.in_ok-found.ensures);
+    }

@@ -1,0 +1,44 @@
+use Rattle.std.proofs.Common.{◌≡◌, ◌≢◌, false, true, List, [], ◌∙◌, ap, map, sym, subst, true≢false}
+use Rattle.oe_graph.specs.Plain.{plain_graph, plain_stored}
+use Rattle.oe_graph.specs.Resolved.{IsResolved}
+use Rattle.oe_graph.specs.Tree.{PlainGraph}
+use Rattle.oe_graph.specs.declared.code.Code.TheVariants.{GraphTooLarge}
+use Rattle.oe_resolve.specs.Faults.{Stands}
+use Rattle.oe_resolve.specs.Filled.{filled_graph}
+use Rattle.oe_resolve.proofs.ExpansionLemmas.{resolved-without_fault}
+use Rattle.oe_resolve.proofs.RefusalLemmas.{of_calls_least, of_size_least, of_names_least, without_fault}
+use Rattle.oe_resolve.proofs.resolve.Goals as goal
+
+pub returns-in-Some-clause-refused : goal.returns-in-Some-clause-refused
+returns-in-Some-clause-refused c =
+    of_calls_least (map plain_stored c.args.stored.now) (plain_graph c.args.graph.now) c.in_ok-fault.field-0 c.in-Some.fault
+    c.in_ok-fault.ensures c.in-Some.is
+
+pub returns-then-branch-clause-refused : goal.returns-then-branch-clause-refused
+returns-then-branch-clause-refused c =
+    of_size_least (map plain_stored c.args.stored.now) (plain_graph c.args.graph.now) c.in_ok-fault.field-0 c.in_ok-fault.ensures
+    c.in_default.is c.in_ok-of.field-0 c.in_ok-of.ensures (c.in_ok-is_too_large.ensures.0 c.if-branch.true)
+
+pub returns-in-Some-fault-clause-refused : goal.returns-in-Some-fault-clause-refused
+returns-in-Some-fault-clause-refused c =
+    of_names_least (map plain_stored c.args.stored.now) (plain_graph c.args.graph.now) c.in_ok-fault.field-0 c.in_ok-fault.ensures
+    c.in_default.is (λ has. true≢false (sym (c.in_ok-is_too_large.ensures.1 has) ∙ c.if-branch.false))
+    c.in_ok-expanded.fault c.in_ok-expanded.ensures.fault c.in-Some-fault.fault c.in-Some-fault.is
+
+pub returns-clause-without_fault : goal.returns-clause-without_fault
+returns-clause-without_fault c =
+    without_fault (map plain_stored c.args.stored.now) (plain_graph c.args.graph.now) c.in_ok-fault.field-0 c.in_ok-fault.ensures
+    c.in_default.is (λ has. true≢false (sym (c.in_ok-is_too_large.ensures.1 has) ∙ c.if-branch.false))
+    c.in_ok-expanded.fault c.in_ok-expanded.ensures.fault c.in_default-fault.is
+
+pub returns-clause-resolved : goal.returns-clause-resolved
+returns-clause-resolved c =
+    let stored = map plain_stored c.args.stored.now in
+    let g = plain_graph c.args.graph.now in
+    subst (λ (h : PlainGraph). IsResolved h)
+    (sym (c.in_ok-filled_graph.ensures ∙ ap (λ (h : PlainGraph). filled_graph h) c.in_ok-expanded.ensures.graph))
+    (resolved-without_fault stored g c.requires.stored_valid
+    (without_fault stored g c.in_ok-fault.field-0 c.in_ok-fault.ensures
+    c.in_default.is (λ has. true≢false (sym (c.in_ok-is_too_large.ensures.1 has) ∙ c.if-branch.false))
+    c.in_ok-expanded.fault c.in_ok-expanded.ensures.fault c.in_default-fault.is)
+    c.requires.graph_valid)

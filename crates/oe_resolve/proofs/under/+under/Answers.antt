@@ -1,0 +1,23 @@
+use Rattle.std.proofs.Common.{◌≡◌, map, take, refl, ap, ◌∙◌}
+use Rattle.std.proofs.lemmas.List.{take_all}
+use Rattle.oe_graph.specs.Plain.{plain_arg, plain_pair}
+use Rattle.oe_graph.specs.Tree.{values_from_list, named_from_list}
+use Rattle.oe_resolve.specs.Rounds.{under}
+use Rattle.oe_resolve.proofs.Each.{member_by, under_each, under_named}
+use Rattle.oe_resolve.proofs.under.+under.Goals as goal
+
+pub under_args-returns : goal.under_args-returns
+under_args-returns t c =
+    let call = c.args.call.now in
+    let full : take c.loop-item.item-index c.deref-item-items.result.now ≡ c.deref-item-items.result.now = take_all _ _ c.loop-item-test.false in
+    let all : map plain_arg c.loop-item.copy.items ≡ map (λ a. under call (plain_arg a)) c.args.items.now.items =
+    rw (c.loop-item.invariant, full, c.deref-item-items.ensures.value) refl in
+    ap values_from_list all ∙ under_each call c.args.items.now.items
+
+pub under_named-returns : goal.under_named-returns
+under_named-returns t c =
+    let call = c.args.call.now in
+    let full : take c.loop-member.member-index c.deref-member-items.result.now ≡ c.deref-member-items.result.now = take_all _ _ c.loop-member-test.false in
+    let all : map plain_pair c.loop-member.copy.items ≡ map (member_by (under call)) c.args.members.now.items =
+    rw (c.loop-member.invariant, full, c.deref-member-items.ensures.value) refl in
+    ap named_from_list all ∙ under_named call c.args.members.now.items

@@ -1,0 +1,14 @@
+use Rattle.std.proofs.Common.{List, ℕ, Bor, ap, ◌∙◌}
+use Rattle.oe_graph.specs.Plain.{plain_named}
+use Rattle.oe_resolve.specs.Replaced.{inside}
+use Rattle.oe_resolve.specs.Seen.{names_behind}
+use Rattle.oe_resolve.specs.declared.values.Values.{Values}
+use Rattle.oe_resolve.proofs.ValueLemmas.{inside_seen}
+use Rattle.oe_resolve.proofs.values.inside.Goals as goal
+
+pub returns : goal.returns
+returns c =
+    let v : Values = c.args.values.now in
+    let given = plain_named v.given.now.items in
+    ap (λ (names : List (Bor (List ℕ))). inside (names_behind names) given) c.in_ok-hidden.ensures
+    ∙ inside_seen c.args.own.now v.hidden.items given v.carried

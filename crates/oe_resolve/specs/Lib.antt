@@ -1,0 +1,11 @@
+pub mod Calls
+pub mod Replaced
+pub mod Seen
+pub mod Rounds
+pub mod Filled
+pub mod Faults
+pub mod Judged
+pub mod Counted
+pub mod Called
+pub mod Expansion
+pub mod Reached

@@ -1,0 +1,97 @@
+-- Parameters replaced by what they stand for, at any depth of an argument.
+use Rattle.std.specs.Prelude.{ℕ, List, [], ◌∷◌, Option, Some, None, unwrap_or, if◌then◌else◌}
+use Rattle.std.specs.List.{list_any}
+use Rattle.std.specs.Option.{option_or}
+use Rattle.oe_dims.specs.Names.{same_name}
+use Rattle.oe_graph.specs.References.{argument_named}
+use Rattle.oe_graph.specs.Tree.{Argument, null, flag, whole, inexact, text, list, object, from_node, from_parameter, callback, ListValues, no_arguments, argument, Named, no_named, named, Nodes, no_nodes, node, PlainNode, PlainParameter, PlainStored}
+use Rattle.oe_resolve.specs.Calls.{callback_parameters}
+
+-- ---- what a call gives
+
+-- what a parameter has where no argument is given: its default, else null where it is optional
+abbrev pub default_of : PlainParameter → Option Argument
+default_of p = option_or p.default (if p.optional then Some null else None)
+
+-- a parameter with its value, where it has one, before the others
+abbrev pub value_before : List ℕ → Option Argument → Named → Named
+value_before name None rest = rest
+value_before name (Some a) rest = named name a rest
+
+-- the value of each parameter of a process that is called with these arguments: the given argument, else its default
+abbrev pub values_given : List PlainParameter → Named → Named
+values_given [] arguments = no_named
+values_given (p ∷ parameters) arguments =
+    value_before p.name (option_or (argument_named p.name arguments) (default_of p)) (values_given parameters arguments)
+
+-- ---- what is seen in a callback
+
+-- Without references: an argument that is carried into another graph object refers to no node there. No node has the
+-- empty id. The references in a callback are those of its own nodes, which it takes along.
+abbrev mutual
+  pub carried : Argument → Argument
+  carried null = null
+  carried (flag b) = flag b
+  carried (whole z) = whole z
+  carried inexact = inexact
+  carried (text s) = text s
+  carried (list rest) = list (carried_each rest)
+  carried (object ms) = object (carried_named ms)
+  carried (from_node id) = from_node []
+  carried (from_parameter name) = from_parameter name
+  carried (callback ns result) = callback ns result
+
+  pub carried_each : ListValues → ListValues
+  carried_each no_arguments = no_arguments
+  carried_each (argument a rest) = argument (carried a) (carried_each rest)
+
+  pub carried_named : Named → Named
+  carried_named no_named = no_named
+  carried_named (named name a rest) = named name (carried a) (carried_named rest)
+
+abbrev pub without : List (List ℕ) → Named → Named
+without names no_named = no_named
+without names (named name a rest) =
+    if list_any (same_name name) names then without names rest else named name a (without names rest)
+
+-- the values that a callback sees: the parameters that its node gives it hide those of the same names
+abbrev pub inside : List (List ℕ) → Named → Named
+inside own values = carried_named (without own values)
+
+-- ---- replaced
+
+-- Each reference to a parameter that has a value is replaced by it. Values are not looked through again: what they
+-- refer to belongs to where they were written. `own` has the parameters that the callbacks of the node see.
+abbrev mutual
+  pub replaced : List PlainStored → List (List ℕ) → Named → Argument → Argument
+  replaced stored own values null = null
+  replaced stored own values (flag b) = flag b
+  replaced stored own values (whole z) = whole z
+  replaced stored own values inexact = inexact
+  replaced stored own values (text s) = text s
+  replaced stored own values (list rest) = list (replaced_each stored own values rest)
+  replaced stored own values (object ms) = object (replaced_named stored own values ms)
+  replaced stored own values (from_node id) = from_node id
+  replaced stored own values (from_parameter name) = unwrap_or (argument_named name values) (from_parameter name)
+  replaced stored own values (callback ns result) = callback (replaced_nodes stored (inside own values) ns) result
+
+  pub replaced_each : List PlainStored → List (List ℕ) → Named → ListValues → ListValues
+  replaced_each stored own values no_arguments = no_arguments
+  replaced_each stored own values (argument a rest) =
+      argument (replaced stored own values a) (replaced_each stored own values rest)
+
+  pub replaced_named : List PlainStored → List (List ℕ) → Named → Named → Named
+  replaced_named stored own values no_named = no_named
+  replaced_named stored own values (named name a rest) =
+      named name (replaced stored own values a) (replaced_named stored own values rest)
+
+  pub replaced_nodes : List PlainStored → Named → Nodes → Nodes
+  replaced_nodes stored values no_nodes = no_nodes
+  replaced_nodes stored values (node id process_id namespace arguments rest) =
+      node id process_id namespace
+      (replaced_named stored (callback_parameters stored namespace process_id) values arguments)
+      (replaced_nodes stored values rest)
+
+abbrev pub replaced_node : List PlainStored → Named → PlainNode → PlainNode
+replaced_node stored values n =
+    record n { arguments = replaced_named stored (callback_parameters stored n.namespace n.process_id) values n.arguments }

@@ -1,0 +1,194 @@
+-- The expanded graph. A round replaces each call of a stored process by the graph of that process, and leaves what that
+-- graph calls to the next round. Nodes stand in byte order of their ids after each. Where no stored process reaches
+-- itself, no chain of calls is longer than there are stored processes, so as many rounds replace all calls.
+use Rattle.std.specs.Prelude.{ℕ, zero, suc, List, [], ◌∷◌, ◌++◌, length, map, Option, Some, None, option_and_then, find, if◌then◌else◌}
+use Rattle.std.specs.List.{list_any}
+use Rattle.oe_dims.specs.Names.{same_name, is_name_before}
+use Rattle.oe_graph.specs.Printed.{ids_of}
+use Rattle.oe_graph.specs.References.{each_node}
+use Rattle.oe_graph.specs.Tree.{Argument, null, flag, whole, inexact, text, list, object, from_node, from_parameter, callback, ListValues, no_arguments, argument, Named, no_named, named, Nodes, no_nodes, node, PlainGraph, PlainNode, PlainStored}
+use Rattle.oe_resolve.specs.Calls.{callee}
+use Rattle.oe_resolve.specs.Replaced.{values_given, replaced_nodes}
+
+-- ---- references as they were written
+
+-- an id, or the empty one where no node has it
+abbrev pub known_id : List (List ℕ) → List ℕ → List ℕ
+known_id ids id = if list_any (same_name id) ids then id else []
+
+-- A reference that names no node of the graph object in which it was written refers to no node, also where a node of
+-- that name comes into being: `c/n` in the call c.
+abbrev mutual
+  pub known : List (List ℕ) → Argument → Argument
+  known ids null = null
+  known ids (flag b) = flag b
+  known ids (whole z) = whole z
+  known ids inexact = inexact
+  known ids (text s) = text s
+  known ids (list rest) = list (known_each ids rest)
+  known ids (object ms) = object (known_named ids ms)
+  known ids (from_node id) = from_node (known_id ids id)
+  known ids (from_parameter name) = from_parameter name
+  known ids (callback ns result) = callback (known_nodes (ids_of ns) ns) result
+
+  pub known_each : List (List ℕ) → ListValues → ListValues
+  known_each ids no_arguments = no_arguments
+  known_each ids (argument a rest) = argument (known ids a) (known_each ids rest)
+
+  pub known_named : List (List ℕ) → Named → Named
+  known_named ids no_named = no_named
+  known_named ids (named name a rest) = named name (known ids a) (known_named ids rest)
+
+  pub known_nodes : List (List ℕ) → Nodes → Nodes
+  known_nodes ids no_nodes = no_nodes
+  known_nodes ids (node id process_id namespace arguments rest) =
+      node id process_id namespace (known_named ids arguments) (known_nodes ids rest)
+
+abbrev pub known_node : List (List ℕ) → PlainNode → PlainNode
+known_node ids n = record n { arguments = known_named ids n.arguments }
+
+abbrev pub known_graph : PlainGraph → PlainGraph
+known_graph g = record { nodes = known_nodes (ids_of g.nodes) g.nodes; result = g.result }
+
+abbrev pub known_stored : PlainStored → PlainStored
+known_stored s = record { id = s.id; parameters = s.parameters; graph = known_graph s.graph; text = s.text }
+
+-- ---- the graph of a call
+
+-- the node n in the call c is c/n; what refers to no node still does
+abbrev pub under_id : List ℕ → List ℕ → List ℕ
+under_id call [] = []
+under_id call (b ∷ id) = call ++ 47 ∷ b ∷ id
+
+-- nodes and references under a call; those in a callback are its own
+abbrev mutual
+  pub under : List ℕ → Argument → Argument
+  under call null = null
+  under call (flag b) = flag b
+  under call (whole z) = whole z
+  under call inexact = inexact
+  under call (text s) = text s
+  under call (list rest) = list (under_each call rest)
+  under call (object ms) = object (under_named call ms)
+  under call (from_node id) = from_node (under_id call id)
+  under call (from_parameter name) = from_parameter name
+  under call (callback ns result) = callback ns result
+
+  pub under_each : List ℕ → ListValues → ListValues
+  under_each call no_arguments = no_arguments
+  under_each call (argument a rest) = argument (under call a) (under_each call rest)
+
+  pub under_named : List ℕ → Named → Named
+  under_named call no_named = no_named
+  under_named call (named name a rest) = named name (under call a) (under_named call rest)
+
+abbrev pub under_nodes : List ℕ → Nodes → Nodes
+under_nodes call no_nodes = no_nodes
+under_nodes call (node id process_id namespace arguments rest) =
+    node (under_id call id) process_id namespace (under_named call arguments) (under_nodes call rest)
+
+abbrev pub under_node : List ℕ → PlainNode → PlainNode
+under_node call n = record n { id = under_id call n.id; arguments = under_named call n.arguments }
+
+-- ---- one round
+
+-- the index that a name has in byte order among others
+abbrev pub index_among : List ℕ → List (List ℕ) → ℕ
+index_among name [] = 0
+index_among name (other ∷ names) = if is_name_before other name then suc (index_among name names) else 0
+
+-- a node at the index that its id has in byte order among others, and each of some nodes
+abbrev pub put_node : PlainNode → Nodes → Nodes
+put_node n no_nodes = node n.id n.process_id n.namespace n.arguments no_nodes
+put_node n (node id process_id namespace arguments rest) =
+    if is_name_before id n.id then node id process_id namespace arguments (put_node n rest)
+    else node n.id n.process_id n.namespace n.arguments (node id process_id namespace arguments rest)
+
+abbrev pub put_nodes : Nodes → Nodes → Nodes
+put_nodes no_nodes found = found
+put_nodes (node id process_id namespace arguments rest) found =
+    put_nodes rest (put_node
+    (record { id = id; process_id = process_id; namespace = namespace; arguments = arguments }) found)
+
+-- the id of the node at an index, and the index of the node of an id
+abbrev pub id_at : Nodes → ℕ → List ℕ
+id_at no_nodes index = []
+id_at (node id process_id namespace arguments rest) zero = id
+id_at (node id process_id namespace arguments rest) (suc index) = id_at rest index
+
+abbrev pub index_of : List ℕ → Nodes → ℕ
+index_of id no_nodes = 0
+index_of id (node other process_id namespace arguments rest) = if same_name other id then 0 else suc (index_of id rest)
+
+-- a reference to a call means the result node of its graph
+abbrev pub landing : List ℕ → Option PlainStored → List ℕ
+landing id None = id
+landing id (Some s) = under_id id (id_at s.graph.nodes s.graph.result)
+
+abbrev pub landed : List PlainStored → Nodes → List ℕ → List ℕ
+landed stored all id =
+    landing id (option_and_then (λ (n : PlainNode). callee stored n.namespace n.process_id)
+    (find (λ (n : PlainNode). same_name n.id id) (each_node all)))
+
+-- a node, or in place of a call the nodes of the process that it calls
+abbrev pub opened : List PlainStored → PlainNode → Option PlainStored → Nodes
+opened stored n None = node n.id n.process_id n.namespace n.arguments no_nodes
+opened stored n (Some s) =
+    replaced_nodes stored (values_given s.parameters n.arguments) (under_nodes n.id s.graph.nodes)
+
+-- a callback whose result is the node of an id
+abbrev pub with_result : List ℕ → Nodes → Argument
+with_result id ns = callback ns (index_of id ns)
+
+-- the nodes of a graph object that has all of these, put beside those that stand already; and the arguments in it
+abbrev mutual
+  pub round_nodes : List PlainStored → Nodes → Nodes → Nodes → Nodes
+  round_nodes stored all no_nodes found = found
+  round_nodes stored all (node id process_id namespace arguments rest) found =
+      round_nodes stored all rest (put_nodes
+      (opened stored
+      (record { id = id; process_id = process_id; namespace = namespace; arguments = round_named stored all arguments })
+      (callee stored namespace process_id))
+      found)
+
+  pub round_named : List PlainStored → Nodes → Named → Named
+  round_named stored all no_named = no_named
+  round_named stored all (named name a rest) = named name (round_argument stored all a) (round_named stored all rest)
+
+  pub round_argument : List PlainStored → Nodes → Argument → Argument
+  round_argument stored all null = null
+  round_argument stored all (flag b) = flag b
+  round_argument stored all (whole z) = whole z
+  round_argument stored all inexact = inexact
+  round_argument stored all (text s) = text s
+  round_argument stored all (list rest) = list (round_each stored all rest)
+  round_argument stored all (object ms) = object (round_named stored all ms)
+  round_argument stored all (from_node id) = from_node (landed stored all id)
+  round_argument stored all (from_parameter name) = from_parameter name
+  round_argument stored all (callback ns result) =
+      with_result (landed stored ns (id_at ns result)) (round_nodes stored ns ns no_nodes)
+
+  pub round_each : List PlainStored → Nodes → ListValues → ListValues
+  round_each stored all no_arguments = no_arguments
+  round_each stored all (argument a rest) = argument (round_argument stored all a) (round_each stored all rest)
+
+abbrev pub graph_with_result : List ℕ → Nodes → PlainGraph
+graph_with_result id ns = record { nodes = ns; result = index_of id ns }
+
+abbrev pub round : List PlainStored → PlainGraph → PlainGraph
+round stored g =
+    graph_with_result (landed stored g.nodes (id_at g.nodes g.result)) (round_nodes stored g.nodes g.nodes no_nodes)
+
+-- ---- all rounds
+
+abbrev pub rounds : List PlainStored → ℕ → PlainGraph → PlainGraph
+rounds stored zero g = g
+rounds stored (suc times) g = round stored (rounds stored times g)
+
+-- the graph after so many rounds
+abbrev pub expanded_by : ℕ → List PlainStored → PlainGraph → PlainGraph
+expanded_by times stored g = rounds (map known_stored stored) times (known_graph g)
+
+-- the graph after all rounds
+abbrev pub expanded : List PlainStored → PlainGraph → PlainGraph
+expanded stored g = expanded_by (length stored) stored g

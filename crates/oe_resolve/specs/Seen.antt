@@ -1,0 +1,17 @@
+-- What the code keeps of the values of parameters: those of the call, and in a callback which of them are hidden.
+use Rattle.std.specs.Prelude.{ℕ, List, map, if◌then◌else◌}
+use denote.Bor.{Bor}
+use Rattle.oe_graph.specs.Plain.{plain_named}
+use Rattle.oe_graph.specs.Tree.{Named}
+use Rattle.oe_resolve.specs.Replaced.{inside}
+use Rattle.oe_resolve.specs.declared.values.Values.{Values}
+
+-- the names behind references
+abbrev pub names_behind : List (Bor (List ℕ)) → List (List ℕ)
+names_behind names = map (λ (name : Bor (List ℕ)). name.now) names
+
+-- the values that are seen
+abbrev pub seen : Values → Named
+seen values =
+    if values.carried then inside (names_behind values.hidden.items) (plain_named values.given.now.items)
+    else plain_named values.given.now.items

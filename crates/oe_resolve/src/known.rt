@@ -1,0 +1,116 @@
+// References as they were written: what names no node beside it refers to no node for good.
+ghost use Rattle.std.specs.Prelude.{◌≡◌, IfOk, map};
+ghost use Rattle.oe_graph.specs.Plain.{plain_arg, plain_args, plain_named, plain_nodes, plain_node, plain_graph};
+ghost use Rattle.oe_graph.specs.Printed.{ids_of};
+ghost use Rattle.oe_resolve.specs.Rounds as spec;
+
+use crate::find::has_id;
+use oe_dims::Text;
+use oe_graph::{Arg, Graph, Node, StoredProcess};
+use oe_memory::OutOfMemory;
+use std::alloc::Global;
+
+/// A graph whose unknown references have the empty id.
+#[cycle(known)]
+pub fn known_graph(alloc: Global, graph: &Graph) -> Result<Graph, OutOfMemory>
+    ensures { IfOk result (λ g. plain_graph g ≡ spec.known_graph (plain_graph graph.now)) }
+{
+    let nodes = known_nodes(alloc, &graph.nodes, &graph.nodes)?;
+    Ok(Graph {
+        nodes,
+        result: graph.result,
+    })
+}
+
+#[cycle(known)]
+fn known_nodes(alloc: Global, nodes: &Vec<Node>, all: &Vec<Node>) -> Result<Vec<Node>, OutOfMemory>
+    ensures { IfOk result (λ v. plain_nodes v.items
+        ≡ spec.known_nodes (ids_of (plain_nodes all.now.items)) (plain_nodes nodes.now.items)) }
+{
+    let mut copy = Vec::with_capacity(alloc, nodes.len())?;
+    for node in nodes {
+        copy.push(known_node(alloc, node, all)?)?;
+    }
+    Ok(copy)
+}
+
+#[cycle(known)]
+fn known_node(alloc: Global, node: &Node, all: &Vec<Node>) -> Result<Node, OutOfMemory>
+    ensures { IfOk result (λ n. plain_node n
+        ≡ spec.known_node (ids_of (plain_nodes all.now.items)) (plain_node node.now)) }
+{
+    Ok(Node {
+        id: node.id.copy()?,
+        process_id: node.process_id.copy()?,
+        namespace: copy_namespace(&node.namespace)?,
+        arguments: known_named(alloc, &node.arguments, all)?,
+    })
+}
+
+pub fn copy_namespace(namespace: &Option<Text>) -> Result<Option<Text>, OutOfMemory>
+    ensures { IfOk result (λ copy. copy ≡ namespace.now) }
+{
+    match namespace {
+        Some(namespace) => Ok(Some(namespace.copy()?)),
+        None => Ok(None),
+    }
+}
+
+#[cycle(known)]
+fn known_named(
+    alloc: Global,
+    members: &Vec<(Text, Arg)>,
+    all: &Vec<Node>,
+) -> Result<Vec<(Text, Arg)>, OutOfMemory>
+    ensures { IfOk result (λ v. plain_named v.items
+        ≡ spec.known_named (ids_of (plain_nodes all.now.items)) (plain_named members.now.items)) }
+{
+    let mut copy = Vec::with_capacity(alloc, members.len())?;
+    for member in members {
+        let name = member.0.copy()?;
+        copy.push((name, known_arg(alloc, &member.1, all)?))?;
+    }
+    Ok(copy)
+}
+
+#[cycle(known)]
+fn known_args(alloc: Global, items: &Vec<Arg>, all: &Vec<Node>) -> Result<Vec<Arg>, OutOfMemory>
+    ensures { IfOk result (λ v. plain_args v.items
+        ≡ spec.known_each (ids_of (plain_nodes all.now.items)) (plain_args items.now.items)) }
+{
+    let mut copy = Vec::with_capacity(alloc, items.len())?;
+    for item in items {
+        copy.push(known_arg(alloc, item, all)?)?;
+    }
+    Ok(copy)
+}
+
+#[cycle(known)]
+fn known_arg(alloc: Global, arg: &Arg, all: &Vec<Node>) -> Result<Arg, OutOfMemory>
+    ensures { IfOk result (λ a. plain_arg a
+        ≡ spec.known (ids_of (plain_nodes all.now.items)) (plain_arg arg.now)) }
+{
+    match arg {
+        Arg::Null => Ok(Arg::Null),
+        Arg::Flag(flag) => Ok(Arg::Flag(*flag)),
+        Arg::Whole(whole) => Ok(Arg::Whole(*whole)),
+        Arg::Inexact => Ok(Arg::Inexact),
+        Arg::Str(text) => Ok(Arg::Str(text.copy()?)),
+        Arg::List(items) => Ok(Arg::List(known_args(alloc, items, all)?)),
+        Arg::Object(members) => Ok(Arg::Object(known_named(alloc, members, all)?)),
+        Arg::FromNode(id) => Ok(Arg::FromNode(known_id(alloc, all, id)?)),
+        Arg::FromParameter(name) => Ok(Arg::FromParameter(name.copy()?)),
+        Arg::Callback(graph) => Ok(Arg::Callback(known_graph(alloc, graph)?)),
+    }
+}
+
+fn known_id(alloc: Global, all: &Vec<Node>, id: &Text) -> Result<Text, OutOfMemory>
+    ensures { IfOk result (λ text. text
+        ≡ spec.known_id (ids_of (plain_nodes all.now.items)) id.now) }
+{
+    if has_id(all, id.as_str()) {
+        id.copy()
+    } else {
+        Text::of(alloc, "")
+    }
+}

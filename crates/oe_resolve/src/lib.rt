@@ -1,0 +1,176 @@
+//! Process graphs resolved: calls of stored processes replaced by their graphs, and all names made to lead somewhere.
+#![tactic(auto)]
+
+mod calls;
+mod count;
+mod cycle;
+mod fill;
+mod find;
+mod judge;
+mod known;
+mod names;
+mod reach;
+mod round;
+mod under;
+mod values;
+mod weigh;
+
+ghost use Rattle.std.specs.Prelude.{◌≡◌, ℕ, true, List, [], IfOk, IfErr, map};
+ghost use Rattle.oe_graph.specs.declared.code.Code.{Code};
+ghost use Rattle.oe_graph.specs.Plain.{plain_graph, plain_stored};
+ghost use Rattle.oe_graph.specs.Read.{IsFault};
+ghost use Rattle.oe_graph.specs.Resolved.{IsResolved};
+ghost use Rattle.oe_graph.specs.Tree.{PlainGraph};
+ghost use Rattle.oe_resolve.specs.Faults.{Stands};
+ghost use Rattle.oe_resolve.specs.Called.{nodes_call};
+ghost use Rattle.oe_resolve.specs.Expansion.{IsExpansion, IsSettled};
+ghost use Rattle.oe_resolve.specs.Filled as spec;
+ghost use Rattle.oe_resolve.specs.Judged.{IdsRise, IsLeastFault, OfObject};
+ghost use Rattle.oe_resolve.specs.Rounds as rounds;
+ghost use Rattle.oe_graph.specs.Valid.{IsValidGraph, AreValidStored};
+
+use oe_dims::Text;
+use oe_graph::{Code, Fault, Graph, Refusal, StoredProcess, least};
+use oe_memory::OutOfMemory;
+use std::alloc::Global;
+
+/// Most values in the arguments of an expanded graph.
+const MOST_VALUES: u64 = 1048576;
+
+/// The graph with each call of a stored process replaced by its graph and with all defaults (openEO API, process graphs
+/// and user-defined processes).
+///
+/// Refuses: the least fault of the processes that it calls, of its size and of its names, exactly where one stands.
+pub fn resolve(alloc: Global, graph: &Graph, stored: &[StoredProcess]) -> Result<Graph, Refusal>
+    requires graph_valid { IsValidGraph (plain_graph graph.now) }
+    requires stored_valid { AreValidStored (map plain_stored stored.now) }
+    // What Ok gives: the expanded graph, in which all names lead somewhere.
+    ensures graph { IfOk result (λ g. plain_graph g
+        ≡ spec.resolved (map plain_stored stored.now) (plain_graph graph.now)) }
+    ensures resolved { IfOk result (λ g. IsResolved (plain_graph g)) }
+    // Ok comes exactly where no fault stands, else the least one.
+    ensures without_fault { IfOk result (λ g. (code : Code) (node : List ℕ)
+        → ¬ Stands (map plain_stored stored.now) (plain_graph graph.now) code node) }
+    ensures refused { IfErr result
+        (IsFault (Stands (map plain_stored stored.now) (plain_graph graph.now))) }
+{
+    let calls = reach::read_calls(alloc, stored)?;
+    if let Some(fault) = reach::call_fault(alloc, stored, &calls, graph)? {
+        return Err(Refusal::Fault(fault));
+    }
+    if count::is_too_large(alloc, stored, &calls, graph)? {
+        return Err(Refusal::Fault(Fault {
+            code: Code::GraphTooLarge,
+            node: Text::of(alloc, "")?,
+        }));
+    }
+    let (expanded, fault) = expand(alloc, stored, graph)?;
+    if let Some(fault) = fault {
+        return Err(Refusal::Fault(fault));
+    }
+    Ok(fill::filled_graph(alloc, &expanded)?)
+}
+
+/// The graph after all rounds, and the least fault of names in any.
+fn expand(
+    alloc: Global,
+    stored: &[StoredProcess],
+    graph: &Graph,
+) -> Result<(Graph, Option<Fault>), OutOfMemory>
+    requires graph_valid { IsValidGraph (plain_graph graph.now) }
+    requires stored_valid { AreValidStored (map plain_stored stored.now) }
+    ensures { IfOk result
+        (IsExpansion (map plain_stored stored.now) (plain_graph graph.now)) }
+{
+    let first = known::known_graph(alloc, graph)?;
+    let known = known_where_called(alloc, stored, &first)?;
+    let mut expanded = first;
+    let mut fault = None;
+    let mut times: usize = 0;
+    while times < stored.len() && reach::has_call(stored, &expanded) {
+        let found = names_fault(alloc, stored, false, &expanded)?;
+        fault = least(fault, found);
+        expanded = next_round(alloc, known.as_slice(), &expanded)?;
+        times += 1;
+    }
+    last_judged(alloc, stored, expanded, fault)
+}
+
+/// The graph after all rounds with the least fault of names, where this was the least before the last round.
+fn last_judged(
+    alloc: Global,
+    stored: &[StoredProcess],
+    expanded: Graph,
+    fault: Option<Fault>,
+) -> Result<(Graph, Option<Fault>), OutOfMemory>
+    requires rise { IdsRise (plain_graph expanded).nodes }
+    ensures { IfOk result (λ r. (graph : PlainGraph)
+        → IsSettled (map plain_stored stored.now) graph (plain_graph expanded) fault
+        → IsExpansion (map plain_stored stored.now) graph r) }
+{
+    let found = names_fault(alloc, stored, true, &expanded)?;
+    Ok((expanded, least(fault, found)))
+}
+
+fn names_fault(
+    alloc: Global,
+    stored: &[StoredProcess],
+    last: bool,
+    graph: &Graph,
+) -> Result<Option<Fault>, OutOfMemory>
+    requires rise { IdsRise (plain_graph graph.now).nodes }
+    ensures { IfOk result (IsLeastFault (λ f. OfObject (map plain_stored stored.now) last f [] []
+        (plain_graph graph.now).nodes)) }
+{
+    let judge = judge::Judge { stored, last };
+    judge::names_fault(alloc, &judge, graph)
+}
+
+/// The graph after a round. More values than a graph may hold are out of memory.
+fn next_round(alloc: Global, stored: &[StoredProcess], graph: &Graph) -> Result<Graph, OutOfMemory>
+    ensures { IfOk result (λ g. plain_graph g
+        ≡ rounds.round (map plain_stored stored.now) (plain_graph graph.now)) }
+{
+    if weigh::round_size(alloc, stored, &graph.nodes)? > MOST_VALUES {
+        return Err(OutOfMemory);
+    }
+    round::round(alloc, stored, graph)
+}
+
+/// The stored processes where a graph calls one; else they are not asked for.
+fn known_where_called(
+    alloc: Global,
+    stored: &[StoredProcess],
+    graph: &Graph,
+) -> Result<Vec<StoredProcess>, OutOfMemory>
+    ensures { IfOk result (λ v.
+        nodes_call (map plain_stored stored.now) (plain_graph graph.now).nodes ≡ true
+        → map plain_stored v.items ≡ map rounds.known_stored (map plain_stored stored.now)) }
+{
+    if reach::has_call(stored, graph) {
+        known_stored(alloc, stored)
+    } else {
+        Ok(Vec::new(alloc))
+    }
+}
+
+/// The stored processes, in whose graphs unknown references have the empty id.
+fn known_stored(alloc: Global, stored: &[StoredProcess]) -> Result<Vec<StoredProcess>, OutOfMemory>
+    ensures { IfOk result (λ v. map plain_stored v.items
+        ≡ map rounds.known_stored (map plain_stored stored.now)) }
+{
+    let mut known = Vec::with_capacity(alloc, stored.len())?;
+    for process in stored {
+        known.push(known_process(alloc, process)?)?;
+    }
+    Ok(known)
+}
+
+fn known_process(alloc: Global, process: &StoredProcess) -> Result<StoredProcess, OutOfMemory>
+    ensures { IfOk result
+        (λ s. plain_stored s ≡ rounds.known_stored (plain_stored process.now)) }
+{
+    let mut copy = process.copy()?;
+    copy.graph = known::known_graph(alloc, &process.graph)?;
+    Ok(copy)
+}

@@ -1,0 +1,52 @@
+// Names and lists of them.
+ghost use Rattle.std.specs.Prelude.{◌≡◌, ◌++◌, IfOk};
+ghost use Rattle.std.specs.List.{list_any};
+ghost use Rattle.oe_dims.specs.Names.{same_name, is_name_before};
+ghost use Rattle.oe_resolve.specs.Seen.{names_behind};
+
+use oe_memory::OutOfMemory;
+use std::alloc::Global;
+
+/// Whether two texts have the same bytes.
+pub fn same_text(text: &str, other: &str) -> bool
+    ensures { result ≡ same_name text.now other.now }
+{
+    text == other
+}
+
+/// Whether a text stands before another in the order of bytes.
+pub fn is_before(text: &str, other: &str) -> bool
+    ensures { result ≡ is_name_before text.now other.now }
+{
+    text < other
+}
+
+/// Whether one of these is the name.
+pub fn is_among(names: &[&'static str], name: &str) -> bool
+    ensures { result ≡ list_any (same_name name.now) (names_behind names.now) }
+{
+    for one in names {
+        if same_text(name, *one) {
+            return true;
+        }
+    }
+    false
+}
+
+/// These names and the others.
+pub fn names_of_both(
+    alloc: Global,
+    names: &[&'static str],
+    others: &[&'static str],
+) -> Result<Vec<&'static str>, OutOfMemory>
+    ensures { IfOk result (λ v. v.items ≡ names.now ++ others.now) }
+{
+    let mut both = Vec::with_capacity(alloc, 4)?;
+    for name in names {
+        both.push(*name)?;
+    }
+    for name in others {
+        both.push(*name)?;
+    }
+    Ok(both)
+}

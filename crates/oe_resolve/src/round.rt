@@ -1,0 +1,224 @@
+// One round: each call of a stored process is replaced by the graph of that process.
+ghost use Rattle.std.specs.Prelude.{◌≡◌, ◌≤◌, IfOk, OnOk, Some, length, map};
+ghost use Rattle.oe_graph.specs.Plain.{plain_arg, plain_args, plain_named, plain_nodes, plain_node, plain_graph, plain_stored};
+ghost use Rattle.oe_graph.specs.Printed.{ids_of};
+ghost use Rattle.oe_graph.specs.Tree.{PlainNode, no_nodes};
+ghost use Rattle.oe_resolve.specs.Calls.{callee};
+ghost use Rattle.oe_resolve.specs.Rounds as spec;
+
+use crate::calls::callee;
+use crate::find::{id_at, index_of};
+use crate::known::copy_namespace;
+use crate::names::is_before;
+use crate::under::{under_id, under_nodes};
+use crate::values::{Values, replaced_nodes, values_given};
+use oe_dims::Text;
+use oe_graph::{Arg, Graph, Node, StoredProcess};
+use oe_memory::OutOfMemory;
+use std::alloc::Global;
+
+/// The graph after a round.
+pub fn round(alloc: Global, stored: &[StoredProcess], graph: &Graph) -> Result<Graph, OutOfMemory>
+    ensures { IfOk result (λ g. plain_graph g
+        ≡ spec.round (map plain_stored stored.now) (plain_graph graph.now)) }
+{
+    round_graph(alloc, graph, stored)
+}
+
+// In each of these the tree that is walked stands first: by its depth they end.
+#[cycle(round)]
+fn round_graph(alloc: Global, graph: &Graph, stored: &[StoredProcess]) -> Result<Graph, OutOfMemory>
+    ensures { IfOk result (λ g. plain_graph g
+        ≡ spec.round (map plain_stored stored.now) (plain_graph graph.now)) }
+{
+    let nodes = round_nodes(alloc, &graph.nodes, stored)?;
+    let id = landed(alloc, stored, &graph.nodes, id_at(graph))?;
+    let result = index_of(&nodes, id.as_str());
+    // As many nodes as do not fit this type do not fit the memory either.
+    match u32::try_from(result) {
+        Ok(result) => Ok(Graph { nodes, result }),
+        Err(_) => Err(OutOfMemory),
+    }
+}
+
+#[cycle(round)]
+fn round_nodes(
+    alloc: Global,
+    all: &Vec<Node>,
+    stored: &[StoredProcess],
+) -> Result<Vec<Node>, OutOfMemory>
+    ensures { IfOk result (λ v. let all = plain_nodes all.now.items in plain_nodes v.items
+        ≡ spec.round_nodes (map plain_stored stored.now) all all no_nodes) }
+{
+    let mut found = Vec::with_capacity(alloc, all.len())?;
+    for node in all {
+        let arguments = round_named(alloc, &node.arguments, stored, all)?;
+        let more = opened(alloc, stored, node, arguments)?;
+        put_nodes(&mut found, more)?;
+    }
+    Ok(found)
+}
+
+/// A node, or in place of a call the nodes of the process that it calls.
+fn opened(
+    alloc: Global,
+    stored: &[StoredProcess],
+    node: &Node,
+    arguments: Vec<(Text, Arg)>,
+) -> Result<Vec<Node>, OutOfMemory>
+    ensures { IfOk result (λ v. plain_nodes v.items
+        ≡ spec.opened (map plain_stored stored.now)
+        record (plain_node node.now) { arguments = plain_named arguments.items }
+        (callee (map plain_stored stored.now) node.now.namespace node.now.process_id)) }
+{
+    match callee(stored, node) {
+        Some(process) => open(alloc, stored, node, &arguments, process),
+        None => {
+            let mut one = Vec::with_capacity(alloc, 1)?;
+            one.push(Node {
+                id: node.id.copy()?,
+                process_id: node.process_id.copy()?,
+                namespace: copy_namespace(&node.namespace)?,
+                arguments,
+            })?;
+            Ok(one)
+        }
+    }
+}
+
+fn open(
+    alloc: Global,
+    stored: &[StoredProcess],
+    node: &Node,
+    arguments: &Vec<(Text, Arg)>,
+    process: &StoredProcess,
+) -> Result<Vec<Node>, OutOfMemory>
+    ensures { IfOk result (λ v. plain_nodes v.items
+        ≡ spec.opened (map plain_stored stored.now)
+        record (plain_node node.now) { arguments = plain_named arguments.now.items }
+        (Some (plain_stored process.now))) }
+{
+    let given = values_given(alloc, &process.parameters, arguments)?;
+    let values = Values {
+        given: &given,
+        hidden: Vec::new(alloc),
+        carried: false,
+    };
+    let nodes = under_nodes(alloc, node.id.as_str(), &process.graph.nodes)?;
+    replaced_nodes(alloc, &nodes, stored, &values)
+}
+
+/// Puts nodes at the indices that their ids have in byte order.
+fn put_nodes(found: &mut Vec<Node>, more: Vec<Node>) -> Result<(), OutOfMemory>
+    ensures { OnOk result (plain_nodes found.new.items
+        ≡ spec.put_nodes (plain_nodes more.items) (plain_nodes found.old.items)) }
+{
+    for node in more {
+        put_node(found, node)?;
+    }
+    Ok(())
+}
+
+fn put_node(found: &mut Vec<Node>, node: Node) -> Result<(), OutOfMemory>
+    ensures { OnOk result (plain_nodes found.new.items
+        ≡ spec.put_node (plain_node node) (plain_nodes found.old.items)) }
+{
+    let index = index_among(found, node.id.as_str());
+    found.insert(index, node)?;
+    Ok(())
+}
+
+/// The index that an id has in byte order among the ids of nodes.
+fn index_among(nodes: &Vec<Node>, id: &str) -> usize
+    ensures within { result ≤ length nodes.now.items }
+    ensures is { result ≡ spec.index_among id.now (ids_of (plain_nodes nodes.now.items)) }
+{
+    for index in 0..nodes.len() {
+        if !is_before(nodes[index].id.as_str(), id) {
+            return index;
+        }
+    }
+    nodes.len()
+}
+
+/// What a reference means after the round: the result node of a call's graph in place of the call.
+fn landed(
+    alloc: Global,
+    stored: &[StoredProcess],
+    all: &Vec<Node>,
+    id: &str,
+) -> Result<Text, OutOfMemory>
+    ensures { IfOk result (λ text. text
+        ≡ spec.landed (map plain_stored stored.now) (plain_nodes all.now.items) id.now) }
+{
+    let index = index_of(all, id);
+    if index == all.len() {
+        return Text::of(alloc, id);
+    }
+    match callee(stored, &all[index]) {
+        Some(process) => under_id(alloc, id, id_at(&process.graph)),
+        None => Text::of(alloc, id),
+    }
+}
+
+#[cycle(round)]
+fn round_named(
+    alloc: Global,
+    members: &Vec<(Text, Arg)>,
+    stored: &[StoredProcess],
+    all: &Vec<Node>,
+) -> Result<Vec<(Text, Arg)>, OutOfMemory>
+    ensures { IfOk result (λ v. plain_named v.items
+        ≡ spec.round_named (map plain_stored stored.now) (plain_nodes all.now.items)
+        (plain_named members.now.items)) }
+{
+    let mut copy = Vec::with_capacity(alloc, members.len())?;
+    for member in members {
+        let name = member.0.copy()?;
+        copy.push((name, round_arg(alloc, &member.1, stored, all)?))?;
+    }
+    Ok(copy)
+}
+
+#[cycle(round)]
+fn round_args(
+    alloc: Global,
+    items: &Vec<Arg>,
+    stored: &[StoredProcess],
+    all: &Vec<Node>,
+) -> Result<Vec<Arg>, OutOfMemory>
+    ensures { IfOk result (λ v. plain_args v.items
+        ≡ spec.round_each (map plain_stored stored.now) (plain_nodes all.now.items)
+        (plain_args items.now.items)) }
+{
+    let mut copy = Vec::with_capacity(alloc, items.len())?;
+    for item in items {
+        copy.push(round_arg(alloc, item, stored, all)?)?;
+    }
+    Ok(copy)
+}
+
+#[cycle(round)]
+fn round_arg(
+    alloc: Global,
+    arg: &Arg,
+    stored: &[StoredProcess],
+    all: &Vec<Node>,
+) -> Result<Arg, OutOfMemory>
+    ensures { IfOk result (λ a. plain_arg a
+        ≡ spec.round_argument (map plain_stored stored.now) (plain_nodes all.now.items)
+        (plain_arg arg.now)) }
+{
+    match arg {
+        Arg::Null => Ok(Arg::Null),
+        Arg::Flag(flag) => Ok(Arg::Flag(*flag)),
+        Arg::Whole(whole) => Ok(Arg::Whole(*whole)),
+        Arg::Inexact => Ok(Arg::Inexact),
+        Arg::Str(text) => Ok(Arg::Str(text.copy()?)),
+        Arg::List(items) => Ok(Arg::List(round_args(alloc, items, stored, all)?)),
+        Arg::Object(members) => Ok(Arg::Object(round_named(alloc, members, stored, all)?)),
+        Arg::FromNode(id) => Ok(Arg::FromNode(landed(alloc, stored, all, id.as_str())?)),
+        Arg::FromParameter(name) => Ok(Arg::FromParameter(name.copy()?)),
+        Arg::Callback(graph) => Ok(Arg::Callback(round_graph(alloc, graph, stored)?)),
+    }
+}
