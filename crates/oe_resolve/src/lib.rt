@@ -40,7 +40,8 @@ const MOST_VALUES: u64 = 1048576;
 /// The graph with each call of a stored process replaced by its graph and with all defaults (openEO API, process graphs
 /// and user-defined processes).
 ///
-/// Refuses: the least fault of the processes that it calls, of its size and of its names, exactly where one stands.
+/// Refuses: the least fault of the processes that it calls, of its size and of its names, exactly where one stands; out
+/// of memory, also where an expansion would hold over 1,048,576 values in its arguments.
 pub fn resolve(alloc: Global, graph: &Graph, stored: &[StoredProcess]) -> Result<Graph, Refusal>
     requires graph_valid { IsValidGraph (plain_graph graph.now) }
     requires stored_valid { AreValidStored (map plain_stored stored.now) }
