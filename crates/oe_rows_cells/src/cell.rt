@@ -25,6 +25,9 @@ enum Said {
 
 use Said::{Is, Null, Over, Ratio, Whole};
 
+/// A name, two operands and the results of two operations.
+type TwoResults = (&'static str, Said, Said, Said, Said);
+
 /// The number of a numerator and a denominator, which stand in lowest terms in the tables.
 fn number(rt: &impl Abort, num: i64, den: u64) -> Frac {
     Frac::new(num, den).expect(rt, "in lowest terms and in range")
@@ -40,152 +43,162 @@ fn cell(rt: &impl Abort, said: Said) -> Cell {
     }
 }
 
+/// Two cells, with their sum and their difference.
+const SUMS: &[TwoResults] = &[
+    (
+        "openEO: 5 and 2.5",
+        Whole(5),
+        Ratio(5, 2),
+        Ratio(15, 2),
+        Ratio(5, 2),
+    ),
+    ("openEO: 1 and null", Whole(1), Null, Null, Null),
+    (
+        "sixths and tenths",
+        Ratio(1, 6),
+        Ratio(1, 10),
+        Ratio(4, 15),
+        Ratio(1, 15),
+    ),
+    ("halves", Ratio(1, 2), Ratio(1, 2), Whole(1), Whole(0)),
+    (
+        "zero on the right",
+        Ratio(-7, 3),
+        Whole(0),
+        Ratio(-7, 3),
+        Ratio(-7, 3),
+    ),
+    (
+        "zero on the left",
+        Whole(0),
+        Ratio(-7, 3),
+        Ratio(-7, 3),
+        Ratio(7, 3),
+    ),
+    (
+        "up to the limit",
+        Whole(LIMIT - 1),
+        Whole(1),
+        Whole(LIMIT),
+        Whole(LIMIT - 2),
+    ),
+    (
+        "past the limit",
+        Whole(LIMIT),
+        Whole(1),
+        Over,
+        Whole(LIMIT - 1),
+    ),
+    (
+        "past the limit below 0",
+        Whole(-LIMIT),
+        Whole(-1),
+        Over,
+        Whole(1 - LIMIT),
+    ),
+    (
+        "a denominator past the limit",
+        Ratio(1, WIDE),
+        Ratio(1, 2),
+        Over,
+        Over,
+    ),
+    ("a flag", Is(true), Whole(1), Null, Null),
+    ("Over before a flag", Is(true), Over, Over, Over),
+    ("Over before null", Over, Null, Over, Over),
+];
+
 #[test]
 fn adds_and_subtracts(rt: HostRuntime) {
-    for (name, x, y, sum, difference) in [
-        (
-            "openEO: 5 and 2.5",
-            Whole(5),
-            Ratio(5, 2),
-            Ratio(15, 2),
-            Ratio(5, 2),
-        ),
-        ("openEO: 1 and null", Whole(1), Null, Null, Null),
-        (
-            "sixths and tenths",
-            Ratio(1, 6),
-            Ratio(1, 10),
-            Ratio(4, 15),
-            Ratio(1, 15),
-        ),
-        ("halves", Ratio(1, 2), Ratio(1, 2), Whole(1), Whole(0)),
-        (
-            "zero on the right",
-            Ratio(-7, 3),
-            Whole(0),
-            Ratio(-7, 3),
-            Ratio(-7, 3),
-        ),
-        (
-            "zero on the left",
-            Whole(0),
-            Ratio(-7, 3),
-            Ratio(-7, 3),
-            Ratio(7, 3),
-        ),
-        (
-            "up to the limit",
-            Whole(LIMIT - 1),
-            Whole(1),
-            Whole(LIMIT),
-            Whole(LIMIT - 2),
-        ),
-        (
-            "past the limit",
-            Whole(LIMIT),
-            Whole(1),
-            Over,
-            Whole(LIMIT - 1),
-        ),
-        (
-            "past the limit below 0",
-            Whole(-LIMIT),
-            Whole(-1),
-            Over,
-            Whole(1 - LIMIT),
-        ),
-        (
-            "a denominator past the limit",
-            Ratio(1, WIDE),
-            Ratio(1, 2),
-            Over,
-            Over,
-        ),
-        ("a flag", Is(true), Whole(1), Null, Null),
-        ("Over before a flag", Is(true), Over, Over, Over),
-        ("Over before null", Over, Null, Over, Over),
-    ] {
-        assert_eq!(rt; add(cell(&rt, x), cell(&rt, y)), cell(&rt, sum), "{name}");
+    for (name, x, y, sum, difference) in SUMS {
         assert_eq!(rt;
-            subtract(cell(&rt, x), cell(&rt, y)),
-            cell(&rt, difference),
+            add(cell(&rt, *x), cell(&rt, *y)),
+            cell(&rt, *sum),
+            "{name}"
+        );
+        assert_eq!(rt;
+            subtract(cell(&rt, *x), cell(&rt, *y)),
+            cell(&rt, *difference),
             "{name}"
         );
     }
 }
 
+/// Two cells, with their product and their quotient.
+const PRODUCTS: &[TwoResults] = &[
+    (
+        "openEO: 5 and 2.5",
+        Whole(5),
+        Ratio(5, 2),
+        Ratio(25, 2),
+        Whole(2),
+    ),
+    (
+        "openEO: -2 and 4",
+        Whole(-2),
+        Whole(4),
+        Whole(-8),
+        Ratio(-1, 2),
+    ),
+    ("openEO: 1 and null", Whole(1), Null, Null, Null),
+    (
+        "a divisor below 0",
+        Ratio(1, 3),
+        Ratio(-5, 3),
+        Ratio(-5, 9),
+        Ratio(-1, 5),
+    ),
+    (
+        "whole numbers, both below 0",
+        Whole(-6),
+        Whole(-4),
+        Whole(24),
+        Ratio(3, 2),
+    ),
+    ("a divisor of 0", Whole(1), Whole(0), Whole(0), Null),
+    ("a dividend of 0", Whole(0), Ratio(5, 7), Whole(0), Whole(0)),
+    (
+        "by 1",
+        Ratio(LIMIT, 2),
+        Whole(1),
+        Ratio(LIMIT, 2),
+        Ratio(LIMIT, 2),
+    ),
+    (
+        "the largest parts",
+        Ratio(LIMIT, 2),
+        Ratio(2, WIDE),
+        Whole(1),
+        Over,
+    ),
+    (
+        "past the limit",
+        Whole(LIMIT),
+        Whole(2),
+        Over,
+        Ratio(LIMIT, 2),
+    ),
+    (
+        "a denominator past the limit",
+        Ratio(1, WIDE),
+        Ratio(1, 2),
+        Over,
+        Ratio(2, WIDE),
+    ),
+    ("Over before a divisor of 0", Over, Whole(0), Over, Over),
+];
+
 #[test]
 fn multiplies_and_divides(rt: HostRuntime) {
-    for (name, x, y, product, quotient) in [
-        (
-            "openEO: 5 and 2.5",
-            Whole(5),
-            Ratio(5, 2),
-            Ratio(25, 2),
-            Whole(2),
-        ),
-        (
-            "openEO: -2 and 4",
-            Whole(-2),
-            Whole(4),
-            Whole(-8),
-            Ratio(-1, 2),
-        ),
-        ("openEO: 1 and null", Whole(1), Null, Null, Null),
-        (
-            "a divisor below 0",
-            Ratio(1, 3),
-            Ratio(-5, 3),
-            Ratio(-5, 9),
-            Ratio(-1, 5),
-        ),
-        (
-            "whole numbers, both below 0",
-            Whole(-6),
-            Whole(-4),
-            Whole(24),
-            Ratio(3, 2),
-        ),
-        ("a divisor of 0", Whole(1), Whole(0), Whole(0), Null),
-        ("a dividend of 0", Whole(0), Ratio(5, 7), Whole(0), Whole(0)),
-        (
-            "by 1",
-            Ratio(LIMIT, 2),
-            Whole(1),
-            Ratio(LIMIT, 2),
-            Ratio(LIMIT, 2),
-        ),
-        (
-            "the largest parts",
-            Ratio(LIMIT, 2),
-            Ratio(2, WIDE),
-            Whole(1),
-            Over,
-        ),
-        (
-            "past the limit",
-            Whole(LIMIT),
-            Whole(2),
-            Over,
-            Ratio(LIMIT, 2),
-        ),
-        (
-            "a denominator past the limit",
-            Ratio(1, WIDE),
-            Ratio(1, 2),
-            Over,
-            Ratio(2, WIDE),
-        ),
-        ("Over before a divisor of 0", Over, Whole(0), Over, Over),
-    ] {
+    for (name, x, y, product, quotient) in PRODUCTS {
         assert_eq!(rt;
-            multiply(cell(&rt, x), cell(&rt, y)),
-            cell(&rt, product),
+            multiply(cell(&rt, *x), cell(&rt, *y)),
+            cell(&rt, *product),
             "{name}"
         );
         assert_eq!(rt;
-            divide(cell(&rt, x), cell(&rt, y)),
-            cell(&rt, quotient),
+            divide(cell(&rt, *x), cell(&rt, *y)),
+            cell(&rt, *quotient),
             "{name}"
         );
     }

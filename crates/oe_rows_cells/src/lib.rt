@@ -1,7 +1,7 @@
 //! Worked values of cells, reducers and kernels, in tables.
 //!
-//! Nothing stands on this crate: like `oe_rows`, it has only tests, one file a crate, whose expected values are taken from
-//! outside, by hand or from the public texts.
+//! Nothing stands on this crate: like `oe_rows`, it has only tests, whose expected values are taken from outside, by
+//! hand or from the public texts.
 #![tactic(auto)]
 
 #[cfg(test)]
@@ -10,3 +10,5 @@ mod cell;
 mod fold;
 #[cfg(test)]
 mod kernel;
+#[cfg(test)]
+mod plane;

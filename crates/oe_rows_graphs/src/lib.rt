@@ -11,4 +11,6 @@ mod cube;
 #[cfg(test)]
 mod graph;
 #[cfg(test)]
+mod stored;
+#[cfg(test)]
 mod top;
