@@ -1,0 +1,21 @@
+mod Again
+pub mod Exclusive
+mod FieldLemmas
+mod Fronts
+mod HeadLemmas
+mod HeadLines
+mod Lines
+mod Messages
+mod Phrases
+mod ReadLemmas
+mod ReplyFields
+mod ReplyHeads
+mod ReplyMessages
+mod ReplyStepLemmas
+mod StepLemmas
+mod Targets
+mod Visible
+mod WrittenFields
+mod WrittenHeads
+mod WrittenReplies
+mod Wrote

@@ -1,0 +1,27 @@
+use Rattle.std.proofs.Common.{ℕ, List, take, drop, subst}
+use Rattle.std.proofs.lemmas.Result.{IfErr-weaker, IfOk-weaker}
+use Rattle.oe_http.specs.Reading.{ReadsBody}
+use Rattle.oe_http.proofs.StepLemmas.{made, cut, take_of_rest}
+use Rattle.oe_http.proofs.request.read_whole.Goals as goal
+
+pub returns-in-Ok-clause-request : goal.returns-in-Ok-clause-request
+returns-in-Ok-clause-request g c =
+    let P : List ℕ → Type 0 = λ bytes. ReadsBody c.args.head.now.parts.length (g.L.Link.left c.args.link.now)
+    (take c.args.head.now.parts.length (drop c.args.head.now.end bytes)) c.in-Ok.body.items (g.L.Link.left c.read_body.new.link) in
+    let Q : List ℕ → Type 0 = λ first. ReadsBody c.args.head.now.parts.length (g.L.Link.left c.args.link.now)
+    first c.in-Ok.body.items (g.L.Link.left c.read_body.new.link) in
+    let held : P c.deref.result.now =
+    subst Q (take_of_rest c.args.head.now.parts.length c.args.head.now.end c.deref.result.now) c.in-Ok.ensures.read in
+    let got : P c.args.head.now.bytes.items = subst P c.deref.ensures.value held in
+    IfOk-weaker c.with_body.result _ _ (λ request is. made c.args.head.now request got is) c.with_body.ensures.whole
+
+pub returns-in-Ok-clause-refused : goal.returns-in-Ok-clause-refused
+returns-in-Ok-clause-refused g c =
+    let P : List ℕ → Type 0 = λ bytes. ReadsBody c.args.head.now.parts.length (g.L.Link.left c.args.link.now)
+    (take c.args.head.now.parts.length (drop c.args.head.now.end bytes)) c.in-Ok.body.items (g.L.Link.left c.read_body.new.link) in
+    let Q : List ℕ → Type 0 = λ first. ReadsBody c.args.head.now.parts.length (g.L.Link.left c.args.link.now)
+    first c.in-Ok.body.items (g.L.Link.left c.read_body.new.link) in
+    let held : P c.deref.result.now =
+    subst Q (take_of_rest c.args.head.now.parts.length c.args.head.now.end c.deref.result.now) c.in-Ok.ensures.read in
+    let got : P c.args.head.now.bytes.items = subst P c.deref.ensures.value held in
+    IfErr-weaker c.with_body.result _ _ (λ refusal is. cut c.args.head.now refusal got is) c.with_body.ensures.refused

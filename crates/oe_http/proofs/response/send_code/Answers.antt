@@ -1,0 +1,12 @@
+use Rattle.std.proofs.Common.{◌++◌, codes}
+use Rattle.oe_http.specs.Replies.{line_end}
+use Rattle.oe_outside.proofs.Streams.{has_sent_then, has_stopped, has_stopped_more}
+use Rattle.oe_http.proofs.response.send_code.Goals as goal
+
+pub returns-in_err-send_two-clause-sent : goal.returns-in_err-send_two-clause-sent
+returns-in_err-send_two-clause-sent g c =
+    let is = c.from_residual.ensures.0 in
+    has_stopped_more (codes " " ++ (c.args.phrase.now ++ line_end)) is (has_stopped is c.in_err-send_two.ensures.sent)
+
+pub returns-clause-sent : goal.returns-clause-sent
+returns-clause-sent g c = has_sent_then c.in_ok-send_two.ensures.sent c.send_three.ensures.sent

@@ -1,0 +1,17 @@
+pub mod Again
+pub mod Bodies
+pub mod Fields
+pub mod Found
+pub mod Front
+pub mod Heads
+pub mod Parts
+pub mod Plain
+pub mod Reading
+pub mod Refused
+pub mod Replies
+pub mod ReplyParts
+pub mod ReplySteps
+pub mod Requests
+pub mod Steps
+pub mod Responses
+pub mod Written
