@@ -1,13 +1,13 @@
 -- The parts of a result text, one after another.
-use Rattle.std.proofs.Common.{◌≡◌, ℕ, zero, suc, ◌+◌, ◌<◌, List, [], ◌∷◌, ◌++◌, length, take, get_or, true, ℤ, ◌≤ℤ◌, drop, Option, Some, None, Result, Ok, IsErr, sym, ap, ◌∙◌, refl, append_assoc, arith}
+use Rattle.std.proofs.Common.{◌≡◌, ℕ, zero, suc, ◌+◌, ◌-◌, ◌<◌, ◌≤◌, List, [], ◌∷◌, ◌++◌, length, map, take, get_or, true, ℤ, ◌≤ℤ◌, drop, Option, Some, None, Result, Ok, IsErr, sym, ap, ◌∙◌, refl, append_assoc, take-take, arith}
 use Rattle.std.specs.Prelude.{unwrap_or}
 use Rattle.std.specs.Int.Signed.{le_z}
-use Rattle.std.specs.List.{filter_map, cons_option}
+use Rattle.std.specs.List.{filter_map, cons_option, slice_range}
 use Rattle.std.specs.Option.{option_map}
 use Rattle.std.proofs.lemmas.Bool.{and_parts}
 use Rattle.std.proofs.lemmas.Int.{ints}
 use Rattle.std.proofs.lemmas.List.Elements.{filter_map-append}
-use Rattle.std.proofs.lemmas.List.{append-nil, take_more, take-append-drop, length-take, length-map}
+use Rattle.std.proofs.lemmas.List.{append-nil, take_more, take-append-drop, drop-take, length-take, length-map, map-append}
 use Rattle.oe_dims.proofs.ShapeLemmas.{t_in_range}
 use Rattle.oe_dims.specs.Dimensions.{Dimensions, IsShape, all_between, first_instant, last_instant, number_labels, label_count, band_names}
 use Rattle.oe_dims.specs.declared.kind.Kind.{Kind}
@@ -109,23 +109,32 @@ more_both first (part ∷ front) back =
     ap (λ text. separator first ++ part ++ text) (more_both (suc first) front back ∙ ap (λ n. rest ++ more_text n back) later)
     ∙ sym (append_assoc (separator first ++ part) rest (more_text (first + length (part ∷ front)) back))
 
-more_take : (parts : List (List ℕ)) (first index : ℕ) → index < length parts → more_text first (take (index + 1) parts) ≡ more_text first (take index parts) ++ (separator (first + index) ++ get_or parts index [])
-more_take parts first index below =
-    let size : first + length (take index parts) ≡ first + index = omega (arith, length-take index parts) in
-    let part = get_or parts index [] in
-    ap (more_text first) (take_more parts index [] below)
-    ∙ more_both first (take index parts) (part ∷ [])
-    ∙ ap (λ n. more_text first (take index parts) ++ (separator n ++ part ++ [])) size
-    ∙ ap (λ text. more_text first (take index parts) ++ text) (append-nil (separator (first + index) ++ part))
+-- a list up to an end is its front up to an index and the range behind that
+front_and_range : {A : Type 0} (xs : List A) (index end : ℕ) → index ≤ end → take end xs ≡ take index xs ++ slice_range xs index end
+front_and_range xs index end below =
+    let last : index + (end - index) ≡ end = omega (arith, below) in
+    sym (take-append-drop index (take end xs))
+    ∙ ap (λ front. front ++ drop index (take end xs)) (take-take index end xs below)
+    ∙ ap (λ n. take index xs ++ drop index (take n xs)) (sym last)
+    ∙ ap (λ range. take index xs ++ range) (drop-take index (end - index) xs)
 
--- the next part behind so many others was sent after those before it
-pub sends_more : {O T U E F : Type 0} {written : O → Option (List ℕ)} {faults : O → ℕ} {before after end : O} {held left rest : List ℕ} {x : T} {r : Result U F} (parts : List (List ℕ)) (first index : ℕ) (part : List ℕ) → HasSent {E = E} written faults before held (more_text first (take index parts)) after left (Ok x) → HasSent written faults after left (separator (first + index) ++ part) end rest r → index < length parts → get_or parts index [] ≡ part → HasSent written faults before held (more_text first (take (index + 1) parts)) end rest r
-sends_more parts first index part sent next below same = rw (more_take parts first index below, same) (has_sent_then sent next)
+more_range : {A : Type 0} (text : A → List ℕ) (xs : List A) (first index end : ℕ) → index ≤ end → index ≤ length xs → more_text first (map text (take end xs)) ≡ more_text first (map text (take index xs)) ++ more_text (first + index) (map text (slice_range xs index end))
+more_range text xs first index end below within =
+    let front = map text (take index xs) in
+    let size : first + length front ≡ first + index = omega (arith, length-map (take index xs) text, length-take index xs) in
+    ap (λ ys. more_text first (map text ys)) (front_and_range xs index end below)
+    ∙ ap (more_text first) (map-append text (take index xs) (slice_range xs index end))
+    ∙ more_both first front (map text (slice_range xs index end))
+    ∙ ap (λ n. more_text first front ++ more_text n (map text (slice_range xs index end))) size
 
--- where a part behind so many others stopped, all the parts did
-pub stops_within : {O T E : Type 0} {written : O → Option (List ℕ)} {faults : O → ℕ} {before after : O} {held left : List ℕ} {r : Result T E} (parts : List (List ℕ)) (first count : ℕ) → IsErr r → HasSent written faults before held (more_text first (take count parts)) after left r → HasSent written faults before held (more_text first parts) after left r
-stops_within parts first count is stopped =
-    rw (ap (more_text first) (sym (take-append-drop count parts)) ∙ more_both first (take count parts) (drop count parts))
+-- the next range, behind so many other parts, was sent after the parts before it
+pub sends_range : {A O T U E F : Type 0} {written : O → Option (List ℕ)} {faults : O → ℕ} {before after last : O} {held left rest : List ℕ} {x : T} {r : Result U F} (text : A → List ℕ) (xs : List A) (first index end : ℕ) → index ≤ end → index ≤ length xs → HasSent {E = E} written faults before held (more_text first (map text (take index xs))) after left (Ok x) → HasSent written faults after left (more_text (first + index) (map text (slice_range xs index end))) last rest r → HasSent written faults before held (more_text first (map text (take end xs))) last rest r
+sends_range text xs first index end below within sent next = rw (more_range text xs first index end below within) (has_sent_then sent next)
+
+-- where the parts up to an end stopped, all did
+pub stops_within : {A O T E : Type 0} {written : O → Option (List ℕ)} {faults : O → ℕ} {before after : O} {held left : List ℕ} {r : Result T E} (text : A → List ℕ) (xs : List A) (first end : ℕ) → IsErr r → HasSent written faults before held (more_text first (map text (take end xs))) after left r → HasSent written faults before held (more_text first (map text xs)) after left r
+stops_within text xs first end is stopped =
+    rw (ap (λ ys. more_text first (map text ys)) (sym (take-append-drop end xs)) ∙ ap (more_text first) (map-append text (take end xs) (drop end xs)) ∙ more_both first (map text (take end xs)) (map text (drop end xs)))
     (has_stopped_more _ is stopped)
 
 -- the text of a dimension that a cube lacks, and of one that it has

@@ -1,3 +1,4 @@
+pub mod Backwards
 pub mod CubeText
 pub mod Rendered
 pub mod Seen

@@ -13,6 +13,7 @@ mod dimensions;
 mod members;
 mod reading;
 mod rendering;
+mod spelling;
 mod text;
 
 pub use reading::{CubeText, CubeTextFail, read_cube_text};

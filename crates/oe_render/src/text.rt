@@ -1,5 +1,5 @@
 // The result text of a cube: its dimensions with their labels, then its cells in row-major order.
-ghost use Rattle.std.specs.Prelude.{◌+◌, ◌^◌, ◌≡◌, ◌≢◌, ◌<◌, ◌++◌, [], length, map, codes, decimal, All, slice_index_or, pos, Some, Option, IfOk, IfErr, OnOk, OnErr};
+ghost use Rattle.std.specs.Prelude.{◌+◌, ◌^◌, ◌≡◌, ◌≢◌, ◌<◌, ◌≤◌, ◌++◌, [], length, map, codes, decimal, All, slice_index_or, pos, Some, Option, IfOk, IfErr, OnOk, OnErr};
 ghost use Rattle.std.specs.Fmt.{signed_decimal};
 ghost use Rattle.std.specs.List.{filter_map};
 ghost use Rattle.oe_cell.specs.Spelling.{cell_text};
@@ -11,8 +11,9 @@ ghost use Rattle.oe_outside.specs.Visible.{Appends, AppendsPrefix};
 ghost use Rattle.oe_outside.specs.Stream.{HasSent};
 ghost use Rattle.oe_render.specs.Text as spec;
 
+use crate::spelling::{CELLS, ROOM, spell_cells};
 use itoa::Buffer;
-use oe_cell::{Cell, TextBuf, print_cell};
+use oe_cell::Cell;
 use oe_dims::{Kind, Shape, print_instant};
 use oe_outside::{Failed, Pending, Sink, flush, send};
 
@@ -283,48 +284,38 @@ pub(crate) fn send_cells<O: Sink>(
     ensures { HasSent O.written O.faults out.old pending.old
         (spec.more_text before (map cell_text cells.now)) out.new pending.new result }
 {
-    let mut spelled = TextBuf::new();
-    for (index, cell) in cells.iter().enumerate() {
-        send_cell(out, pending, &mut spelled, before + index as u64, *cell)?;
+    let mut bytes = [0; ROOM];
+    let mut index = 0;
+    while index < cells.len() {
+        let end = index + (cells.len() - index).min(CELLS);
+        send_piece(
+            out,
+            pending,
+            &cells[index..end],
+            before + index as u64,
+            &mut bytes,
+        )?;
+        index = end;
     }
     Ok(())
 }
 
-#[inline(always)]
-fn send_cell<O: Sink>(
+/// The cells after so many others, in one piece.
+fn send_piece<O: Sink>(
     out: &mut O,
     pending: &mut Pending,
-    spelled: &mut TextBuf,
-    index: u64,
-    cell: Cell,
+    cells: &[Cell],
+    before: u64,
+    bytes: &mut [u8; ROOM],
 ) -> Result<(), Failed>
-    requires { cell ≢ Over }
+    requires numbered { All (λ c. c ≢ Over) cells.now }
+    requires some { length cells.now ≤ 64 }
+    requires few { before + length cells.now < 2 ^ 64 }
     ensures { HasSent O.written O.faults out.old pending.old
-        (spec.separator index ++ cell_text cell) out.new pending.new result }
+        (spec.more_text before (map cell_text cells.now)) out.new pending.new result }
 {
-    send_separator(out, pending, index)?;
-    send_spelled(out, pending, spelled, cell)
-}
-
-/// The spelling of a cell. A whole number is spelled by its digits alone.
-#[inline(always)]
-fn send_spelled<O: Sink>(
-    out: &mut O,
-    pending: &mut Pending,
-    spelled: &mut TextBuf,
-    cell: Cell,
-) -> Result<(), Failed>
-    requires { cell ≢ Over }
-    ensures { HasSent O.written O.faults out.old pending.old
-        (cell_text cell) out.new pending.new result }
-{
-    match cell {
-        Cell::Number(number) if number.den() == 1 => send_number(out, pending, number.num()),
-        _ => {
-            print_cell(cell, spelled);
-            send(out, pending, spelled.bytes())
-        }
-    }
+    let start = spell_cells(cells, before, bytes);
+    send(out, pending, &bytes[start..])
 }
 
 /// A comma before each part but the first.
