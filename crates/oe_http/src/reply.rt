@@ -84,14 +84,15 @@ pub(crate) struct ReplyParts {
     pub(crate) length: usize,
 }
 
-/// Reads the response that stands at the front of what a link gives (RFC 9112). Its status and its body are read, and no
-/// other field than its length is looked at. Bytes behind its body may be taken too. Of a reply that `write_response`
-/// wrote, or `write_head` and then its body, the status and the body are read as they were.
+/// Reads the response that stands at the front of what a link gives (RFC 9112). Its status and its body are read, and
+/// no other field than its length is looked at. Bytes behind its body may be taken too. Of a reply that
+/// `write_response` wrote, the status and the body are read as they were.
 ///
-/// Refuses: `TooLong` where the head passes the limits of a request's head, or the body 16777216 bytes. `Malformed` where
-/// the head is not as a whole a response head of HTTP/1.0 or 1.1 with at most 64 fields, a status from 100 on and one
-/// `Content-Length`, of 1 to 19 digits, which only a 204 may leave out, or where the body is not UTF-8. `Truncated` where
-/// the link ends before the head or the body does. `LinkFailed` only where the link's fault counter rose; out of memory.
+/// Refuses: `TooLong` where the head passes the limits of a request's head, or the body 16777216 bytes. `Malformed`
+/// where the head is not as a whole a response head of HTTP/1.0 or 1.1 with at most 64 fields, a status from 100 on and
+/// one `Content-Length`, of 1 to 19 digits, which only a 204 may leave out, or where the body is not UTF-8. `Truncated`
+/// where the link ends before the head or the body does. `LinkFailed` only where the link's fault counter rose; out of
+/// memory.
 pub fn read_response<L: Link>(alloc: Global, link: &mut L) -> Result<Response, ResponseRefusal>
     // where the bytes are visible: the response at their front, or a refusal that stands
     ensures response { IfOk result (λ response. IfSome (L.left link.old)

@@ -93,15 +93,15 @@ impl From<ReadRefusal> for RequestRefusal {
     }
 }
 
-/// Reads the request that stands at the front of what a link gives (RFC 9112). Bytes behind its body may be taken too. A
-/// request that `write_request` wrote is read as it was.
+/// Reads the request that stands at the front of what a link gives (RFC 9112). Bytes behind its body may be taken too.
+/// A request that `write_request` wrote is read as it was.
 ///
-/// Refuses: with the first of these that stands. `HeadTooLong` where the first 16384 bytes have no CR LF CR LF, or there
-/// are over 66 line ends up to the first. `Malformed` where these bytes are not as a whole a request head of HTTP/1.0
-/// or 1.1 with at most 64 fields, a target that begins with `/`, at most one `Content-Length`, of 1 to 19 digits, and at
-/// most one `Authorization`, in UTF-8. `CodingUnsupported` with a `Transfer-Encoding`, or a `Content-Encoding` other
-/// than `identity`. `BodyTooLong` with a length over 1048576. `Truncated` where the link ends before the head or the
-/// body does. `LinkFailed` only where the link's fault counter rose; out of memory.
+/// Refuses: with the first of these that stands. `HeadTooLong` where the first 16384 bytes have no CR LF CR LF, or
+/// there are over 66 line ends up to the first. `Malformed` where these bytes are not as a whole a request head of
+/// HTTP/1.0 or 1.1 with at most 64 fields, a target that begins with `/`, at most one `Content-Length`, of 1 to 19
+/// digits, and at most one `Authorization`, in UTF-8. `CodingUnsupported` with a `Transfer-Encoding`, or a
+/// `Content-Encoding` other than `identity`. `BodyTooLong` with a length over 1048576. `Truncated` where the link ends
+/// before the head or the body does. `LinkFailed` only where the link's fault counter rose; out of memory.
 pub fn read_request<L: Link>(alloc: Global, link: &mut L) -> Result<Request, RequestRefusal>
     // where the bytes are visible: the request at their front, or the first refusal that stands
     ensures request { IfOk result (λ request. IfSome (L.left link.old)
