@@ -28,10 +28,14 @@ fn copy<S: Source, K: Sink>(
     rounds: u64,
 ) -> Result<bool, Stopped>
     requires { 1 ≤ length buffer.old }
-    ensures source_fault { HasCauseOf Stopped.Source (S.faults source.old) (S.faults source.new) result }
+    ensures source_fault { HasCauseOf Stopped.Source
+        (S.faults source.old) (S.faults source.new) result }
     ensures sink_fault { HasCauseOf Stopped.Sink (K.faults sink.old) (K.faults sink.new) result }
-    ensures moved { OnOk result ((given : List ℕ) × Gave (S.left source.old) given (S.left source.new) × Appends (K.written sink.old) given (K.written sink.new)) }
-    ensures ended { IfOk result (λ end. IsTrue end → IfSome (S.left source.new) (λ rest. rest ≡ [])) }
+    ensures moved { OnOk result ((given : List ℕ)
+        × Gave (S.left source.old) given (S.left source.new)
+        × Appends (K.written sink.old) given (K.written sink.new)) }
+    ensures ended { IfOk result (λ end. IsTrue end
+        → IfSome (S.left source.new) (λ rest. rest ≡ [])) }
 {
     for _round in 0..rounds {
         let Ok(count) = source.read(buffer) else {
@@ -638,8 +642,8 @@ fn write_pieces<O: Sink>(
     Ok(flush(out, &mut pending))
 }
 
-// By hand: three pieces wait and go out in one write, of which half is written where it fails; a piece that is longer than
-// the room of 32768 bytes goes out by itself, behind what waited.
+// By hand: three pieces wait and go out in one write, of which half is written where it fails; a piece that is longer
+// than the room of 32768 bytes goes out by itself, behind what waited.
 #[test]
 fn gathers_pieces(rt: HostRuntime) -> Result<(), Fail> {
     let alloc = rt.alloc();
