@@ -3,15 +3,17 @@ use crate::resolve::{Stored, answer};
 use std::alloc::Global;
 use std::test::Fail;
 
-/// A main graph of so many loads, of which the last is the result.
-fn loads(alloc: Global, count: u32) -> Result<String, Fail> {
+/// A main graph of one load fewer than this, and of a result node `z` that calls a process with these arguments.
+fn loads(alloc: Global, count: u32, process: &str, arguments: &str) -> Result<String, Fail> {
     let mut nodes = String::new(alloc);
     for k in 1..count {
         nodes.push_str(format!(in alloc;
             r#""n{k}":{{"process_id":"load_collection","arguments":{{"id":"ONE","spatial_extent":null,"temporal_extent":null}}}},"#
         )?.as_str())?;
     }
-    nodes.push_str(r#""z":{"process_id":"p","arguments":{},"result":true}"#)?;
+    nodes.push_str(format!(in alloc;
+        r#""z":{{"process_id":"{process}","arguments":{{{arguments}}},"result":true}}"#
+    )?.as_str())?;
     Ok(format!(in alloc; r#"{{"process_graph":{{{nodes}}}}}"#)?)
 }
 
@@ -38,17 +40,35 @@ const CHAIN: Stored = (
 #[test]
 fn bounds_the_nodes_after_expansion(rt: HostRuntime) -> Result<(), Fail> {
     // p is two calls of q, each of which is two calls of r, and r is one load: four nodes stand for the call of p.
-    let most = loads(rt.alloc(), 253)?;
+    let most = loads(rt.alloc(), 253, "p", "")?;
     let given = answer(rt.alloc(), CHAIN, most.as_str())?;
     assert!(rt;
         given.as_str().starts_with(r#"{"process_graph":{"n1":"#),
         "256 nodes"
     );
-    let more = loads(rt.alloc(), 254)?;
-    assert_eq!(rt;
-        answer(rt.alloc(), CHAIN, more.as_str())?.as_str(),
-        "GraphTooLarge "
-    );
+    // Calls come before sizes, and sizes before names.
+    for (name, process, arguments, wanted) in [
+        ("257 nodes", "p", "", "GraphTooLarge "),
+        (
+            "and no process of the name",
+            "nothing",
+            "",
+            "ProcessUnsupported z",
+        ),
+        (
+            "and an argument that is no parameter",
+            "p",
+            "\"q\":1",
+            "GraphTooLarge ",
+        ),
+    ] {
+        let more = loads(rt.alloc(), 254, process, arguments)?;
+        assert_eq!(rt;
+            answer(rt.alloc(), CHAIN, more.as_str())?.as_str(),
+            wanted,
+            "{name}"
+        );
+    }
     Ok(())
 }
 
