@@ -1,7 +1,10 @@
 //! Replies and requests as they are written, worked by hand from the order of the fields and the phrases of RFC 9110.
+ghost use Rattle.std.specs.Prelude.{IsSome, IsTrue};
+ghost use Rattle.http.specs.StatusCode.{reason_phrase};
+
 use crate::bytes::text_of;
 use crate::seen::say;
-use http::Method;
+use http::{Method, StatusCode};
 use oe_dims::Text;
 use oe_http::{
     Request, Response, read_request, read_response, write_head, write_request, write_response,
@@ -74,10 +77,23 @@ fn replies() -> [ReplyRow; 6] {
     ]
 }
 
+/// Whether the status has a standard phrase, as every status has that is written.
+fn has_phrase(status: u16) -> bool
+    ensures { IsTrue result → IsSome (reason_phrase status) }
+{
+    match StatusCode::from_u16(status) {
+        Ok(code) => code.canonical_reason().is_some(),
+        Err(_) => false,
+    }
+}
+
 #[test]
 fn replies_as_bytes(rt: HostRuntime) -> Result<(), Fail> {
     let alloc = rt.alloc();
     for row in &replies() {
+        if !has_phrase(row.0) {
+            return Err(Fail::from("no phrase"));
+        }
         let response = Response {
             status: row.0,
             location: text_of(alloc, row.1)?,
@@ -120,6 +136,9 @@ fn heads() -> [HeadRow; 3] {
 fn heads_as_bytes(rt: HostRuntime) -> Result<(), Fail> {
     let alloc = rt.alloc();
     for row in &heads() {
+        if !has_phrase(row.0) {
+            return Err(Fail::from("no phrase"));
+        }
         let mut link = MemoryLink::new(alloc, Vec::new(alloc), 1, 1024, Vec::new(alloc))?;
         let answer = write_head(&mut link, row.0, row.1);
         assert_eq!(rt; answer, Ok(()), "{}", row.0);
