@@ -1,0 +1,4 @@
+pub mod NineLemmas
+pub mod RowLemmas
+pub mod WidthLemmas
+mod Worked
