@@ -21,11 +21,12 @@ use Rattle.oe_expr.specs.Scope as scope
 use Rattle.oe_expr.specs.Scope.{PlainScope, labels_in, no_labels}
 use Rattle.oe_shape.proofs.CellKindLemmas.{AllOfKind, cell_fits, list_value_fits, under_scope}
 use Rattle.oe_shape.proofs.TimeLemmas.{part_in_time_is}
-use Rattle.oe_shape.specs.Extents.{TemporalExtent, labels_in_time, part_in_time}
+use Rattle.oe_shape.specs.Extents.{labels_in_time, part_in_time}
+use Rattle.oe_shape.specs.declared.extent.TemporalExtent.{TemporalExtent}
 use Rattle.oe_shape.specs.Labels.{is_below, put_in_order, in_order}
 use Rattle.oe_shape.specs.Meaning.{cell, value_on_list, extent_labelled, instants_inside, cells_at, aggregated}
 use Rattle.oe_shape.specs.Operations.{aggregated_shape}
-use Rattle.oe_shape.specs.Parameters.{Interval}
+use Rattle.oe_shape.specs.declared.extent.Interval.{Interval}
 
 -- ---- labels in order are the same labels
 

@@ -19,10 +19,13 @@ use Rattle.oe_expr.specs.Scope.{read_or_none}
 use Rattle.oe_shape.proofs.OrderedLemmas.{left_of, right_of}
 use Rattle.oe_shape.proofs.RequestLemmas.{found, both_found, passed}
 use Rattle.oe_shape.specs.Brings.{HasDistinctLabels, BringValidLabels}
-use Rattle.oe_shape.specs.Extents.{TemporalExtent}
+use Rattle.oe_shape.specs.declared.extent.TemporalExtent.{TemporalExtent}
 use Rattle.oe_shape.specs.Operations.{Operation, keep, each_cell, convolve, aggregate, merge, cover, give_back, Outline, operation_of, dimension_named, callback_under, first_or, no_outline, interval_scope}
-use Rattle.oe_shape.specs.Parameters.{where_it, null_or, each_in, list_in, name_in, text_in, box_in, cube_in, callback_in, literal_in, number_in, kernel_in, border_in, bands_in, is_given, some_bands_in, instant_in, extent_from, is_limited, extent_in, Interval, labelled, by_starts, by_labels, intervals_of, is_empty_list, is_null_or_empty_object}
-use Rattle.oe_shape.specs.Requests.{CubeProcess, AggregateTemporal, Apply, ApplyKernel, FilterBands, FilterBbox, FilterTemporal, LoadCollection, Mask, MergeCubes, ReduceDimension, SaveResult, cube_process_named, Request, load_collection, filter_bbox, filter_temporal, filter_bands, apply, apply_kernel, reduce_dimension, aggregate_temporal, merge_cubes, mask, save_result, called_in, intervals_in, request_of}
+use Rattle.oe_shape.specs.Parameters.{where_it, null_or, each_in, list_in, name_in, text_in, box_in, cube_in, callback_in, literal_in, number_in, kernel_in, border_in, bands_in, is_given, some_bands_in, instant_in, extent_from, is_limited, extent_in, labelled, by_starts, by_labels, intervals_of, is_empty_list, is_null_or_empty_object}
+use Rattle.oe_shape.specs.declared.extent.Interval.{Interval}
+use Rattle.oe_shape.specs.declared.process.CubeProcess.{CubeProcess}
+use Rattle.oe_shape.specs.declared.process.CubeProcess.TheVariants.{AggregateTemporal, Apply, ApplyKernel, FilterBands, FilterBbox, FilterTemporal, LoadCollection, Mask, MergeCubes, ReduceDimension, SaveResult}
+use Rattle.oe_shape.specs.Requests.{cube_process_named, Request, load_collection, filter_bbox, filter_temporal, filter_bands, apply, apply_kernel, reduce_dimension, aggregate_temporal, merge_cubes, mask, save_result, called_in, intervals_in, resolver_in, request_of}
 use Rattle.oe_shape.specs.ValidShapes.{AreBands, labels_of, BringsLabels}
 
 -- ---- lists of what a reader reads
@@ -94,7 +97,7 @@ null_or_valid reader P h a (Some x) e = h a x (by a (reader a) refl e)
 
 -- ---- instants
 
-abbrev is_instant : ℤ → Bool
+abbrev pub is_instant : ℤ → Bool
 is_instant label = int_le first_instant label && int_le label last_instant
 
 in_range : (z : ℤ) → IsInstant z → is_instant z ≡ true
@@ -141,7 +144,7 @@ extent_valid (tree.callback ns result) e h = absurd cc
 
 -- ---- intervals
 
-abbrev HasInstants : List Interval → Type 0
+abbrev pub HasInstants : List Interval → Type 0
 HasInstants intervals = list_all is_instant (labels_of intervals) ≡ true
 
 starts_valid : (extents : List TemporalExtent) (intervals : List Interval) → list_all starts_in_range extents ≡ true → by_starts extents ≡ Some intervals → HasInstants intervals
@@ -181,7 +184,7 @@ intervals_in_valid given intervals e =
 -- ---- requests
 
 -- what a request brings
-abbrev Brings : Request → Type 0
+abbrev pub Brings : Request → Type 0
 Brings (load_collection id box time bands) = IfSome bands AreBands
 Brings (filter_bbox data_id box) = ⊤
 Brings (filter_temporal data_id time name) = ⊤
@@ -238,7 +241,7 @@ module _ (given : Named) where
       let b = both_found (aggregate_temporal d.0 i.0) (read (null_or text_in) (codes "dimension") given) (called_in (codes "reducer") given) r i.2 in
       subst Brings b.4 (intervals_in_valid given i.0 i.1)
 
-  request_brings : (process : CubeProcess) (r : Request) → request_of process given ≡ Some r → Brings r
+  pub request_brings : (process : CubeProcess) (r : Request) → request_of process given ≡ Some r → Brings r
   request_brings AggregateTemporal r e = aggregate_brings r e
   request_brings FilterBands r e = bands_brings r e
   request_brings LoadCollection r e = load_brings r e
@@ -262,8 +265,7 @@ module _ (given : Named) where
       subst Brings b.4 tt
   request_brings MergeCubes r e =
       let one = found _ (read cube_in (codes "cube1") given) r e in
-      let two = found _ (read cube_in (codes "cube2") given) r one.2 in
-      let b = both_found _ (read (null_or callback_in) (codes "overlap_resolver") given) (read literal_in (codes "context") given) r two.2 in
+      let b = both_found (merge_cubes one.0) (read cube_in (codes "cube2") given) (resolver_in given) r one.2 in
       subst Brings b.4 tt
   request_brings ReduceDimension r e =
       let d = found _ (read cube_in (codes "data") given) r e in

@@ -27,7 +27,7 @@ or_cases true b h = inl refl
 or_cases false b h = inr h
 
 module _ {L : Type 0} (same : L → L → Bool) (is_same : (a b : L) → same a b ≡ true → b ≡ a) (itself : (a : L) → same a a ≡ true) where
-  any_there : (l : L) (xs : List L) → list_any (same l) xs ≡ true → Contains xs l
+  pub any_there : (l : L) (xs : List L) → list_any (same l) xs ≡ true → Contains xs l
   any_there l [] h = absurd (true≢false (sym h))
   any_there l (x ∷ xs) h = by (same l x) refl (any_there l xs)
     where
@@ -36,7 +36,7 @@ module _ {L : Type 0} (same : L → L → Bool) (is_same : (a b : L) → same a 
       by false is rest =
           let later = rest (subst (λ b. (b || list_any (same l) xs) ≡ true) is h) in (suc later.0, omega (arith, later.1), later.2)
 
-  there_any : (l : L) (xs : List L) → Contains xs l → list_any (same l) xs ≡ true
+  pub there_any : (l : L) (xs : List L) → Contains xs l → list_any (same l) xs ≡ true
   there_any l [] c = absurd (omega (arith, c.1))
   there_any l (x ∷ xs) c = by c.0 c.1 c.2 (there_any l xs)
     where

@@ -25,19 +25,19 @@ right_of false b h = absurd (true≢false (sym h))
 neither_of : (a b : Bool) → a ≡ false → b ≡ false → (a || b) ≡ false
 neither_of a b h k = rw (h, k) refl
 
-first_not : (a b : Bool) → (a || b) ≡ false → a ≡ false
+pub first_not : (a b : Bool) → (a || b) ≡ false → a ≡ false
 first_not true b h = h
 first_not false b h = refl
 
-second_not : (a b : Bool) → (a || b) ≡ false → b ≡ false
+pub second_not : (a b : Bool) → (a || b) ≡ false → b ≡ false
 second_not true b h = absurd (true≢false h)
 second_not false b h = h
 
-turned : (a : Bool) → not a ≡ true → a ≡ false
+pub turned : (a : Bool) → not a ≡ true → a ≡ false
 turned true h = absurd (true≢false (sym h))
 turned false h = refl
 
-opposite : (a : Bool) → a ≡ false → not a ≡ true
+pub opposite : (a : Bool) → a ≡ false → not a ≡ true
 opposite a h = rw h refl
 
 -- what passes a test stays so in a part of a list
@@ -121,7 +121,7 @@ all_bands_differ one two h k =
 -- ---- labels in order
 
 -- each label stands before all later ones
-abbrev stand_in_order : (ℤ → ℤ → Bool) → List ℤ → Bool
+abbrev pub stand_in_order : (ℤ → ℤ → Bool) → List ℤ → Bool
 stand_in_order is_before [] = true
 stand_in_order is_before (x ∷ xs) = list_all (is_before x) xs && stand_in_order is_before xs
 
@@ -156,7 +156,7 @@ module _ (is_before : ℤ → ℤ → Bool) (o : IsOrder is_before) where
   none_same x (y ∷ xs) h =
       neither_of (same_number x y) _ (o.apart x y (left_of (is_before x y) _ h)) (none_same x xs (right_of (is_before x y) _ h))
 
-  ordered_differ : (xs : List ℤ) → stand_in_order is_before xs ≡ true → are_distinct same_number xs ≡ true
+  pub ordered_differ : (xs : List ℤ) → stand_in_order is_before xs ≡ true → are_distinct same_number xs ≡ true
   ordered_differ [] h = refl
   ordered_differ (x ∷ xs) h =
       and_from (not (list_any (same_number x) xs)) _ (opposite _ (none_same x xs (left_of (list_all (is_before x) xs) _ h)))
@@ -207,7 +207,7 @@ module _ (is_before : ℤ → ℤ → Bool) (o : IsOrder is_before) where
 
 -- ---- labels that rise, and that fall
 
-rises_stand : (xs : List ℤ) → rises xs ≡ true → stand_in_order is_below xs ≡ true
+pub rises_stand : (xs : List ℤ) → rises xs ≡ true → stand_in_order is_below xs ≡ true
 rises_stand [] h = refl
 rises_stand (x ∷ []) h = refl
 rises_stand (x ∷ y ∷ xs) h =
@@ -223,7 +223,7 @@ stand_rises (x ∷ y ∷ xs) h =
     and_from (int_lt x y) _ (left_of (is_below x y) _ (left_of (is_below x y && list_all (is_below x) xs) _ h))
     (stand_rises (y ∷ xs) (right_of (is_below x y && list_all (is_below x) xs) _ h))
 
-falls_stand : (xs : List ℤ) → falls xs ≡ true → stand_in_order is_above xs ≡ true
+pub falls_stand : (xs : List ℤ) → falls xs ≡ true → stand_in_order is_above xs ≡ true
 falls_stand [] h = refl
 falls_stand (x ∷ []) h = refl
 falls_stand (x ∷ y ∷ xs) h =

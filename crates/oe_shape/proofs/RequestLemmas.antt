@@ -14,7 +14,9 @@ use Rattle.oe_shape.specs.Graphs.{Collections, no_datacube, collection_named, ou
 use Rattle.oe_shape.specs.Meaning.{Datacube, operated, outline}
 use Rattle.oe_shape.specs.Operations.{Outline, no_outline, operation_of, outline_of}
 use Rattle.oe_shape.specs.Parameters.{cube_in, callback_in, text_in, number_in, literal_in, box_in, extent_in, bands_in, some_bands_in, kernel_in, border_in, null_or, is_empty_list, is_empty_object, is_null_or_empty_object}
-use Rattle.oe_shape.specs.Requests.{CubeProcess, AggregateTemporal, Apply, ApplyKernel, FilterBands, FilterBbox, FilterTemporal, LoadCollection, Mask, MergeCubes, ReduceDimension, SaveResult, cube_process_named, called, Request, load_collection, filter_bbox, filter_temporal, filter_bands, apply, apply_kernel, reduce_dimension, aggregate_temporal, merge_cubes, mask, save_result, cube_ids, called_in, intervals_in, request_of, request_at}
+use Rattle.oe_shape.specs.declared.process.CubeProcess.{CubeProcess}
+use Rattle.oe_shape.specs.declared.process.CubeProcess.TheVariants.{AggregateTemporal, Apply, ApplyKernel, FilterBands, FilterBbox, FilterTemporal, LoadCollection, Mask, MergeCubes, ReduceDimension, SaveResult}
+use Rattle.oe_shape.specs.Requests.{cube_process_named, called, Request, load_collection, filter_bbox, filter_temporal, filter_bands, apply, apply_kernel, reduce_dimension, aggregate_temporal, merge_cubes, mask, save_result, cube_ids, called_in, intervals_in, resolver_in, request_of, request_at}
 
 -- ---- readers that found something
 
@@ -125,10 +127,8 @@ module _ (P : List ℕ → Type 0) (given : Named) (all : (id : List ℕ) → Co
   of_merge : (r : Request) → request_of MergeCubes given ≡ Some r → Each r
   of_merge r e =
       let one = found _ (read cube_in (codes "cube1") given) r e in
-      let two = found _ (read cube_in (codes "cube2") given) r one.2 in
-      let b = both_found (λ resolver context. merge_cubes one.0 two.0 (option_map (λ graph. called graph context) resolver))
-      (read (null_or callback_in) (codes "overlap_resolver") given) (read literal_in (codes "context") given) r two.2 in
-      subst Each b.4 (of_cube (codes "cube1") one.0 one.1, (of_cube (codes "cube2") two.0 two.1, tt))
+      let b = both_found (merge_cubes one.0) (read cube_in (codes "cube2") given) (resolver_in given) r one.2 in
+      subst Each b.4 (of_cube (codes "cube1") one.0 one.1, (of_cube (codes "cube2") b.0 b.2, tt))
 
   of_mask : (r : Request) → request_of Mask given ≡ Some r → Each r
   of_mask r e =

@@ -15,9 +15,10 @@ use Rattle.oe_dims.specs.declared.kind.Kind.TheVariants.{Time, Bands, Y, X}
 use Rattle.oe_expr.specs.Scope.{label_count, labels_in, list_labels, AreDistinct, LiesWithin, IsScope}
 use Rattle.oe_shape.proofs.CellKindLemmas.{all_labels}
 use Rattle.oe_shape.proofs.TimeLemmas.{part_in_time_is}
-use Rattle.oe_shape.specs.Extents.{TemporalExtent, has_begun, has_not_ended, is_empty_extent, part_in_time, labels_in_time}
+use Rattle.oe_shape.specs.Extents.{has_begun, has_not_ended, is_empty_extent, part_in_time, labels_in_time}
+use Rattle.oe_shape.specs.declared.extent.TemporalExtent.{TemporalExtent}
 use Rattle.oe_shape.specs.Operations.{Outline, labels_along, reduction_scope, interval_scope}
-use Rattle.oe_shape.specs.Parameters.{Interval}
+use Rattle.oe_shape.specs.declared.extent.Interval.{Interval}
 use Rattle.oe_shape.specs.Scopes.{GiveScopes}
 
 pairs_differ : {L : Type 0} (labels : List L) → IsUnrepeated labels → AllPairs (λ a b. a ≢ b) labels

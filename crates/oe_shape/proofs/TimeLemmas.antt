@@ -6,7 +6,8 @@ use Rattle.std.proofs.lemmas.Bool.{and_right}
 use Rattle.std.proofs.lemmas.Int.{ints}
 use Rattle.std.proofs.lemmas.List.Sums.{length-filter}
 use Rattle.oe_dims.specs.Dimensions.{rises}
-use Rattle.oe_shape.specs.Extents.{TemporalExtent, has_begun, has_not_ended, is_in_time, labels_in_time, part_in_time}
+use Rattle.oe_shape.specs.Extents.{has_begun, has_not_ended, is_in_time, labels_in_time, part_in_time}
+use Rattle.oe_shape.specs.declared.extent.TemporalExtent.{TemporalExtent}
 
 -- ---- labels that rise
 

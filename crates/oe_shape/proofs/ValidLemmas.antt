@@ -12,7 +12,7 @@ use Rattle.oe_shape.proofs.OrderedLemmas.{left_of, right_of, filter_all, filtere
 use Rattle.oe_shape.specs.Extents.{Restriction, is_in_time, is_up, is_across, kept_labels, kept_bands, kept_shape}
 use Rattle.oe_shape.specs.Labels.{is_below, is_above, in_order, new_among, all_in_order, all_bands, either_epsg, merged_shape}
 use Rattle.oe_shape.specs.Operations.{Operation, keep, each_cell, convolve, reduce, aggregate, merge, cover, give_back, no_dimensions, first_or, second_or, epsg_without, without, aggregated_shape, shape_of}
-use Rattle.oe_shape.specs.Parameters.{Interval}
+use Rattle.oe_shape.specs.declared.extent.Interval.{Interval}
 use Rattle.oe_shape.specs.ValidShapes.{is_within_limits, AreBands, labels_of, AreIntervalLabels, BringsLabels, GiveValidShapes}
 
 -- ---- a shape from its parts
@@ -30,7 +30,7 @@ abbrev instants_in_range : List ℤ → Bool
 instants_in_range labels = all_between first_instant last_instant labels
 
 -- what makes dimensions a shape, but for the limits
-record AreLabelled (d : Dimensions) : Type 0 where
+pub record AreLabelled (d : Dimensions) : Type 0 where
   t_rises : of_labels rises d.t ≡ true
   t_range : of_labels instants_in_range d.t ≡ true
   bands_differ : of_labels all_differ d.bands ≡ true
@@ -41,7 +41,7 @@ record AreLabelled (d : Dimensions) : Type 0 where
   x_range : of_labels coordinates_in_range d.x ≡ true
   epsg_fits : has_fitting_epsg d ≡ true
 
-labelled_shape : (d : Dimensions) → IsShape d → AreLabelled d
+pub labelled_shape : (d : Dimensions) → IsShape d → AreLabelled d
 labelled_shape d h = record {
   t_rises = is_ordered_kind d h Time;
   t_range = is_in_range_kind d h Time;
@@ -82,7 +82,7 @@ cells_kept : (d : Dimensions) → is_within_limits d ≡ true → cells_fault d 
 unfolding cells_fault
 cells_kept d h = let few : nat_le (cell_count d) most_cells ≡ true = right_of _ (nat_le (cell_count d) most_cells) h in rw few refl
 
-is_shape : (d : Dimensions) → AreLabelled d → is_within_limits d ≡ true → IsShape d
+pub is_shape : (d : Dimensions) → AreLabelled d → is_within_limits d ≡ true → IsShape d
 unfolding shape_fault
 is_shape d h l = rw (order_kept d h, range_kept d h, limit_kept d l, epsg_kept d h, cells_kept d l) refl
 
@@ -116,7 +116,7 @@ given_valid : (given : Option (List (List ℕ))) → IfSome given AreBands → I
 given_valid None g = tt
 given_valid (Some names) g = g.valid
 
-kept_labelled : (r : Restriction) (d : Dimensions) → IfSome r.bands AreBands → AreLabelled d → AreLabelled (kept_shape r d)
+pub kept_labelled : (r : Restriction) (d : Dimensions) → IfSome r.bands AreBands → AreLabelled d → AreLabelled (kept_shape r d)
 kept_labelled r d g h = record {
   t_rises = kept_pass rises filtered_rise is_in_time r.time d.t h.t_rises;
   t_range = kept_pass instants_in_range (λ q labels. filter_all _ q labels) is_in_time r.time d.t h.t_range;
@@ -131,7 +131,7 @@ kept_labelled r d g h = record {
 
 -- ---- without a dimension
 
-without_labelled : (kind : Kind) (d : Dimensions) → AreLabelled d → AreLabelled (without kind d)
+pub without_labelled : (kind : Kind) (d : Dimensions) → AreLabelled d → AreLabelled (without kind d)
 without_labelled Time d h = record { t_rises = refl; t_range = refl; bands_differ = h.bands_differ; bands_valid = h.bands_valid; y_falls = h.y_falls; y_range = h.y_range; x_rises = h.x_rises; x_range = h.x_range; epsg_fits = h.epsg_fits }
 without_labelled Bands d h = record { t_rises = h.t_rises; t_range = h.t_range; bands_differ = refl; bands_valid = refl; y_falls = h.y_falls; y_range = h.y_range; x_rises = h.x_rises; x_range = h.x_range; epsg_fits = h.epsg_fits }
 without_labelled Y d h = record {
@@ -169,7 +169,7 @@ without_labelled X d h = record {
 
 -- ---- one label for each interval
 
-aggregated_labelled : (intervals : List Interval) (d : Dimensions) → AreIntervalLabels (labels_of intervals) → AreLabelled d → AreLabelled (aggregated_shape intervals d)
+pub aggregated_labelled : (intervals : List Interval) (d : Dimensions) → AreIntervalLabels (labels_of intervals) → AreLabelled d → AreLabelled (aggregated_shape intervals d)
 aggregated_labelled intervals d g h = record {
   t_rises = ordered_rise (labels_of intervals) g.differ;
   t_range = order_all is_below below_is_order _ (labels_of intervals) g.in_range;
@@ -232,7 +232,7 @@ four_or false true c d = or_true c d
     or_true false d = refl
 four_or false false c d = refl
 
-merged_labelled : (one two : Dimensions) → AreLabelled one → AreLabelled two → AreLabelled (merged_shape one two)
+pub merged_labelled : (one two : Dimensions) → AreLabelled one → AreLabelled two → AreLabelled (merged_shape one two)
 merged_labelled one two h k = record {
   t_rises = merged_pass is_below rises merged_rise one.t two.t h.t_rises k.t_rises;
   t_range = merged_pass is_below instants_in_range (λ a b p q. order_all is_below below_is_order is_instant (a ++ new_among same_number a b) (merged_all same_number is_instant a b p q)) one.t two.t h.t_range k.t_range;

@@ -15,7 +15,8 @@ use Rattle.oe_expr.specs.Nodes.{down_from}
 use Rattle.oe_expr.specs.Scope as scope
 use Rattle.oe_shape.specs.Meaning.{reduced, aggregated}
 use Rattle.oe_shape.specs.Operations.{reduction_scope, interval_scope}
-use Rattle.oe_shape.specs.Parameters.{Interval, labelled, extent_from}
+use Rattle.oe_shape.specs.Parameters.{labelled, extent_from}
+use Rattle.oe_shape.specs.declared.extent.Interval.{Interval}
 use Rattle.oe_shape.proofs.WorkedWords.{fraction, whole, cells_of, largest, january_1, january_2, january_3, january_4, february_1, february_2, cube_with, square, banded, dated, single, reducing, counting, ratio}
 
 -- ---- `reduce_dimension`

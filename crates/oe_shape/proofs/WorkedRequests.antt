@@ -9,7 +9,9 @@ use Rattle.oe_graph.specs.Tree as tree
 use Rattle.oe_graph.specs.Tree.{Argument, ListValues, Named, PlainGraph, values_from_list, named_from_list}
 use Rattle.oe_kernel.specs.declared.border.Border.TheVariants.{Value, Wrap}
 use Rattle.oe_dims.specs.Indices.{same_number}
-use Rattle.oe_shape.specs.Extents.{TemporalExtent, BoundingBox, is_empty_extent}
+use Rattle.oe_shape.specs.Extents.{is_empty_extent}
+use Rattle.oe_shape.specs.declared.extent.BoundingBox.{BoundingBox}
+use Rattle.oe_shape.specs.declared.extent.TemporalExtent.{TemporalExtent}
 use Rattle.oe_shape.specs.Labels.{are_distinct}
 use Rattle.oe_shape.specs.Parameters.{extent_from, labelled, extent_in, box_in, epsg_in, bands_in, some_bands_in, null_or, kernel_in, border_in, literal_in, intervals_of}
 use Rattle.oe_shape.specs.Requests.{NamedProcess, cube_processes, cube_process_named, load_collection, filter_bands, merge_cubes, mask, save_result, called, load_request, filter_bands_request, merge_request, mask_request, save_request}

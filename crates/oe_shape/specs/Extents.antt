@@ -3,14 +3,13 @@ use Rattle.std.specs.Prelude.{ℕ, ℤ, ◌&&◌, Bool, true, false, not, int_le
 use Rattle.std.specs.Option.{option_map, option_map_or}
 use Rattle.oe_dims.specs.Dimensions.{Dimensions}
 use Rattle.oe_expr.specs.declared.scope.ListPart.{ListPart}
+use Rattle.oe_shape.specs.declared.extent.BoundingBox.{BoundingBox}
+use Rattle.oe_shape.specs.declared.extent.TemporalExtent.{TemporalExtent}
 
 -- ---- in time
 
--- from an instant, which is inside, to another, which is not; one that is missing does not limit (left-closed temporal
--- extents of openEO Processes)
-pub record TemporalExtent : Type 0 where
-  pub start : Option ℤ
-  pub end : Option ℤ
+-- An extent goes from an instant, which is inside, to another, which is not; one that is missing does not limit
+-- (left-closed temporal extents of openEO Processes).
 
 -- the instant is not before the start
 abbrev pub has_begun : TemporalExtent → ℤ → Bool
@@ -40,14 +39,8 @@ part_in_time e labels =
 
 -- ---- in space
 
--- a box in the reference system of an EPSG code (bounding boxes of openEO Processes); by a rule of this profile a pixel
--- is inside by its label, on a border too
-pub record BoundingBox : Type 0 where
-  pub west : ℤ
-  pub south : ℤ
-  pub east : ℤ
-  pub north : ℤ
-  pub epsg : ℕ
+-- A box stands in the reference system of an EPSG code (bounding boxes of openEO Processes); by a rule of this profile
+-- a pixel is inside by its label, on a border too.
 
 -- a pixel lies inside by its labels along x and y
 abbrev pub is_across : BoundingBox → ℤ → Bool

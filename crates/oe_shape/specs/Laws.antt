@@ -1,15 +1,25 @@
 -- What holds of every meaning.
-use Rattle.std.specs.Prelude.{◌≡◌, ◌⊎◌, ◌≤◌, ℕ, ℤ, ◌||◌, Bool, Some, List, map, IfSome}
+use Rattle.std.specs.Prelude.{◌≡◌, ◌⊎◌, ◌<◌, ◌≤◌, ℕ, ℤ, ◌||◌, Bool, Some, None, List, [], ◌∷◌, map, is_some, IfSome}
 use Rattle.std.specs.List.{list_any}
-use Rattle.oe_dims.specs.Cube.{Tuple, IsTuple}
-use Rattle.oe_dims.specs.Dimensions.{Dimensions}
+use Rattle.oe_dims.specs.Cube.{Tuple, IsTuple, IsCube}
+use Rattle.oe_dims.specs.Dimensions.{Dimensions, IsShape}
 use Rattle.oe_dims.specs.Indices.{same_number}
 use Rattle.oe_dims.specs.Names.{same_name}
-use Rattle.oe_graph.specs.Tree.{Nodes}
-use Rattle.oe_shape.specs.Graphs.{Collections, rows_of, outline_at, meaning_at}
+use Rattle.oe_expr.specs.Nodes.{id_at}
+use Rattle.oe_graph.specs.Printed.{node_count}
+use Rattle.oe_graph.specs.References.{references_named}
+use Rattle.oe_graph.specs.Tree.{Nodes, PlainNode}
+use Rattle.oe_order.specs.Graph as order
+use Rattle.oe_shape.specs.CellKinds.{HasCellsOfKind}
+use Rattle.oe_shape.specs.Checked.{CheckedGraph, AreFaultless, outline_of_node, operation_of_node, collection_of_node}
+use Rattle.oe_shape.specs.Graphs.{Collections, collection_named, rows_of, outline_at, meaning_at}
 use Rattle.oe_shape.specs.Labels.{in_order, all_in_order, all_bands, merged_shape, differing, restrict}
+use Rattle.oe_shape.specs.Links.{links_of}
 use Rattle.oe_shape.specs.Meaning.{Datacube, operated, outline}
 use Rattle.oe_shape.specs.Operations.{Operation, outline_of}
+use Rattle.oe_shape.specs.Requests.{Request, cube_ids, request_at}
+use Rattle.oe_shape.specs.SoundNodes.{AreCollections}
+use Rattle.oe_shape.specs.Walked.{AreResolved, IsNodeOf}
 
 -- The shape and the kind of a cube are found without cells: of what an operation gives, from those of the cubes that it
 -- works on, and of a node of any graph, from those of the collections.
@@ -42,3 +52,44 @@ pub record KeepAllLabels : Type 0 where
 pub record AreInOneAtLeast : Type 0 where
   pub each : (one two : Dimensions) → differing one two ≤ 1 → (tuple : Tuple) → IsTuple (merged_shape one two) tuple
       → IsTuple one (restrict one tuple) ⊎ IsTuple two (restrict two tuple)
+
+-- A node of a resolved graph refers to the nodes whose cubes its request works on and to no others, in their order.
+pub record ReferToCubes : Type 0 where
+  pub each : (nodes : Nodes) → AreResolved nodes → (n : PlainNode) → IsNodeOf nodes n
+      → (r : Request) → request_at n ≡ Some r → references_named n.arguments ≡ cube_ids r
+
+-- ---- graphs without a fault
+
+-- the collections are valid, and theirs are the shapes and kinds that the graph was checked over
+pub record AreCollectionsOf (c : CheckedGraph) (collections : Collections) : Type 0 where
+  pub valid : AreCollections collections
+  pub rows_are : rows_of collections ≡ c.rows
+
+-- what the node at an index means over collections
+abbrev pub meaning_of_node : Collections → CheckedGraph → ℕ → Datacube
+meaning_of_node collections c node = meaning_at collections c.nodes (id_at node c.nodes)
+
+-- the cube has the shape and the kind that were found for the node; it is valid, with one cell for each tuple of
+-- labels, each of them null, Over or of the kind
+pub record IsCubeOfNode (c : CheckedGraph) (node : ℕ) (d : Datacube) : Type 0 where
+  pub outline_is : outline d ≡ outline_of_node c node
+  pub valid : IsShape d.cube.shape
+  pub counted : IsCube d.cube
+  pub of_kind : HasCellsOfKind d
+
+-- Each node of a graph without a fault means such a cube: its operation on the collection that it loads, or on the cubes
+-- of the nodes that it refers to, in their order. By its links it loads a collection exactly where it has one.
+pub record GiveCubes : Type 0 where
+  pub loads : (c : CheckedGraph) → AreFaultless c → (node : ℕ) → node < node_count c.nodes
+      → order.is_load (links_of c.nodes) node ≡ is_some (collection_of_node c node)
+  pub cube : (c : CheckedGraph) → AreFaultless c → (collections : Collections) → AreCollectionsOf c collections
+      → (node : ℕ) → node < node_count c.nodes → IsCubeOfNode c node (meaning_of_node collections c node)
+  pub loaded : (c : CheckedGraph) → AreFaultless c → (collections : Collections) → AreCollectionsOf c collections
+      → (node : ℕ) → node < node_count c.nodes → (operation : Operation) → operation_of_node c node ≡ Some operation
+      → (id : List ℕ) → collection_of_node c node ≡ Some id
+      → meaning_of_node collections c node ≡ operated operation (collection_named collections id ∷ [])
+  pub operated : (c : CheckedGraph) → AreFaultless c → (collections : Collections) → AreCollectionsOf c collections
+      → (node : ℕ) → node < node_count c.nodes → (operation : Operation) → operation_of_node c node ≡ Some operation
+      → collection_of_node c node ≡ None
+      → meaning_of_node collections c node
+      ≡ operated operation (map (meaning_of_node collections c) (order.arguments (links_of c.nodes) node))

@@ -12,3 +12,14 @@ pub mod ValidShapes
 pub mod Scopes
 pub mod SoundNodes
 pub mod Brings
+pub mod PlainRequests
+pub mod Words
+pub mod Rows
+pub mod Stands
+pub mod Checked
+pub mod Results
+pub mod Links
+pub mod Walked
+pub mod Callbacks
+pub mod Early
+pub mod Inputs

@@ -18,10 +18,11 @@ use Rattle.oe_kernel.specs.Kernels.{KernelValues}
 use Rattle.oe_kernel.specs.declared.border.Border.{Border}
 use Rattle.oe_expr.specs.Callback.{Callback, callback_value}
 use Rattle.oe_expr.specs.Scope.{no_labels}
-use Rattle.oe_shape.specs.Extents.{Restriction, TemporalExtent, kept_shape, labels_in_time}
+use Rattle.oe_shape.specs.Extents.{Restriction, kept_shape, labels_in_time}
+use Rattle.oe_shape.specs.declared.extent.TemporalExtent.{TemporalExtent}
 use Rattle.oe_shape.specs.Labels.{restrict, merged_shape}
 use Rattle.oe_shape.specs.Operations.{Operation, keep, each_cell, convolve, reduce, aggregate, merge, cover, give_back, Outline, no_dimensions, first_or, second_or, labels_along, without, aggregated_shape, kind_of}
-use Rattle.oe_shape.specs.Parameters.{Interval}
+use Rattle.oe_shape.specs.declared.extent.Interval.{Interval}
 
 -- the cell of a tuple; of one that the cube does not have, which is never asked for, null
 abbrev pub cell : Cube Cell → Tuple → Cell

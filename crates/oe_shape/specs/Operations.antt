@@ -17,7 +17,7 @@ use Rattle.oe_expr.specs.Scope as scope
 use Rattle.oe_expr.specs.Scope.{PlainScope, label_count}
 use Rattle.oe_shape.specs.Extents.{Restriction, kept_shape, part_in_time}
 use Rattle.oe_shape.specs.Labels.{is_below, in_order, merged_shape}
-use Rattle.oe_shape.specs.Parameters.{Interval}
+use Rattle.oe_shape.specs.declared.extent.Interval.{Interval}
 use Rattle.oe_shape.specs.Requests as request
 use Rattle.oe_shape.specs.Requests.{Request, Called}
 

@@ -21,7 +21,9 @@ use Rattle.oe_kernel.specs.declared.border.Border.{Border}
 use Rattle.oe_kernel.specs.declared.border.Border.TheVariants.{Value, Replicate, Reflect, ReflectPixel, Wrap}
 use Rattle.oe_expr.specs.Requests.{with_both, is_null, whole_cell}
 use Rattle.oe_expr.specs.Scope.{read_or_none}
-use Rattle.oe_shape.specs.Extents.{TemporalExtent, BoundingBox}
+use Rattle.oe_shape.specs.declared.extent.BoundingBox.{BoundingBox}
+use Rattle.oe_shape.specs.declared.extent.Interval.{Interval}
+use Rattle.oe_shape.specs.declared.extent.TemporalExtent.{TemporalExtent}
 
 -- ---- words for all of them
 
@@ -121,18 +123,26 @@ extent_from start end = record { start = start; end = end }
 abbrev pub is_limited : TemporalExtent → Bool
 is_limited e = is_some e.start || is_some e.end
 
--- a pair: a list of two, each an instant or null, not both null
-abbrev pub extent_in : Argument → Option TemporalExtent
-extent_in (tree.list (tree.argument start (tree.argument end tree.no_arguments))) =
+-- the extent of two ends, each an instant or null, not both null
+abbrev pub extent_of : Argument → Argument → Option TemporalExtent
+extent_of start end =
     option_and_then (where_it is_limited) (with_both extent_from (null_or instant_in start) (null_or instant_in end))
+
+-- a pair: a list of two ends
+abbrev pub extent_in : Argument → Option TemporalExtent
+extent_in (tree.list (tree.argument start (tree.argument end tree.no_arguments))) = extent_of start end
 extent_in _ = None
 
 -- ---- boxes
 
+-- a decimal digit
+abbrev pub is_digit : ℕ → Bool
+is_digit digit = is_byte_in 48 57 digit
+
 -- decimal digits, of which the first is not 0
 abbrev pub is_decimal : List ℕ → Bool
 is_decimal [] = false
-is_decimal (digit ∷ digits) = is_byte_in 49 57 digit && list_all (is_byte_in 48 57) digits
+is_decimal (digit ∷ digits) = is_byte_in 49 57 digit && list_all is_digit digits
 
 -- the number that they spell
 abbrev pub digits_value : List ℕ → ℕ
@@ -166,7 +176,7 @@ box_members =
 -- it has no other members and none twice, and where it has a base or a height it is null
 abbrev pub is_flat_box : Named → Bool
 is_flat_box members =
-    all_differ (names_of members) && list_all (λ name. list_any (same_name name) box_members) (names_of members)
+    list_all (λ name. list_any (same_name name) box_members) (names_of members) && all_differ (names_of members)
     && option_map_or is_null (argument_named (codes "base") members) true
     && option_map_or is_null (argument_named (codes "height") members) true
 
@@ -194,21 +204,21 @@ box_in _ = None
 
 -- ---- kernels
 
--- as many values in each row as in the first, one at least (rule of this profile: values are whole numbers)
-abbrev pub kernel_of : List (List ℤ) → Option KernelValues
+-- as many values in each row as in the first, one at least
+abbrev pub kernel_of : List (List Fraction) → Option KernelValues
 kernel_of [] = None
 kernel_of (row ∷ rows) =
-    if is_given row && list_all (λ (other : List ℤ). length other == length row) rows
+    if is_given row && list_all (λ (other : List Fraction). length other == length row) rows
     then Some (record {
       width = length row;
       height = length (row ∷ rows);
-      values = flat_map (map whole_of) (row ∷ rows);
+      values = flat_map (λ values. values) (row ∷ rows);
     })
     else None
 
--- a list of rows, each a list of whole numbers along x
+-- a list of rows, each a list of whole numbers along x (rule of this profile)
 abbrev pub kernel_in : Argument → Option KernelValues
-kernel_in a = option_and_then kernel_of (list_in (list_in whole_in) a)
+kernel_in a = option_and_then kernel_of (list_in (list_in number_in) a)
 
 -- the border rules that have names
 abbrev pub border_named : List ℕ → Option Border
@@ -224,11 +234,6 @@ border_in (tree.text name) = border_named name
 border_in a = option_map Value (number_in a)
 
 -- ---- intervals
-
--- an interval with the label that stands for it
-pub record Interval : Type 0 where
-  pub extent : TemporalExtent
-  pub label : ℤ
 
 -- an interval from its parts
 abbrev pub labelled : TemporalExtent → ℤ → Interval

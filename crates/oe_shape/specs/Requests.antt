@@ -1,6 +1,6 @@
 -- What the arguments of a node of the main graph ask for, where each is what its parameter may hold. Cubes are named by
 -- the nodes that they are results of; arguments that have no effect are looked at and left out.
-use Rattle.std.specs.Prelude.{ℕ, List, [], ◌∷◌, Option, codes, find, option_map, option_and_then}
+use Rattle.std.specs.Prelude.{ℕ, List, [], ◌∷◌, Option, Some, None, codes, option_map, option_and_then, if◌then◌else◌}
 use Rattle.oe_cell.specs.Fraction.{Fraction}
 use Rattle.oe_cell.specs.declared.cell.Cell.{Cell}
 use Rattle.oe_dims.specs.Names.{same_name}
@@ -8,23 +8,14 @@ use Rattle.oe_graph.specs.Tree.{Named, PlainGraph, PlainNode}
 use Rattle.oe_kernel.specs.Kernels.{KernelValues}
 use Rattle.oe_kernel.specs.declared.border.Border.{Border}
 use Rattle.oe_expr.specs.Requests.{with_both, read, passes, where_passed}
-use Rattle.oe_shape.specs.Extents.{BoundingBox, TemporalExtent}
-use Rattle.oe_shape.specs.Parameters.{Interval, cube_in, callback_in, text_in, number_in, literal_in, box_in, extent_in, instant_in, bands_in, some_bands_in, kernel_in, border_in, list_in, null_or, intervals_of, is_empty_list, is_empty_object, is_null_or_empty_object}
+use Rattle.oe_shape.specs.declared.extent.BoundingBox.{BoundingBox}
+use Rattle.oe_shape.specs.declared.extent.TemporalExtent.{TemporalExtent}
+use Rattle.oe_shape.specs.Parameters.{cube_in, callback_in, text_in, number_in, literal_in, box_in, extent_in, instant_in, bands_in, some_bands_in, kernel_in, border_in, list_in, null_or, intervals_of, is_empty_list, is_empty_object, is_null_or_empty_object}
+use Rattle.oe_shape.specs.declared.extent.Interval.{Interval}
+use Rattle.oe_shape.specs.declared.process.CubeProcess.{CubeProcess}
+use Rattle.oe_shape.specs.declared.process.CubeProcess.TheVariants.{AggregateTemporal, Apply, ApplyKernel, FilterBands, FilterBbox, FilterTemporal, LoadCollection, Mask, MergeCubes, ReduceDimension, SaveResult}
 
 -- ---- the processes, by the ids that openEO Processes gives them
-
-pub data CubeProcess : Type 0 where
-  AggregateTemporal : CubeProcess
-  Apply : CubeProcess
-  ApplyKernel : CubeProcess
-  FilterBands : CubeProcess
-  FilterBbox : CubeProcess
-  FilterTemporal : CubeProcess
-  LoadCollection : CubeProcess
-  Mask : CubeProcess
-  MergeCubes : CubeProcess
-  ReduceDimension : CubeProcess
-  SaveResult : CubeProcess
 
 abbrev pub NamedProcess : Type 0
 NamedProcess = List ℕ × CubeProcess
@@ -44,9 +35,13 @@ cube_processes =
     ∷ (codes "save_result", SaveResult)
     ∷ []
 
+-- of the first entry with this id
+abbrev pub process_among : List ℕ → List NamedProcess → Option CubeProcess
+process_among id [] = None
+process_among id (p ∷ others) = if same_name p.0 id then Some p.1 else process_among id others
+
 abbrev pub cube_process_named : List ℕ → Option CubeProcess
-cube_process_named id =
-    option_map (λ (p : NamedProcess). p.1) (find (λ (p : NamedProcess). same_name p.0 id) cube_processes)
+cube_process_named id = process_among id cube_processes
 
 -- ---- requests
 
@@ -130,13 +125,17 @@ abbrev pub apply_request : Named → Option Request
 apply_request arguments =
     with_both apply (read cube_in (codes "data") arguments) (called_in (codes "process") arguments)
 
+-- with the cube and the kernel
+abbrev pub convolution_request : List ℕ → KernelValues → Named → Option Request
+convolution_request data_id kernel arguments =
+    option_and_then (λ factor. with_both (apply_kernel data_id kernel factor)
+    (read border_in (codes "border") arguments) (read number_in (codes "replace_invalid") arguments))
+    (read number_in (codes "factor") arguments)
+
 abbrev pub apply_kernel_request : Named → Option Request
 apply_kernel_request arguments =
-    option_and_then (λ data_id. option_and_then (λ kernel. option_and_then (λ factor.
-    with_both (apply_kernel data_id kernel factor)
-    (read border_in (codes "border") arguments) (read number_in (codes "replace_invalid") arguments))
-    (read number_in (codes "factor") arguments)) (read kernel_in (codes "kernel") arguments))
-    (read cube_in (codes "data") arguments)
+    option_and_then (λ data_id. option_and_then (λ kernel. convolution_request data_id kernel arguments)
+    (read kernel_in (codes "kernel") arguments)) (read cube_in (codes "data") arguments)
 
 abbrev pub reduce_request : Named → Option Request
 reduce_request arguments =
@@ -157,12 +156,16 @@ aggregate_request arguments =
     (read (null_or text_in) (codes "dimension") arguments) (called_in (codes "reducer") arguments))
     (intervals_in arguments)) (read cube_in (codes "data") arguments)
 
+-- a resolver or null, with `context`
+abbrev pub resolver_in : Named → Option (Option Called)
+resolver_in arguments =
+    with_both (λ resolver context. option_map (λ graph. called graph context) resolver)
+    (read (null_or callback_in) (codes "overlap_resolver") arguments) (read literal_in (codes "context") arguments)
+
 abbrev pub merge_request : Named → Option Request
 merge_request arguments =
-    option_and_then (λ one. option_and_then (λ two. with_both (λ resolver context. merge_cubes one two
-    (option_map (λ graph. called graph context) resolver))
-    (read (null_or callback_in) (codes "overlap_resolver") arguments) (read literal_in (codes "context") arguments))
-    (read cube_in (codes "cube2") arguments)) (read cube_in (codes "cube1") arguments)
+    option_and_then (λ one. with_both (merge_cubes one)
+    (read cube_in (codes "cube2") arguments) (resolver_in arguments)) (read cube_in (codes "cube1") arguments)
 
 abbrev pub mask_request : Named → Option Request
 mask_request arguments =

@@ -8,7 +8,7 @@ use Rattle.oe_dims.specs.declared.kind.Kind.TheVariants.{Time}
 use Rattle.oe_expr.specs.Scope.{IsScope, list_labels}
 use Rattle.oe_shape.specs.Extents.{is_empty_extent, labels_in_time}
 use Rattle.oe_shape.specs.Operations.{Outline, labels_along, reduction_scope, interval_scope}
-use Rattle.oe_shape.specs.Parameters.{Interval}
+use Rattle.oe_shape.specs.declared.extent.Interval.{Interval}
 
 -- On cubes of valid shapes, and for intervals that end later than they start: a reduction has one list, with all labels
 -- along its dimension, and an aggregation one for each interval, with the labels inside it.

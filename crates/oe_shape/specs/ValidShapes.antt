@@ -6,7 +6,7 @@ use Rattle.oe_dims.specs.Indices.{same_number}
 use Rattle.oe_dims.specs.Names.{is_name}
 use Rattle.oe_shape.specs.Labels.{are_distinct}
 use Rattle.oe_shape.specs.Operations.{Operation, keep, each_cell, convolve, reduce, aggregate, merge, cover, give_back, shape_of}
-use Rattle.oe_shape.specs.Parameters.{Interval}
+use Rattle.oe_shape.specs.declared.extent.Interval.{Interval}
 
 -- at most 65536 labels along each dimension, and at most 2^40 cells
 abbrev pub is_within_limits : Dimensions → Bool

@@ -1,10 +1,15 @@
 // What holds of every meaning.
 ghost use Rattle.oe_shape.specs.Brings.{BringValidLabels};
 ghost use Rattle.oe_shape.specs.CellKinds.{GiveCellsOfKind};
-ghost use Rattle.oe_shape.specs.Laws.{AreFoundWithoutCells, AreInOneAtLeast, KeepAllLabels};
+ghost use Rattle.oe_shape.specs.Laws.{AreFoundWithoutCells, AreInOneAtLeast, GiveCubes, KeepAllLabels, ReferToCubes};
+ghost use Rattle.oe_shape.specs.Reach.{FoldDateByDate};
 ghost use Rattle.oe_shape.specs.Scopes.{GiveScopes};
 ghost use Rattle.oe_shape.specs.SoundNodes.{AreSound, UnfoldAtNodes};
+ghost use Rattle.oe_shape.specs.Stands.{HasNoneAtOrBelow};
 ghost use Rattle.oe_shape.specs.ValidShapes.{GiveValidShapes};
+ghost use Rattle.oe_dims.specs.declared.dims.DimsRow.{DimsRow};
+ghost use Rattle.oe_graph.specs.Tree.{Nodes};
+ghost use Rattle.std.specs.Prelude.{List};
 
 /// Does nothing. Its contract says that the shape and the kind of every cube are found without cells.
 #[tactic(auto, using(crate::proofs::OutlineLemmas::found_without_cells))]
@@ -48,4 +53,31 @@ pub fn callbacks_have_scopes()
 pub fn meanings_are_sound()
     ensures unfold { UnfoldAtNodes }
     ensures sound { AreSound }
+{}
+
+/// Does nothing. Its contract says that no fault stands at a node that has none at or below it.
+#[tactic(auto, using(crate::proofs::StandsLemmas::none_at_or_below))]
+pub fn faults_stand_lowest()
+    ensures { (rows : List DimsRow) (nodes : Nodes) → HasNoneAtOrBelow rows nodes }
+{}
+
+/// Does nothing. Its contract says that a node of a resolved graph refers to the nodes whose cubes its request works on
+/// and to no others, in their order.
+#[tactic(auto, using(crate::proofs::CheckedLemmas::refer_to_cubes))]
+pub fn references_are_cubes()
+    ensures { ReferToCubes }
+{}
+
+/// Does nothing. Its contract says that each node of a graph without a fault means a valid cube of the shape and the
+/// kind that were found for it, and that this is its operation on the collection that it loads, or on the cubes of the
+/// nodes that it refers to; and that by its links it loads a collection exactly where it has one.
+#[tactic(auto, using(crate::proofs::CheckedLemmas::give_cubes))]
+pub fn nodes_give_cubes()
+    ensures { GiveCubes }
+{}
+
+/// Does nothing. Its contract says that a reduction of t that goes date by date has the value of its reducer.
+#[tactic(auto, using(crate::proofs::ReachLemmas::fold_date_by_date))]
+pub fn folds_are_reductions()
+    ensures { FoldDateByDate }
 {}

@@ -5,11 +5,46 @@
 //! above are proved against them; chunks and windows do not occur in them.
 #![tactic(auto)]
 
+mod checked;
+mod extent;
+mod graph_check;
+mod judge;
+mod judge_inputs;
 mod laws;
+mod links;
 mod mask;
+mod operation;
+mod operation_request;
+mod operation_scope;
+mod parameter;
+mod parameter_box;
+mod parameter_list;
+mod process;
+mod reach;
+mod request;
+mod rows_early;
+mod rows_extent;
+mod rows_kinds;
+mod rows_labels;
+mod rows_words;
+mod shape_aggregated;
+mod shape_kept;
+mod shape_labels;
+mod shape_merged;
+mod shape_parts;
+mod shape_result;
+mod shape_without;
+mod walk;
 
+pub use checked::Checked;
+pub use extent::{BoundingBox, Interval, TemporalExtent};
+pub use graph_check::check;
 pub use laws::{
-    callbacks_have_scopes, cells_are_of_their_kind, labels_are_kept, meanings_are_sound,
-    shapes_are_valid, shapes_need_no_cells,
+    callbacks_have_scopes, cells_are_of_their_kind, faults_stand_lowest, folds_are_reductions,
+    labels_are_kept, meanings_are_sound, nodes_give_cubes, references_are_cubes, shapes_are_valid,
+    shapes_need_no_cells,
 };
 pub use mask::cover;
+pub use operation::{Operation, Restriction};
+pub use operation_request::operation_for;
+pub use request::{Called, KernelRows, Request, read_request};

@@ -8,7 +8,7 @@ use Rattle.oe_outside.specs.Input.{ReadsUpTo}
 use Rattle.oe_outside.specs.Visible.{IsFront}
 use Rattle.oe_top.proofs.Forms.{loads_one}
 use Rattle.oe_top.proofs.Loads.{row_there}
-use Rattle.oe_top.specs.Answer.{IsFound}
+use Rattle.oe_top.specs.RunAnswer.{IsFound}
 use Rattle.oe_top.specs.Collection.{Row, row_of, loaded}
 use Rattle.oe_top.specs.Form.{Loads, form_id, most_input}
 use Rattle.oe_top.specs.Meaning.{IsSupported, LoadsRow, Means}
@@ -22,16 +22,16 @@ same_whole visible bytes rest front none =
     ∙ take-append-drop (length bytes) visible
 
 -- an input within the limit was read whole
-whole_same : (visible bytes : List ℕ) (after : Option (List ℕ)) → ReadsUpTo most_input (Some visible) bytes after → length bytes ≤ most_input → bytes ≡ visible
+pub whole_same : (visible bytes : List ℕ) (after : Option (List ℕ)) → ReadsUpTo most_input (Some visible) bytes after → length bytes ≤ most_input → bytes ≡ visible
 whole_same visible bytes None read short = absurd read.front
 whole_same visible bytes (Some rest) read short = same_whole visible bytes rest read.front (read.whole short)
 
 -- what was read is no longer than what was visible
-within : (visible bytes : List ℕ) (after : Option (List ℕ)) → ReadsUpTo most_input (Some visible) bytes after → length bytes ≤ length visible
+pub within : (visible bytes : List ℕ) (after : Option (List ℕ)) → ReadsUpTo most_input (Some visible) bytes after → length bytes ≤ length visible
 within visible bytes None read = absurd read.front
 within visible bytes (Some rest) read = read.front.enough
 
-read_all : (before : Option (List ℕ)) (bytes : List ℕ) (after : Option (List ℕ)) → ReadsUpTo most_input before bytes after → length bytes ≤ most_input → IfSome before (λ input. input ≡ bytes)
+pub read_all : (before : Option (List ℕ)) (bytes : List ℕ) (after : Option (List ℕ)) → ReadsUpTo most_input before bytes after → length bytes ≤ most_input → IfSome before (λ input. input ≡ bytes)
 read_all None bytes after read short = tt
 read_all (Some visible) bytes after read short = sym (whole_same visible bytes after read short)
 

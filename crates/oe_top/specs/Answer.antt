@@ -1,158 +1,24 @@
--- What the top call answers, and what it leaves: the table of statuses, one clause a row.
-use Rattle.std.specs.Prelude.{◌≡◌, ◌≢◌, ℕ, ◌+◌, ◌⊎◌, ◌↔◌, List, [], Option, Some, Result, Ok, Err, IfSome, IfOk, IfErr, OnOk, IsErrOf, slice_get}
-use Rattle.oe_cell.specs.declared.cell.Cell.{Cell}
-use Rattle.oe_dims.specs.Cube.{Cube}
-use Rattle.oe_outside.specs.Faults.{HasCauseOf, NeverFalls, Rose}
-use Rattle.oe_outside.specs.Input.{TakesAtMost}
-use Rattle.oe_outside.specs.Visible.{Appends, AppendsPrefix}
-use Rattle.oe_top.specs.Collection.{Row, OnlyRead, faults_at, loaded}
-use Rattle.oe_top.specs.Form.{most_input}
-use Rattle.oe_top.specs.Meaning.{IsSupported, LoadsRow, Means, answer_text}
-use Rattle.oe_top.specs.Words.{IsRunCommand}
+-- What the top call answers, and what it leaves.
+use Rattle.std.specs.Prelude.{◌≡◌, ℕ, ◌↔◌, List, Result, Err}
+use Rattle.oe_top.specs.CheckAnswer.{CheckAnswers}
+use Rattle.oe_top.specs.Lines.{ErrorOutput, SaysEnding, status_of}
+use Rattle.oe_top.specs.Objects.{Objects}
+use Rattle.oe_top.specs.RunAnswer.{RunEnds}
+use Rattle.oe_top.specs.Words.{IsCheckCommand, IsCommand, IsRunCommand}
 use Rattle.oe_top.specs.declared.refusal.Refusal.{Refusal}
-use Rattle.oe_top.specs.declared.refusal.Refusal.TheVariants.{Usage, NotBuilt, ReadFault, WriteFault, OutOfMemory}
+use Rattle.oe_top.specs.declared.refusal.Refusal.TheVariants.{Usage}
 
--- the objects that a call is lent: what the input has left, what the output holds, and the collections
-pub record Objects : Type 0 where
-  pub input : Option (List ℕ)
-  pub input_faults : ℕ
-  pub out : Option (List ℕ)
-  pub out_faults : ℕ
-  pub collections : List Row
+-- How a call ends: by the table of the command that the words spell. `Usage` comes exactly where they spell none, before
+-- anything is read or allocated, and leaves all as it was.
+pub record Ends (words : List (List ℕ)) (before after : Objects) (ending : Result (Unit {0}) Refusal) : Type 0 where
+  pub usage : (ending ≡ Err Usage) ↔ ¬ IsCommand words
+  pub usage_keeps : ending ≡ Err Usage → after ≡ before
+  pub run : IsRunCommand words → RunEnds before after ending
+  pub check : IsCheckCommand words → CheckAnswers before after ending
 
--- the objects, where a source of type I and a sink of type O show what they have left and hold
-abbrev pub objects : {I O : Type 0} → (I → Option (List ℕ)) → (I → ℕ) → (O → Option (List ℕ)) → (O → ℕ) → I → O → List Row → Objects
-objects left input_faults written out_faults input out rows = record {
-  input = left input;
-  input_faults = input_faults input;
-  out = written out;
-  out_faults = out_faults out;
-  collections = rows;
-}
-
--- the whole input, these bytes, was read, and nothing of it is left
-pub record IsReadWhole (before after : Option (List ℕ)) (bytes : List ℕ) : Type 0 where
-  pub all : IfSome before (λ input. input ≡ bytes)
-  pub end : IfSome after (λ rest. rest ≡ [])
-
--- the whole input was read, and this cube is what it means
-pub record IsAsked (before after : Objects) (cube : Cube Cell) : Type 0 where
-  pub bytes : List ℕ
-  pub read_whole : IsReadWhole before.input after.input bytes
-  pub means : Means before.collections bytes cube
-
--- status 0: the whole text of the cube that the input means follows what the output held
-pub record Finishes (before after : Objects) : Type 0 where
-  pub cube : Cube Cell
-  pub asked : IsAsked before after cube
-  pub text : Appends before.out (answer_text cube) after.out
-
--- status 8: the fault counter of the output rose, and a prefix of that text follows what the output held
-pub record StopsWriting (before after : Objects) : Type 0 where
-  pub cube : Cube Cell
-  pub asked : IsAsked before after cube
-  pub rose : Rose before.out_faults after.out_faults
-  pub prefix : AppendsPrefix before.out (answer_text cube) after.out
-
--- status 5, of a collection: the fault counter of one that the input loads rose
-pub record StopsReading (before after : Objects) : Type 0 where
-  pub bytes : List ℕ
-  pub read_whole : IsReadWhole before.input after.input bytes
-  pub row : Row
-  pub loads : LoadsRow before.collections bytes row
-  pub place : ℕ
-  pub mounted : slice_get before.collections place ≡ Some row
-  pub rose : Rose (faults_at before.collections place) (faults_at after.collections place)
-
--- no fault counter rose: not that of the input, of a collection or of the output
-pub record NoneRose (before after : Objects) : Type 0 where
-  pub input : ¬ Rose before.input_faults after.input_faults
-  pub collections : (place : ℕ) → ¬ Rose (faults_at before.collections place) (faults_at after.collections place)
-  pub out : ¬ Rose before.out_faults after.out_faults
-
--- the statuses that a run may have
-abbrev pub IsStatus : ℕ → Type 0
-IsStatus status = (status ≡ 0) ⊎ ((status ≡ 1) ⊎ ((status ≡ 2) ⊎ ((status ≡ 5) ⊎ ((status ≡ 8) ⊎ (status ≡ 9)))))
-
--- The table of statuses. 9 is out of memory, which has no cause. What yields to it says so: where an input has no meaning
--- the status is 2, 5 or 9 (`refuses_unsupported`), and where it has one and no fault counter rose, 0 or 9 (`complete`).
--- Status 1 does not yield: it comes exactly by the words, before anything is read or allocated.
-pub record Answers (words : List (List ℕ)) (before after : Objects) (status : ℕ) : Type 0 where
-  pub known : IsStatus status
-  -- 1, `Usage`: exactly where the words are not those of a run; then the input is as it was
-  pub usage : (status ≡ 1) ↔ ¬ IsRunCommand words
-  pub usage_keeps : status ≡ 1 → (after.input ≡ before.input) ×
-      (after.input_faults ≡ before.input_faults)
-  -- 5, `ReadFault`: only where the fault counter of the input, or of a collection that it loads, rose
-  pub read_fault : status ≡ 5 → Rose before.input_faults after.input_faults ⊎
-      StopsReading before after
-  -- 2, `NotBuilt`: exactly where the whole input means no cube, if it could be read
-  pub not_built : status ≡ 2 → IfSome before.input (λ bytes. ¬ IsSupported before.collections bytes)
-  pub refuses_unsupported : IsRunCommand words → IfSome before.input (λ bytes.
-      ¬ IsSupported before.collections bytes →
-      (status ≡ 2) ⊎ ((status ≡ 5) ⊎ (status ≡ 9)))
-  -- 8, `WriteFault`: only where the fault counter of the output rose; a prefix of the text stands there
-  pub write_fault : status ≡ 8 → StopsWriting before after
-  -- 0: the text of the cube that the input means stands on the output
-  pub finished : status ≡ 0 → Finishes before after
-  -- in every other status than 0 and 8 nothing was written
-  pub nothing_written : status ≢ 0 → status ≢ 8 → (after.out ≡ before.out) ×
-      (after.out_faults ≡ before.out_faults)
-  -- 1, 2 and 9 leave the collections as they were
-  pub collections_kept : (status ≡ 1) ⊎ ((status ≡ 2) ⊎ (status ≡ 9)) →
-      after.collections ≡ before.collections
-  -- it does not give up: where the input means a cube and no fault counter rose, the status is 0 or 9
-  pub complete : IsRunCommand words → NoneRose before after → IfSome before.input (λ bytes.
-      IsSupported before.collections bytes →
-      (status ≡ 0) ⊎ (status ≡ 9))
-  -- the input is read only up to one byte past the limit
-  pub input_taken : TakesAtMost before.input (most_input + 1) after.input
-  -- reading changes no collection, and no fault counter falls
-  pub collections_read : OnlyRead before.collections after.collections
-  pub input_count : NeverFalls before.input_faults after.input_faults
-  pub out_count : NeverFalls before.out_faults after.out_faults
-
--- the input was read whole, and loads this row
-pub record IsFound (before : Option (List ℕ)) (rows : List Row) (after : Option (List ℕ)) (place : ℕ) : Type 0 where
-  pub bytes : List ℕ
-  pub read_whole : IsReadWhole before after bytes
-  pub row : Row
-  pub mounted : slice_get rows place ≡ Some row
-  pub loads : LoadsRow rows bytes row
-
--- the answer of looking for the row that an input loads
-pub record FindsRow (before : Option (List ℕ)) (before_faults : ℕ) (rows : List Row) (after : Option (List ℕ)) (after_faults : ℕ) (result : Result ℕ Refusal) : Type 0 where
-  pub found : IfOk result (IsFound before rows after)
-  pub not_built : IsErrOf result NotBuilt → IfSome before (λ bytes. ¬ IsSupported rows bytes)
-  pub only : IfErr result (λ refusal. (refusal ≡ NotBuilt) ⊎ ((refusal ≡ ReadFault) ⊎
-      (refusal ≡ OutOfMemory)))
-  pub cause : HasCauseOf ReadFault before_faults after_faults result
-  pub taken : TakesAtMost before (most_input + 1) after
-
--- the answer of writing the text of the collection of a row
-pub record Loading (place : ℕ) (rows : List Row) (before : Option (List ℕ)) (before_faults : ℕ) (after_rows : List Row) (after : Option (List ℕ)) (after_faults : ℕ) (result : Result (Unit {0}) Refusal) : Type 0 where
-  pub written : OnOk result (IfSome (slice_get rows place) (λ row.
-      Appends before (answer_text (loaded row.source.collection)) after))
-  pub unread : IsErrOf result ReadFault → (after ≡ before) × (after_faults ≡ before_faults) ×
-      Rose (faults_at rows place) (faults_at after_rows place)
-  pub stopped : IsErrOf result WriteFault → Rose before_faults after_faults ×
-      IfSome (slice_get rows place) (λ row. AppendsPrefix before (answer_text (loaded row.source.collection)) after)
-  pub kept : IsErrOf result OutOfMemory → (after ≡ before) × (after_faults ≡ before_faults) ×
-      (after_rows ≡ rows)
-  pub only : IfErr result (λ refusal. (refusal ≡ ReadFault) ⊎ ((refusal ≡ WriteFault) ⊎
-      (refusal ≡ OutOfMemory)))
-  pub rows_read : OnlyRead rows after_rows
-  pub count : NeverFalls before_faults after_faults
-
--- the status of a refusal
-abbrev pub status_of_refusal : Refusal → ℕ
-status_of_refusal Usage = 1
-status_of_refusal NotBuilt = 2
-status_of_refusal ReadFault = 5
-status_of_refusal WriteFault = 8
-status_of_refusal OutOfMemory = 9
-
--- the status of an answer
-abbrev pub status_of : Result (Unit {0}) Refusal → ℕ
-status_of (Ok x) = 0
-status_of (Err refusal) = status_of_refusal refusal
+-- the status and the line on the error output are those of the ending
+pub record Answers (words : List (List ℕ)) (before after : Objects) (err : ErrorOutput) (status : ℕ) : Type 0 where
+  pub ending : Result (Unit {0}) Refusal
+  pub status_is : status ≡ status_of ending
+  pub line : SaysEnding ending err
+  pub ends : Ends words before after ending

@@ -1,8 +1,13 @@
 pub mod Answer
 pub mod Catalogue
+pub mod CheckAnswer
 pub mod Collection
+pub mod Faults
 pub mod Form
 pub mod Lines
 pub mod Meaning
 pub mod MemoryCube
+pub mod Mounted
+pub mod Objects
+pub mod RunAnswer
 pub mod Words

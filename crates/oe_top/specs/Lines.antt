@@ -1,9 +1,9 @@
--- The line on the error output that each status has.
-use Rattle.std.specs.Prelude.{◌≡◌, ℕ, List, Option, ◌⊎◌, codes}
+-- The status and the line on the error output that each ending has.
+use Rattle.std.specs.Prelude.{◌≡◌, ℕ, List, Option, ◌⊎◌, Result, Ok, Err, codes}
 use Rattle.oe_outside.specs.Faults.{NeverFalls, Rose}
 use Rattle.oe_outside.specs.Visible.{Appends, AppendsPrefix}
 use Rattle.oe_top.specs.declared.refusal.Refusal.{Refusal}
-use Rattle.oe_top.specs.declared.refusal.Refusal.TheVariants.{Usage, NotBuilt, ReadFault, WriteFault, OutOfMemory}
+use Rattle.oe_top.specs.declared.refusal.Refusal.TheVariants.{Usage, NotBuilt, Graph, ReadFault, WriteFault, OutOfMemory}
 
 -- the error output before and after a call: what it holds, where that is visible, and its fault counter
 pub record ErrorOutput : Type 0 where
@@ -36,15 +36,28 @@ pub record IsSilent (err : ErrorOutput) : Type 0 where
 abbrev pub line_of : Refusal → List ℕ
 line_of Usage = codes "openeo: Usage\n"
 line_of NotBuilt = codes "openeo: NotBuilt\n"
+line_of (Graph line) = line.items
 line_of ReadFault = codes "openeo: ReadFault\n"
 line_of WriteFault = codes "openeo: WriteFault\n"
 line_of OutOfMemory = codes "openeo: OutOfMemory\n"
 
--- the line of each status
-pub record SaysWhy (status : ℕ) (err : ErrorOutput) : Type 0 where
-  pub finished : status ≡ 0 → IsSilent err
-  pub usage : status ≡ 1 → Says (codes "openeo: Usage\n") err
-  pub not_built : status ≡ 2 → Says (codes "openeo: NotBuilt\n") err
-  pub read_fault : status ≡ 5 → Says (codes "openeo: ReadFault\n") err
-  pub write_fault : status ≡ 8 → Says (codes "openeo: WriteFault\n") err
-  pub out_of_memory : status ≡ 9 → Says (codes "openeo: OutOfMemory\n") err
+-- the line of an ending: none of a command that finished
+abbrev pub SaysEnding : Result (Unit {0}) Refusal → ErrorOutput → Type 0
+SaysEnding (Ok x) err = IsSilent err
+SaysEnding (Err refusal) err = Says (line_of refusal) err
+
+-- ---- statuses
+
+-- the status of a refusal
+abbrev pub status_of_refusal : Refusal → ℕ
+status_of_refusal Usage = 1
+status_of_refusal NotBuilt = 2
+status_of_refusal (Graph line) = 2
+status_of_refusal ReadFault = 5
+status_of_refusal WriteFault = 8
+status_of_refusal OutOfMemory = 9
+
+-- the status of an ending
+abbrev pub status_of : Result (Unit {0}) Refusal → ℕ
+status_of (Ok x) = 0
+status_of (Err refusal) = status_of_refusal refusal

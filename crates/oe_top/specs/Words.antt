@@ -2,7 +2,7 @@
 use Rattle.std.specs.Prelude.{◌≡◌, ℕ, ◌≤◌, List, [], ◌∷◌, codes, decimal}
 use Rattle.oe_window.specs.declared.grid.ChunkSize.{ChunkSize}
 use Rattle.oe_top.specs.declared.words.Command.{Command}
-use Rattle.oe_top.specs.declared.words.Command.TheVariants.{Run}
+use Rattle.oe_top.specs.declared.words.Command.TheVariants.{Run, Check}
 
 -- a number from low to high, spelled in decimal with no sign and no leading zero
 pub record IsNumberWord (low high : ℕ) (word : List ℕ) (number : ℕ) : Type 0 where
@@ -18,6 +18,7 @@ pub record AreSides (cx cy ct : List ℕ) (size : ChunkSize) : Type 0 where
 
 -- these words spell the sides and the number of workers, from 1 to 64, of the run
 abbrev pub IsRunOf : List ℕ → List ℕ → List ℕ → List ℕ → Command → Type 0
+IsRunOf cx cy ct w Check = ⊥
 IsRunOf cx cy ct w (Run size workers) = AreSides cx cy ct size × IsNumberWord 1 64 w workers
 
 -- `run CX CY CT W`: the words spell this run
@@ -29,9 +30,14 @@ pub record SpellsRun (words : List (List ℕ)) (command : Command) : Type 0 wher
   pub words_are : words ≡ codes "run" ∷ cx ∷ cy ∷ ct ∷ w ∷ []
   pub numbers : IsRunOf cx cy ct w command
 
+-- the one word `check`
+abbrev pub IsCheckCommand : List (List ℕ) → Type 0
+IsCheckCommand words = words ≡ codes "check" ∷ []
+
 -- the words spell this command
 abbrev pub Spells : List (List ℕ) → Command → Type 0
 Spells words (Run size workers) = SpellsRun words (Run size workers)
+Spells words Check = IsCheckCommand words
 
 -- the words spell a command
 abbrev pub IsCommand : List (List ℕ) → Type 0

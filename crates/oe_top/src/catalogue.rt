@@ -1,14 +1,20 @@
 // The collections that graphs may load.
-ghost use Rattle.std.specs.Prelude.{◌≡◌, ◌≢◌, ◌+◌, ◌<◌, ◌↔◌, List, [], ◌∷◌, ◌++◌, length, true, All, IsNone, IfSome, IfNone, IfOk, OnOk, OnErr, IsErr, slice_get, Some, None};
+ghost use Rattle.std.specs.Prelude.{◌≡◌, ◌≢◌, ◌+◌, ◌<◌, ◌≤◌, ◌↔◌, List, [], ◌∷◌, ◌++◌, length, map, take, drop, true, false, All, IsNone, IfSome, IfNone, IfOk, OnOk, OnErr, IsErr, slice_get, Some, None};
 ghost use Rattle.std.specs.List.{list_all};
+ghost use Rattle.std.specs.Option.{option_map_or};
 ghost use Rattle.oe_dims.specs.Dimensions.{cell_count};
+ghost use Rattle.oe_dims.specs.Names.{is_name_before, names_rise, same_name};
+ghost use Rattle.oe_dims.specs.Plain.{plain_rows, HaveRisingIds};
+ghost use Rattle.oe_dims.specs.declared.dims.DimsRow.{DimsRow};
 ghost use Rattle.oe_outside.specs.Faults.{HasCause, Rose};
 ghost use Rattle.oe_cube.specs.Collections.{Collection, IsCollection};
 ghost use Rattle.oe_cube.specs.Kinds.{is_null_or_of};
+ghost use Rattle.oe_top.specs.Catalogue.{row_shown};
 ghost use Rattle.oe_top.specs.Collection.{OnlyRead, Row, faults_at, row_of};
+ghost use Rattle.oe_top.specs.Mounted.{dims_of, dims_row, put_row};
 
 use oe_cell::Cell;
-use oe_dims::{CellKind, Shape, Text};
+use oe_dims::{CellKind, Dims, DimsRow, Shape, Text};
 use oe_memory::OutOfMemory;
 use oe_outside::Failed;
 use std::alloc::Global;
@@ -100,6 +106,70 @@ struct Mounted {
     cube: MemoryCube,
 }
 
+impl Mounted {
+    /// The shape and the kind of the collection.
+    fn dims_row(&self) -> Result<DimsRow, OutOfMemory>
+        ensures { IfOk result (λ row. row ≡ dims_row (row_shown self.now)) }
+    {
+        Ok(DimsRow {
+            id: self.id.copy()?,
+            shape: self.cube.shape.copy()?,
+            kind: self.cube.kind,
+        })
+    }
+}
+
+/// Puts a row among rows whose ids rise, unless its id stands there.
+fn put_row(rows: &mut Vec<DimsRow>, row: DimsRow) -> Result<(), OutOfMemory>
+    requires { names_rise (map (λ row. row.id) rows.old.items) ≡ true }
+    ensures rows { OnOk result (rows.new.items ≡ put_row row rows.old.items) }
+    ensures rising { OnOk result (names_rise (map (λ row. row.id) rows.new.items) ≡ true) }
+{
+    let index = index_for(rows.as_slice(), &row.id);
+    if has_id(rows.as_slice(), index, &row.id) {
+        return Ok(());
+    }
+    rows.insert(index, row)?;
+    Ok(())
+}
+
+/// The first index of a row whose id does not stand before an id.
+fn index_for(rows: &[DimsRow], id: &Text) -> usize
+    ensures within { result ≤ length rows.now }
+    ensures before { (row : DimsRow) → row.id ≡ id.now → put_row row rows.now
+        ≡ take result rows.now ++ put_row row (drop result rows.now) }
+    ensures stops { IfSome (slice_get rows.now result) (λ row.
+        is_name_before row.id id.now ≡ false) }
+{
+    for index in 0..rows.len() {
+        if !is_before(&rows[index].id, id) {
+            return index;
+        }
+    }
+    rows.len()
+}
+
+fn is_before(a: &Text, b: &Text) -> bool
+    ensures { result ≡ is_name_before a.now b.now }
+{
+    a.as_str().cmp(b.as_str()).is_lt()
+}
+
+/// The row at an index has this id.
+fn has_id(rows: &[DimsRow], index: usize, id: &Text) -> bool
+    ensures { result ≡ option_map_or (λ row. same_name row.id id.now)
+        (slice_get rows.now index) false }
+{
+    index < rows.len() && is_same(&rows[index].id, id)
+}
+
+/// The two ids have the same bytes.
+fn is_same(a: &Text, b: &Text) -> bool
+    ensures { result ≡ same_name a.now b.now }
+{
+    a.as_str() == b.as_str()
+}
+
 /// The collections by their ids. Contracts see the rows in the order in which they were mounted.
 #[derive(Drop)]
 pub struct Catalogue {
@@ -163,6 +233,18 @@ impl Catalogue {
     {
         let row = &mut self.rows[place];
         row.cube.read()
+    }
+
+    /// The shapes and kinds of the collections, by ids that rise in byte order. Refuses: out of memory.
+    pub(crate) fn dims(&self, alloc: Global) -> Result<Dims, OutOfMemory>
+        ensures rows { IfOk result (λ dims. plain_rows dims ≡ dims_of self.now) }
+        ensures rising { IfOk result HaveRisingIds }
+    {
+        let mut rows = Vec::with_capacity(alloc, self.rows.len())?;
+        for row in &self.rows {
+            put_row(&mut rows, row.dims_row()?)?;
+        }
+        Ok(Dims { rows })
     }
 
     /// The shape of the collection of a row.

@@ -8,8 +8,10 @@
 #![tactic(auto)]
 
 mod catalogue;
+mod check;
 mod command;
 mod form;
+mod input;
 mod refusal;
 mod run;
 mod words;

@@ -1,15 +1,13 @@
 // The command `run`: from the input to the text of what it means.
-ghost use Rattle.std.specs.Prelude.{◌≡◌, ◌+◌, ◌<◌, ◌⊎◌, List, [], ℕ, length, IfOk, IfErr};
-ghost use Rattle.oe_outside.specs.Faults.{HasCauseOf};
-ghost use Rattle.oe_outside.specs.Input.{ReadsUpTo, TakesAtMost};
-ghost use Rattle.oe_top.specs.Answer.{Answers, FindsRow, Loading, objects, status_of};
-ghost use Rattle.oe_top.specs.Form.{most_input};
-ghost use Rattle.oe_top.specs.Words.{IsRunCommand};
+ghost use Rattle.std.specs.Prelude.{◌≡◌, ◌<◌, [], length};
+ghost use Rattle.oe_top.specs.Objects.{objects};
+ghost use Rattle.oe_top.specs.RunAnswer.{FindsRow, Loading, RunEnds};
 
 use crate::Catalogue;
-use crate::form::{MOST_INPUT, read_form};
+use crate::form::read_form;
+use crate::input::read_input;
 use crate::refusal::Refusal;
-use oe_outside::{Pending, ReadRefusal, Sink, Source, read_up_to};
+use oe_outside::{Pending, Sink, Source};
 use oe_render::write_text;
 use std::alloc::Global;
 
@@ -20,9 +18,9 @@ pub fn run<I: Source, O: Sink>(
     out: &mut O,
     catalogue: &mut Catalogue,
 ) -> Result<(), Refusal>
-    ensures { (words : List (List ℕ)) → IsRunCommand words → Answers words
+    ensures { RunEnds
         (objects I.left I.faults O.written O.faults input.old out.old catalogue.old)
-        (objects I.left I.faults O.written O.faults input.new out.new catalogue.new) (status_of result) }
+        (objects I.left I.faults O.written O.faults input.new out.new catalogue.new) result }
 {
     match find_row(alloc, input, catalogue) {
         Ok(place) => load(alloc, catalogue, place, out),
@@ -50,21 +48,6 @@ fn find_row<I: Source>(
     match catalogue.place(id.as_str()) {
         Some(place) => Ok(place),
         None => Err(Refusal::NotBuilt),
-    }
-}
-
-/// The whole input, or its front up to one byte past the limit.
-fn read_input<I: Source>(alloc: Global, input: &mut I) -> Result<Vec<u8>, Refusal>
-    ensures read { IfOk result (λ bytes. ReadsUpTo most_input (I.left input.old) bytes.items
-        (I.left input.new)) }
-    ensures bounded { TakesAtMost (I.left input.old) (most_input + 1) (I.left input.new) }
-    ensures cause { HasCauseOf Refusal.ReadFault (I.faults input.old) (I.faults input.new) result }
-    ensures only { IfErr result (λ e. (e ≡ Refusal.ReadFault) ⊎ (e ≡ Refusal.OutOfMemory)) }
-{
-    match read_up_to(alloc, input, MOST_INPUT) {
-        Ok(bytes) => Ok(bytes),
-        Err(ReadRefusal::Failed) => Err(Refusal::ReadFault),
-        Err(ReadRefusal::OutOfMemory) => Err(Refusal::OutOfMemory),
     }
 }
 

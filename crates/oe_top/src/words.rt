@@ -13,6 +13,8 @@ use oe_window::ChunkSize;
 pub enum Command {
     /// To evaluate the graph of the input, in chunks of this size, with 1 to 64 workers.
     Run { size: ChunkSize, workers: u32 },
+    /// To look for a fault of the graph of the input.
+    Check,
 }
 
 /// The command that the words spell, `None` exactly where they spell none.
@@ -28,8 +30,21 @@ pub fn read_command(words: &[Text]) -> Option<Command>
                 None
             }
         }
+        [verb] => {
+            if is_check(verb) {
+                Some(Command::Check)
+            } else {
+                None
+            }
+        }
         _ => None,
     }
+}
+
+fn is_check(verb: &Text) -> bool
+    ensures { IsTrue result ↔ verb.now ≡ codes "check" }
+{
+    verb.as_str() == "check"
 }
 
 fn is_run(verb: &Text) -> bool

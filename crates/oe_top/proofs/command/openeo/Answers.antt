@@ -1,8 +1,14 @@
-use Rattle.oe_top.proofs.Said.{says, says_why}
+use Rattle.std.proofs.Common.{Err}
+use Rattle.oe_top.proofs.Said.{says}
 use Rattle.oe_top.specs.Lines.{error_output}
 use Rattle.oe_top.proofs.command.openeo.Goals as goal
 
-pub returns-in-Err-clause-line : goal.returns-in-Err-clause-line
-returns-in-Err-clause-line g c =
+pub returns-in-Err : goal.returns-in-Err
+returns-in-Err g c =
     let err = error_output g.E.Sink.written g.E.Sink.faults c.args.err.now c.write.new.self in
-    rw c.status.ensures (says_why c.in-Err.refusal err (rw c.line.ensures at (says err c.write.result c.write.ensures.appended c.write.ensures.prefix c.write.ensures.cause)))
+    record {
+      ending = Err c.in-Err.refusal;
+      status_is = c.status.ensures;
+      line = rw c.line.ensures at (says err c.write.result c.write.ensures.appended c.write.ensures.prefix c.write.ensures.cause);
+      ends = c.in-Err.ensures;
+    }

@@ -1,0 +1,195 @@
+-- What stands at one node, by what a check finds out of it in its order.
+use Rattle.std.proofs.Common.{◌≡◌, ◌⊎◌, inl, inr, ℕ, Bool, true, false, List, Option, Some, None, refl, sym, ap, ◌∙◌, subst, true≢false, if◌then◌else◌}
+use Rattle.std.specs.Prelude.{IfSome}
+use Rattle.oe_dims.specs.declared.dims.DimsRow.{DimsRow}
+use Rattle.oe_graph.proofs.LeastLemmas.{not_before_itself, not_before-trans, before_not_after}
+use Rattle.oe_graph.specs.Faults.{IsLeast, is_before}
+use Rattle.oe_graph.specs.Form.{callback_name}
+use Rattle.oe_graph.specs.Tree.{PlainNode}
+use Rattle.oe_graph.specs.declared.code.Code.{Code}
+use Rattle.oe_graph.specs.declared.code.Code.TheVariants.{ProcessParameterInvalid, CellKindInvalid, CubeTooLarge}
+use Rattle.oe_graph.specs.declared.fault.Fault.{Fault}
+use Rattle.oe_expr.specs.Callback.{Callback, StandsIn, IsFaultless}
+use Rattle.oe_expr.specs.Rows.{first_row}
+use Rattle.oe_shape.specs.Operations.{Outline}
+use Rattle.oe_shape.specs.Requests.{Request, request_at}
+use Rattle.oe_shape.specs.Rows.{cell_kind_invalid, cube_too_large}
+use Rattle.oe_shape.specs.Stands.{early_rows, callback_on, cubes_of, Passes, HasFaultlessCallback, StandsHere, asks_for_nothing, early, inside, of_kind, of_size, HasNoFault}
+
+module _ (rows : List DimsRow) (at : List ℕ → Outline) (n : PlainNode) where
+  abbrev here : Code → Fault
+  here code = record { code = code; node = n.id }
+
+  -- the same fault
+  abbrev IsHere : Code → Code → List ℕ → Type 0
+  IsHere code other name = (other ≡ code) × (name ≡ n.id)
+
+  not_before : (code : Code) (other : Fault) → IsHere code other.code other.node → is_before other (here code) ≡ false
+  not_before code other e =
+      let same : other ≡ here code = ap (λ (c : Code). record { code = c; node = other.node }) e.0 ∙ ap (λ (name : List ℕ). record { code = code; node = name }) e.1 in
+      subst (λ (f : Fault). is_before f (here code) ≡ false) (sym same) (not_before_itself (here code))
+
+  -- where it alone stands it is the least
+  alone : (code : Code) → StandsHere rows at n code n.id → ((other : Code) (name : List ℕ) → StandsHere rows at n other name → IsHere code other name)
+      → IsLeast (StandsHere rows at n) (here code)
+  alone code s only = record { stands = s; least = λ other t. not_before code other (only other.code other.node t) }
+
+  pub nothing_asked : request_at n ≡ None → IsLeast (StandsHere rows at n) (here ProcessParameterInvalid)
+  nothing_asked none = alone ProcessParameterInvalid (asks_for_nothing none) only
+    where
+      not_asked : (q : Request) → request_at n ≡ Some q → ⊥
+      not_asked q e = absurd cc
+
+      only : (other : Code) (name : List ℕ) → StandsHere rows at n other name → IsHere ProcessParameterInvalid other name
+      only other name (asks_for_nothing e) = (refl, refl)
+      only other name (early {r = q} e f) = absurd (not_asked q e)
+      only other name (inside {r = q} p f s) = absurd (not_asked q p.asks)
+      only other name (of_kind {r = q} p f s) = absurd (not_asked q p.asks)
+      only other name (of_size {r = q} p f s) = absurd (not_asked q p.asks)
+
+  module _ (r : Request) (asks : request_at n ≡ Some r) where
+    -- the first of the rows that its callback waits for
+    abbrev first : Request → Option Code
+    first q = first_row (early_rows rows q (cubes_of rows at q))
+
+    same_request : (q : Request) → request_at n ≡ Some q → q ≡ r
+    same_request q e = cc
+
+    asked : request_at n ≡ None → ⊥
+    asked e = absurd cc
+
+    same_first : (q : Request) (o : Option Code) → request_at n ≡ Some q → first q ≡ o → first r ≡ o
+    same_first q o e f = subst (λ (x : Request). first x ≡ o) (same_request q e) f
+
+    pub found_early : (code : Code) → first r ≡ Some code → IsLeast (StandsHere rows at n) (here code)
+    found_early code found = alone code (early asks found) only
+      where
+        passes_not : (q : Request) → Passes rows at n q → ⊥
+        passes_not q p = let none : first r ≡ None = same_first q None p.asks p.none_holds in absurd cc
+
+        same_code : (q : Request) (other : Code) → request_at n ≡ Some q → first q ≡ Some other → other ≡ code
+        same_code q other e f = let also : first r ≡ Some other = same_first q (Some other) e f in cc
+
+        only : (other : Code) (name : List ℕ) → StandsHere rows at n other name → IsHere code other name
+        only other name (asks_for_nothing e) = absurd (asked e)
+        only other name (early {r = q} e f) = (same_code q other e f, refl)
+        only other name (inside {r = q} p f s) = absurd (passes_not q p)
+        only other name (of_kind {r = q} p f s) = absurd (passes_not q p)
+        only other name (of_size {r = q} p f s) = absurd (passes_not q p)
+
+    module _ (none : first r ≡ None) where
+      pub passes : Passes rows at n r
+      passes = record { asks = asks; none_holds = none }
+
+      not_early : (q : Request) (code : Code) → request_at n ≡ Some q → first q ≡ Some code → ⊥
+      not_early q code e f = let some : first r ≡ Some code = same_first q (Some code) e f in absurd cc
+
+      -- ---- where no fault stands in the callback
+
+      module _ (faultless : HasFaultlessCallback rows at r) where
+        not_inside : (q : Request) (argument : List ℕ) (c : Callback) (code : Code) (name : List ℕ) → request_at n ≡ Some q
+            → callback_on q (cubes_of rows at q) ≡ Some (argument, c) → StandsIn c (callback_name n.id argument) code name → ⊥
+        not_inside q argument c code name e on s =
+            let mine : callback_on r (cubes_of rows at r) ≡ Some (argument, c) = subst (λ (x : Request). callback_on x (cubes_of rows at x) ≡ Some (argument, c)) (same_request q e) on in
+            let right : IsFaultless c = subst (λ (o : Option (List ℕ × Callback)). IfSome o (λ c. IsFaultless c.1)) mine faultless in
+            right (callback_name n.id argument) code name s
+
+        kinds_of : (q : Request) (b : Bool) → request_at n ≡ Some q → cell_kind_invalid q (cubes_of rows at q) ≡ b → cell_kind_invalid r (cubes_of rows at r) ≡ b
+        kinds_of q b e f = subst (λ (x : Request). cell_kind_invalid x (cubes_of rows at x) ≡ b) (same_request q e) f
+
+        size_of : (q : Request) → request_at n ≡ Some q → cube_too_large q (cubes_of rows at q) ≡ true → cube_too_large r (cubes_of rows at r) ≡ true
+        size_of q e f = subst (λ (x : Request). cube_too_large x (cubes_of rows at x) ≡ true) (same_request q e) f
+
+        faultless_of : (q : Request) → request_at n ≡ Some q → HasFaultlessCallback rows at q
+        faultless_of q e = subst (λ (x : Request). HasFaultlessCallback rows at x) (sym (same_request q e)) faultless
+
+        pub wrong_kinds : cell_kind_invalid r (cubes_of rows at r) ≡ true → IsLeast (StandsHere rows at n) (here CellKindInvalid)
+        wrong_kinds wrong = alone CellKindInvalid (of_kind passes faultless wrong) only
+          where
+            only : (other : Code) (name : List ℕ) → StandsHere rows at n other name → IsHere CellKindInvalid other name
+            only other name (asks_for_nothing e) = absurd (asked e)
+            only other name (early {r = q} e f) = absurd (not_early q other e f)
+            only other name (inside {r = q} {argument = argument} {c = c} p f s) = absurd (not_inside q argument c other name p.asks f s)
+            only other name (of_kind {r = q} p f s) = (refl, refl)
+            only other name (of_size {r = q} p f s) =
+                absurd (true≢false (sym wrong ∙ kinds_of q false p.asks (f (faultless_of q p.asks))))
+
+        pub wrong_size : cell_kind_invalid r (cubes_of rows at r) ≡ false → cube_too_large r (cubes_of rows at r) ≡ true → IsLeast (StandsHere rows at n) (here CubeTooLarge)
+        wrong_size right large = alone CubeTooLarge (of_size passes (λ f. right) large) only
+          where
+            only : (other : Code) (name : List ℕ) → StandsHere rows at n other name → IsHere CubeTooLarge other name
+            only other name (asks_for_nothing e) = absurd (asked e)
+            only other name (early {r = q} e f) = absurd (not_early q other e f)
+            only other name (inside {r = q} {argument = argument} {c = c} p f s) = absurd (not_inside q argument c other name p.asks f s)
+            only other name (of_kind {r = q} p f s) = absurd (true≢false (sym (kinds_of q true p.asks s) ∙ right))
+            only other name (of_size {r = q} p f s) = (refl, refl)
+
+        pub no_fault : cell_kind_invalid r (cubes_of rows at r) ≡ false → cube_too_large r (cubes_of rows at r) ≡ false → HasNoFault rows at n
+        no_fault right small other name (asks_for_nothing e) = absurd (asked e)
+        no_fault right small other name (early {r = q} e f) = absurd (not_early q other e f)
+        no_fault right small other name (inside {r = q} {argument = argument} {c = c} p f s) = absurd (not_inside q argument c other name p.asks f s)
+        no_fault right small other name (of_kind {r = q} p f s) = absurd (true≢false (sym (kinds_of q true p.asks s) ∙ right))
+        no_fault right small other name (of_size {r = q} p f s) = absurd (true≢false (sym (size_of q p.asks s) ∙ small))
+
+      -- ---- where one stands in the callback
+
+      -- a fault stands in the callback
+      abbrev pub StandsInside : Code → List ℕ → Type 0
+      StandsInside code name =
+          (argument : List ℕ) × (c : Callback) × (callback_on r (cubes_of rows at r) ≡ Some (argument, c)) × StandsIn c (callback_name n.id argument) code name
+
+      is_inside : (q : Request) (argument : List ℕ) (c : Callback) (code : Code) (name : List ℕ) → request_at n ≡ Some q
+          → callback_on q (cubes_of rows at q) ≡ Some (argument, c) → StandsIn c (callback_name n.id argument) code name → StandsInside code name
+      is_inside q argument c code name e on s =
+          (argument, c, subst (λ (x : Request). callback_on x (cubes_of rows at x) ≡ Some (argument, c)) (same_request q e) on, s)
+
+      stands_inside : (code : Code) (name : List ℕ) → StandsInside code name → StandsHere rows at n code name
+      stands_inside code name s = inside passes s.2 s.3
+
+      module _ (fault : Fault) (is : IsLeast StandsInside fault) where
+        not_faultless : (q : Request) → request_at n ≡ Some q → HasFaultlessCallback rows at q → ⊥
+        not_faultless q e faultless =
+            let s = is.stands in
+            let mine : HasFaultlessCallback rows at r = subst (λ (x : Request). HasFaultlessCallback rows at x) (same_request q e) faultless in
+            let right : IsFaultless s.1 = subst (λ (o : Option (List ℕ × Callback)). IfSome o (λ c. IsFaultless c.1)) s.2 mine in
+            right (callback_name n.id s.0) fault.code fault.node s.3
+
+        large_too : (q : Request) → request_at n ≡ Some q → cube_too_large q (cubes_of rows at q) ≡ true → cube_too_large r (cubes_of rows at r) ≡ true
+        large_too q e f = subst (λ (x : Request). cube_too_large x (cubes_of rows at x) ≡ true) (same_request q e) f
+
+        -- each fault stands in the callback, or is the size of the cube
+        which : (other : Code) (name : List ℕ) → StandsHere rows at n other name
+            → StandsInside other name ⊎ (IsHere CubeTooLarge other name × (cube_too_large r (cubes_of rows at r) ≡ true))
+        which other name (asks_for_nothing e) = absurd (asked e)
+        which other name (early {r = q} e f) = absurd (not_early q other e f)
+        which other name (inside {r = q} {argument = argument} {c = c} p f s) = inl (is_inside q argument c other name p.asks f s)
+        which other name (of_kind {r = q} p f s) = absurd (not_faultless q p.asks f)
+        which other name (of_size {r = q} p f s) = inr ((refl, refl), large_too q p.asks s)
+
+        pub inside_alone : cube_too_large r (cubes_of rows at r) ≡ false → IsLeast (StandsHere rows at n) fault
+        inside_alone small = record { stands = stands_inside fault.code fault.node is.stands; least = least }
+          where
+            least : (other : Fault) → StandsHere rows at n other.code other.node → is_before other fault ≡ false
+            least other s = elim (which other.code other.node s) [
+              | inl within ↦ is.least other within
+              | inr size ↦ absurd (true≢false (sym size.1 ∙ small))
+            ]
+
+        pub inside_or_size : (b : Bool) → is_before fault (here CubeTooLarge) ≡ b → cube_too_large r (cubes_of rows at r) ≡ true
+            → IsLeast (StandsHere rows at n) (if b then fault else here CubeTooLarge)
+        inside_or_size true before large = record { stands = stands_inside fault.code fault.node is.stands; least = least }
+          where
+            least : (other : Fault) → StandsHere rows at n other.code other.node → is_before other fault ≡ false
+            least other s = elim (which other.code other.node s) [
+              | inl within ↦ is.least other within
+              | inr size ↦
+                  let same : other ≡ here CubeTooLarge = ap (λ (c : Code). record { code = c; node = other.node }) size.0.0 ∙ ap (λ (name : List ℕ). record { code = CubeTooLarge; node = name }) size.0.1 in
+                  subst (λ (f : Fault). is_before f fault ≡ false) (sym same) (before_not_after fault (here CubeTooLarge) before)
+            ]
+        inside_or_size false after large = record { stands = of_size passes (λ f. absurd (not_faultless r asks f)) large; least = least }
+          where
+            least : (other : Fault) → StandsHere rows at n other.code other.node → is_before other (here CubeTooLarge) ≡ false
+            least other s = elim (which other.code other.node s) [
+              | inl within ↦ not_before-trans (here CubeTooLarge) fault other after (is.least other within)
+              | inr size ↦ not_before CubeTooLarge other size.0
+            ]

@@ -1,0 +1,45 @@
+use Rattle.std.proofs.Common.{◌≡◌, ℕ, Bool, true, false, not, List, ◌∷◌, None, option_map, refl, sym, ap, ◌∙◌, subst}
+use Rattle.std.proofs.lemmas.Result.{IfOk-weaker}
+use Rattle.oe_dims.specs.declared.dims.DimsRow.{DimsRow}
+use Rattle.oe_expr.proofs.StateLemmas.{plain_id}
+use Rattle.oe_graph.specs.Faults.{IsLeast}
+use Rattle.oe_graph.specs.Plain.{plain_node}
+use Rattle.oe_graph.specs.Read.{IsFault}
+use Rattle.oe_shape.specs.Callbacks.{StandsInCallback}
+use Rattle.oe_shape.specs.Inputs.{WorksOn, outline_in}
+use Rattle.oe_shape.specs.Operations.{Outline, operation_of}
+use Rattle.oe_shape.specs.PlainRequests.{plain_operation, plain_request}
+use Rattle.oe_shape.specs.Stands.{Passes}
+use Rattle.oe_shape.specs.declared.walk.Verdict.{Verdict}
+use Rattle.oe_shape.proofs.JudgeLemmas.{has_operation}
+use Rattle.oe_shape.proofs.judge.judge_request.Goals as goal
+
+not_twice : (b : Bool) → not (not b) ≡ b
+not_twice true = refl
+not_twice false = refl
+
+pub returns-in-Ok-None : goal.returns-in-Ok-None
+returns-in-Ok-None c =
+    let n = plain_node c.args.node.now in
+    let r = plain_request c.args.request.now in
+    let one = outline_in c.args.one in
+    let two = outline_in c.args.two in
+    let none : (others : List Outline) → None ≡ operation_of r (one ∷ others) =
+    λ others. sym (ap (option_map plain_operation) c.in-Ok-None.field-0-is) ∙ c.in-Ok-None.ensures.built others in
+    IfOk-weaker c.stands.result _ _ (λ (verdict : Verdict) is. λ (rows : List DimsRow) (at : List ℕ → Outline) (p : Passes rows at n r) (works : WorksOn rows at r one two).
+    absurd (has_operation rows at n r p one two works none))
+    c.stands.ensures
+
+pub returns-in-Err-Fault : goal.returns-in-Err-Fault
+returns-in-Err-Fault c =
+    let n = plain_node c.args.node.now in
+    let r = plain_request c.args.request.now in
+    let one = outline_in c.args.one in
+    let two = outline_in c.args.two in
+    let id : c.as_str.result.now ≡ n.id = c.as_str.ensures ∙ sym (plain_id c.args.node.now) in
+    let least : IsLeast (StandsInCallback n.id r one) c.in-Err-Fault.fault =
+    subst (λ (name : List ℕ). IsLeast (StandsInCallback name r one) c.in-Err-Fault.fault) id
+    (subst (IsFault (StandsInCallback c.as_str.result.now r one)) c.in-Err-Fault.field-0-is c.in-Err-Fault.ensures.refused) in
+    c.least_with_size.ensures r c.in_ok-shape.shape one two
+    (subst (IsLeast (StandsInCallback n.id r one)) (sym c.in-Err-Fault.fault-is) least) c.in_ok-shape.ensures
+    (sym (ap not c.is_none.ensures ∙ not_twice c.is_none.result))

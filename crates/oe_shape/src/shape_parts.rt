@@ -1,0 +1,68 @@
+// The labels of a shape, copied for the shape of a result, and a shape of such labels where it is within the limits.
+ghost use Rattle.std.specs.Prelude.{◌≡◌, true, IfOk};
+ghost use Rattle.std.specs.Option.{option_map};
+ghost use Rattle.oe_dims.specs.Dimensions.{IsShape};
+ghost use Rattle.oe_dims.specs.Lists.{items_of, dimensions_with};
+ghost use Rattle.oe_shape.specs.Results.{numbers_along, where_within_limits};
+ghost use Rattle.oe_shape.specs.ValidShapes.{is_within_limits};
+
+use oe_dims::{Kind, Shape, Text};
+use oe_memory::OutOfMemory;
+use std::alloc::Global;
+
+/// A copy of the labels along t, y or x, `None` where the shape lacks the dimension.
+pub fn copy_numbers(
+    alloc: Global,
+    shape: &Shape,
+    kind: Kind,
+) -> Result<Option<Vec<i64>>, OutOfMemory>
+    ensures { IfOk result (λ copy. option_map items_of copy ≡ numbers_along kind shape.now) }
+{
+    match kind {
+        Kind::Bands => Ok(None),
+        _ => match shape.count(kind) {
+            None => Ok(None),
+            Some(_) => Ok(Some(Vec::from_slice(alloc, shape.labels(kind))?)),
+        },
+    }
+}
+
+/// A copy of names.
+pub fn copy_texts(alloc: Global, names: &[Text]) -> Result<Vec<Text>, OutOfMemory>
+    ensures { IfOk result (λ copies. copies.items ≡ names.now) }
+{
+    let mut copies = Vec::with_capacity(alloc, names.len())?;
+    for name in names {
+        copies.push(name.copy()?)?;
+    }
+    Ok(copies)
+}
+
+/// A copy of the names of the bands, `None` where the shape has no bands.
+pub fn copy_bands(alloc: Global, shape: &Shape) -> Result<Option<Vec<Text>>, OutOfMemory>
+    ensures { IfOk result (λ copy. option_map items_of copy ≡ shape.now.bands) }
+{
+    match shape.count(Kind::Bands) {
+        None => Ok(None),
+        Some(_) => Ok(Some(copy_texts(alloc, shape.bands())?)),
+    }
+}
+
+/// The shape of these labels, which keep every rule of a shape but its limits, `None` where there are over 65536 along a
+/// dimension or over 2^40 cells.
+pub fn shape_within(
+    epsg: u32,
+    t: Option<Vec<i64>>,
+    bands: Option<Vec<Text>>,
+    y: Option<Vec<i64>>,
+    x: Option<Vec<i64>>,
+) -> Option<Shape>
+    requires valid { is_within_limits (dimensions_with epsg t bands y x) ≡ true
+        → IsShape (dimensions_with epsg t bands y x) }
+    ensures { result ≡ where_within_limits (dimensions_with epsg t bands y x) }
+{
+    match Shape::new(epsg, t, bands, y, x) {
+        Ok(shape) => Some(shape),
+        Err(_) => None,
+    }
+}

@@ -1,0 +1,178 @@
+-- Faults of all phases together, and what a check of them answers.
+use Rattle.std.proofs.Common.{◌≡◌, false, ℕ, zero, suc, ◌<◌, ◌≤◌, ◌⊎◌, inl, inr, List, [], ◌∷◌, length, Option, Some, None, IfSome, IfOk, IfErr, Result, Ok, Err, refl, sym, subst, arith}
+use Rattle.oe_dims.specs.declared.dims.DimsRow.{DimsRow}
+use Rattle.oe_graph.proofs.LeastLemmas.{IsLeast-unique}
+use Rattle.oe_graph.specs.Faults.{IsLeast, is_before}
+use Rattle.oe_graph.specs.Form as form
+use Rattle.oe_graph.specs.Form.{most_input}
+use Rattle.oe_graph.specs.Read.{IsFault, IsFaultless, Reads}
+use Rattle.oe_graph.specs.Tree.{PlainGraph}
+use Rattle.oe_graph.specs.declared.code.Code.{Code}
+use Rattle.oe_graph.specs.declared.code.Code.TheVariants.{InputTooLong, NodeInvalid, ResultNodeCount}
+use Rattle.oe_graph.specs.declared.fault.Fault.{Fault}
+use Rattle.oe_graph.specs.declared.fault.Refusal as graph
+use Rattle.oe_graph.specs.declared.fault.Refusal.TheVariants as refusal
+use Rattle.oe_outside.specs.Input.{ReadsUpTo}
+use Rattle.oe_resolve.specs.Faults as names
+use Rattle.oe_resolve.specs.Filled.{resolved}
+use Rattle.oe_shape.specs.Checked.{CheckedGraph}
+use Rattle.oe_shape.specs.Stands as cubes
+use Rattle.oe_top.proofs.Finds.{whole_same, within, read_all}
+use Rattle.oe_top.specs.CheckAnswer.{JudgeEnds, JudgesBytes}
+use Rattle.oe_top.specs.Faults.{Stands, of_form, of_names, of_cubes}
+use Rattle.oe_top.specs.declared.refusal.Refusal.{Refusal}
+use Rattle.oe_top.specs.declared.refusal.Refusal.TheVariants.{Usage, NotBuilt, Graph, ReadFault, WriteFault, OutOfMemory}
+
+-- ---- the phases
+
+-- the bytes are the text of one graph
+reads_one : (bytes : List ℕ) (g h : PlainGraph) → Reads bytes g → Reads bytes h → g ≡ h
+reads_one bytes g h one two =
+    let value : one.value ≡ two.value = cc (one.is_read.value, two.is_read.value) in
+    let nodes : one.is_graph.nodes ≡ two.is_graph.nodes = cc (value, one.is_graph.is_main, two.is_graph.is_main) in
+    cc (nodes, one.is_graph.built, two.is_graph.built)
+
+module _ (rows : List DimsRow) (bytes : List ℕ) where
+  form_only : (fault : Fault) → IsLeast (form.Stands bytes) fault → (code : Code) (node : List ℕ) → Stands rows bytes code node
+      → is_before (record { code = code; node = node }) fault ≡ false
+  form_only fault l code node (of_form s) = l.least (record { code = code; node = node }) s
+  form_only fault l code node (of_names reads s) = absurd (reads.valid fault.code fault.node l.stands)
+  form_only fault l code node (of_cubes reads valid s) = absurd (reads.valid fault.code fault.node l.stands)
+
+  -- a fault of the form comes first
+  pub form_first : (r : graph.Refusal) → IsFault (form.Stands bytes) r → IsFault (Stands rows bytes) r
+  form_first (refusal.Fault fault) l = record { stands = of_form l.stands; least = λ g s. form_only fault l g.code g.node s }
+  form_first refusal.OutOfMemory l = tt
+
+  module _ (g : PlainGraph) (reads : Reads bytes g) where
+    same_names : (h : PlainGraph) → Reads bytes h → (code : Code) (node : List ℕ) → names.Stands [] h code node → names.Stands [] g code node
+    same_names h other code node s = subst (λ k. names.Stands [] k code node) (reads_one bytes h g other reads) s
+
+    other_names : (h : PlainGraph) → Reads bytes h → (code : Code) (node : List ℕ) → names.Stands [] g code node → names.Stands [] h code node
+    other_names h other code node s = subst (λ k. names.Stands [] k code node) (reads_one bytes g h reads other) s
+
+    names_only : (fault : Fault) → IsLeast (names.Stands [] g) fault → (code : Code) (node : List ℕ) → Stands rows bytes code node
+        → is_before (record { code = code; node = node }) fault ≡ false
+    names_only fault l code node (of_form s) = absurd (reads.valid code node s)
+    names_only fault l code node (of_names {g = h} other s) = l.least (record { code = code; node = node }) (same_names h other code node s)
+    names_only fault l code node (of_cubes {g = h} other valid s) =
+        absurd (valid fault.code fault.node (other_names h other fault.code fault.node l.stands))
+
+    -- without one of the form, a fault of what it calls and names
+    pub names_next : (r : graph.Refusal) → IsFault (names.Stands [] g) r → IsFault (Stands rows bytes) r
+    names_next (refusal.Fault fault) l = record { stands = of_names reads l.stands; least = λ f s. names_only fault l f.code f.node s }
+    names_next refusal.OutOfMemory l = tt
+
+    module _ (valid : IsFaultless (names.Stands [] g)) where
+      same_cubes : (h : PlainGraph) → Reads bytes h → (code : Code) (node : List ℕ) → cubes.Stands rows (resolved [] h).nodes code node
+          → cubes.Stands rows (resolved [] g).nodes code node
+      same_cubes h other code node s =
+          subst (λ k. cubes.Stands rows (resolved [] k).nodes code node) (reads_one bytes h g other reads) s
+
+      cubes_only : (fault : Fault) → IsLeast (cubes.Stands rows (resolved [] g).nodes) fault → (code : Code) (node : List ℕ)
+          → Stands rows bytes code node → is_before (record { code = code; node = node }) fault ≡ false
+      cubes_only fault l code node (of_form s) = absurd (reads.valid code node s)
+      cubes_only fault l code node (of_names {g = h} other s) = absurd (valid code node (same_names h other code node s))
+      cubes_only fault l code node (of_cubes {g = h} other v s) =
+          l.least (record { code = code; node = node }) (same_cubes h other code node s)
+
+      -- and then one of arguments and cubes
+      pub cubes_last : (r : graph.Refusal) → IsFault (cubes.Stands rows (resolved [] g).nodes) r → IsFault (Stands rows bytes) r
+      cubes_last (refusal.Fault fault) l =
+          record { stands = of_cubes reads valid l.stands; least = λ f s. cubes_only fault l f.code f.node s }
+      cubes_last refusal.OutOfMemory l = tt
+
+      -- or none at all
+      pub none_stands : IsFaultless (cubes.Stands rows (resolved [] g).nodes) → IsFaultless (Stands rows bytes)
+      none_stands none code node (of_form s) = reads.valid code node s
+      none_stands none code node (of_names {g = h} other s) = valid code node (same_names h other code node s)
+      none_stands none code node (of_cubes {g = h} other v s) = none code node (same_cubes h other code node s)
+
+-- what the check of a resolved graph says of the bytes
+module _ (rows : List DimsRow) (bytes : List ℕ) (g h : PlainGraph) (reads : Reads bytes g) (valid : IsFaultless (names.Stands [] g)) (same : h ≡ resolved [] g) where
+  pub checked_valid : (result : Result CheckedGraph graph.Refusal)
+      → IfOk result (λ c. c ≡ record { nodes = h.nodes; result = h.result; rows = rows })
+      → IfOk result (λ c. IsFaultless (cubes.Stands c.rows c.nodes)) → IfOk result (λ c. IsFaultless (Stands rows bytes))
+  checked_valid (Err e) is none = tt
+  checked_valid (Ok c) is none =
+      let here : IsFaultless (cubes.Stands rows h.nodes) = subst (λ (k : CheckedGraph). IsFaultless (cubes.Stands k.rows k.nodes)) is none in
+      none_stands rows bytes g reads valid (subst (λ (k : PlainGraph). IsFaultless (cubes.Stands rows k.nodes)) same here)
+
+  pub checked_refused : (result : Result CheckedGraph graph.Refusal) → IfErr result (IsFault (cubes.Stands rows h.nodes))
+      → IfErr result (IsFault (Stands rows bytes))
+  checked_refused (Ok c) refused = tt
+  checked_refused (Err e) refused =
+      cubes_last rows bytes g reads valid e (subst (λ (k : PlainGraph). IsFault (cubes.Stands rows k.nodes) e) same refused)
+
+-- ---- an input over the limit
+
+abbrev too_long : Fault
+too_long = record { code = InputTooLong; node = [] }
+
+node_after : (name : List ℕ) → is_before (record { code = NodeInvalid; node = name }) too_long ≡ false
+node_after [] = refl
+node_after (b ∷ name) = refl
+
+count_after : (name : List ℕ) → is_before (record { code = ResultNodeCount; node = name }) too_long ≡ false
+count_after [] = refl
+count_after (b ∷ name) = refl
+
+module _ (rows : List DimsRow) (bytes : List ℕ) (long : most_input < length bytes) where
+  long_only : (code : Code) (node : List ℕ) → Stands rows bytes code node
+      → is_before (record { code = code; node = node }) too_long ≡ false
+  long_only code node (of_form (form.input_too_long _)) = refl
+  long_only code node (of_form (form.graph_unreadable _)) = refl
+  long_only code node (of_form (form.of_value r (form.graph_unreadable _))) = refl
+  long_only code node (of_form (form.of_value r (form.process_graph_missing _))) = refl
+  long_only code node (of_form (form.of_value r (form.node_id_invalid g m fails))) = node_after node
+  long_only code node (of_form (form.of_value r (form.node_invalid g m valid fails))) = node_after node
+  long_only code node (of_form (form.of_value r (form.result_node_count g other))) = count_after node
+  long_only code node (of_names reads s) = absurd (reads.valid InputTooLong [] (form.input_too_long long))
+  long_only code node (of_cubes reads valid s) = absurd (reads.valid InputTooLong [] (form.input_too_long long))
+
+  long_least : IsLeast (Stands rows bytes) too_long
+  long_least = record { stands = of_form (form.input_too_long long); least = λ f s. long_only f.code f.node s }
+
+-- ---- the input
+
+sizes : (m n : ℕ) → (m ≤ n) ⊎ (n < m)
+sizes zero n = inl (omega arith)
+sizes (suc m) zero = inr (omega arith)
+sizes (suc m) (suc n) = elim (sizes m n) [ inl a ↦ inl (omega arith) | inr b ↦ inr (omega arith) ]
+
+fault_of_all : (rows : List DimsRow) (before : Option (List ℕ)) (bytes : List ℕ) (after : Option (List ℕ)) (fault : Fault)
+    → ReadsUpTo most_input before bytes after → IsLeast (Stands rows bytes) fault
+    → IfSome before (λ all. IsLeast (Stands rows all) fault)
+fault_of_all rows None bytes after fault read l = tt
+fault_of_all rows (Some visible) bytes after fault read l = elim (sizes (length bytes) most_input) [
+  | inl short ↦ subst (λ b. IsLeast (Stands rows b) fault) (whole_same visible bytes after read short) l
+  | inr long ↦
+      let further : length bytes ≤ length visible = within visible bytes after read in
+      let same : fault ≡ too_long = IsLeast-unique (Stands rows bytes) fault too_long l (long_least rows bytes long) in
+      subst (IsLeast (Stands rows visible)) (sym same) (long_least rows visible (omega arith))
+]
+
+-- what judging the bytes that were read says of the input
+pub judges : (rows : List DimsRow) (before : Option (List ℕ)) (before_faults : ℕ) (bytes : List ℕ) (after : Option (List ℕ)) (after_faults : ℕ) (result : Result (Unit {0}) Refusal)
+    → ReadsUpTo most_input before bytes after → JudgesBytes rows bytes result → JudgeEnds rows before before_faults after after_faults result
+judges rows before before_faults bytes after after_faults (Ok x) read valid =
+    let short : length bytes ≤ most_input = elim (sizes (length bytes) most_input) [
+      | inl short ↦ short
+      | inr long ↦ absurd (valid InputTooLong [] (of_form (form.input_too_long long)))
+    ] in
+    record {
+      bytes = bytes;
+      read_whole = record { all = read_all before bytes after read short; end = read.whole short };
+      valid = valid;
+    }
+judges rows before before_faults bytes after after_faults (Err Usage) read never = absurd never
+judges rows before before_faults bytes after after_faults (Err NotBuilt) read never = absurd never
+judges rows before before_faults bytes after after_faults (Err (Graph line)) read named = record {
+  bytes = bytes;
+  was_read = read;
+  names = named;
+  of_all = fault_of_all rows before bytes after named.fault read named.least;
+}
+judges rows before before_faults bytes after after_faults (Err ReadFault) read never = absurd never
+judges rows before before_faults bytes after after_faults (Err WriteFault) read never = absurd never
+judges rows before before_faults bytes after after_faults (Err OutOfMemory) read free = tt

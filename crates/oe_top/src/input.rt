@@ -1,0 +1,25 @@
+// The input of a command.
+ghost use Rattle.std.specs.Prelude.{◌≡◌, ◌+◌, ◌⊎◌, IfOk, IfErr};
+ghost use Rattle.oe_outside.specs.Faults.{HasCauseOf};
+ghost use Rattle.oe_outside.specs.Input.{ReadsUpTo, TakesAtMost};
+ghost use Rattle.oe_top.specs.Form.{most_input};
+
+use crate::form::MOST_INPUT;
+use crate::refusal::Refusal;
+use oe_outside::{ReadRefusal, Source, read_up_to};
+use std::alloc::Global;
+
+/// The whole input, or its front up to one byte past the limit.
+pub(crate) fn read_input<I: Source>(alloc: Global, input: &mut I) -> Result<Vec<u8>, Refusal>
+    ensures read { IfOk result (λ bytes. ReadsUpTo most_input (I.left input.old) bytes.items
+        (I.left input.new)) }
+    ensures bounded { TakesAtMost (I.left input.old) (most_input + 1) (I.left input.new) }
+    ensures cause { HasCauseOf Refusal.ReadFault (I.faults input.old) (I.faults input.new) result }
+    ensures only { IfErr result (λ e. (e ≡ Refusal.ReadFault) ⊎ (e ≡ Refusal.OutOfMemory)) }
+{
+    match read_up_to(alloc, input, MOST_INPUT) {
+        Ok(bytes) => Ok(bytes),
+        Err(ReadRefusal::Failed) => Err(Refusal::ReadFault),
+        Err(ReadRefusal::OutOfMemory) => Err(Refusal::OutOfMemory),
+    }
+}
