@@ -1,0 +1,50 @@
+-- Where the labels at a position of a result stand in an argument, which may lack dimensions of the result.
+use Rattle.std.specs.Prelude.{◌≡◌, ℕ, Bool, List, Option, Some}
+use Rattle.std.specs.Option.{option_and_then, option_map}
+use Rattle.oe_cell.specs.declared.cell.Cell.{Cell}
+use Rattle.oe_dims.specs.Cube.{index_along}
+use Rattle.oe_dims.specs.Dimensions.{Dimensions}
+use Rattle.oe_dims.specs.Indices.{same_number}
+use Rattle.oe_dims.specs.Names.{same_name}
+use Rattle.oe_dims.specs.Positions.{Position, label_of}
+use Rattle.oe_dims.specs.declared.kind.Kind.{Kind}
+use Rattle.oe_dims.specs.declared.kind.Kind.TheVariants.{Time, Bands, Y, X}
+use Rattle.oe_window.specs.Windows.{IsIn}
+use Rattle.oe_shape.specs.Labels.{only_along}
+use Rattle.oe_ops.specs.Slices.{at_indices, cell_of}
+use Rattle.oe_ops.specs.declared.slice.Slice.{Slice}
+use Rattle.oe_ops.specs.declared.source.RowIndices.{RowIndices}
+
+-- the index in the argument of the label at an index of the result: 0 where the argument lacks the dimension, and none
+-- where it has no such label
+abbrev pub index_under : {L : Type 0} → (L → L → Bool) → Option (List L) → Option (List L) → ℕ → Option ℕ
+index_under same labels others index = index_along same others (only_along others (label_of labels index))
+
+abbrev pub index_in : Kind → Dimensions → Dimensions → ℕ → Option ℕ
+index_in Time shape argument index = index_under same_number shape.t argument.t index
+index_in Bands shape argument index = index_under same_name shape.bands argument.bands index
+index_in Y shape argument index = index_under same_number shape.y argument.y index
+index_in X shape argument index = index_under same_number shape.x argument.x index
+
+-- the row in the argument of the labels along t, bands and y; none where it lacks one of them
+abbrev pub row_in : Dimensions → Dimensions → Position → Option RowIndices
+row_in shape argument p =
+    option_and_then (λ t. option_and_then (λ band. option_map (λ y. record { t = t; band = band; y = y })
+    (index_in Y shape argument p.y)) (index_in Bands shape argument p.band)) (index_in Time shape argument p.t)
+
+-- the position at an index of a row
+abbrev pub position_on : RowIndices → ℕ → Position
+position_on row x = at_indices row.t row.band row.y x
+
+-- the position in the argument of the labels at a position of the result; none where the argument has no such tuple
+abbrev pub position_in : Dimensions → Dimensions → Position → Option Position
+position_in shape argument p =
+    option_and_then (λ row. option_map (position_on row) (index_in X shape argument p.x)) (row_in shape argument p)
+
+-- the cell that a slice of the argument lists there
+abbrev pub found_in : Dimensions → Dimensions → Slice → Position → Option Cell
+found_in shape argument slice p = option_map (cell_of slice) (position_in shape argument p)
+
+-- the slice has the position in the argument, if there is one
+abbrev pub IsHeld : Dimensions → Dimensions → Slice → Position → Type 0
+IsHeld shape argument slice p = (q : Position) → position_in shape argument p ≡ Some q → IsIn slice.window q

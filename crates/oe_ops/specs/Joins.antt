@@ -1,0 +1,15 @@
+-- The cells of two rows as one, where each has a label or has not.
+use Rattle.std.specs.Prelude.{◌≡◌, ℕ, true, Option, Some, None, is_some}
+use Rattle.oe_cell.specs.declared.cell.Cell.{Cell}
+
+-- of the cells of both rows at a label, and a third where both have it: the one of the row that has the label; the
+-- first, where none has it
+abbrev pub where_found : Option ℕ → Option ℕ → Cell → Cell → Cell → Cell
+where_found one None a b both = a
+where_found None (Some j) a b both = b
+where_found (Some i) (Some j) a b both = both
+
+-- both rows have the label
+pub record AreBothFound (one two : Option ℕ) : Type 0 where
+  pub one_found : is_some one ≡ true
+  pub two_found : is_some two ≡ true

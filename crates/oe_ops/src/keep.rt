@@ -1,0 +1,77 @@
+// Filters, loads and results that are saved: cells by their labels.
+ghost use Rattle.std.specs.Prelude.{◌≡◌, length};
+ghost use Rattle.oe_cell.specs.declared.cell.Cell.{Cell};
+ghost use Rattle.oe_cell.specs.declared.cell.Cell.TheVariants.{Empty};
+ghost use Rattle.std.specs.List.{All};
+ghost use Rattle.oe_cube.specs.Kinds.{IsOfKind};
+ghost use Rattle.oe_dims.specs.Cube.{Cube, IsCube};
+ghost use Rattle.oe_dims.specs.declared.kind.CellKind.{CellKind};
+ghost use Rattle.oe_dims.specs.Dimensions.{IsShape};
+ghost use Rattle.oe_shape.specs.Extents.{Restriction, kept_shape};
+ghost use Rattle.oe_shape.specs.Meaning.{kept};
+ghost use Rattle.oe_window.specs.Cells.{cells_on};
+ghost use Rattle.oe_window.specs.Windows.{Holds, position_count, whole_window};
+ghost use Rattle.oe_ops.specs.Needs.{HasLabelsOf, HoldsNeed};
+ghost use Rattle.oe_ops.specs.Slices.{IsCounted, IsOn};
+
+use crate::rows::{Rows, fill};
+use crate::slice::Slice;
+use crate::source::{Source, found_row};
+use oe_cell::Cell;
+use oe_dims::Shape;
+use oe_window::Window;
+
+/// The cells of an argument at the labels of a result.
+#[derive(Clone, Copy)]
+struct KeptRows<'a> {
+    source: Source<'a>,
+}
+
+impl Rows for KeptRows<'_> {
+    ghost use Rattle.std.specs.Prelude.{unwrap_or};
+    ghost use Rattle.oe_cell.specs.declared.cell.Cell.TheVariants.{Empty};
+    ghost use Rattle.oe_dims.specs.Positions.{IsPosition};
+    ghost use Rattle.oe_ops.specs.Indices.{IsHeld, found_in};
+    ghost use Rattle.oe_ops.specs.Slices.{IsCounted};
+
+    ghost serves = { λ s p. IsCounted s.source.slice × IsPosition s.source.shape.now p
+        × IsHeld s.source.shape.now s.source.argument.now s.source.slice p };
+
+    ghost room = { λ s. 0 };
+
+    ghost cell = { λ s p. unwrap_or
+        (found_in s.source.shape.now s.source.argument.now s.source.slice p) Empty };
+
+    fn row(&self, t: u32, band: u32, y: u32, x: u32, out: &mut [Cell], _scratch: &mut [Cell]) {
+        found_row(&self.source, t, band, y, x, out);
+    }
+}
+
+/// The cells of what is kept of a cube, on a window of a result of this shape, from a slice of the cube, which has the
+/// shape `argument` (`load_collection`, `filter_bbox`, `filter_temporal`, `filter_bands` of openEO Processes).
+pub fn eval_keep(
+    shape: &Shape,
+    argument: &Shape,
+    slice: Slice,
+    window: &Window,
+    out: &mut [Cell],
+    scratch: &mut [Cell],
+)
+    requires valid { IsShape argument.now }
+    requires within { Holds (whole_window shape.now) window.now }
+    requires counted { IsCounted slice }
+    requires need { HoldsNeed (HasLabelsOf shape.now argument.now) window.now slice.window }
+    requires length { length out.old ≡ position_count window.now }
+    ensures value { (cube : Cube Cell) (r : Restriction) → IsCube cube → cube.shape ≡ argument.now
+        → kept_shape r argument.now ≡ shape.now → IsOn cube slice.entry
+        → out.new ≡ cells_on Empty (kept r cube) window.now }
+    ensures kinds { (kind : CellKind) → All (IsOfKind kind) slice.entry.cells.now
+        → All (IsOfKind kind) out.new }
+{
+    let source = Source {
+        shape,
+        argument,
+        slice,
+    };
+    fill(&KeptRows { source }, window, out, scratch);
+}
