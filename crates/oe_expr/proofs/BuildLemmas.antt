@@ -1,9 +1,10 @@
 -- What the walk over the nodes of a callback says of the callback as a whole.
-use Rattle.std.proofs.Common.{◌≡◌, ℕ, ◌<◌, true, List, length, Some, None, sym, ap, ◌∙◌, subst, unwrap_or}
+use Rattle.std.proofs.Common.{◌≡◌, ℕ, ◌<◌, Bool, true, List, length, Option, Some, None, sym, ap, ◌∙◌, subst, unwrap_or}
 use Rattle.std.proofs.lemmas.Option.{get_or_from_slice_get, slice_get_within}
 use Rattle.oe_cell.specs.declared.cell.Cell.{Cell}
 use Rattle.oe_dims.specs.declared.kind.CellKind.{CellKind}
 use Rattle.oe_dims.specs.declared.kind.CellKind.TheVariants.{Numbers}
+use Rattle.oe_fold.specs.declared.reducer.Reducer.{Reducer}
 use Rattle.oe_graph.specs.Faults.{IsLeast}
 use Rattle.oe_graph.specs.Plain.{plain_graph, plain_nodes, arg_step, graph_step, node_step}
 use Rattle.oe_graph.specs.Resolved.{IsResolvedObject, IsResolvedUnder}
@@ -15,6 +16,7 @@ use Rattle.oe_graph.specs.declared.tree.Graph.{Graph, out-Graph}
 use Rattle.oe_graph.proofs.ResolvedLemmas.{resolved_object, node_below}
 use Rattle.oe_expr.specs.Callback.{IsFaultless, StandsIn, callback_of, callback_kind}
 use Rattle.oe_expr.specs.Compiled.{IsCompiled, IsProgramOf}
+use Rattle.oe_expr.specs.Folds.{single_reducer}
 use Rattle.oe_expr.specs.NodeKinds.{graph_kind, kind_at}
 use Rattle.oe_expr.specs.Nodes.{id_at, node_named}
 use Rattle.oe_expr.specs.Scope.{PlainScope, parameter_names}
@@ -96,11 +98,13 @@ module _ (scope : PlainScope) (context : Cell) (g : Graph) (states : List State)
       ∙ (sym (ap (λ k. unwrap_or k Numbers) kind)
       ∙ sym (ap (λ (p : PlainGraph). unwrap_or (graph_kind scope context p) Numbers) (graph_parts g)))
 
-  pub compiled : (kind : CellKind) (program : Program) → kind ≡ unwrap_or (kept_kind (state_at states (out-Graph g).result)) Numbers
+  pub compiled : (kind : CellKind) (reducer : Option (Reducer × Bool)) (program : Program) → kind ≡ unwrap_or (kept_kind (state_at states (out-Graph g).result)) Numbers
       → IsProgramOf (callback_of (record { nodes = plain_nodes (out-Graph g).nodes.items; result = (out-Graph g).result }) scope context) program
-      → IsCompiled (callback_of (plain_graph g) scope context) kind program
-  compiled kind program is program_of = record {
+      → reducer ≡ single_reducer (plain_nodes (out-Graph g).nodes.items)
+      → IsCompiled (callback_of (plain_graph g) scope context) kind reducer program
+  compiled kind reducer program is program_of reducer_of = record {
     kind_is = is ∙ kind_is;
+    reducer_is = reducer_of ∙ ap (λ (p : PlainGraph). single_reducer p.nodes) (sym (graph_parts g));
     keeps_kind = keeps_kind (callback_of (plain_graph g) scope context) resolved faultless;
     is_program_of = subst (λ (p : PlainGraph). IsProgramOf (callback_of p scope context) program) (sym (graph_parts g)) program_of;
   }

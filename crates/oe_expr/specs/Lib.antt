@@ -10,6 +10,7 @@ pub mod NodeKinds
 pub mod Rows
 pub mod Stands
 pub mod Callback
+pub mod Folds
 pub mod Codes
 pub mod KindCounts
 pub mod States

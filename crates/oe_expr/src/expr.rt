@@ -12,12 +12,14 @@ ghost use Rattle.oe_dims.specs.declared.kind.CellKind.TheVariants.{Numbers};
 ghost use Rattle.oe_graph.specs.declared.tree.Graph.{out-Graph};
 
 use crate::compile::compile;
+use crate::fold::single_reducer;
 use crate::program::Program;
 use crate::scope::Scope;
 use crate::state::State;
 use crate::walk::{Judged, Walk, walk_nodes};
 use oe_cell::Cell;
 use oe_dims::CellKind;
+use oe_fold::Reducer;
 use oe_graph::{Graph, Refusal};
 use oe_memory::OutOfMemory;
 use std::alloc::Global;
@@ -31,6 +33,7 @@ pub struct Expr {
     scope: Snapshot<Scope>,
     context: Cell,
     kind: CellKind,
+    reducer: Option<(Reducer, bool)>,
     program: Program,
 }
 
@@ -57,19 +60,28 @@ impl Model for Expr {
           graph = plain_graph s.graph.value;
           scope = plain_scope s.scope.value;
           context = s.context;
-        }) s.kind s.program };
+        }) s.kind s.reducer s.program };
 }
 
 impl Expr {
     ghost use Rattle.std.specs.Prelude.{◌≡◌};
     ghost use Rattle.oe_expr.specs.Callback.{KeepsKind, callback_kind};
     ghost use Rattle.oe_expr.specs.Compiled.{IsProgramOf};
+    ghost use Rattle.oe_expr.specs.Folds.{callback_reducer};
 
     /// The kind of the values; numbers where it is open.
     pub fn kind(&self) -> CellKind
         ensures { result ≡ callback_kind self.now }
     {
         self.kind
+    }
+
+    /// The reducer of a callback whose only node reduces the list of the scope cell by cell, and whether it ignores
+    /// nulls; `None` of every other callback, and of the median.
+    pub fn reducer(&self) -> Option<(Reducer, bool)>
+        ensures { result ≡ callback_reducer self.now }
+    {
+        self.reducer
     }
 
     /// The program that computes the value.
@@ -135,6 +147,7 @@ fn sound_expr(
         ≡ callback_of (plain_graph graph.now) (plain_scope scope.now) context.now) }
 {
     let last = graph.result as usize;
+    let reducer = single_reducer(alloc, &graph.nodes)?;
     let program = compile(alloc, scope, context, &graph.nodes, order, last)?;
     let kind = known_kind(states[last]);
     let expr = Expr {
@@ -142,6 +155,7 @@ fn sound_expr(
         scope: Snapshot::of(scope),
         context: *context,
         kind,
+        reducer,
         program,
     };
     Ok(expr)

@@ -10,6 +10,7 @@
 mod compile;
 mod evaluate;
 mod expr;
+mod fold;
 mod judge;
 mod kinds;
 mod labels;

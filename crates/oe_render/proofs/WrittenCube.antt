@@ -7,7 +7,7 @@ use Rattle.std.specs.Option.{option_map}
 use Rattle.std.proofs.lemmas.Bool.{and_parts, leb-true}
 use Rattle.json.specs.Print.{escape_byte}
 use Rattle.json.proofs.Printed.Utf8.{are_ascii, IsUtf8-are_ascii}
-use Rattle.serde_json.specs.Data.{Data, number, string, array, object, unsigned, no_members, member, depth, items_depth}
+use Rattle.serde_json.specs.Data.{Data, Items, number, string, array, object, unsigned, no_members, member, depth, items_depth}
 use Rattle.serde_json.specs.Read.{read, max_depth}
 use Rattle.serde_json.specs.Written.{compact_text, items_text}
 use Rattle.oe_cell.specs.Spelling.{cell_text}
@@ -269,3 +269,27 @@ cube_text_read d kind cells valid fit cube is within =
         kind_is = is;
       };
     }
+
+-- ---- the dimensions alone, as another text has them too
+
+-- the values that the dimensions of a shape are written as
+pub shape_values : Dimensions → Items
+shape_values d = items (dimension_value d) (kinds d)
+
+pub shape_values_text : (d : Dimensions) (rest : List ℕ) → IsShape d → items_text false (shape_values d) ++ rest ≡ listed_text (filter_map (present_text d) all_kinds) ++ (93 ∷ rest)
+unfolding shape_values
+shape_values_text d rest valid =
+    closed (dimension_value d) (dimension_text d) (kinds d) rest (values_texts d (kinds d) (leaves_of d valid))
+    ∙ ap (λ texts. listed_text texts ++ (93 ∷ rest)) (sym (kind_texts d all_kinds))
+
+pub shape_values_written : (d : Dimensions) → IsShape d → AreWritten (shape_values d)
+unfolding shape_values
+shape_values_written d valid = values_written d (kinds d) (leaves_of d valid)
+
+pub shape_values_shallow : (d : Dimensions) → IsShape d → items_depth (shape_values d) ≤ 2
+unfolding shape_values
+shape_values_shallow d valid = values_shallow d (kinds d) (leaves_of d valid)
+
+pub shape_values_read : (d : Dimensions) → IsShape d → AreDimensions (items_ordered (shape_values d)) d
+unfolding shape_values
+shape_values_read d valid = dimensions_read d valid

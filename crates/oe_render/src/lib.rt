@@ -4,7 +4,8 @@
 //! both go through a buffer of bytes that the caller lends, into any sink. The text of a cube is one definition, which
 //! the layers above cite: what was written is that text, or a prefix of it where a call refused.
 //!
-//! [`read_cube_text`] reads it again, and any other JSON that says the same.
+//! [`read_cube_text`] reads it again, and any other JSON that says the same. [`send_dimensions`] and [`read_shape`] do
+//! both with the dimensions alone, for other texts that have them.
 #![tactic(auto)]
 
 mod batch;
@@ -16,6 +17,7 @@ mod rendering;
 mod spelling;
 mod text;
 
+pub use dimensions::read_shape;
 pub use reading::{CubeText, CubeTextFail, read_cube_text};
 pub use rendering::{RenderFail, render};
-pub use text::write_text;
+pub use text::{send_dimensions, write_text};

@@ -87,7 +87,14 @@ fn send_head<O: Sink>(out: &mut O, pending: &mut Pending, shape: &Shape) -> Resu
     send(out, pending, b"],\"data\":[")
 }
 
-fn send_dimensions<O: Sink>(out: &mut O, pending: &mut Pending, shape: &Shape) -> Result<(), Failed>
+/// Sends the dimensions of a shape with their labels, parted by commas, as the result text has them between brackets.
+///
+/// Refuses: only where the output's fault counter rose. Then a prefix of what was pending and the text was written.
+pub fn send_dimensions<O: Sink>(
+    out: &mut O,
+    pending: &mut Pending,
+    shape: &Shape,
+) -> Result<(), Failed>
     ensures { HasSent O.written O.faults out.old pending.old (spec.listed_text (filter_map
         (spec.present_text shape.now) all_kinds)) out.new pending.new result }
 {

@@ -1,29 +1,24 @@
 -- A reduction of t that goes date by date has the value of its reducer.
-use Rattle.std.proofs.Common.{◌≡◌, ℕ, zero, suc, ◌<◌, Bool, true, List, [], refl, sym, ap, ◌∙◌, subst, arith, Option, Some, None}
+use Rattle.std.proofs.Common.{◌≡◌, ℕ, zero, suc, ◌<◌, Bool, true, false, List, [], refl, sym, ap, ◌∙◌, subst, arith, Option, Some, None}
 use Rattle.std.specs.Option.{option_and_then}
+use Rattle.std.specs.Prelude.{if◌then◌else◌}
 use Rattle.oe_cell.specs.declared.cell.Cell.{Cell}
 use Rattle.oe_dims.proofs.OrderLemmas.{same_name_refl}
 use Rattle.oe_dims.specs.Plain.{PlainLabels}
 use Rattle.oe_dims.specs.declared.kind.Kind.TheVariants.{Time}
 use Rattle.oe_fold.specs.Value.{reduction_of}
 use Rattle.oe_fold.specs.declared.reducer.Reducer.{Reducer}
-use Rattle.oe_fold.specs.declared.reducer.Reducer.TheVariants as reducer
 use Rattle.oe_graph.specs.Printed.{node_count}
 use Rattle.oe_graph.specs.Resolved.{IsResolvedUnder, IsResolvedObject, itself}
 use Rattle.oe_graph.specs.Tree.{Named, Nodes, no_nodes, node, PlainNode}
-use Rattle.oe_expr.specs.Callback.{Callback}
+use Rattle.oe_expr.specs.Folds.{cell_by_cell, is_median, single_reducer}
 use Rattle.oe_expr.specs.Nodes.{down_from, id_at}
 use Rattle.oe_expr.specs.Requests as expr
 use Rattle.oe_expr.specs.Scope.{Environment, parameter_names}
 use Rattle.oe_expr.specs.Value.{value_at}
 use Rattle.oe_shape.specs.Meaning.{value_on_list}
 use Rattle.oe_shape.specs.Operations.{reduce}
-use Rattle.oe_shape.specs.Reach.{cell_by_cell, single_reducer, time_fold, FoldDateByDate}
-
-same_reduction : (one : Reducer) (i : Bool) (r : Reducer) (ignore : Bool) → ◌≡◌ {A = Option (Reducer × Bool)} (Some (one, i)) (Some (r, ignore)) → expr.reduction one i expr.the_data ≡ expr.reduction r ignore expr.the_data
-same_reduction one i r ignore h =
-    let same : ◌≡◌ {A = Reducer × Bool} (one, i) (r, ignore) = cc in
-    ap (λ (p : Reducer × Bool). expr.reduction p.0 p.1 expr.the_data) same
+use Rattle.oe_shape.specs.Reach.{time_fold, FoldDateByDate}
 
 -- of what a node asks for it is the reduction of the list of the scope
 of_data : (q : expr.Request) (r : Reducer) (ignore : Bool) → cell_by_cell q ≡ Some (r, ignore) → q ≡ expr.reduction r ignore expr.the_data
@@ -31,30 +26,15 @@ of_data (expr.unary f x) r ignore h = absurd cc
 of_data (expr.binary f x y) r ignore h = absurd cc
 of_data (expr.choice x y z) r ignore h = absurd cc
 of_data (expr.element items index label missing) r ignore h = absurd cc
-of_data (expr.reduction reducer.Sum i expr.the_data) r ignore h = same_reduction reducer.Sum i r ignore h
-of_data (expr.reduction reducer.Product i expr.the_data) r ignore h = same_reduction reducer.Product i r ignore h
-of_data (expr.reduction reducer.Mean i expr.the_data) r ignore h = same_reduction reducer.Mean i r ignore h
-of_data (expr.reduction reducer.Min i expr.the_data) r ignore h = same_reduction reducer.Min i r ignore h
-of_data (expr.reduction reducer.Max i expr.the_data) r ignore h = same_reduction reducer.Max i r ignore h
-of_data (expr.reduction reducer.Median i expr.the_data) r ignore h = absurd cc
-of_data (expr.reduction reducer.First i expr.the_data) r ignore h = same_reduction reducer.First i r ignore h
-of_data (expr.reduction reducer.Last i expr.the_data) r ignore h = same_reduction reducer.Last i r ignore h
-of_data (expr.reduction reducer.Any i expr.the_data) r ignore h = same_reduction reducer.Any i r ignore h
-of_data (expr.reduction reducer.All i expr.the_data) r ignore h = same_reduction reducer.All i r ignore h
-of_data (expr.reduction reducer.Count i expr.the_data) r ignore h = same_reduction reducer.Count i r ignore h
-of_data (expr.reduction reducer.CountAll i expr.the_data) r ignore h = same_reduction reducer.CountAll i r ignore h
-of_data (expr.reduction reducer.Sum i (expr.written l)) r ignore h = absurd cc
-of_data (expr.reduction reducer.Product i (expr.written l)) r ignore h = absurd cc
-of_data (expr.reduction reducer.Mean i (expr.written l)) r ignore h = absurd cc
-of_data (expr.reduction reducer.Min i (expr.written l)) r ignore h = absurd cc
-of_data (expr.reduction reducer.Max i (expr.written l)) r ignore h = absurd cc
-of_data (expr.reduction reducer.Median i (expr.written l)) r ignore h = absurd cc
-of_data (expr.reduction reducer.First i (expr.written l)) r ignore h = absurd cc
-of_data (expr.reduction reducer.Last i (expr.written l)) r ignore h = absurd cc
-of_data (expr.reduction reducer.Any i (expr.written l)) r ignore h = absurd cc
-of_data (expr.reduction reducer.All i (expr.written l)) r ignore h = absurd cc
-of_data (expr.reduction reducer.Count i (expr.written l)) r ignore h = absurd cc
-of_data (expr.reduction reducer.CountAll i (expr.written l)) r ignore h = absurd cc
+of_data (expr.reduction one i (expr.written l)) r ignore h = absurd cc
+of_data (expr.reduction one i expr.the_data) r ignore h = by (is_median one) h
+  where
+    by : (median : Bool) → ◌≡◌ {A = Option (Reducer × Bool)} (if median then None else Some (one, i)) (Some (r, ignore))
+        → expr.reduction one i expr.the_data ≡ expr.reduction r ignore expr.the_data
+    by true h = absurd cc
+    by false h =
+        let same : ◌≡◌ {A = Reducer × Bool} (one, i) (r, ignore) = cc in
+        ap (λ (p : Reducer × Bool). expr.reduction p.0 p.1 expr.the_data) same
 
 asks_for : (q : Option expr.Request) (r : Reducer) (ignore : Bool) → option_and_then cell_by_cell q ≡ Some (r, ignore) → q ≡ Some (expr.reduction r ignore expr.the_data)
 asks_for None r ignore h = absurd cc

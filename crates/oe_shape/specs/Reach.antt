@@ -8,16 +8,14 @@ use Rattle.oe_dims.specs.Rules.{kind_rank}
 use Rattle.oe_dims.specs.declared.kind.Kind.{Kind}
 use Rattle.oe_dims.specs.declared.kind.Kind.TheVariants.{Time, Bands, Y, X}
 use Rattle.oe_fold.specs.declared.reducer.Reducer.{Reducer}
-use Rattle.oe_fold.specs.declared.reducer.Reducer.TheVariants.{Median}
 use Rattle.oe_fold.specs.Value.{reduction_of}
 use Rattle.oe_graph.specs.References.{each_node}
 use Rattle.oe_graph.specs.Resolved.{IsResolvedUnder}
-use Rattle.oe_graph.specs.Tree.{Nodes, no_nodes, node}
 use Rattle.oe_kernel.specs.Kernels.{radius_of}
 use Rattle.oe_kernel.specs.declared.border.Border.{Border}
 use Rattle.oe_kernel.specs.declared.border.Border.TheVariants.{Wrap}
 use Rattle.oe_expr.specs.Callback.{Callback}
-use Rattle.oe_expr.specs.Requests as expr
+use Rattle.oe_expr.specs.Folds.{callback_reducer}
 use Rattle.oe_expr.specs.Requests.{with_both}
 use Rattle.oe_expr.specs.Scope.{parameter_names}
 use Rattle.oe_shape.specs.Checked.{CheckedGraph, operation_of_node}
@@ -82,23 +80,14 @@ halo_of_node c index along = option_map (λ operation. halo_of operation along) 
 
 -- ---- reductions that go date by date
 
--- a reducer of the whole list that goes over it cell by cell: every one but the median
-abbrev pub cell_by_cell : expr.Request → Option (Reducer × Bool)
-cell_by_cell (expr.reduction Median ignore items) = None
-cell_by_cell (expr.reduction reducer ignore expr.the_data) = Some (reducer, ignore)
-cell_by_cell _ = None
-
--- of a callback that is a single node
-abbrev pub single_reducer : Nodes → Option (Reducer × Bool)
-single_reducer (node id process_id namespace arguments no_nodes) =
-    option_and_then cell_by_cell
-    (expr.request_at (record { id = id; process_id = process_id; namespace = namespace; arguments = arguments }))
-single_reducer _ = None
-
--- a reduction of t by one of them, and whether it ignores nulls, as `count` does
+-- a reduction of t whose callback is one node that reduces cell by cell, and whether it ignores nulls, as `count` does
 abbrev pub time_fold : Operation → Option (Reducer × Bool)
-time_fold (reduce Time c) = single_reducer c.graph.nodes
+time_fold (reduce Time c) = callback_reducer c
 time_fold _ = None
+
+-- that of a node of a checked graph
+abbrev pub time_fold_of_node : CheckedGraph → ℕ → Option (Reducer × Bool)
+time_fold_of_node c index = option_and_then time_fold (operation_of_node c index)
 
 -- a resolved callback of such a reduction has the value of its reducer on the cells, whatever their labels
 pub record FoldDateByDate : Type 0 where

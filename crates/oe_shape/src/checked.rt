@@ -4,8 +4,9 @@ ghost use Rattle.oe_dims.specs.Indices.{index_where};
 ghost use Rattle.oe_dims.specs.Names.{same_name, names_rise};
 
 use crate::operation::Operation;
-use crate::reach::{differ_along, is_spatial, is_wrap, same_kind};
+use crate::reach::{differ_along, is_spatial, is_wrap, same_kind, time_fold};
 use oe_dims::{CellKind, Dims, Kind, Shape, Text};
+use oe_fold::Reducer;
 use oe_graph::Graph;
 use oe_order::Links;
 use std::marker::Model;
@@ -79,7 +80,7 @@ impl Checked {
     ghost use Rattle.oe_shape.specs.Checked.{AreFaultless, IsKept, outline_of_node, operation_of_node, collection_of_node};
     ghost use Rattle.oe_shape.specs.Links.{index_named, links_of};
     ghost use Rattle.oe_shape.specs.PlainRequests.{plain_operation};
-    ghost use Rattle.oe_shape.specs.Reach.{IsMerge, whole_of_node, halo_of_node};
+    ghost use Rattle.oe_shape.specs.Reach.{IsMerge, whole_of_node, halo_of_node, time_fold_of_node};
     ghost use Rattle.oe_dims.specs.declared.kind.Kind.TheVariants.{Y, X};
 
     pub(crate) fn of(
@@ -234,6 +235,15 @@ impl Checked {
             Operation::Convolve { kernel, .. } => (kernel.radius_x(), kernel.radius_y()),
             _ => (0, 0),
         }
+    }
+
+    /// The reducer of a node that reduces t date by date, and whether it ignores nulls: of a `reduce_dimension` along t
+    /// whose callback is one node that reduces the list cell by cell. `None` of every other node.
+    pub fn time_fold(&self, node: u32) -> Option<(Reducer, bool)>
+        requires { node < node_count self.now.nodes }
+        ensures { result ≡ time_fold_of_node self.now node }
+    {
+        time_fold(self.operation(node))
     }
 
     /// For each node whether it loads a collection, and the nodes whose cubes it works on, in the order in which its

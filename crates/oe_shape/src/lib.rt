@@ -47,4 +47,5 @@ pub use laws::{
 pub use mask::cover;
 pub use operation::{Operation, Restriction};
 pub use operation_request::operation_for;
+pub use operation_scope::part_in_time;
 pub use request::{Called, KernelRows, Request, read_request};

@@ -99,7 +99,7 @@ fn count_until(time: &TemporalExtent, labels: &[i64]) -> usize
 }
 
 /// The indices of the labels inside an extent, among labels that rise.
-fn part_in_time(time: &TemporalExtent, labels: &[i64]) -> ListPart
+pub fn part_in_time(time: &TemporalExtent, labels: &[i64]) -> ListPart
     requires rise { rises labels.now ≡ true }
     requires most { length labels.now ≤ most_labels }
     ensures { result ≡ extent.part_in_time time.now labels.now }

@@ -3,9 +3,12 @@ ghost use Rattle.std.specs.Prelude.{◌≡◌, unwrap_or};
 ghost use Rattle.oe_dims.specs.Dimensions.{label_count};
 ghost use Rattle.oe_shape.specs.Labels as labels;
 ghost use Rattle.oe_shape.specs.Labels.{merged_shape};
+ghost use Rattle.oe_shape.specs.PlainRequests.{plain_operation};
 ghost use Rattle.oe_shape.specs.Reach as spec;
 
+use crate::operation::Operation;
 use oe_dims::{Kind, Shape};
+use oe_fold::Reducer;
 use oe_kernel::Border;
 
 /// The border takes pixels from the other end of the side.
@@ -48,5 +51,15 @@ pub fn differ_along(along: Kind, one: &Shape, two: &Shape, merged: &Shape) -> bo
     match (one.count(along), two.count(along)) {
         (Some(first), Some(second)) => first != second || count_along(along, merged) != first,
         _ => false,
+    }
+}
+
+/// The reducer of a reduction of t date by date, and whether it ignores nulls.
+pub fn time_fold(operation: &Operation) -> Option<(Reducer, bool)>
+    ensures { result ≡ spec.time_fold (plain_operation operation.now) }
+{
+    match operation {
+        Operation::Reduce(Kind::Time, callback) => callback.reducer(),
+        _ => None,
     }
 }

@@ -33,9 +33,9 @@ invariant_of-expr c =
     let within = result_within scope c.args.context.now graph states c.args.order.now.items c.requires.resolved c.requires.sound in
     let state = get_or_read states (out-Graph graph).result c.index.result.now within c.index.ensures Unseen in
     let kind = c.known_kind-kind.ensures ∙ ap (λ s. unwrap_or (kept_kind s) Numbers) state in
-    subst (λ (g : Graph). IsCompiled (callback_of (plain_graph g) (plain_scope c.of-2.result.value) c.args.context.now) c.known_kind-kind.result c.in_ok-program.program) (sym c.of.ensures)
-    (subst (λ (s : Scope). IsCompiled (callback_of (plain_graph graph) (plain_scope s) c.args.context.now) c.known_kind-kind.result c.in_ok-program.program) (sym c.of-2.ensures)
-    (compiled scope c.args.context.now graph states c.args.order.now.items c.requires.resolved c.requires.sound c.known_kind-kind.result c.in_ok-program.program kind c.in_ok-program.ensures))
+    subst (λ (g : Graph). IsCompiled (callback_of (plain_graph g) (plain_scope c.of-2.result.value) c.args.context.now) c.known_kind-kind.result c.in_ok-reducer.reducer c.in_ok-program.program) (sym c.of.ensures)
+    (subst (λ (s : Scope). IsCompiled (callback_of (plain_graph graph) (plain_scope s) c.args.context.now) c.known_kind-kind.result c.in_ok-reducer.reducer c.in_ok-program.program) (sym c.of-2.ensures)
+    (compiled scope c.args.context.now graph states c.args.order.now.items c.requires.resolved c.requires.sound c.known_kind-kind.result c.in_ok-reducer.reducer c.in_ok-program.program kind c.in_ok-program.ensures c.in_ok-reducer.ensures))
 
 pub returns : goal.returns
 returns c = record {
