@@ -16,3 +16,8 @@ pub mod PlaneLemmas
 pub mod ReduceLemmas
 pub mod SpanLemmas
 pub mod NeedLemmas
+pub mod KeptRunLemmas
+pub mod PlaneSourceLemmas
+pub mod NodeLemmas
+pub mod DateLemmas
+pub mod AggregateLemmas

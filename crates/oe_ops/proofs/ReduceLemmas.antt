@@ -35,7 +35,7 @@ use Rattle.oe_ops.proofs.ListLemmas.{map-agree}
 abbrev pub count_along : Kind → Dimensions → ℕ
 count_along along d = label_count (labels_along along d)
 
-inside : {L : Type 0} (labels : Option (List L)) (i : ℕ) → i < length (unwrap_or labels []) → i < extent labels
+pub inside : {L : Type 0} (labels : Option (List L)) (i : ℕ) → i < length (unwrap_or labels []) → i < extent labels
 inside None i lt = absurd (omega arith)
 inside (Some ls) i lt = lt
 
@@ -71,7 +71,7 @@ by_index f g h (l ∷ labels) a e =
     let rest : map f (range_with_len (a + 1) (length labels)) ≡ map g (map h labels) = by_index f g h labels (a + 1) (λ i j m s place. e (suc i) j m s (omega arith)) in
     ap (λ (v : Cell). v ∷ map f (range_with_len (a + 1) (length labels))) first ∙ ap (λ (r : List Cell). g (h l) ∷ r) rest
 
-label_there : {L : Type 0} (labels : Option (List L)) (i : ℕ) (l : L) → slice_get (unwrap_or labels []) i ≡ Some l → label_of labels i ≡ Some l
+pub label_there : {L : Type 0} (labels : Option (List L)) (i : ℕ) (l : L) → slice_get (unwrap_or labels []) i ≡ Some l → label_of labels i ≡ Some l
 label_there None i l h = cc
 label_there (Some ls) i l h = h
 
@@ -79,7 +79,7 @@ label_within : {L : Type 0} (labels : Option (List L)) (i : ℕ) (l : L) → sli
 label_within labels i l h = slice_get_within (unwrap_or labels []) i l h
 
 module _ (cube : Cube Cell) (slice : Slice) (valid : IsShape cube.shape) (whole : IsCube cube) (on : IsOn cube slice) where
-  listed : (q : Position) → IsPosition cube.shape q → IsIn slice.window q → cell_of slice q ≡ cell cube (tuple_of cube.shape q)
+  pub listed : (q : Position) → IsPosition cube.shape q → IsIn slice.window q → cell_of slice q ≡ cell cube (tuple_of cube.shape q)
   listed q here held =
       cell_of_is cube slice q on held
       ∙ sym (ap (λ o. unwrap_or o Empty) (cell_at-at Empty cube q valid (whole ∙ length-tuples cube.shape) here))

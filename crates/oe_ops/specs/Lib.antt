@@ -5,3 +5,5 @@ pub mod Lists
 pub mod Planes
 pub mod Spans
 pub mod Joins
+pub mod Nodes
+pub mod Loads

@@ -1,10 +1,11 @@
 -- The lists of cells that a reduction works on, as the code has them.
-use Rattle.std.specs.Prelude.{◌≡◌, ℕ, ◌+◌, ◌*◌, ◌<◌, List, length, map, slice_index_or}
+use Rattle.std.specs.Prelude.{◌≡◌, ℕ, ℤ, ◌+◌, ◌*◌, ◌<◌, List, Option, find, length, map, slice_index_or}
 use Rattle.std.specs.List.{All, range_with_len}
 use Rattle.oe_cell.specs.declared.cell.Cell.{Cell}
 use Rattle.oe_cell.specs.declared.cell.Cell.TheVariants.{Empty}
 use Rattle.oe_cube.specs.Kinds.{IsOfKind}
 use Rattle.oe_dims.specs.Dimensions.{Dimensions}
+use Rattle.oe_dims.specs.Indices.{same_number}
 use Rattle.oe_dims.specs.Plain.{PlainLabels}
 use Rattle.oe_dims.specs.Positions.{Position}
 use Rattle.oe_dims.specs.declared.kind.CellKind.{CellKind}
@@ -13,7 +14,8 @@ use Rattle.oe_dims.specs.declared.kind.Kind.TheVariants.{Time, Bands, Y, X}
 use Rattle.oe_expr.specs.Callback.{Callback, callback_value, environment}
 use Rattle.oe_expr.specs.Scope.{label_count, labels_in, no_labels, reduce}
 use Rattle.oe_expr.specs.declared.scope.ListPart.{ListPart}
-use Rattle.oe_shape.specs.Operations.{reduction_scope}
+use Rattle.oe_shape.specs.Operations.{interval_scope, reduction_scope}
+use Rattle.oe_shape.specs.declared.extent.Interval.{Interval}
 use Rattle.oe_window.specs.Windows.{span_length}
 use Rattle.oe_window.specs.declared.window.Window.{Window}
 use Rattle.oe_ops.specs.Slices.{cell_of}
@@ -42,6 +44,10 @@ list_from slice along from count p =
 abbrev pub value_of_list : Callback → ℕ → List Cell → Cell
 value_of_list c list cells = callback_value c (environment c Empty Empty cells list)
 
+-- the first interval with a label
+abbrev pub interval_labelled : List Interval → ℤ → Option Interval
+interval_labelled intervals label = find (λ (i : Interval). same_number i.label label) intervals
+
 -- the callback is one on lists, of which the one of a number has so many cells; all of these are of their kind
 pub record TakesList (c : Callback) (list count : ℕ) (cells : List Cell) : Type 0 where
   pub kind : CellKind
@@ -56,4 +62,10 @@ pub record TakesList (c : Callback) (list count : ℕ) (cells : List Cell) : Typ
 pub record TakesLists (c : Callback) (along : Kind) (d : Dimensions) (cells : List Cell) : Type 0 where
   pub kind : CellKind
   pub scope_is : c.scope ≡ reduction_scope along (record { shape = d; kind = kind })
+  pub of_kind : All (IsOfKind kind) cells
+
+-- the callback is one on the lists of cells of a kind inside each interval, and all of these are of the kind
+pub record TakesIntervals (c : Callback) (intervals : List Interval) (d : Dimensions) (cells : List Cell) : Type 0 where
+  pub kind : CellKind
+  pub scope_is : c.scope ≡ interval_scope intervals (record { shape = d; kind = kind })
   pub of_kind : All (IsOfKind kind) cells

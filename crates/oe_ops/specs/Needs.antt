@@ -73,6 +73,10 @@ HoldsNeed needs window box = (p q : Position) → IsIn window p → needs p q �
 abbrev pub plane_window : Window → ℕ → ℕ → Window
 plane_window window t band = record window { t = span_at t; bands = span_at band }
 
+-- the part of a window at an index of t
+abbrev pub window_at : Window → ℕ → Window
+window_at window t = record window { t = span_at t }
+
 -- The window without a position that stands where nothing is needed.
 abbrev pub zero_window : Window
 zero_window = record { t = span_below 0; bands = span_below 0; y = span_below 0; x = span_below 0 }

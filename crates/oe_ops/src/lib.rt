@@ -5,6 +5,7 @@
 //! layers above use that these are the cells of the process on whole cubes. Nothing here takes memory.
 #![tactic(auto)]
 
+mod aggregate;
 mod apply;
 mod convolve;
 mod cover;
@@ -12,19 +13,22 @@ mod give_back;
 mod keep;
 mod list;
 mod merge;
-mod need;
+mod needs;
+mod node;
 mod reduce;
 mod rows;
 mod run;
 mod slice;
 mod source;
 
+pub use aggregate::eval_aggregate;
 pub use apply::eval_apply;
 pub use convolve::eval_convolve;
 pub use cover::eval_cover;
 pub use give_back::eval_give_back;
 pub use keep::eval_keep;
 pub use merge::{Input, eval_merge};
-pub use need::{need_beside, need_labels, need_pixels, source_window};
+pub use needs::{need_beside, need_labels, need_pixels, source_window};
+pub use node::{eval_node, need};
 pub use reduce::eval_reduce;
 pub use slice::Slice;

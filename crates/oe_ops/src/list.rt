@@ -26,7 +26,7 @@ pub(crate) struct ListRows<'a> {
 }
 
 /// How far apart neighbours along a dimension stand in a slice.
-fn stride_along(window: &Window, along: Kind) -> usize
+pub(crate) fn stride_along(window: &Window, along: Kind) -> usize
     requires most { position_count window.now < 2 ^ 64 }
     requires some { 0 < position_count window.now }
     ensures { result ≡ stride_along along window.now }

@@ -32,7 +32,7 @@ pub(crate) trait Rows {
 }
 
 /// The index so many steps along a span.
-fn index_after(span: Span, steps: usize) -> u32
+pub(crate) fn index_after(span: Span, steps: usize) -> u32
     requires { span.from + steps < span.to }
     ensures { result ≡ span.from + steps }
 {

@@ -1,0 +1,250 @@
+use Rattle.std.proofs.Common.{◌≡◌, ◌<◌, ◌∷◌, [], List, length, arith, rules, ◌∙◌, sym, subst}
+use Rattle.std.specs.List.{All}
+use Rattle.oe_cell.specs.declared.cell.Cell.TheVariants.{Empty}
+use Rattle.oe_cube.specs.Kinds.{IsOfKind}
+use Rattle.oe_dims.specs.Dimensions.{Dimensions}
+use Rattle.oe_dims.specs.declared.kind.Kind.TheVariants.{Time}
+use Rattle.oe_shape.specs.Meaning.{aggregated, cube_of}
+use Rattle.oe_shape.specs.Operations.{aggregated_shape, kind_of}
+use Rattle.oe_shape.specs.PlainRequests.{plain_operation, plain_restriction}
+use Rattle.oe_shape.specs.declared.extent.Interval.{Interval}
+use Rattle.oe_shape.specs.declared.operation.Operation.{Operation}
+use Rattle.oe_window.specs.Cells.{cells_on}
+use Rattle.oe_window.specs.Windows.{Holds, whole_window}
+use Rattle.oe_ops.specs.Lists.{TakesIntervals}
+use Rattle.oe_ops.specs.Nodes.{FitsKind}
+use Rattle.oe_ops.proofs.NodeLemmas.{all_of_none, apply_need, aggregate_need, convolve_need, cover_need, cover_two_need, give_back_need, keep_need, list_room, merge_need, merge_two_need, node_as, nothing_there, reduce_need, resolver_keeps, resolver_takes, row_room}
+use Rattle.oe_ops.proofs.node.eval_node.Goals as goal
+
+pub returns-then-is_empty : goal.returns-then-is_empty
+returns-then-is_empty c =
+    let none : length c.args.out.now ≡ 0 = search rules in
+    record {
+      value = λ first second whole same on two_whole two_same two_on. nothing_there (cube_of (plain_operation c.args.operation.now) (first ∷ second ∷ [])) c.args.window.now c.args.out.now none c.requires.length;
+      kinds = λ kind h fits. all_of_none (IsOfKind (kind_of (plain_operation c.args.operation.now) (kind ∷ []))) c.args.out.now none;
+    }
+
+pub eval_keep-requires : goal.eval_keep-requires
+eval_keep-requires c =
+    let k = c.in-Keep in
+    let here = node_as c.args.shape.now c.args.one.shape.now c.args.two.shape.now c.args.one.slice c.args.two.slice c.args.window.now c.args.operation.now _ k.is c.requires.shape_is c.requires.takes c.requires.need c.requires.two_need in
+    record {
+      valid = c.requires.valid;
+      within = c.requires.within;
+      counted = c.requires.counted;
+      need = keep_need c.args.shape.now c.args.one.shape.now c.args.two.shape.now c.args.one.slice c.args.two.slice c.args.window.now _ here;
+      length = c.requires.length;
+    }
+
+pub returns-in-Keep : goal.returns-in-Keep
+returns-in-Keep c =
+    let k = c.in-Keep in
+    let here = node_as c.args.shape.now c.args.one.shape.now c.args.two.shape.now c.args.one.slice c.args.two.slice c.args.window.now c.args.operation.now _ k.is c.requires.shape_is c.requires.takes c.requires.need c.requires.two_need in
+    record {
+      value = λ first second whole same on two_whole two_same two_on.
+          subst (λ (o : Operation). c.eval_keep.new.out ≡ cells_on Empty (cube_of (plain_operation o) (first ∷ second ∷ [])) c.args.window.now) (sym k.is)
+          (c.eval_keep.ensures.value first (plain_restriction k.field-0) whole same (sym here.shape_is) on);
+      kinds = λ kind h fits.
+          subst (λ (o : Operation). All (IsOfKind (kind_of (plain_operation o) (kind ∷ []))) c.eval_keep.new.out) (sym k.is)
+          (c.eval_keep.ensures.kinds kind h);
+    }
+
+pub eval_apply-requires : goal.eval_apply-requires
+eval_apply-requires c =
+    let k = c.in-EachCell in
+    let here = node_as c.args.shape.now c.args.one.shape.now c.args.two.shape.now c.args.one.slice c.args.two.slice c.args.window.now c.args.operation.now _ k.is c.requires.shape_is c.requires.takes c.requires.need c.requires.two_need in
+    let room = c.requires.room Time in
+    record {
+      valid = c.requires.shape_valid;
+      keeps = here.takes.0;
+      takes = here.takes.1;
+      within = c.requires.within;
+      counted = c.requires.counted;
+      need = apply_need c.args.shape.now c.args.one.shape.now c.args.two.shape.now c.args.one.slice c.args.two.slice c.args.window.now _ here;
+      length = c.requires.length;
+      room = omega arith;
+    }
+
+pub returns-in-EachCell : goal.returns-in-EachCell
+returns-in-EachCell c =
+    let k = c.in-EachCell in
+    let here = node_as c.args.shape.now c.args.one.shape.now c.args.two.shape.now c.args.one.slice c.args.two.slice c.args.window.now c.args.operation.now _ k.is c.requires.shape_is c.requires.takes c.requires.need c.requires.two_need in
+    record {
+      value = λ first second whole same on two_whole two_same two_on.
+          subst (λ (o : Operation). c.eval_apply.new.out ≡ cells_on Empty (cube_of (plain_operation o) (first ∷ second ∷ [])) c.args.window.now) (sym k.is)
+          (c.eval_apply.ensures.value first whole (same ∙ sym here.shape_is) on);
+      kinds = λ kind h fits.
+          subst (λ (o : Operation). All (IsOfKind (kind_of (plain_operation o) (kind ∷ []))) c.eval_apply.new.out) (sym k.is)
+          (c.eval_apply.ensures.kinds);
+    }
+
+pub eval_convolve-requires : goal.eval_convolve-requires
+eval_convolve-requires c =
+    let k = c.in-Convolve in
+    let here = node_as c.args.shape.now c.args.one.shape.now c.args.two.shape.now c.args.one.slice c.args.two.slice c.args.window.now c.args.operation.now _ k.is c.requires.shape_is c.requires.takes c.requires.need c.requires.two_need in
+    record {
+      valid = c.requires.shape_valid;
+      within = c.requires.within;
+      counted = c.requires.counted;
+      inside = subst (λ (d : Dimensions). Holds (whole_window d) c.args.one.slice.window) (sym here.shape_is) c.requires.inside;
+      need = convolve_need c.args.shape.now c.args.one.shape.now c.args.two.shape.now c.args.one.slice c.args.two.slice c.args.window.now _ _ _ _ here;
+      length = c.requires.length;
+    }
+
+pub returns-in-Convolve : goal.returns-in-Convolve
+returns-in-Convolve c =
+    let k = c.in-Convolve in
+    let here = node_as c.args.shape.now c.args.one.shape.now c.args.two.shape.now c.args.one.slice c.args.two.slice c.args.window.now c.args.operation.now _ k.is c.requires.shape_is c.requires.takes c.requires.need c.requires.two_need in
+    record {
+      value = λ first second whole same on two_whole two_same two_on.
+          subst (λ (o : Operation). c.eval_convolve.new.out ≡ cells_on Empty (cube_of (plain_operation o) (first ∷ second ∷ [])) c.args.window.now) (sym k.is)
+          (c.eval_convolve.ensures.value first whole (same ∙ sym here.shape_is) on);
+      kinds = λ kind h fits.
+          subst (λ (o : Operation). All (IsOfKind (kind_of (plain_operation o) (kind ∷ []))) c.eval_convolve.new.out) (sym k.is)
+          (c.eval_convolve.ensures.kinds);
+    }
+
+pub eval_reduce-requires : goal.eval_reduce-requires
+eval_reduce-requires c =
+    let k = c.in-Reduce in
+    let here = node_as c.args.shape.now c.args.one.shape.now c.args.two.shape.now c.args.one.slice c.args.two.slice c.args.window.now c.args.operation.now _ k.is c.requires.shape_is c.requires.takes c.requires.need c.requires.two_need in
+    record {
+      valid = c.requires.valid;
+      without = here.shape_is;
+      keeps = here.takes.0;
+      takes = here.takes.1;
+      within = c.requires.within;
+      counted = c.requires.counted;
+      need = reduce_need c.args.shape.now c.args.one.shape.now c.args.two.shape.now c.args.one.slice c.args.two.slice c.args.window.now _ _ here;
+      length = c.requires.length;
+      room = list_room k.along c.args.one.shape.now _ c.requires.room;
+    }
+
+pub returns-in-Reduce : goal.returns-in-Reduce
+returns-in-Reduce c =
+    let k = c.in-Reduce in
+    let here = node_as c.args.shape.now c.args.one.shape.now c.args.two.shape.now c.args.one.slice c.args.two.slice c.args.window.now c.args.operation.now _ k.is c.requires.shape_is c.requires.takes c.requires.need c.requires.two_need in
+    record {
+      value = λ first second whole same on two_whole two_same two_on.
+          subst (λ (o : Operation). c.eval_reduce.new.out ≡ cells_on Empty (cube_of (plain_operation o) (first ∷ second ∷ [])) c.args.window.now) (sym k.is)
+          (c.eval_reduce.ensures.value first whole same on);
+      kinds = λ kind h fits.
+          subst (λ (o : Operation). All (IsOfKind (kind_of (plain_operation o) (kind ∷ []))) c.eval_reduce.new.out) (sym k.is)
+          (c.eval_reduce.ensures.kinds);
+    }
+
+pub eval_aggregate-requires : goal.eval_aggregate-requires
+eval_aggregate-requires c =
+    let k = c.in-Aggregate in
+    let here = node_as c.args.shape.now c.args.one.shape.now c.args.two.shape.now c.args.one.slice c.args.two.slice c.args.window.now c.args.operation.now _ k.is c.requires.shape_is c.requires.takes c.requires.need c.requires.two_need in
+    record {
+      valid = c.requires.valid;
+      shape_valid = c.requires.shape_valid;
+      aggregated = subst (λ (l : List Interval). c.args.shape.now ≡ aggregated_shape l c.args.one.shape.now) (sym c.deref.ensures.value) here.shape_is;
+      keeps = here.takes.0;
+      takes = subst (λ (l : List Interval). TakesIntervals k.expr l c.args.one.shape.now c.args.one.slice.cells.now) (sym c.deref.ensures.value) here.takes.1;
+      within = c.requires.within;
+      counted = c.requires.counted;
+      need = aggregate_need c.args.shape.now c.args.one.shape.now c.args.two.shape.now c.args.one.slice c.args.two.slice c.args.window.now _ _ here;
+      length = c.requires.length;
+      room = c.requires.room Time;
+    }
+
+pub returns-in-Aggregate : goal.returns-in-Aggregate
+returns-in-Aggregate c =
+    let k = c.in-Aggregate in
+    let here = node_as c.args.shape.now c.args.one.shape.now c.args.two.shape.now c.args.one.slice c.args.two.slice c.args.window.now c.args.operation.now _ k.is c.requires.shape_is c.requires.takes c.requires.need c.requires.two_need in
+    record {
+      value = λ first second whole same on two_whole two_same two_on.
+          subst (λ (o : Operation). c.eval_aggregate.new.out ≡ cells_on Empty (cube_of (plain_operation o) (first ∷ second ∷ [])) c.args.window.now) (sym k.is)
+          (subst (λ (l : List Interval). c.eval_aggregate.new.out ≡ cells_on Empty (aggregated l k.expr first) c.args.window.now) c.deref.ensures.value (c.eval_aggregate.ensures.value first whole same on));
+      kinds = λ kind h fits.
+          subst (λ (o : Operation). All (IsOfKind (kind_of (plain_operation o) (kind ∷ []))) c.eval_aggregate.new.out) (sym k.is)
+          (c.eval_aggregate.ensures.kinds);
+    }
+
+pub eval_merge-requires : goal.eval_merge-requires
+eval_merge-requires c =
+    let k = c.in-Merge in
+    let here = node_as c.args.shape.now c.args.one.shape.now c.args.two.shape.now c.args.one.slice c.args.two.slice c.args.window.now c.args.operation.now _ k.is c.requires.shape_is c.requires.takes c.requires.need c.requires.two_need in
+    let more : 0 < length c.args.out.now = search rules in
+    record {
+      valid = c.requires.valid;
+      two_valid = c.requires.two_valid;
+      merged = here.shape_is;
+      keeps = resolver_keeps _ c.args.one.slice.cells.now c.args.two.slice.cells.now here.takes;
+      takes = resolver_takes _ c.args.one.slice.cells.now c.args.two.slice.cells.now here.takes;
+      within = c.requires.within;
+      counted = c.requires.counted;
+      two_counted = c.requires.two_counted;
+      need = merge_need c.args.shape.now c.args.one.shape.now c.args.two.shape.now c.args.one.slice c.args.two.slice c.args.window.now _ here;
+      two_need = merge_two_need c.args.shape.now c.args.one.shape.now c.args.two.shape.now c.args.one.slice c.args.two.slice c.args.window.now _ here;
+      length = c.requires.length;
+      room = row_room c.args.shape.now c.args.window.now _ _ c.requires.within more c.requires.length c.requires.shape_room;
+    }
+
+pub returns-in-Merge : goal.returns-in-Merge
+returns-in-Merge c =
+    let k = c.in-Merge in
+    let here = node_as c.args.shape.now c.args.one.shape.now c.args.two.shape.now c.args.one.slice c.args.two.slice c.args.window.now c.args.operation.now _ k.is c.requires.shape_is c.requires.takes c.requires.need c.requires.two_need in
+    record {
+      value = λ first second whole same on two_whole two_same two_on.
+          subst (λ (o : Operation). c.eval_merge.new.out ≡ cells_on Empty (cube_of (plain_operation o) (first ∷ second ∷ [])) c.args.window.now) (sym k.is)
+          (c.eval_merge.ensures.value first second whole same on two_whole two_same two_on);
+      kinds = λ kind h fits.
+          subst (λ (o : Operation). All (IsOfKind (kind_of (plain_operation o) (kind ∷ []))) c.eval_merge.new.out) (sym k.is)
+          (let f = subst (λ (o : Operation). FitsKind (plain_operation o) kind c.args.two.slice.cells.now) k.is fits in c.eval_merge.ensures.kinds kind h f.0 f.1);
+    }
+
+pub eval_cover-requires : goal.eval_cover-requires
+eval_cover-requires c =
+    let k = c.in-Cover in
+    let here = node_as c.args.shape.now c.args.one.shape.now c.args.two.shape.now c.args.one.slice c.args.two.slice c.args.window.now c.args.operation.now _ k.is c.requires.shape_is c.requires.takes c.requires.need c.requires.two_need in
+    record {
+      valid = c.requires.shape_valid;
+      mask_valid = c.requires.two_valid;
+      within = c.requires.within;
+      counted = c.requires.counted;
+      mask_counted = c.requires.two_counted;
+      need = cover_need c.args.shape.now c.args.one.shape.now c.args.two.shape.now c.args.one.slice c.args.two.slice c.args.window.now _ here;
+      mask_need = cover_two_need c.args.shape.now c.args.one.shape.now c.args.two.shape.now c.args.one.slice c.args.two.slice c.args.window.now _ here;
+      length = c.requires.length;
+    }
+
+pub returns-in-Cover : goal.returns-in-Cover
+returns-in-Cover c =
+    let k = c.in-Cover in
+    let here = node_as c.args.shape.now c.args.one.shape.now c.args.two.shape.now c.args.one.slice c.args.two.slice c.args.window.now c.args.operation.now _ k.is c.requires.shape_is c.requires.takes c.requires.need c.requires.two_need in
+    record {
+      value = λ first second whole same on two_whole two_same two_on.
+          subst (λ (o : Operation). c.eval_cover.new.out ≡ cells_on Empty (cube_of (plain_operation o) (first ∷ second ∷ [])) c.args.window.now) (sym k.is)
+          (c.eval_cover.ensures.value first second whole (same ∙ sym here.shape_is) on two_whole two_same two_on);
+      kinds = λ kind h fits.
+          subst (λ (o : Operation). All (IsOfKind (kind_of (plain_operation o) (kind ∷ []))) c.eval_cover.new.out) (sym k.is)
+          (c.eval_cover.ensures.kinds kind h (subst (λ (o : Operation). FitsKind (plain_operation o) kind c.args.two.slice.cells.now) k.is fits));
+    }
+
+pub eval_give_back-requires : goal.eval_give_back-requires
+eval_give_back-requires c =
+    let k = c.in-GiveBack in
+    let here = node_as c.args.shape.now c.args.one.shape.now c.args.two.shape.now c.args.one.slice c.args.two.slice c.args.window.now c.args.operation.now _ k.is c.requires.shape_is c.requires.takes c.requires.need c.requires.two_need in
+    record {
+      valid = c.requires.shape_valid;
+      within = c.requires.within;
+      counted = c.requires.counted;
+      need = give_back_need c.args.shape.now c.args.one.shape.now c.args.two.shape.now c.args.one.slice c.args.two.slice c.args.window.now here;
+      length = c.requires.length;
+    }
+
+pub returns-in-GiveBack : goal.returns-in-GiveBack
+returns-in-GiveBack c =
+    let k = c.in-GiveBack in
+    let here = node_as c.args.shape.now c.args.one.shape.now c.args.two.shape.now c.args.one.slice c.args.two.slice c.args.window.now c.args.operation.now _ k.is c.requires.shape_is c.requires.takes c.requires.need c.requires.two_need in
+    record {
+      value = λ first second whole same on two_whole two_same two_on.
+          subst (λ (o : Operation). c.eval_give_back.new.out ≡ cells_on Empty (cube_of (plain_operation o) (first ∷ second ∷ [])) c.args.window.now) (sym k.is)
+          (c.eval_give_back.ensures.value first whole (same ∙ sym here.shape_is) on);
+      kinds = λ kind h fits.
+          subst (λ (o : Operation). All (IsOfKind (kind_of (plain_operation o) (kind ∷ []))) c.eval_give_back.new.out) (sym k.is)
+          (c.eval_give_back.ensures.kinds kind h);
+    }

@@ -1,0 +1,56 @@
+-- What an operation asks of the cells that it works on.
+use Rattle.std.specs.Prelude.{◌≡◌, ⊤, ℕ, ◌+◌, ◌*◌, ◌≤◌, List, IfSome}
+use Rattle.std.specs.List.{All}
+use Rattle.oe_cell.specs.declared.cell.Cell.{Cell}
+use Rattle.oe_cube.specs.Kinds.{IsOfKind}
+use Rattle.oe_dims.specs.Dimensions.{Dimensions}
+use Rattle.oe_dims.specs.declared.kind.CellKind.{CellKind}
+use Rattle.oe_dims.specs.declared.kind.Kind.{Kind}
+use Rattle.oe_expr.specs.Callback.{KeepsKind, callback_kind}
+use Rattle.oe_shape.specs.Operations.{Operation, keep, each_cell, convolve, reduce, aggregate, merge, cover, give_back}
+use Rattle.oe_window.specs.Windows.{extent_along}
+use Rattle.oe_ops.specs.Lists.{TakesIntervals, TakesLists}
+use Rattle.oe_ops.specs.Slices.{TakesCells, TakesPairs}
+
+-- its callback, if it has one, takes these cells of the first cube, which has these dimensions, and of the second, and
+-- gives cells of its kind
+abbrev pub TakesInputs : Operation → Dimensions → List Cell → List Cell → Type 0
+TakesInputs (keep r) d one two = ⊤
+TakesInputs (each_cell c) d one two = KeepsKind c × TakesCells c one
+TakesInputs (convolve kernel factor border replace) d one two = ⊤
+TakesInputs (reduce along c) d one two = KeepsKind c × TakesLists c along d one
+TakesInputs (aggregate intervals c) d one two = KeepsKind c × TakesIntervals c intervals d one
+TakesInputs (merge resolver) d one two = IfSome resolver (λ c. KeepsKind c × TakesPairs c one two)
+TakesInputs (cover replacement) d one two = ⊤
+TakesInputs give_back d one two = ⊤
+
+-- beside cells of a kind of the first cube it works with cells of the kind alone
+abbrev pub FitsKind : Operation → CellKind → List Cell → Type 0
+FitsKind (keep r) kind two = ⊤
+FitsKind (each_cell c) kind two = ⊤
+FitsKind (convolve kernel factor border replace) kind two = ⊤
+FitsKind (reduce along c) kind two = ⊤
+FitsKind (aggregate intervals c) kind two = ⊤
+FitsKind (merge resolver) kind two = All (IsOfKind kind) two × IfSome resolver (λ c. callback_kind c ≡ kind)
+FitsKind (cover replacement) kind two = IsOfKind kind replacement
+FitsKind give_back kind two = ⊤
+
+-- 192 cells, and two more for each label of any dimension
+abbrev pub HasRoom : Dimensions → ℕ → Type 0
+HasRoom d room = (along : Kind) → 192 + 2 * extent_along d along ≤ room
+
+-- the operation is that of a kernel
+abbrev pub IsConvolution : Operation → Type 0
+IsConvolution (convolve kernel factor border replace) = ⊤
+IsConvolution _ = ⊥
+
+-- the operation works on one cube, and not on two
+abbrev pub IsOnOne : Operation → Type 0
+IsOnOne (keep r) = ⊤
+IsOnOne (each_cell c) = ⊤
+IsOnOne (convolve kernel factor border replace) = ⊤
+IsOnOne (reduce along c) = ⊤
+IsOnOne (aggregate intervals c) = ⊤
+IsOnOne (merge resolver) = ⊥
+IsOnOne (cover replacement) = ⊥
+IsOnOne give_back = ⊤

@@ -1,0 +1,186 @@
+// `aggregate_temporal`: the lists of cells inside each interval by a callback.
+ghost use Rattle.std.specs.Prelude.{◌≡◌, ℕ, ◌+◌, ◌*◌, ◌<◌, ◌≤◌, length, slice_get};
+ghost use Rattle.std.specs.List.{All};
+ghost use Rattle.oe_cell.specs.declared.cell.Cell.{Cell};
+ghost use Rattle.oe_cell.specs.declared.cell.Cell.TheVariants.{Empty};
+ghost use Rattle.oe_cube.specs.Kinds.{IsOfKind};
+ghost use Rattle.oe_dims.specs.Cube.{Cube, IsCube};
+ghost use Rattle.oe_dims.specs.Dimensions.{IsShape};
+ghost use Rattle.oe_dims.specs.Indices.{same_number};
+ghost use Rattle.oe_dims.specs.declared.kind.Kind.{Kind};
+ghost use Rattle.oe_expr.specs.Callback.{KeepsKind, callback_kind};
+ghost use Rattle.oe_shape.specs.Meaning.{aggregated};
+ghost use Rattle.oe_shape.specs.Operations.{aggregated_shape};
+ghost use Rattle.oe_window.specs.Cells.{cells_on};
+ghost use Rattle.oe_window.specs.Windows.{Holds, IsAlong, extent_along, position_count, whole_window};
+ghost use Rattle.oe_ops.specs.Lists.{TakesIntervals, interval_labelled};
+ghost use Rattle.oe_ops.specs.Needs.{HasLabelsBeside, HoldsNeed, window_at};
+ghost use Rattle.oe_ops.specs.Slices.{IsCounted, IsOn};
+
+use crate::list::{ListRows, stride_along};
+use crate::needs::span_at;
+use crate::rows::{fill, index_after};
+use crate::slice::{Slice, indices};
+use oe_cell::Cell;
+use oe_dims::{Kind, Shape};
+use oe_expr::Expr;
+use oe_shape::{Interval, part_in_time};
+use oe_window::Window;
+
+/// The interval has a label.
+fn has_label(interval: &Interval, label: i64) -> bool
+    ensures { result ≡ same_number interval.now.label label }
+{
+    interval.label == label
+}
+
+/// The number of the first interval with a label; how many there are, where none has it.
+fn interval_of(intervals: &[Interval], label: i64) -> usize
+    ensures { slice_get intervals.now result ≡ interval_labelled intervals.now label }
+{
+    for number in 0..intervals.len() {
+        if has_label(&intervals[number], label) {
+            return number;
+        }
+    }
+    intervals.len()
+}
+
+/// The values of the callback on a window with one index along `t`: the lists are those inside the interval of its
+/// label.
+fn eval_interval(
+    intervals: &[Interval],
+    expr: &Expr,
+    shape: &Shape,
+    argument: &Shape,
+    slice: Slice,
+    window: &Window,
+    out: &mut [Cell],
+    scratch: &mut [Cell],
+)
+    requires valid { IsShape argument.now }
+    requires shape_valid { IsShape shape.now }
+    requires aggregated { shape.now ≡ aggregated_shape intervals.now argument.now }
+    requires keeps { KeepsKind expr.now }
+    requires takes { TakesIntervals expr.now intervals.now argument.now slice.cells.now }
+    requires one { window.now.t.to ≡ window.now.t.from + 1 }
+    requires within { Holds (whole_window shape.now) window.now }
+    requires counted { IsCounted slice }
+    requires need { HoldsNeed (HasLabelsBeside Kind.Time shape.now argument.now) window.now
+        slice.window }
+    requires some { 0 < length out.old }
+    requires length { length out.old ≡ position_count window.now }
+    requires room { 192 + 2 * extent_along argument.now Kind.Time ≤ length scratch.old }
+    ensures value { (cube : Cube Cell) → IsCube cube → cube.shape ≡ argument.now
+        → IsOn cube slice.entry
+        → out.new ≡ cells_on Empty (aggregated intervals.now expr.now cube) window.now }
+    ensures kinds { All (IsOfKind (callback_kind expr.now)) out.new }
+{
+    let label = shape.label_at(Kind::Time, window.t.from);
+    let list = interval_of(intervals, label);
+    let part = part_in_time(&intervals[list].extent, argument.labels(Kind::Time));
+    let rows = ListRows {
+        expr,
+        slice,
+        along: Kind::Time,
+        from: part.from,
+        count: part.to.saturating_sub(part.from) as usize,
+        list: list as u32,
+    };
+    fill(&rows, window, out, scratch);
+}
+
+/// The part of a window at an index along `t`.
+fn window_at(window: &Window, t: u32) -> Window
+    requires { IsAlong window.now.t t }
+    ensures { result ≡ window_at window.now t }
+{
+    Window {
+        t: span_at(window.t, t),
+        bands: window.bands,
+        y: window.y,
+        x: window.x,
+    }
+}
+
+/// The values of a callback on the lists inside each interval of a cube of the shape `argument`, on a window of the
+/// result, which has the shape `shape`, from a slice of the cube (`aggregate_temporal` of openEO Processes). `scratch`
+/// has 192 cells at least and two more for each label of `t`.
+pub fn eval_aggregate(
+    intervals: &[Interval],
+    expr: &Expr,
+    shape: &Shape,
+    argument: &Shape,
+    slice: Slice,
+    window: &Window,
+    out: &mut [Cell],
+    scratch: &mut [Cell],
+)
+    requires valid { IsShape argument.now }
+    requires shape_valid { IsShape shape.now }
+    requires aggregated { shape.now ≡ aggregated_shape intervals.now argument.now }
+    requires keeps { KeepsKind expr.now }
+    requires takes { TakesIntervals expr.now intervals.now argument.now slice.cells.now }
+    requires within { Holds (whole_window shape.now) window.now }
+    requires counted { IsCounted slice }
+    requires need { HoldsNeed (HasLabelsBeside Kind.Time shape.now argument.now) window.now
+        slice.window }
+    requires length { length out.old ≡ position_count window.now }
+    requires room { 192 + 2 * extent_along argument.now Kind.Time ≤ length scratch.old }
+    ensures value { (cube : Cube Cell) → IsCube cube → cube.shape ≡ argument.now
+        → IsOn cube slice.entry
+        → out.new ≡ cells_on Empty (aggregated intervals.now expr.now cube) window.now }
+    ensures kinds { All (IsOfKind (callback_kind expr.now)) out.new }
+{
+    if out.is_empty() {
+        return;
+    }
+    eval_intervals(
+        intervals, expr, shape, argument, slice, window, out, scratch,
+    );
+}
+
+/// The same, where there is a position.
+fn eval_intervals(
+    intervals: &[Interval],
+    expr: &Expr,
+    shape: &Shape,
+    argument: &Shape,
+    slice: Slice,
+    window: &Window,
+    out: &mut [Cell],
+    scratch: &mut [Cell],
+)
+    requires valid { IsShape argument.now }
+    requires shape_valid { IsShape shape.now }
+    requires aggregated { shape.now ≡ aggregated_shape intervals.now argument.now }
+    requires keeps { KeepsKind expr.now }
+    requires takes { TakesIntervals expr.now intervals.now argument.now slice.cells.now }
+    requires within { Holds (whole_window shape.now) window.now }
+    requires counted { IsCounted slice }
+    requires need { HoldsNeed (HasLabelsBeside Kind.Time shape.now argument.now) window.now
+        slice.window }
+    requires some { 0 < length out.old }
+    requires length { length out.old ≡ position_count window.now }
+    requires room { 192 + 2 * extent_along argument.now Kind.Time ≤ length scratch.old }
+    ensures value { (cube : Cube Cell) → IsCube cube → cube.shape ≡ argument.now
+        → IsOn cube slice.entry
+        → out.new ≡ cells_on Empty (aggregated intervals.now expr.now cube) window.now }
+    ensures kinds { All (IsOfKind (callback_kind expr.now)) out.new }
+{
+    let area = stride_along(window, Kind::Time);
+    for number in 0..indices(window.t) {
+        let part = window_at(window, index_after(window.t, number));
+        let first = number * area;
+        eval_interval(
+            intervals,
+            expr,
+            shape,
+            argument,
+            slice,
+            &part,
+            &mut out[first..first + area],
+            scratch,
+        );
+    }
+}
