@@ -1,0 +1,5 @@
+pub mod CubeRecords
+pub mod KeptLemmas
+pub mod LeastLemmas
+pub mod LeastOnWindow
+pub mod RunRecords
