@@ -1,0 +1,63 @@
+-- A read of a row: the sum of cells asked, and the collections that are shown.
+use Rattle.std.proofs.Common.{◌≡◌, ℕ, zero, suc, ◌+◌, ◌<◌, ◌≤◌, List, [], ◌∷◌, length, map, Option, refl, ap, arith}
+use Rattle.std.specs.Option.{option_map_or}
+use Rattle.std.proofs.lemmas.List.Sums.{sum_by-cons}
+use Rattle.oe_cube.specs.Collections.{Collection}
+use Rattle.oe_sources.specs.Catalogue.{Row, cells_asked, collections_shown, rows_at, source_at}
+use Rattle.oe_sources.specs.CatalogueDims.{dims_row}
+use Rattle.oe_sources.specs.CatalogueLaws.{AskNoMoreThanRead, KeepCollections, KeepOutlines}
+use Rattle.oe_sources.specs.Source.{Source, asked_after, collection_of}
+use Rattle.oe_window.specs.Windows.{position_count}
+
+asked_no_more : (asked cells : ℕ) → asked_after asked cells ≤ asked + cells
+asked_no_more asked cells = omega arith
+
+sum_cons : (row : Row) (rows : List Row) → cells_asked (row ∷ rows) ≡ row.source.asked + cells_asked rows
+sum_cons row rows = sum_by-cons (λ (r : Row). r.source.asked) row rows
+
+-- another source in one row changes the sum by what was asked of it
+sum_at : (rows : List Row) (index : ℕ) (s : Source) (n : ℕ) → index < length rows → s.asked ≤ (source_at rows index).asked + n
+    → cells_asked (rows_at rows index s) ≤ cells_asked rows + n
+sum_at [] index s n below more = absurd (omega arith)
+sum_at (row ∷ rows) zero s n below more =
+    rw (sum_cons row rows, sum_cons (record { id = row.id; source = s; boxed = row.boxed }) rows) (first row.source.asked s.asked (cells_asked rows) n more)
+  where
+    first : (a b rest n : ℕ) → b ≤ a + n → b + rest ≤ a + rest + n
+    first a b rest n more = omega (arith, more)
+sum_at (row ∷ rows) (suc index) s n below more =
+    rw (sum_cons row rows, sum_cons row (rows_at rows index s)) (later row.source.asked (cells_asked rows) (cells_asked (rows_at rows index s)) n (sum_at rows index s n (omega arith) more))
+  where
+    later : (a b c n : ℕ) → c ≤ b + n → a + c ≤ a + b + n
+    later a b c n more = omega (arith, more)
+
+pub ask_no_more : AskNoMoreThanRead
+ask_no_more before index window cells after result below reads =
+    rw reads.others (sum_at before index (source_at after index) (position_count window) below
+    (rw reads.read.asked (asked_no_more (source_at before index).asked (position_count window))))
+
+same_collection : (a b : Source) → b.shape ≡ a.shape → b.kind ≡ a.kind → b.contents ≡ a.contents → collection_of b ≡ collection_of a
+same_collection a b shape kind contents = rw (shape, kind, contents) refl
+
+-- another source with the same collection shows the same
+shown_at : (rows : List Row) (index : ℕ) (s : Source) → index < length rows → collection_of s ≡ collection_of (source_at rows index)
+    → collections_shown (rows_at rows index s) ≡ collections_shown rows
+shown_at [] index s below same = absurd (omega arith)
+shown_at (row ∷ rows) zero s below same =
+    ap (λ (o : Option Collection). option_map_or (λ (c : Collection). (row.id, c) ∷ collections_shown rows) o (collections_shown rows)) same
+shown_at (row ∷ rows) (suc index) s below same =
+    ap (λ rest. option_map_or (λ (c : Collection). (row.id, c) ∷ rest) (collection_of row.source) rest) (shown_at rows index s (omega arith) same)
+
+pub keep_collections : KeepCollections
+keep_collections before index window cells after result below reads =
+    rw reads.others (shown_at before index (source_at after index) below
+    (same_collection (source_at before index) (source_at after index) reads.read.shape reads.read.kind reads.read.contents))
+
+outlines_at : (rows : List Row) (index : ℕ) (s : Source) → index < length rows → s.shape ≡ (source_at rows index).shape → s.kind ≡ (source_at rows index).kind
+    → map dims_row (rows_at rows index s) ≡ map dims_row rows
+outlines_at [] index s below shape kind = absurd (omega arith)
+outlines_at (row ∷ rows) zero s below shape kind = rw (shape, kind) refl
+outlines_at (row ∷ rows) (suc index) s below shape kind = ap (λ rest. dims_row row ∷ rest) (outlines_at rows index s (omega arith) shape kind)
+
+pub keep_outlines : KeepOutlines
+keep_outlines before index window cells after result below reads =
+    rw reads.others (outlines_at before index (source_at after index) below reads.read.shape reads.read.kind)

@@ -1,0 +1,342 @@
+-- Rows of a catalogue: the row of an id, and what mounting, detaching, replacing and reading leave.
+use Rattle.std.proofs.Common.{◌≡◌, ℕ, zero, suc, ◌+◌, ◌<◌, ◌≤◌, Bool, true, false, ◌||◌, not, List, [], ◌∷◌, ◌++◌, map, length, get_or, set, slice_get, is_some, nat_le, Option, Some, None, Result, Ok, Err, OnOk, OnErr, refl, sym, ap, ◌∙◌, subst, arith, inl, inr, IfSome}
+use Rattle.std.specs.List.{find, list_all, list_any, remove}
+use Rattle.std.specs.Option.{option_map, option_map_or}
+use Rattle.std.proofs.lemmas.Bool.{and_from, and_parts, cases_Bool, false≢true}
+use Rattle.std.proofs.lemmas.List.{length-map}
+use Rattle.std.proofs.lemmas.Option.{same_Some, slice_get-get_or}
+use Rattle.oe_dims.proofs.OrderLemmas.{same_name_is, same_name_refl}
+use Rattle.oe_dims.specs.Dimensions.{all_differ}
+use Rattle.oe_dims.specs.Indices.{index_where}
+use Rattle.oe_dims.specs.Names.{is_name, same_name}
+use Rattle.oe_cell.specs.declared.cell.Cell.{Cell}
+use Rattle.oe_sources.specs.Catalogue.{id_taken, is_full, mount_refusal, ReadsRow, Row, box_row, has_box, is_boxed, is_mounted, kept_source, mounted_ids, mounted_index, row_index, row_of, row_shown, rows_at, rows_replaced, rows_shown, rows_without, source_at}
+use Rattle.oe_sources.specs.Source.{Reads, Source}
+use Rattle.oe_sources.specs.declared.catalogue.Kept.{Kept}
+use Rattle.oe_sources.specs.declared.catalogue.Kept.TheVariants.{Boxed, Generated}
+use Rattle.oe_sources.specs.declared.catalogue.Mounted.{Mounted}
+use Rattle.oe_sources.specs.declared.source.SourceFail.{SourceFail}
+use Rattle.oe_window.specs.declared.window.Window.{Window}
+
+-- ---- the first index that passes, and what stands there
+
+pub index_where-map : {A B : Type 0} (f : A → B) (test : B → Bool) (xs : List A) → index_where test (map f xs) ≡ index_where (λ x. test (f x)) xs
+index_where-map f test [] = refl
+index_where-map f test (x ∷ xs) = rw (index_where-map f test xs) refl
+
+later_index : (index : Option ℕ) (p : ℕ) → option_map (λ n. n + 1) index ≡ Some p → (n : ℕ) × (index ≡ Some n) × (p ≡ suc n)
+later_index None p e = cc
+later_index (Some n) p e = let same : n + 1 ≡ p = cc in (n, refl, omega arith)
+
+no_later_index : (index : Option ℕ) → option_map (λ n. n + 1) index ≡ None → index ≡ None
+no_later_index None e = refl
+no_later_index (Some n) e = cc
+
+pub find_at_index : {A : Type 0} (test : A → Bool) (xs : List A) (k : ℕ) → index_where test xs ≡ Some k → slice_get xs k ≡ find test xs
+find_at_index test [] k e = cc
+find_at_index test (x ∷ xs) k e = elim (cases_Bool (test x)) [
+  | inl t ↦ let first : 0 ≡ k = same_Some _ _ (rw t at e) in rw (← first, t) refl
+  | inr f ↦ let later = later_index (index_where test xs) k (rw f at e) in rw (later.2, f) (find_at_index test xs later.0 later.1)
+]
+
+some_is_none : (n : ℕ) → Some n ≡ None → ⊥
+some_is_none n e = cc
+
+pub find_none : {A : Type 0} (test : A → Bool) (xs : List A) → index_where test xs ≡ None → find test xs ≡ None
+find_none test [] e = refl
+find_none test (x ∷ xs) e = elim (cases_Bool (test x)) [
+  | inl t ↦ absurd (some_is_none 0 (rw t at e))
+  | inr f ↦ rw f (find_none test xs (no_later_index (index_where test xs) (rw f at e)))
+]
+
+pub find-map : {A B : Type 0} (f : A → B) (test : B → Bool) (xs : List A) → find test (map f xs) ≡ option_map f (find (λ x. test (f x)) xs)
+find-map f test [] = refl
+find-map f test (x ∷ xs) = elim (cases_Bool (test (f x))) [
+  | inl t ↦ rw t refl
+  | inr other ↦ rw other (find-map f test xs)
+]
+
+-- ---- the row of an id
+
+pub row_index_shown : {B : Type 0} (seen : B → Source) (items : List (Mounted B)) (id : List ℕ) → row_index (rows_shown seen items) id ≡ mounted_index items id
+row_index_shown seen items id = index_where-map (row_shown seen) (λ row. same_name row.id id) items
+
+pub row_at_index : {B : Type 0} (seen : B → Source) (items : List (Mounted B)) (id : List ℕ) (k : ℕ) → mounted_index items id ≡ Some k
+    → slice_get (rows_shown seen items) k ≡ row_of (rows_shown seen items) id
+row_at_index seen items id k e = find_at_index (λ row. same_name row.id id) (rows_shown seen items) k (row_index_shown seen items id ∙ e)
+
+pub row_missing : {B : Type 0} (seen : B → Source) (items : List (Mounted B)) (id : List ℕ) → mounted_index items id ≡ None → row_of (rows_shown seen items) id ≡ None
+row_missing seen items id e = find_none (λ row. same_name row.id id) (rows_shown seen items) (row_index_shown seen items id ∙ e)
+
+-- the id of the row at the index of an id is that id
+pub id_at_index : {B : Type 0} (items : List (Mounted B)) (id : List ℕ) (k : ℕ) (m : Mounted B) → mounted_index items id ≡ Some k → get_or items k m ≡ m → m.id ≡ id
+id_at_index [] id k m e is = cc
+id_at_index (x ∷ items) id k m e is = elim (cases_Bool (same_name x.id id)) [
+  | inl t ↦ let first : 0 ≡ k = same_Some _ _ (rw t at e) in let same : x ≡ m = rw (← first) at is in rw (← same) (sym (same_name_is x.id id t))
+  | inr f ↦ let later = later_index (mounted_index items id) k (rw f at e) in id_at_index items id later.0 m later.1 (rw later.2 at is)
+]
+
+pub index_within : {B : Type 0} (items : List (Mounted B)) (id : List ℕ) (k : ℕ) → mounted_index items id ≡ Some k → k < length items
+index_within [] id k e = cc
+index_within (x ∷ items) id k e = elim (cases_Bool (same_name x.id id)) [
+  | inl t ↦ let first : 0 ≡ k = same_Some _ _ (rw t at e) in omega (arith, first)
+  | inr f ↦ let later = later_index (mounted_index items id) k (rw f at e) in omega (arith, later.2, index_within items id later.0 later.1)
+]
+
+pub index_shown_within : {B : Type 0} (seen : B → Source) (items : List (Mounted B)) (id : List ℕ) (k : ℕ) → mounted_index items id ≡ Some k → k < length (rows_shown seen items)
+index_shown_within seen items id k e = rw (length-map items (row_shown seen)) (index_within items id k e)
+
+-- the row of an id, by the item at its index
+pub row_of_item : {B : Type 0} (seen : B → Source) (items : List (Mounted B)) (id : List ℕ) (k : ℕ) (m : Mounted B) → mounted_index items id ≡ Some k → get_or items k m ≡ m
+    → row_of (rows_shown seen items) id ≡ Some (row_shown seen m)
+row_of_item seen [] id k m e is = cc
+row_of_item seen (x ∷ items) id k m e is = elim (cases_Bool (same_name x.id id)) [
+  | inl t ↦ let first : 0 ≡ k = same_Some _ _ (rw t at e) in let same : x ≡ m = rw (← first) at is in rw t (ap (λ y. Some (row_shown seen y)) same)
+  | inr f ↦ let later = later_index (mounted_index items id) k (rw f at e) in rw f (row_of_item seen items id later.0 m later.1 (rw later.2 at is))
+]
+
+-- no box under an id
+pub no_box_missing : {B : Type 0} (seen : B → Source) (items : List (Mounted B)) (id : List ℕ) → mounted_index items id ≡ None → has_box (rows_shown seen items) id ≡ false
+no_box_missing seen items id e = ap (λ (row : Option Row). option_map_or (λ (r : Row). r.boxed) row false) (row_missing seen items id e)
+
+pub no_box_here : {B : Type 0} (seen : B → Source) (items : List (Mounted B)) (id : List ℕ) (k : ℕ) (m : Mounted B) → mounted_index items id ≡ Some k → get_or items k m ≡ m
+    → is_boxed m.cube ≡ false → has_box (rows_shown seen items) id ≡ false
+no_box_here seen items id k m e is boxed = ap (λ (row : Option Row). option_map_or (λ (r : Row). r.boxed) row false) (row_of_item seen items id k m e is) ∙ boxed
+
+-- the box at the index of an id
+pub box_at_index : {B : Type 0} (seen : B → Source) (items : List (Mounted B)) (id : List ℕ) (k : ℕ) (m : Mounted B) (cube : B) → mounted_index items id ≡ Some k → m ≡ get_or items k m → m.cube ≡ Boxed cube
+    → row_of (rows_shown seen items) id ≡ Some (box_row id (seen cube))
+box_at_index seen items id k m cube e is kept =
+    row_of_item seen items id k m e (sym is)
+    ∙ ap Some (rw (id_at_index items id k m e (sym is), kept) refl)
+
+-- what is known of an item by its index
+pub at_item : {B : Type 0} (P : Mounted B → Type 0) (items : List (Mounted B)) (k : ℕ) (m : Mounted B) → k < length items → m ≡ get_or items k m → P m → IfSome (slice_get items k) P
+at_item P items k m below is here = subst (λ o. IfSome o P) (sym (slice_get-get_or items k m below ∙ ap Some (sym is))) here
+
+pub of_item : {B : Type 0} (P : Mounted B → Type 0) (items : List (Mounted B)) (k : ℕ) (m : Mounted B) → k < length items → m ≡ get_or items k m → IfSome (slice_get items k) P → P m
+of_item P items k m below is here = subst (λ o. IfSome o P) (slice_get-get_or items k m below ∙ ap Some (sym is)) here
+
+generated_no_box : {B : Type 0} (kept : Kept B) (cube : Source) → kept ≡ Generated cube → is_boxed kept ≡ true → ⊥
+generated_no_box kept cube is boxed = false≢true (sym (ap is_boxed is) ∙ boxed)
+
+-- where a box stands, no generated cube does
+pub no_generated : {B : Type 0} (items : List (Mounted B)) (k : ℕ) (m : Mounted B) (cube : Source) → k < length items → m ≡ get_or items k m → IfSome (slice_get items k) (λ (x : Mounted B). is_boxed x.cube ≡ true)
+    → m.cube ≡ Generated cube → ⊥
+no_generated items k m cube below is boxed kept = generated_no_box m.cube cube kept (of_item (λ (x : Mounted _). is_boxed x.cube ≡ true) items k m below is boxed)
+
+pub item_within : {B : Type 0} (seen : B → Source) (items : List (Mounted B)) (k : ℕ) → k < length (rows_shown seen items) → k < length items
+item_within seen items k below = omega (arith, length-map items (row_shown seen), below)
+
+-- ---- the source of the row of an index
+
+pub source_shown : {B : Type 0} (seen : B → Source) (items : List (Mounted B)) (k : ℕ) (m : Mounted B) → k < length (rows_shown seen items) → m ≡ get_or items k m
+    → source_at (rows_shown seen items) k ≡ kept_source seen m.cube
+source_shown seen [] k m below is = absurd (omega arith)
+source_shown seen (x ∷ items) zero m below is = ap (λ (y : Mounted _). kept_source seen y.cube) (sym is)
+source_shown seen (x ∷ items) (suc k) m below is = source_shown seen items k m (omega arith) is
+
+pub source_at-rows_at : (rows : List Row) (k : ℕ) (s : Source) → k < length rows → source_at (rows_at rows k s) k ≡ s
+source_at-rows_at [] k s below = absurd (omega arith)
+source_at-rows_at (row ∷ rows) zero s below = refl
+source_at-rows_at (row ∷ rows) (suc k) s below = source_at-rows_at rows k s (omega arith)
+
+-- an item with another cube of its kind in its place
+pub rows_set : {B : Type 0} (seen : B → Source) (items : List (Mounted B)) (k : ℕ) (old new : Mounted B) → k < length (rows_shown seen items) → old ≡ get_or items k old
+    → new.id ≡ old.id → is_boxed new.cube ≡ is_boxed old.cube
+    → rows_shown seen (set items k new) ≡ rows_at (rows_shown seen items) k (kept_source seen new.cube)
+rows_set seen [] k old new below is id boxed = absurd (omega arith)
+rows_set seen (x ∷ items) zero old new below is id boxed =
+    let same : (new.id ≡ x.id) × (is_boxed new.cube ≡ is_boxed x.cube) = subst (λ (y : Mounted _). (new.id ≡ y.id) × (is_boxed new.cube ≡ is_boxed y.cube)) is (id, boxed) in
+    rw (same.0, same.1) refl
+rows_set seen (x ∷ items) (suc k) old new below is id boxed = ap (λ rest. row_shown seen x ∷ rest) (rows_set seen items k old new (omega arith) is id boxed)
+
+pub ids_set : {B : Type 0} (items : List (Mounted B)) (k : ℕ) (old new : Mounted B) → k < length items → old ≡ get_or items k old → new.id ≡ old.id
+    → mounted_ids (set items k new) ≡ mounted_ids items
+ids_set [] k old new below is id = absurd (omega arith)
+ids_set (x ∷ items) zero old new below is id = ap (λ first. first ∷ mounted_ids items) (id ∙ ap (λ (y : Mounted _). y.id) is)
+ids_set (x ∷ items) (suc k) old new below is id = ap (λ rest. x.id ∷ rest) (ids_set items k old new (omega arith) is id)
+
+-- ---- ids that differ
+
+none_has : (id : List ℕ) (ids : List (List ℕ)) → Type 0
+none_has id ids = list_any (same_name id) ids ≡ false
+
+or_parts : (a b : Bool) → (a || b) ≡ false → (a ≡ false) × (b ≡ false)
+or_parts false false e = (refl, refl)
+or_parts false true e = cc
+or_parts true b e = cc
+
+or_from : (a b : Bool) → a ≡ false → b ≡ false → (a || b) ≡ false
+or_from a b ea eb = rw (ea, eb) refl
+
+not_true : (b : Bool) → not b ≡ true → b ≡ false
+not_true false e = refl
+not_true true e = cc
+
+head_differs : (id : List ℕ) (ids : List (List ℕ)) → all_differ (id ∷ ids) ≡ true → list_any (same_name id) ids ≡ false
+head_differs id ids e = not_true _ (and_parts _ _ e).0
+
+-- where no id of the items is this one, each row passes by
+others_differ : (x id other : List ℕ) → same_name x id ≡ true → same_name x other ≡ false → same_name other id ≡ false
+others_differ x id other same differ = elim (cases_Bool (same_name other id)) [
+  | inl t ↦
+      let one : id ≡ x = same_name_is x id same in
+      let two : id ≡ other = same_name_is other id t in
+      absurd (false≢true (sym differ ∙ ap (same_name x) (sym two ∙ one) ∙ same_name_refl x))
+  | inr f ↦ f
+]
+
+-- ---- detaching
+
+filter_all : {B : Type 0} (seen : B → Source) (items : List (Mounted B)) (x id : List ℕ) → same_name x id ≡ true → list_any (same_name x) (mounted_ids items) ≡ false
+    → rows_without (rows_shown seen items) id ≡ rows_shown seen items
+filter_all seen [] x id same none = refl
+filter_all seen (y ∷ items) x id same none =
+    let parts = or_parts (same_name x y.id) _ none in
+    rw (others_differ x id y.id same parts.0) (ap (λ rest. row_shown seen y ∷ rest) (filter_all seen items x id same parts.1))
+
+pub rows_detached : {B : Type 0} (seen : B → Source) (items : List (Mounted B)) (id : List ℕ) (k : ℕ) → mounted_index items id ≡ Some k → all_differ (mounted_ids items) ≡ true
+    → rows_shown seen (remove items k) ≡ rows_without (rows_shown seen items) id
+rows_detached seen [] id k e differ = cc
+rows_detached seen (x ∷ items) id k e differ = elim (cases_Bool (same_name x.id id)) [
+  | inl t ↦
+      let first : 0 ≡ k = same_Some _ _ (rw t at e) in
+      rw (← first, t) (sym (filter_all seen items x.id id t (head_differs x.id (mounted_ids items) differ)))
+  | inr f ↦
+      let later = later_index (mounted_index items id) k (rw f at e) in
+      rw (later.2, f) (ap (λ rest. row_shown seen x ∷ rest) (rows_detached seen items id later.0 later.1 (and_parts _ _ differ).1))
+]
+
+-- ---- replacing
+
+replace_none : {B : Type 0} (seen : B → Source) (items : List (Mounted B)) (x id : List ℕ) (s : Source) → same_name x id ≡ true → list_any (same_name x) (mounted_ids items) ≡ false
+    → rows_replaced (rows_shown seen items) id s ≡ rows_shown seen items
+replace_none seen [] x id s same none = refl
+replace_none seen (y ∷ items) x id s same none =
+    let parts = or_parts (same_name x y.id) _ none in
+    rw (others_differ x id y.id same parts.0) (ap (λ rest. row_shown seen y ∷ rest) (replace_none seen items x id s same parts.1))
+
+pub rows_changed : {B : Type 0} (seen : B → Source) (items : List (Mounted B)) (id : List ℕ) (k : ℕ) (old new : Mounted B) → mounted_index items id ≡ Some k → all_differ (mounted_ids items) ≡ true
+    → old ≡ get_or items k old → new.id ≡ old.id → is_boxed new.cube ≡ true
+    → rows_shown seen (set items k new) ≡ rows_replaced (rows_shown seen items) id (kept_source seen new.cube)
+rows_changed seen [] id k old new e differ is same boxed = cc
+rows_changed seen (x ∷ items) id k old new e differ is same boxed = elim (cases_Bool (same_name x.id id)) [
+  | inl t ↦
+      let first : 0 ≡ k = same_Some _ _ (rw t at e) in
+      let there : old ≡ x = rw (← first) at is in
+      let ids : new.id ≡ x.id = same ∙ ap (λ (y : Mounted _). y.id) there in
+      rw (← first, t, ids, boxed) (ap (λ rest. box_row x.id (kept_source seen new.cube) ∷ rest)
+      (sym (replace_none seen items x.id id (kept_source seen new.cube) t (head_differs x.id (mounted_ids items) differ))))
+  | inr f ↦
+      let later = later_index (mounted_index items id) k (rw f at e) in
+      rw (later.2, f) (ap (λ rest. row_shown seen x ∷ rest)
+      (rows_changed seen items id later.0 old new later.1 (and_parts _ _ differ).1 (rw later.2 at is) same boxed))
+]
+
+pub box_replaced : {B : Type 0} (seen : B → Source) (items : List (Mounted B)) (id : List ℕ) (k : ℕ) (old new : Mounted B) (cube : B) → mounted_index items id ≡ Some k → all_differ (mounted_ids items) ≡ true
+    → old ≡ get_or items k old → new.id ≡ old.id → new.cube ≡ Boxed cube
+    → rows_shown seen (set items k new) ≡ rows_replaced (rows_shown seen items) id (seen cube)
+box_replaced seen items id k old new cube e differ is same kept =
+    rows_changed seen items id k old new e differ is same (ap is_boxed kept)
+    ∙ ap (λ k. rows_replaced (rows_shown seen items) id (kept_source seen k)) kept
+
+-- ---- what the ids keep
+
+pub all_remove : {A : Type 0} (test : List ℕ → Bool) (f : A → List ℕ) (xs : List A) (k : ℕ) → list_all test (map f xs) ≡ true → list_all test (map f (remove xs k)) ≡ true
+all_remove test f [] zero all = refl
+all_remove test f [] (suc k) all = refl
+all_remove test f (x ∷ xs) zero all = (and_parts _ _ all).1
+all_remove test f (x ∷ xs) (suc k) all = and_from _ _ (and_parts _ _ all).0 (all_remove test f xs k (and_parts _ _ all).1)
+
+none_remove : {A : Type 0} (test : List ℕ → Bool) (f : A → List ℕ) (xs : List A) (k : ℕ) → list_any test (map f xs) ≡ false → list_any test (map f (remove xs k)) ≡ false
+none_remove test f [] zero none = refl
+none_remove test f [] (suc k) none = refl
+none_remove test f (x ∷ xs) zero none = (or_parts _ _ none).1
+none_remove test f (x ∷ xs) (suc k) none = or_from _ _ (or_parts _ _ none).0 (none_remove test f xs k (or_parts _ _ none).1)
+
+pub differ_remove : {A : Type 0} (f : A → List ℕ) (xs : List A) (k : ℕ) → all_differ (map f xs) ≡ true → all_differ (map f (remove xs k)) ≡ true
+differ_remove f [] zero differ = refl
+differ_remove f [] (suc k) differ = refl
+differ_remove f (x ∷ xs) zero differ = (and_parts _ _ differ).1
+differ_remove f (x ∷ xs) (suc k) differ =
+    and_from _ _ (ap not (none_remove (same_name (f x)) f xs k (head_differs (f x) (map f xs) differ))) (differ_remove f xs k (and_parts _ _ differ).1)
+
+pub all_append : {A : Type 0} (test : List ℕ → Bool) (f : A → List ℕ) (xs : List A) (x : A) → list_all test (map f xs) ≡ true → test (f x) ≡ true → list_all test (map f (xs ++ x ∷ [])) ≡ true
+all_append test f [] x all here = and_from _ _ here refl
+all_append test f (y ∷ xs) x all here = and_from _ _ (and_parts _ _ all).0 (all_append test f xs x (and_parts _ _ all).1 here)
+
+none_append : {A : Type 0} (test : List ℕ → Bool) (f : A → List ℕ) (xs : List A) (x : A) → list_any test (map f xs) ≡ false → test (f x) ≡ false → list_any test (map f (xs ++ x ∷ [])) ≡ false
+none_append test f [] x none here = or_from _ _ here refl
+none_append test f (y ∷ xs) x none here = or_from _ _ (or_parts _ _ none).0 (none_append test f xs x (or_parts _ _ none).1 here)
+
+-- an id that no item has, added at the end
+pub differ_append : {B : Type 0} (items : List (Mounted B)) (m : Mounted B) → all_differ (mounted_ids items) ≡ true → mounted_index items m.id ≡ None → all_differ (mounted_ids (items ++ m ∷ [])) ≡ true
+differ_append [] m differ none = refl
+differ_append (x ∷ items) m differ none = elim (cases_Bool (same_name x.id m.id)) [
+  | inl t ↦ absurd (some_is_none 0 (rw t at none))
+  | inr f ↦
+      let rest = no_later_index (mounted_index items m.id) (rw f at none) in
+      and_from _ _ (ap not (none_append (same_name x.id) (λ (y : Mounted _). y.id) items m (head_differs x.id (mounted_ids items) differ) f)) (differ_append items m (and_parts _ _ differ).1 rest)
+]
+
+pub rows_added : {B : Type 0} (seen : B → Source) (items : List (Mounted B)) (m : Mounted B) → rows_shown seen (items ++ m ∷ []) ≡ rows_shown seen items ++ row_shown seen m ∷ []
+rows_added seen [] m = refl
+rows_added seen (x ∷ items) m = ap (λ rest. row_shown seen x ∷ rest) (rows_added seen items m)
+
+-- ---- reading
+
+-- a read of what an item keeps is a read of its row
+pub reads_row : {B : Type 0} (seen : B → Source) (items : List (Mounted B)) (k : ℕ) (old new : Mounted B) (window : Window) (cells : List Cell) (result : Result (Unit {0}) SourceFail)
+    → k < length (rows_shown seen items) → old ≡ get_or items k old → new.id ≡ old.id → is_boxed new.cube ≡ is_boxed old.cube
+    → Reads (kept_source seen old.cube) window cells (kept_source seen new.cube) result
+    → ReadsRow (rows_shown seen items) k window cells (rows_shown seen (set items k new)) result
+reads_row seen items k old new window cells result below is id boxed reads =
+    let before = source_shown seen items k old below is in
+    let rows = rows_set seen items k old new below is id boxed in
+    let after : source_at (rows_shown seen (set items k new)) k ≡ kept_source seen new.cube =
+    ap (λ rs. source_at rs k) rows ∙ source_at-rows_at (rows_shown seen items) k (kept_source seen new.cube) below in
+    record {
+      read = rw (before, after) reads;
+      others = rows ∙ ap (rows_at (rows_shown seen items) k) (sym after);
+    }
+
+-- ---- mounting
+
+pub is_mounted_shown : {B : Type 0} (seen : B → Source) (items : List (Mounted B)) (id : List ℕ) → is_mounted (rows_shown seen items) id ≡ is_some (mounted_index items id)
+is_mounted_shown seen [] id = refl
+is_mounted_shown seen (x ∷ items) id = elim (cases_Bool (same_name x.id id)) [
+  | inl t ↦ rw t refl
+  | inr f ↦ rw f (is_mounted_shown seen items id ∙ later_some (mounted_index items id))
+]
+  where
+    later_some : (index : Option ℕ) → is_some index ≡ is_some (option_map (λ n. n + 1) index)
+    later_some None = refl
+    later_some (Some n) = refl
+
+pub refused_taken : (rows : List Row) (id : List ℕ) → is_name id ≡ true → is_mounted rows id ≡ true → Some id_taken ≡ mount_refusal rows id
+refused_taken rows id name taken = rw (name, taken) refl
+
+pub refused_full : {B : Type 0} (seen : B → Source) (items : List (Mounted B)) (id : List ℕ) → is_name id ≡ true → is_some (mounted_index items id) ≡ false → 64 ≤ length items
+    → Some is_full ≡ mount_refusal (rows_shown seen items) id
+refused_full seen items id name free full =
+    let most : nat_le 64 (length (rows_shown seen items)) ≡ true = grind (arith, length-map items (row_shown seen), full) in
+    let mounted : is_mounted (rows_shown seen items) id ≡ false = is_mounted_shown seen items id ∙ free in
+    rw (name, mounted, most) refl
+
+pub refused_nowhere : {B : Type 0} (seen : B → Source) (items : List (Mounted B)) (id : List ℕ) → is_name id ≡ true → is_some (mounted_index items id) ≡ false → length items < 64
+    → None ≡ mount_refusal (rows_shown seen items) id
+refused_nowhere seen items id name free few =
+    let most : nat_le 64 (length (rows_shown seen items)) ≡ false = grind (arith, length-map items (row_shown seen), few) in
+    let mounted : is_mounted (rows_shown seen items) id ≡ false = is_mounted_shown seen items id ∙ free in
+    rw (name, mounted, most) refl
+
+pub not_found : (found : Option ℕ) → is_some found ≡ false → found ≡ None
+not_found None e = refl
+not_found (Some k) e = cc
+
+-- what holds with and without a new item holds after a call that may have added it
+pub after_push : {B E : Type 0} (P : List (Mounted B) → Type 0) (before after : List (Mounted B)) (m : Mounted B) (result : Result (Unit {0}) E)
+    → OnOk result (after ≡ before ++ m ∷ []) → OnErr result (after ≡ before) → P (before ++ m ∷ []) → P before → P after
+after_push P before after m (Ok u) added kept new old = subst P (sym added) new
+after_push P before after m (Err e) added kept new old = subst P (sym kept) old

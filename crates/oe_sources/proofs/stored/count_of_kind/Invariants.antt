@@ -1,0 +1,7 @@
+use Rattle.std.proofs.Common.{◌≡◌, true, take}
+use Rattle.std.specs.List.{list_all}
+use Rattle.oe_cube.specs.Kinds.{is_null_or_of}
+use Rattle.oe_sources.proofs.stored.count_of_kind.Given as goal
+
+abbrev pub invariant-loop-index : goal.invariant-loop-index
+invariant-loop-index l = list_all (is_null_or_of l.kind) (take l.index l.cells) ≡ true

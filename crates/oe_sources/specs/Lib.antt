@@ -1,0 +1,14 @@
+pub mod Catalogue
+pub mod CatalogueDims
+pub mod CatalogueLaws
+pub mod CatalogueRows
+pub mod CubeFile
+pub mod FileState
+pub mod Generated
+pub mod Head
+pub mod HeadRead
+pub mod OpenedFile
+pub mod Opening
+pub mod Packed
+pub mod Source
+pub mod StoredCell

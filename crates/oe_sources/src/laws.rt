@@ -1,0 +1,21 @@
+// What holds of every read of a catalogue.
+ghost use Rattle.oe_sources.specs.CatalogueLaws.{AskNoMoreThanRead, KeepCollections, KeepOutlines};
+
+/// Does nothing. Its contract says that a read of a window of one row raises the number of cells asked of a catalogue
+/// by the size of the window at most.
+#[tactic(auto, using(crate::proofs::CatalogueLawLemmas::ask_no_more))]
+pub fn reads_are_counted()
+    ensures { AskNoMoreThanRead }
+{}
+
+/// Does nothing. Its contract says that a read leaves the collections that a catalogue shows as they were.
+#[tactic(auto, using(crate::proofs::CatalogueLawLemmas::keep_collections))]
+pub fn collections_stay()
+    ensures { KeepCollections }
+{}
+
+/// Does nothing. Its contract says that a read leaves the ids, shapes and kinds of all collections as they were.
+#[tactic(auto, using(crate::proofs::CatalogueLawLemmas::keep_outlines))]
+pub fn outlines_stay()
+    ensures { KeepOutlines }
+{}

@@ -1,0 +1,28 @@
+//! Collections: cubes in memory, generated cubes and cube files, read window by window, and the catalogue of them.
+//!
+//! A [`CubeSource`] is a collection with a shape and a kind whose cells are read by windows; contracts see its contents
+//! where they are visible, its damaged positions, its fault counter and how many cells were asked of it.
+//! [`MemoryCube`], [`GeneratedCube`] and [`FileSource`] are such sources, and a [`Catalogue`] has them under their ids.
+//! [`pack`] writes a cube file, and [`FileSource::open`] reads both versions. The layers above use that a read which
+//! answers `Ok` gave the visible cells, and that mounting, detaching and replacing change one id and leave all else.
+#![tactic(auto)]
+
+mod catalogue;
+mod file_source;
+mod gather;
+mod generated_cube;
+mod head;
+mod laws;
+mod memory_cube;
+mod packing;
+mod sections;
+mod source;
+mod stored;
+
+pub use catalogue::{Catalogue, MountFail};
+pub use file_source::{FileSource, OpenFail};
+pub use generated_cube::GeneratedCube;
+pub use laws::{collections_stay, outlines_stay, reads_are_counted};
+pub use memory_cube::MemoryCube;
+pub use packing::{PackFail, pack};
+pub use source::{CubeSource, SourceFail};
