@@ -1,0 +1,12 @@
+pub mod CoreLemmas
+pub mod PartsLemmas
+pub mod FollowLemmas
+pub mod NodeLemmas
+pub mod SideLemmas
+pub mod WidenLemmas
+pub mod RunLemmas
+pub mod SizeLemmas
+pub mod HaloLemmas
+pub mod TakeLemmas
+pub mod FitLemmas
+mod Worked

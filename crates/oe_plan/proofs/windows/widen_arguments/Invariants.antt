@@ -1,0 +1,5 @@
+use Rattle.oe_plan.proofs.WidenLemmas.{AreOnStep}
+use Rattle.oe_plan.proofs.windows.widen_arguments.Given as goal
+
+abbrev pub invariant-loop-number : goal.invariant-loop-number
+invariant-loop-number l = AreOnStep l.checked l.step l.number l.fn.windows l.windows

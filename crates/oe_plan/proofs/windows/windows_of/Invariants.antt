@@ -1,0 +1,8 @@
+use Rattle.oe_plan.proofs.WidenLemmas.{AreWorkedOff}
+use Rattle.oe_plan.proofs.windows.windows_of.Given as goal
+
+abbrev pub invariant-loop-left : goal.invariant-loop-left
+invariant-loop-left l = AreWorkedOff l.checked l.chunk l.windows l.left
+
+abbrev pub decreases-loop-left : goal.decreases-loop-left
+decreases-loop-left l = l.left

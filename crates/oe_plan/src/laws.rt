@@ -1,0 +1,9 @@
+// What holds of every plan.
+ghost use Rattle.oe_plan.specs.Fits.{FitMemory};
+
+/// Does nothing. Its contract says that two benches a worker, each of as many buffers of the largest window as the plan
+/// is wide and of one for evaluations, have as many cells as the plan's bound, and that none of these numbers is large.
+#[tactic(auto, using(crate::proofs::FitLemmas::fit_memory))]
+pub fn plans_fit()
+    ensures { FitMemory }
+{}
