@@ -249,6 +249,48 @@ fn refuses_with_a_line(rt: HostRuntime) -> Result<(), Fail> {
     Ok(())
 }
 
+// The figures of plans: over one pixel each bench holds one cell and 194 more to work with, and each worker has two. A
+// collection is not read, and an output that fails keeps a prefix of the line.
+#[test]
+fn writes_figures(rt: HostRuntime) -> Result<(), Fail> {
+    for (line, graph, writes, status, said, text) in [
+        ("plan 1 1 1 1", LOAD, [9], 0, "", "bound 390 chunks 1\n"),
+        (
+            "plan 4096 4096 4096 64",
+            LOAD,
+            [9],
+            0,
+            "",
+            "bound 24960 chunks 1\n",
+        ),
+        (
+            "plan 1 1 1 1",
+            LOAD,
+            [0],
+            8,
+            "openeo: WriteFault\n",
+            "bound 390",
+        ),
+        ("plan 1 1 1", LOAD, [9], 1, "openeo: Usage\n", ""),
+        ("plan 1 1 1 0", LOAD, [9], 1, "openeo: Usage\n", ""),
+        ("plan 1 1 1 1", "{", [9], 2, "openeo: GraphUnreadable\n", ""),
+        (
+            "plan 1 1 1 1",
+            ANOTHER,
+            [9],
+            2,
+            "openeo: CollectionNotFound a\n",
+            "",
+        ),
+    ] {
+        let ran = run_over(rt.alloc(), line, graph.as_bytes(), &[0], &writes)?;
+        assert_eq!(rt; ran.status, status, "{line} {graph}");
+        assert_eq!(rt; ran.err.bytes(), said.as_bytes(), "{line} {graph}");
+        assert_eq!(rt; ran.out.bytes(), text.as_bytes(), "{line} {graph}");
+    }
+    Ok(())
+}
+
 // A collection that can't be read leaves nothing on the output; an output that fails keeps a prefix of the text.
 #[test]
 fn stops_at_faults(rt: HostRuntime) -> Result<(), Fail> {

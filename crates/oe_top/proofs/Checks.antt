@@ -1,5 +1,5 @@
 -- Faults of all phases together, and what a check of them answers.
-use Rattle.std.proofs.Common.{◌≡◌, false, ℕ, zero, suc, ◌<◌, ◌≤◌, ◌⊎◌, inl, inr, List, [], ◌∷◌, length, Option, Some, None, IfSome, IfOk, IfErr, Result, Ok, Err, refl, sym, subst, arith}
+use Rattle.std.proofs.Common.{◌≡◌, false, ℕ, zero, suc, ◌<◌, ◌≤◌, ◌⊎◌, inl, inr, List, [], ◌∷◌, length, Option, Some, None, IfSome, IfOk, IfErr, Result, Ok, Err, refl, sym, ap, ◌∙◌, subst, arith}
 use Rattle.oe_dims.specs.declared.dims.DimsRow.{DimsRow}
 use Rattle.oe_graph.proofs.LeastLemmas.{IsLeast-unique}
 use Rattle.oe_graph.specs.Faults.{IsLeast, is_before}
@@ -18,8 +18,8 @@ use Rattle.oe_resolve.specs.Filled.{resolved}
 use Rattle.oe_shape.specs.Checked.{CheckedGraph}
 use Rattle.oe_shape.specs.Stands as cubes
 use Rattle.oe_top.proofs.Finds.{whole_same, within, read_all}
-use Rattle.oe_top.specs.CheckAnswer.{JudgeEnds, JudgesBytes}
 use Rattle.oe_top.specs.Faults.{Stands, of_form, of_names, of_cubes}
+use Rattle.oe_top.specs.Judged.{IsCheckedText, JudgeEnds, JudgesBytes}
 use Rattle.oe_top.specs.declared.refusal.Refusal.{Refusal}
 use Rattle.oe_top.specs.declared.refusal.Refusal.TheVariants.{Usage, NotBuilt, Graph, ReadFault, WriteFault, OutOfMemory}
 
@@ -90,13 +90,24 @@ module _ (rows : List DimsRow) (bytes : List ℕ) where
 
 -- what the check of a resolved graph says of the bytes
 module _ (rows : List DimsRow) (bytes : List ℕ) (g h : PlainGraph) (reads : Reads bytes g) (valid : IsFaultless (names.Stands [] g)) (same : h ≡ resolved [] g) where
-  pub checked_valid : (result : Result CheckedGraph graph.Refusal)
+  checked_valid : (result : Result CheckedGraph graph.Refusal)
       → IfOk result (λ c. c ≡ record { nodes = h.nodes; result = h.result; rows = rows })
       → IfOk result (λ c. IsFaultless (cubes.Stands c.rows c.nodes)) → IfOk result (λ c. IsFaultless (Stands rows bytes))
   checked_valid (Err e) is none = tt
   checked_valid (Ok c) is none =
       let here : IsFaultless (cubes.Stands rows h.nodes) = subst (λ (k : CheckedGraph). IsFaultless (cubes.Stands k.rows k.nodes)) is none in
       none_stands rows bytes g reads valid (subst (λ (k : PlainGraph). IsFaultless (cubes.Stands rows k.nodes)) same here)
+
+  pub checked_text : (result : Result CheckedGraph graph.Refusal)
+      → IfOk result (λ c. c ≡ record { nodes = h.nodes; result = h.result; rows = rows })
+      → IfOk result (λ c. IsFaultless (cubes.Stands c.rows c.nodes)) → IfOk result (IsCheckedText rows bytes)
+  checked_text (Err e) is none = tt
+  checked_text (Ok c) is none = record {
+    graph = g;
+    reads = reads;
+    valid = checked_valid (Ok c) is none;
+    checked_is = is ∙ ap (λ (k : PlainGraph). record { nodes = k.nodes; result = k.result; rows = rows }) same;
+  }
 
   pub checked_refused : (result : Result CheckedGraph graph.Refusal) → IfErr result (IsFault (cubes.Stands rows h.nodes))
       → IfErr result (IsFault (Stands rows bytes))
@@ -153,17 +164,17 @@ fault_of_all rows (Some visible) bytes after fault read l = elim (sizes (length 
 ]
 
 -- what judging the bytes that were read says of the input
-pub judges : (rows : List DimsRow) (before : Option (List ℕ)) (before_faults : ℕ) (bytes : List ℕ) (after : Option (List ℕ)) (after_faults : ℕ) (result : Result (Unit {0}) Refusal)
+pub judges : (rows : List DimsRow) (before : Option (List ℕ)) (before_faults : ℕ) (bytes : List ℕ) (after : Option (List ℕ)) (after_faults : ℕ) (result : Result CheckedGraph Refusal)
     → ReadsUpTo most_input before bytes after → JudgesBytes rows bytes result → JudgeEnds rows before before_faults after after_faults result
-judges rows before before_faults bytes after after_faults (Ok x) read valid =
+judges rows before before_faults bytes after after_faults (Ok c) read text =
     let short : length bytes ≤ most_input = elim (sizes (length bytes) most_input) [
       | inl short ↦ short
-      | inr long ↦ absurd (valid InputTooLong [] (of_form (form.input_too_long long)))
+      | inr long ↦ absurd (text.valid InputTooLong [] (of_form (form.input_too_long long)))
     ] in
     record {
       bytes = bytes;
       read_whole = record { all = read_all before bytes after read short; end = read.whole short };
-      valid = valid;
+      text = text;
     }
 judges rows before before_faults bytes after after_faults (Err Usage) read never = absurd never
 judges rows before before_faults bytes after after_faults (Err NotBuilt) read never = absurd never

@@ -1,11 +1,12 @@
 -- Words that spell numbers.
-use Rattle.std.proofs.Common.{◌≡◌, ℕ, ◌^◌, ◌<◌, ◌≤◌, List, [], ◌∷◌, length, get_or, sym, ◌∙◌, ap, codes, Option, Some, None, IfSome, IfNone, Result, Ok, Err, arith}
+use Rattle.std.proofs.Common.{◌≡◌, ℕ, ◌^◌, ◌<◌, ◌≤◌, List, [], ◌∷◌, length, get_or, refl, sym, ◌∙◌, codes, Result, Ok, Err, arith}
 use Rattle.std.specs.Str.Parse.{ParsesUnsigned}
 use Rattle.std.proofs.lemmas.Fmt.{parse-decimal}
-use Rattle.oe_top.specs.Words.{IsCommand, IsNumberWord, IsRunCommand, IsRunOf, Spells, SpellsRun}
+use Rattle.oe_plan.specs.Ranges.{IsWithinRanges}
+use Rattle.oe_top.specs.Words.{AreNumbers, IsCommand, IsNumberWord, Spells, SpellsNumbers}
 use Rattle.oe_window.specs.declared.grid.ChunkSize.{ChunkSize}
 use Rattle.oe_top.specs.declared.words.Command.{Command}
-use Rattle.oe_top.specs.declared.words.Command.TheVariants.{Run, Check}
+use Rattle.oe_top.specs.declared.words.Command.TheVariants.{Run, Plan, Check}
 
 -- what parsing makes of a word that spells a number
 pub parses_number : {E : Type 0} {low high number : ℕ} (word bytes : List ℕ) (r : Result ℕ E) → high < 2 ^ 32 → bytes ≡ word → ParsesUnsigned 32 10 bytes r → IsNumberWord low high word number → r ≡ Ok number
@@ -38,43 +39,67 @@ five_words (_ ∷ _ ∷ _ ∷ _ ∷ []) a b c d e l p q r s t = absurd (omega ar
 five_words (_ ∷ _ ∷ _ ∷ _ ∷ _ ∷ []) a b c d e l p q r s t = cc
 five_words (_ ∷ _ ∷ _ ∷ _ ∷ _ ∷ _ ∷ _) a b c d e l p q r s t = absurd (omega arith)
 
--- five words that begin with `run` spell a run exactly where the others are its numbers
-pub spells_run : (words : List (List ℕ)) (verb cx cy ct w : List ℕ) → words ≡ verb ∷ cx ∷ cy ∷ ct ∷ w ∷ [] → verb ≡ codes "run" → (found : Option Command) → IfSome found (IsRunOf cx cy ct w) → IfSome found (Spells words)
-spells_run words verb cx cy ct w five run None numbers = tt
-spells_run words verb cx cy ct w five run (Some Check) numbers = absurd numbers
-spells_run words verb cx cy ct w five run (Some (Run size workers)) numbers = record {
+-- words of a verb and its numbers
+pub spells_numbers : (verb cx cy ct w : List ℕ) (size : ChunkSize) (workers : ℕ) → AreNumbers cx cy ct w size workers
+    → SpellsNumbers verb (verb ∷ cx ∷ cy ∷ ct ∷ w ∷ []) size workers
+spells_numbers verb cx cy ct w size workers numbers = record {
   cx = cx;
   cy = cy;
   ct = ct;
   w = w;
-  words_are = five ∙ ap (λ first. first ∷ cx ∷ cy ∷ ct ∷ w ∷ []) run;
+  words_are = refl;
   numbers = numbers;
 }
 
--- words that spell a run, and a run that words spell
-pub is_run : (words : List (List ℕ)) (size : ChunkSize) (workers : ℕ) → Spells words (Run size workers) → IsRunCommand words
-is_run words size workers spells = (Run size workers, spells)
-
-pub spelled : (words : List (List ℕ)) (command : Command) → SpellsRun words command → Spells words command
-spelled words (Run size workers) spells = spells
-spelled words Check spells = absurd spells.numbers
-
-same_run : {a b c d e f g h : List ℕ} (command : Command) → a ≡ b → c ≡ d → e ≡ f → g ≡ h → IsRunOf a c e g command → IsRunOf b d f h command
-same_run command one two three four numbers = rw (one, two, three, four) at numbers
-
-no_run : (words : List (List ℕ)) (verb cx cy ct w : List ℕ) → words ≡ verb ∷ cx ∷ cy ∷ ct ∷ w ∷ [] → ((command : Command) → ¬ IsRunOf cx cy ct w command) → (command : Command) → ¬ Spells words command
-no_run words verb cx cy ct w five none Check is = let both : verb ∷ cx ∷ cy ∷ ct ∷ w ∷ [] ≡ codes "check" ∷ [] = sym five ∙ is in cc
-no_run words verb cx cy ct w five none (Run size workers) spells =
-    let same : verb ∷ cx ∷ cy ∷ ct ∷ w ∷ [] ≡ codes "run" ∷ spells.cx ∷ spells.cy ∷ spells.ct ∷ spells.w ∷ [] = sym five ∙ spells.words_are in
+-- five words have the numbers that they spell
+pub numbers_of : (kind verb cx cy ct w : List ℕ) (size : ChunkSize) (workers : ℕ)
+    → SpellsNumbers kind (verb ∷ cx ∷ cy ∷ ct ∷ w ∷ []) size workers → AreNumbers cx cy ct w size workers
+numbers_of kind verb cx cy ct w size workers spells =
+    let same : verb ∷ cx ∷ cy ∷ ct ∷ w ∷ [] ≡ kind ∷ spells.cx ∷ spells.cy ∷ spells.ct ∷ spells.w ∷ [] = spells.words_are in
     let x : spells.cx ≡ cx = cc in
     let y : spells.cy ≡ cy = cc in
     let t : spells.ct ≡ ct = cc in
     let n : spells.w ≡ w = cc in
-    none (Run size workers) (same_run (Run size workers) x y t n spells.numbers)
+    rw (x, y, t, n) at spells.numbers
 
-pub spells_no_run : (words : List (List ℕ)) (verb cx cy ct w : List ℕ) → words ≡ verb ∷ cx ∷ cy ∷ ct ∷ w ∷ [] → (found : Option Command) → IfNone found ((command : Command) → ¬ IsRunOf cx cy ct w command) → IfNone found (¬ IsCommand words)
-spells_no_run words verb cx cy ct w five None none = λ is. no_run words verb cx cy ct w five none is.0 is.1
-spells_no_run words verb cx cy ct w five (Some command) none = tt
+-- and their verb
+verb_of : (kind verb cx cy ct w : List ℕ) (size : ChunkSize) (workers : ℕ)
+    → SpellsNumbers kind (verb ∷ cx ∷ cy ∷ ct ∷ w ∷ []) size workers → verb ≡ kind
+verb_of kind verb cx cy ct w size workers spells =
+    let same : verb ∷ cx ∷ cy ∷ ct ∷ w ∷ [] ≡ kind ∷ spells.cx ∷ spells.cy ∷ spells.ct ∷ spells.w ∷ [] = spells.words_are in
+    cc
+
+-- five words spell no command where the last four are no numbers, or the first is no verb
+pub no_numbers : (verb cx cy ct w : List ℕ) → ((size : ChunkSize) (workers : ℕ) → ¬ AreNumbers cx cy ct w size workers)
+    → ¬ IsCommand (verb ∷ cx ∷ cy ∷ ct ∷ w ∷ [])
+no_numbers verb cx cy ct w none (Run size workers, spells) =
+    none size workers (numbers_of (codes "run") verb cx cy ct w size workers spells)
+no_numbers verb cx cy ct w none (Plan size workers, spells) =
+    none size workers (numbers_of (codes "plan") verb cx cy ct w size workers spells)
+no_numbers verb cx cy ct w none (Check, is) =
+    let both : verb ∷ cx ∷ cy ∷ ct ∷ w ∷ [] ≡ codes "check" ∷ [] = is in cc
+
+pub no_verb : (verb cx cy ct w : List ℕ) → ¬ (verb ≡ codes "run") → ¬ (verb ≡ codes "plan")
+    → ¬ IsCommand (verb ∷ cx ∷ cy ∷ ct ∷ w ∷ [])
+no_verb verb cx cy ct w run plan (Run size workers, spells) = run (verb_of (codes "run") verb cx cy ct w size workers spells)
+no_verb verb cx cy ct w run plan (Plan size workers, spells) =
+    plan (verb_of (codes "plan") verb cx cy ct w size workers spells)
+no_verb verb cx cy ct w run plan (Check, is) =
+    let both : verb ∷ cx ∷ cy ∷ ct ∷ w ∷ [] ≡ codes "check" ∷ [] = is in cc
+
+-- sides and a number of workers that words spell are within their ranges
+pub within_ranges : (verb : List ℕ) (words : List (List ℕ)) (size : ChunkSize) (workers : ℕ)
+    → SpellsNumbers verb words size workers → IsWithinRanges size workers
+within_ranges verb words size workers spells =
+    let sides = spells.numbers.0 in
+    let number = spells.numbers.1 in
+    record {
+      x = (sides.x.above, sides.x.below);
+      y = (sides.y.above, sides.y.below);
+      t = (sides.t.above, sides.t.below);
+      least = number.above;
+      most = number.below;
+    }
 
 -- words of another number spell no command
 pub spells_other : (words : List (List ℕ)) (verb : List ℕ) → ¬ (length words ≡ 5) → (length words ≡ 1 → words ≡ verb ∷ []) → ¬ (verb ≡ codes "check") → (command : Command) → ¬ Spells words command
@@ -82,5 +107,5 @@ spells_other words verb not_five one other Check is =
     let single : length words ≡ 1 = cc in
     let both : verb ∷ [] ≡ codes "check" ∷ [] = sym (one single) ∙ is in
     other cc
-spells_other words verb not_five one other (Run size workers) spells =
-    not_five (cc spells.words_are)
+spells_other words verb not_five one other (Run size workers) spells = not_five (cc spells.words_are)
+spells_other words verb not_five one other (Plan size workers) spells = not_five (cc spells.words_are)

@@ -1,10 +1,12 @@
 -- What the top call answers, and what it leaves.
-use Rattle.std.specs.Prelude.{◌≡◌, ℕ, ◌↔◌, List, Result, Err}
+use Rattle.std.specs.Prelude.{◌≡◌, ℕ, ◌↔◌, List, Result, Err, codes}
+use Rattle.oe_window.specs.declared.grid.ChunkSize.{ChunkSize}
 use Rattle.oe_top.specs.CheckAnswer.{CheckAnswers}
 use Rattle.oe_top.specs.Lines.{ErrorOutput, SaysEnding, status_of}
 use Rattle.oe_top.specs.Objects.{Objects}
+use Rattle.oe_top.specs.PlanAnswer.{PlanAnswers}
 use Rattle.oe_top.specs.RunAnswer.{RunEnds}
-use Rattle.oe_top.specs.Words.{IsCheckCommand, IsCommand, IsRunCommand}
+use Rattle.oe_top.specs.Words.{IsCheckCommand, IsCommand, IsRunCommand, SpellsNumbers}
 use Rattle.oe_top.specs.declared.refusal.Refusal.{Refusal}
 use Rattle.oe_top.specs.declared.refusal.Refusal.TheVariants.{Usage}
 
@@ -15,6 +17,8 @@ pub record Ends (words : List (List ℕ)) (before after : Objects) (ending : Res
   pub usage_keeps : ending ≡ Err Usage → after ≡ before
   pub run : IsRunCommand words → RunEnds before after ending
   pub check : IsCheckCommand words → CheckAnswers before after ending
+  pub plan : (size : ChunkSize) (workers : ℕ) → SpellsNumbers (codes "plan") words size workers
+      → PlanAnswers size workers before after ending
 
 -- the status and the line on the error output are those of the ending
 pub record Answers (words : List (List ℕ)) (before after : Objects) (err : ErrorOutput) (status : ℕ) : Type 0 where

@@ -4,10 +4,13 @@ pub mod CheckAnswer
 pub mod Collection
 pub mod Faults
 pub mod Form
+pub mod Judged
 pub mod Lines
 pub mod Meaning
 pub mod MemoryCube
 pub mod Mounted
 pub mod Objects
+pub mod PlanAnswer
 pub mod RunAnswer
 pub mod Words
+pub mod Written

@@ -2,7 +2,7 @@
 use Rattle.std.specs.Prelude.{◌≡◌, ℕ, ◌≤◌, List, [], ◌∷◌, codes, decimal}
 use Rattle.oe_window.specs.declared.grid.ChunkSize.{ChunkSize}
 use Rattle.oe_top.specs.declared.words.Command.{Command}
-use Rattle.oe_top.specs.declared.words.Command.TheVariants.{Run, Check}
+use Rattle.oe_top.specs.declared.words.Command.TheVariants.{Run, Plan, Check}
 
 -- a number from low to high, spelled in decimal with no sign and no leading zero
 pub record IsNumberWord (low high : ℕ) (word : List ℕ) (number : ℕ) : Type 0 where
@@ -16,19 +16,18 @@ pub record AreSides (cx cy ct : List ℕ) (size : ChunkSize) : Type 0 where
   pub y : IsNumberWord 1 4096 cy size.y
   pub t : IsNumberWord 1 4096 ct size.t
 
--- these words spell the sides and the number of workers, from 1 to 64, of the run
-abbrev pub IsRunOf : List ℕ → List ℕ → List ℕ → List ℕ → Command → Type 0
-IsRunOf cx cy ct w Check = ⊥
-IsRunOf cx cy ct w (Run size workers) = AreSides cx cy ct size × IsNumberWord 1 64 w workers
+-- four words that spell the sides of a chunk and a number of workers, from 1 to 64
+abbrev pub AreNumbers : List ℕ → List ℕ → List ℕ → List ℕ → ChunkSize → ℕ → Type 0
+AreNumbers cx cy ct w size workers = AreSides cx cy ct size × IsNumberWord 1 64 w workers
 
--- `run CX CY CT W`: the words spell this run
-pub record SpellsRun (words : List (List ℕ)) (command : Command) : Type 0 where
+-- `VERB CX CY CT W`: a verb, the sides of a chunk and a number of workers
+pub record SpellsNumbers (verb : List ℕ) (words : List (List ℕ)) (size : ChunkSize) (workers : ℕ) : Type 0 where
   pub cx : List ℕ
   pub cy : List ℕ
   pub ct : List ℕ
   pub w : List ℕ
-  pub words_are : words ≡ codes "run" ∷ cx ∷ cy ∷ ct ∷ w ∷ []
-  pub numbers : IsRunOf cx cy ct w command
+  pub words_are : words ≡ verb ∷ cx ∷ cy ∷ ct ∷ w ∷ []
+  pub numbers : AreNumbers cx cy ct w size workers
 
 -- the one word `check`
 abbrev pub IsCheckCommand : List (List ℕ) → Type 0
@@ -36,7 +35,8 @@ IsCheckCommand words = words ≡ codes "check" ∷ []
 
 -- the words spell this command
 abbrev pub Spells : List (List ℕ) → Command → Type 0
-Spells words (Run size workers) = SpellsRun words (Run size workers)
+Spells words (Run size workers) = SpellsNumbers (codes "run") words size workers
+Spells words (Plan size workers) = SpellsNumbers (codes "plan") words size workers
 Spells words Check = IsCheckCommand words
 
 -- the words spell a command
@@ -45,4 +45,4 @@ IsCommand words = (command : Command) × Spells words command
 
 -- the words spell a run
 abbrev pub IsRunCommand : List (List ℕ) → Type 0
-IsRunCommand words = (command : Command) × SpellsRun words command
+IsRunCommand words = (size : ChunkSize) × (workers : ℕ) × SpellsNumbers (codes "run") words size workers

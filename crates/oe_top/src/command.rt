@@ -5,6 +5,7 @@ ghost use Rattle.oe_top.specs.Objects.{objects};
 
 use crate::Catalogue;
 use crate::check::check;
+use crate::plan::plan;
 use crate::refusal::Refusal;
 use crate::run::run;
 use crate::words::{Command, read_command};
@@ -13,14 +14,16 @@ use oe_outside::{Sink, Source};
 use std::alloc::Global;
 
 /// Carries out the command that the words spell, and answers its exit status. `run CX CY CT W` reads a process graph
-/// from `input` and writes the text of its result to `out`; `check` reads one and writes `valid` and a line feed.
+/// from `input` and writes the text of its result to `out`; `check` reads one and writes `valid` and a line feed;
+/// `plan CX CY CT W` reads one and writes `bound B chunks N` and a line feed: how many cells a run with these words holds
+/// at most, and how many chunks it has.
 ///
 /// | Status | Line on `err` | Comes |
 /// |---|---|---|
 /// | 0 | none | the whole text follows what `out` held |
 /// | 1 | `openeo: Usage` | exactly where the words spell no command |
 /// | 2 | `openeo: NotBuilt` | `run`: only where the input means no cube |
-/// | 2 | `openeo: CODE NODE` | `check`: only where a fault stands in the graph; this is the least one |
+/// | 2 | `openeo: CODE NODE` | `check`, `plan`: only where a fault stands in the graph; this is the least one |
 /// | 5 | `openeo: ReadFault` | only where the fault counter of `input`, or in `run` of a loaded collection, rose |
 /// | 8 | `openeo: WriteFault` | only where the fault counter of `out` rose; a prefix of the text stands there |
 /// | 9 | `openeo: OutOfMemory` | an allocation was refused |
@@ -68,6 +71,7 @@ fn obey<I: Source, O: Sink>(
                 workers: _,
             },
         ) => run(alloc, input, out, catalogue),
+        Some(Command::Plan { size, workers }) => plan(alloc, size, workers, input, out, catalogue),
         Some(Command::Check) => check(alloc, input, out, catalogue),
         None => Err(Refusal::Usage),
     }

@@ -1,8 +1,7 @@
 // The words of a command.
-ghost use Rattle.std.specs.Prelude.{ℕ, ◌≡◌, ◌≤◌, ◌↔◌, IsTrue, IfSome, IfNone, codes, decimal};
-ghost use Rattle.oe_top.specs.declared.words.Command.{Command as Asked};
+ghost use Rattle.std.specs.Prelude.{ℕ, ◌≡◌, ◌≤◌, ◌↔◌, ◌∷◌, [], IsTrue, IfSome, IfNone, codes, decimal};
 ghost use Rattle.oe_window.specs.declared.grid.ChunkSize.{ChunkSize as Size};
-ghost use Rattle.oe_top.specs.Words.{AreSides, IsCommand, IsNumberWord, IsRunOf, Spells};
+ghost use Rattle.oe_top.specs.Words.{AreNumbers, AreSides, IsCommand, IsNumberWord, Spells};
 
 use itoa::Buffer;
 use oe_dims::Text;
@@ -13,6 +12,8 @@ use oe_window::ChunkSize;
 pub enum Command {
     /// To evaluate the graph of the input, in chunks of this size, with 1 to 64 workers.
     Run { size: ChunkSize, workers: u32 },
+    /// To say how many cells such a run holds at most, and how many chunks it has.
+    Plan { size: ChunkSize, workers: u32 },
     /// To look for a fault of the graph of the input.
     Check,
 }
@@ -23,13 +24,7 @@ pub fn read_command(words: &[Text]) -> Option<Command>
     ensures none { IfNone result (¬ IsCommand words.now) }
 {
     match words {
-        [verb, cx, cy, ct, workers] => {
-            if is_run(verb) {
-                read_run(cx, cy, ct, workers)
-            } else {
-                None
-            }
-        }
+        [verb, cx, cy, ct, workers] => read_numbered(verb, cx, cy, ct, workers),
         [verb] => {
             if is_check(verb) {
                 Some(Command::Check)
@@ -53,15 +48,38 @@ fn is_run(verb: &Text) -> bool
     verb.as_str() == "run"
 }
 
-/// A run with these chunk sides and this number of workers, `None` exactly where a word is no such number.
-fn read_run(cx: &Text, cy: &Text, ct: &Text, workers: &Text) -> Option<Command>
-    ensures some { IfSome result (IsRunOf cx.now cy.now ct.now workers.now) }
-    ensures none { IfNone result ((command : Asked) →
-        ¬ IsRunOf cx.now cy.now ct.now workers.now command) }
+fn is_plan(verb: &Text) -> bool
+    ensures { IsTrue result ↔ verb.now ≡ codes "plan" }
+{
+    verb.as_str() == "plan"
+}
+
+/// The command of a verb, the sides of a chunk and a number of workers, `None` exactly where they spell none.
+fn read_numbered(verb: &Text, cx: &Text, cy: &Text, ct: &Text, workers: &Text) -> Option<Command>
+    ensures some { IfSome result
+        (Spells (verb.now ∷ cx.now ∷ cy.now ∷ ct.now ∷ workers.now ∷ [])) }
+    ensures none { IfNone result
+        (¬ IsCommand (verb.now ∷ cx.now ∷ cy.now ∷ ct.now ∷ workers.now ∷ [])) }
+{
+    let (size, workers) = read_numbers(cx, cy, ct, workers)?;
+    if is_run(verb) {
+        return Some(Command::Run { size, workers });
+    }
+    if is_plan(verb) {
+        return Some(Command::Plan { size, workers });
+    }
+    None
+}
+
+/// These chunk sides and this number of workers, `None` exactly where a word is no such number.
+fn read_numbers(cx: &Text, cy: &Text, ct: &Text, workers: &Text) -> Option<(ChunkSize, u32)>
+    ensures some { IfSome result (λ r. AreNumbers cx.now cy.now ct.now workers.now r.0 r.1) }
+    ensures none { IfNone result ((size : Size) (number : ℕ) →
+        ¬ AreNumbers cx.now cy.now ct.now workers.now size number) }
 {
     let size = read_size(cx, cy, ct)?;
     let workers = read_number(workers, 1, 64)?;
-    Some(Command::Run { size, workers })
+    Some((size, workers))
 }
 
 /// A chunk with these sides, `None` exactly where a word is no side.

@@ -12,6 +12,7 @@ openeo: an openEO back end whose answers are exact
 Usage:
   openeo run CX CY CT W    read a process graph from standard input and write its result text
   openeo check             read a process graph and write 'valid', or say which fault stands in it
+  openeo plan CX CY CT W   read a process graph and write how many cells a run holds at most, and its chunks
   openeo --help            print this text
   openeo --version         print the version
 
@@ -22,9 +23,9 @@ The graph of a run is one load_collection node without extents, as
   {\"process_graph\":{\"a\":{\"process_id\":\"load_collection\",\"arguments\":
     {\"id\":\"ONE\",\"spatial_extent\":null,\"temporal_extent\":null},\"result\":true}}}
 
-Exit status: 0 the whole text was written; 1 Usage, the words are no command; 2 NotBuilt, the graph of a run is of another
-form, or CODE NODE, the least fault of a graph that was checked; 5 ReadFault; 8 WriteFault; 9 OutOfMemory; 14 Setup. The
-line that names it goes to standard error.
+Exit status: 0 the whole text was written; 1 Usage, the words are no command; 2 NotBuilt, the graph of a run is of
+another form, or CODE NODE, the least fault of a graph that was checked or planned; 5 ReadFault; 8 WriteFault;
+9 OutOfMemory; 14 Setup. The line that names it goes to standard error.
 ";
 
 /// What a run of the program left.

@@ -1,5 +1,4 @@
-use Rattle.oe_top.proofs.Endings.{ends_run, ends_check, ends_usage}
-use Rattle.oe_top.proofs.Numbers.{is_run}
+use Rattle.oe_top.proofs.Endings.{ends_run, ends_plan, ends_check, ends_usage}
 use Rattle.oe_top.specs.Objects.{objects}
 use Rattle.oe_top.proofs.command.obey.Goals as goal
 
@@ -9,8 +8,17 @@ returns-in-Some-Run g c =
     (objects g.I.Source.left g.I.Source.faults g.O.Sink.written g.O.Sink.faults c.args.input.now c.args.out.now c.args.catalogue.now)
     (objects g.I.Source.left g.I.Source.faults g.O.Sink.written g.O.Sink.faults c.run.new.input c.run.new.out c.run.new.catalogue)
     c.run.result
-    (is_run c.args.words.now c.in-Some-Run.field-0-0 c.in-Some-Run.field-0-1 (rw c.in-Some-Run.field-0-is at c.in-Some-Run.ensures.some))
+    (c.in-Some-Run.field-0-0, c.in-Some-Run.field-0-1, rw c.in-Some-Run.field-0-is at c.in-Some-Run.ensures.some)
     c.run.ensures
+
+pub returns-in-Some-Plan : goal.returns-in-Some-Plan
+returns-in-Some-Plan g c =
+    ends_plan c.args.words.now c.in-Some-Plan.size c.in-Some-Plan.workers
+    (objects g.I.Source.left g.I.Source.faults g.O.Sink.written g.O.Sink.faults c.args.input.now c.args.out.now c.args.catalogue.now)
+    (objects g.I.Source.left g.I.Source.faults g.O.Sink.written g.O.Sink.faults c.plan.new.input c.plan.new.out c.args.catalogue.now)
+    c.plan.result
+    (rw c.in-Some-Plan.field-0-is at c.in-Some-Plan.ensures.some)
+    c.plan.ensures
 
 pub returns-in-Some-Check : goal.returns-in-Some-Check
 returns-in-Some-Check g c =

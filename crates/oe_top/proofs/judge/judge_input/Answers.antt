@@ -1,6 +1,6 @@
 use Rattle.oe_top.proofs.Checks.{judges}
 use Rattle.oe_top.specs.Mounted.{dims_of}
-use Rattle.oe_top.proofs.check.judge_input.Goals as goal
+use Rattle.oe_top.proofs.judge.judge_input.Goals as goal
 
 pub returns : goal.returns
 returns g c = record {

@@ -1,0 +1,87 @@
+// The graph of an input, judged over the collections of a catalogue.
+ghost use Rattle.std.specs.Prelude.{◌≡◌, IfOk, IfErr};
+ghost use Rattle.oe_dims.specs.Plain.{plain_rows};
+ghost use Rattle.oe_graph.specs.Read.{IsFault};
+ghost use Rattle.oe_top.specs.Faults.{Stands, fault_line};
+ghost use Rattle.oe_top.specs.Judged.{IsCheckedText, JudgesBytes, JudgesInput};
+ghost use Rattle.oe_top.specs.Mounted.{dims_of};
+
+use crate::Catalogue;
+use crate::input::read_input;
+use crate::refusal::Refusal;
+use oe_dims::Dims;
+use oe_graph::{Fault, read_graph};
+use oe_memory::OutOfMemory;
+use oe_outside::Source;
+use oe_resolve::resolve;
+use oe_shape::Checked;
+use std::alloc::Global;
+
+/// The graph of the input, expanded and checked over the collections of the catalogue, of which no cell is read.
+///
+/// Refuses: with the line of the least fault, exactly where one stands in the whole input; where the input could not be
+/// read; out of memory.
+pub(crate) fn judge_input<I: Source>(
+    alloc: Global,
+    input: &mut I,
+    catalogue: &Catalogue,
+) -> Result<Checked, Refusal>
+    ensures { JudgesInput (I.left input.old) (I.faults input.old) (dims_of catalogue.now)
+        (I.left input.new) (I.faults input.new) result }
+{
+    let bytes = match read_input(alloc, input) {
+        Ok(bytes) => bytes,
+        Err(refusal) => return Err(refusal),
+    };
+    let dims = match catalogue.dims(alloc) {
+        Ok(dims) => dims,
+        Err(_) => return Err(Refusal::OutOfMemory),
+    };
+    judge_bytes(alloc, &bytes, &dims)
+}
+
+/// The checked graph of the bytes, or the line of the least fault.
+fn judge_bytes(alloc: Global, bytes: &[u8], dims: &Dims) -> Result<Checked, Refusal>
+    ensures { JudgesBytes (plain_rows dims.now) bytes.now result }
+{
+    match checked_graph(alloc, bytes, dims) {
+        Ok(checked) => Ok(checked),
+        Err(oe_graph::Refusal::Fault(fault)) => match line_of(alloc, &fault) {
+            Ok(line) => Err(Refusal::Graph(line)),
+            Err(_) => Err(Refusal::OutOfMemory),
+        },
+        Err(oe_graph::Refusal::OutOfMemory) => Err(Refusal::OutOfMemory),
+    }
+}
+
+/// The graph that the bytes are, expanded and checked over collections.
+///
+/// Refuses: the least fault, exactly where one stands; out of memory.
+fn checked_graph(alloc: Global, bytes: &[u8], dims: &Dims) -> Result<Checked, oe_graph::Refusal>
+    ensures checked { IfOk result (IsCheckedText (plain_rows dims.now) bytes.now) }
+    ensures refused { IfErr result (IsFault (Stands (plain_rows dims.now) bytes.now)) }
+{
+    let graph = match read_graph(alloc, bytes) {
+        Ok(graph) => graph,
+        Err(refusal) => return Err(refusal),
+    };
+    match resolve(alloc, &graph, &[]) {
+        Ok(resolved) => oe_shape::check(alloc, &resolved, dims),
+        Err(refusal) => Err(refusal),
+    }
+}
+
+/// The line of a fault.
+fn line_of(alloc: Global, fault: &Fault) -> Result<Vec<u8>, OutOfMemory>
+    ensures { IfOk result (λ line. line.items ≡ fault_line fault.now) }
+{
+    let mut line = Vec::with_capacity(alloc, 128)?;
+    line.extend_from_slice(b"openeo: ")?;
+    line.extend_from_slice(fault.code.as_str().as_bytes())?;
+    if !fault.node.as_str().is_empty() {
+        line.push(b' ')?;
+        line.extend_from_slice(fault.node.as_str().as_bytes())?;
+    }
+    line.push(b'\n')?;
+    Ok(line)
+}

@@ -1,0 +1,69 @@
+// The command `plan`: from the input to the figures of its plan.
+ghost use Rattle.std.specs.Prelude.{◌≡◌, IfOk};
+ghost use Rattle.oe_plan.specs.Ranges.{IsWithinRanges};
+ghost use Rattle.oe_top.specs.Objects.{objects};
+ghost use Rattle.oe_top.specs.PlanAnswer.{PlanAnswers, figures_text, plan_text};
+
+use crate::Catalogue;
+use crate::judge::judge_input;
+use crate::output::write_line;
+use crate::refusal::Refusal;
+use itoa::Buffer;
+use oe_memory::OutOfMemory;
+use oe_outside::{Sink, Source};
+use oe_plan::{PlanFigures, figures};
+use oe_shape::Checked;
+use oe_window::ChunkSize;
+use std::alloc::Global;
+
+/// Writes how many cells a run of the graph of the input holds at most, in chunks of this size and with so many
+/// workers, and how many chunks it has; also where it holds too many to be run. No collection is read.
+pub(crate) fn plan<I: Source, O: Sink>(
+    alloc: Global,
+    size: ChunkSize,
+    workers: u32,
+    input: &mut I,
+    out: &mut O,
+    catalogue: &Catalogue,
+) -> Result<(), Refusal>
+    requires { IsWithinRanges size workers }
+    ensures { PlanAnswers size workers
+        (objects I.left I.faults O.written O.faults input.old out.old catalogue.now)
+        (objects I.left I.faults O.written O.faults input.new out.new catalogue.now) result }
+{
+    let checked = match judge_input(alloc, input, catalogue) {
+        Ok(checked) => checked,
+        Err(refusal) => return Err(refusal),
+    };
+    match line_of(alloc, &checked, size, workers) {
+        Ok(line) => write_line(&line, out),
+        Err(_) => Err(Refusal::OutOfMemory),
+    }
+}
+
+/// The line of a checked graph.
+fn line_of(
+    alloc: Global,
+    checked: &Checked,
+    size: ChunkSize,
+    workers: u32,
+) -> Result<Vec<u8>, OutOfMemory>
+    requires { IsWithinRanges size workers }
+    ensures { IfOk result (λ line. line.items ≡ plan_text checked.now size workers) }
+{
+    let figures = figures(alloc, checked, size, workers)?;
+    spell_figures(alloc, figures)
+}
+
+/// The line of two figures.
+fn spell_figures(alloc: Global, figures: PlanFigures) -> Result<Vec<u8>, OutOfMemory>
+    ensures { IfOk result (λ line. line.items ≡ figures_text figures.bound figures.chunks) }
+{
+    let mut line = Vec::with_capacity(alloc, 128)?;
+    line.extend_from_slice(b"bound ")?;
+    line.extend_from_slice(Buffer::new().format(figures.bound).as_bytes())?;
+    line.extend_from_slice(b" chunks ")?;
+    line.extend_from_slice(Buffer::new().format(figures.chunks).as_bytes())?;
+    line.push(b'\n')?;
+    Ok(line)
+}
