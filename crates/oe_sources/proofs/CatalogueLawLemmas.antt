@@ -1,12 +1,17 @@
--- A read of a row: the sum of cells asked, and the collections that are shown.
-use Rattle.std.proofs.Common.{◌≡◌, ℕ, zero, suc, ◌+◌, ◌<◌, ◌≤◌, List, [], ◌∷◌, length, map, Option, refl, ap, arith}
-use Rattle.std.specs.Option.{option_map_or}
+-- A read of a row: the sum of cells asked, and the collections that are shown; and the ids of all rows.
+use Rattle.std.proofs.Common.{◌≡◌, ℕ, zero, suc, ◌+◌, ◌<◌, ◌≤◌, Bool, true, false, cond, List, [], ◌∷◌, length, map, Option, Some, None, refl, sym, ap, subst, arith}
+use Rattle.std.proofs.lemmas.Bool.{and_parts}
+use Rattle.std.specs.List.{list_all}
+use Rattle.std.specs.Option.{option_map, option_map_or}
 use Rattle.std.proofs.lemmas.List.Sums.{sum_by-cons}
 use Rattle.oe_cube.specs.Collections.{Collection}
-use Rattle.oe_sources.specs.Catalogue.{Row, cells_asked, collections_shown, rows_at, source_at}
+use Rattle.oe_dims.proofs.OrderLemmas.{same_name_is}
+use Rattle.oe_dims.specs.Names.{is_name, same_name}
+use Rattle.oe_sources.specs.Catalogue.{Row, cells_asked, collections_shown, mounted_ids, row_index, rows_at, rows_shown, source_at}
 use Rattle.oe_sources.specs.CatalogueDims.{dims_row}
-use Rattle.oe_sources.specs.CatalogueLaws.{AskNoMoreThanRead, KeepCollections, KeepOutlines}
+use Rattle.oe_sources.specs.CatalogueLaws.{AskNoMoreThanRead, HaveValidIds, KeepCollections, KeepOutlines}
 use Rattle.oe_sources.specs.Source.{Source, asked_after, collection_of}
+use Rattle.oe_sources.specs.declared.catalogue.Mounted.{Mounted}
 use Rattle.oe_window.specs.Windows.{position_count}
 
 asked_no_more : (asked cells : ℕ) → asked_after asked cells ≤ asked + cells
@@ -61,3 +66,24 @@ outlines_at (row ∷ rows) (suc index) s below shape kind = ap (λ rest. dims_ro
 pub keep_outlines : KeepOutlines
 keep_outlines before index window cells after result below reads =
     rw reads.others (outlines_at before index (source_at after index) below reads.read.shape reads.read.kind)
+
+-- ---- ids
+
+-- the id of the first row, or one of a later row
+module _ {B : Type 0} (m : Mounted B) (rest : List Row) (id : List ℕ) (index : ℕ) (valid : is_name m.id ≡ true)
+    (others : (k : ℕ) → row_index rest id ≡ Some k → is_name id ≡ true) where
+  later : (o : Option ℕ) → row_index rest id ≡ o → option_map (λ n. n + 1) o ≡ Some index → is_name id ≡ true
+  later None is e = absurd cc
+  later (Some k) is e = others k is
+
+  first_or_later : (b : Bool) → same_name m.id id ≡ b
+      → cond b (Some 0) (option_map (λ n. n + 1) (row_index rest id)) ≡ Some index → is_name id ≡ true
+  first_or_later true is e = subst (λ (name : List ℕ). is_name name ≡ true) (sym (same_name_is m.id id is)) valid
+  first_or_later false is e = later (row_index rest id) refl e
+
+pub valid_ids : {B : Type 0} (seen : B → Source) (mounted : List (Mounted B)) → list_all is_name (mounted_ids mounted) ≡ true
+    → HaveValidIds (rows_shown seen mounted)
+valid_ids seen [] valid id index e = absurd cc
+valid_ids seen (m ∷ mounted) valid id index e =
+    let parts = and_parts (is_name m.id) (list_all is_name (mounted_ids mounted)) valid in
+    first_or_later m (rows_shown seen mounted) id index parts.0 (valid_ids seen mounted parts.1 id) (same_name m.id id) refl e

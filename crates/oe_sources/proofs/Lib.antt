@@ -14,3 +14,5 @@ pub mod GeneratedLemmas
 pub mod OpenLemmas
 pub mod PackedLemmas
 pub mod PackingLemmas
+pub mod RepackLemmas
+pub mod RepackedLemmas

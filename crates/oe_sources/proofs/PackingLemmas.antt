@@ -14,7 +14,7 @@ use Rattle.oe_dims.specs.Dimensions.{Dimensions, IsShape, cell_count, extent}
 use Rattle.oe_dims.specs.Names.{is_name}
 use Rattle.oe_dims.specs.declared.kind.CellKind.{CellKind}
 use Rattle.oe_outside.specs.Visible.{Appends, AppendsPrefix}
-use Rattle.oe_sources.specs.Packed.{AppendsPacked, AreLeastWidths, packed_head, plane_size, section_records}
+use Rattle.oe_sources.specs.Packed.{AppendsPacked, AppendsPartOfPacked, AreLeastWidths, packed_head, plane_size, section_records}
 use Rattle.oe_sources.specs.Head.{front_bytes, header_text, most_header}
 use Rattle.oe_wide.specs.Wide.{AllFitIn, FitsIn, IsLeastWidth, byte_count, record_bytes, records_in}
 use Rattle.oe_wide.specs.declared.width.Width.{Width}
@@ -103,7 +103,7 @@ section_ends size k n total below all =
     let more : (k + 1) * size ≡ k * size + size = omega arith in
     omega (arith, upto, more, all)
 
-section_is : (size k : ℕ) (cells : List Cell) → slice_range cells (k * size) (k * size + size) ≡ take size (drop (k * size) cells)
+pub section_is : (size k : ℕ) (cells : List Cell) → slice_range cells (k * size) (k * size + size) ≡ take size (drop (k * size) cells)
 section_is size k cells =
     let e : k * size + size - k * size ≡ size = omega arith in ap (λ (m : ℕ). take m (drop (k * size) cells)) e
 
@@ -160,7 +160,7 @@ piece_more before middle after w cells done end upto first second =
     let both : records_in w (take done cells) ++ records_in w (take n (drop done cells)) ≡ records_in w (take end cells) = sym (flat_map-append (record_bytes w) (take done cells) (take n (drop done cells))) ∙ ap (records_in w) (sym (cells_parts done n cells)) ∙ ap (λ (m : ℕ). records_in w (take m cells)) there in
     subst (λ (bs : List ℕ). Appends before bs after) both (appends_more before middle after (records_in w (take done cells)) (records_in w (take n (drop done cells))) first second)
 
-prefix_more : (before middle after : Option (List ℕ)) (a b c : List ℕ) → Appends before a middle → AppendsPrefix middle b after → AppendsPrefix before (a ++ (b ++ c)) after
+pub prefix_more : (before middle after : Option (List ℕ)) (a b c : List ℕ) → Appends before a middle → AppendsPrefix middle b after → AppendsPrefix before (a ++ (b ++ c)) after
 prefix_more before middle after a b c first (n, second) =
     (length a + min n (length b), both before middle after first second)
   where
@@ -213,3 +213,51 @@ file_written before middle after front size plane ws cells same first second =
 pub planes_all : (d : Dimensions) (cells : List Cell) (n : ℕ) → length cells ≡ cell_count d → n ≡ extent d.t → length cells ≡ plane_size d * n
 planes_all d cells n long count =
     long ∙ planes_count d ∙ mul_comm (extent d.t) (plane_size d) ∙ ap (λ (m : ℕ). plane_size d * m) (sym count)
+
+-- ---- a write that failed
+
+-- the records of the first sections are the front of all
+records_split : (size : ℕ) (ws : List Width) (cells : List Cell) (m : ℕ) → (rest : List ℕ) × (section_records size (take m ws) cells ++ rest ≡ section_records size ws cells)
+records_split size ws cells zero = (section_records size ws cells, refl)
+records_split size [] cells (suc m) = ([], refl)
+records_split size (w ∷ ws) cells (suc m) =
+    let others = records_split size ws (drop size cells) m in
+    let here = records_in w (take size cells) in
+    (others.0, append_assoc here (section_records size (take m ws) (drop size cells)) others.0 ∙ ap (λ (bs : List ℕ). here ++ bs) others.1)
+
+-- a prefix of the records of the next section
+pub records_prefix : (before middle after : Option (List ℕ)) (size : ℕ) (ws : List Width) (cells part : List Cell) (k : ℕ) (d : Width) → k < length ws → part ≡ slice_range cells (k * size) (k * size + size) → Appends before (section_records size (take k ws) cells) middle → AppendsPrefix middle (records_in (get_or ws k d) part) after → AppendsPrefix before (section_records size ws cells) after
+records_prefix before middle after size ws cells part k d there part_is first second =
+    let here = section_records size (take k ws) cells in
+    let next = records_in (get_or ws k d) (take size (drop (k * size) cells)) in
+    let rest = records_split size ws cells (k + 1) in
+    let all : here ++ (next ++ rest.0) ≡ section_records size ws cells =
+    sym (append_assoc here next rest.0) ∙ ap (λ (bs : List ℕ). bs ++ rest.0) (sym (next_records size ws cells k d there)) ∙ rest.1 in
+    let is : part ≡ take size (drop (k * size) cells) = part_is ∙ section_is size k cells in
+    subst (λ (bs : List ℕ). AppendsPrefix before bs after) all
+    (prefix_more before middle after here next rest.0 first
+    (subst (λ (cs : List Cell). AppendsPrefix middle (records_in (get_or ws k d) cs) after) is second))
+
+-- a prefix of what stands before the records, and of the records behind it
+pub front_prefix : (before after : Option (List ℕ)) (front rest : List ℕ) → AppendsPrefix before front after → AppendsPrefix before (front ++ rest) after
+front_prefix before after front rest first = prefix_more before before after [] front rest (none_written before) first
+
+pub file_prefix : (before middle after : Option (List ℕ)) (front : List ℕ) (size plane : ℕ) (ws : List Width) (cells : List Cell) → size ≡ plane → Appends before front middle → AppendsPrefix middle (section_records size ws cells) after → AppendsPrefix before (front ++ section_records plane ws cells) after
+file_prefix before middle after front size plane ws cells same first second =
+    let records = section_records size ws cells in
+    let all : front ++ (records ++ []) ≡ front ++ section_records plane ws cells =
+    ap (λ (bs : List ℕ). front ++ bs) (append-nil records ∙ ap (λ (n : ℕ). section_records n ws cells) same) in
+    subst (λ (bs : List ℕ). AppendsPrefix before bs after) all (prefix_more before middle after front records [] first second)
+
+-- a prefix of the file
+pub packed_part : (id : List ℕ) (d : Dimensions) (kind : CellKind) (ws : List Width) (cells : List Cell) (front : List ℕ) (before after : Option (List ℕ)) → is_name id ≡ true → IsShape d → length ws ≡ extent d.t → length (header_text (packed_head id d kind ws)) ≤ most_header → AreLeastWidths (plane_size d) ws cells → front ≡ front_bytes (packed_head id d kind ws) → AppendsPrefix before (front ++ section_records (plane_size d) ws cells) after → AppendsPartOfPacked id d kind cells before after
+packed_part id d kind ws cells front before after name shape counted short least front_is written = (
+  front ++ section_records (plane_size d) ws cells,
+  record {
+    widths = ws;
+    least = least;
+    valid = record { id = name; shape = shape; widths = counted; short = short };
+    bytes_are = ap (λ (bs : List ℕ). bs ++ section_records (plane_size d) ws cells) front_is;
+  },
+  written,
+)

@@ -7,6 +7,7 @@ use Rattle.oe_cube.specs.Collections.{Collection}
 use Rattle.oe_dims.specs.Indices.{index_where}
 use Rattle.oe_dims.specs.Names.{is_name, same_name}
 use Rattle.oe_dims.specs.declared.kind.CellKind.TheVariants.{Numbers}
+use Rattle.oe_outside.specs.Faults.{NeverFalls}
 use Rattle.oe_sources.specs.Generated.{generated_contents, generated_shape}
 use Rattle.oe_sources.specs.Source.{Reads, Source, collection_of}
 use Rattle.oe_sources.specs.declared.catalogue.Kept.{Kept}
@@ -97,6 +98,14 @@ rows_at (row ∷ rows) (suc index) source = row ∷ rows_at rows index source
 pub record ReadsRow (before : List Row) (index : ℕ) (window : Window) (cells : List Cell) (after : List Row)
     (result : Result (Unit {0}) SourceFail) : Type 0 where
   pub read : Reads (source_at before index) window cells (source_at after index) result
+  pub others : after ≡ rows_at before index (source_at after index)
+
+-- some reads of one row, or none: beside its two counters all in the catalogue stays
+pub record OnlyReads (before : List Row) (index : ℕ) (after : List Row) : Type 0 where
+  pub shape : (source_at after index).shape ≡ (source_at before index).shape
+  pub kind : (source_at after index).kind ≡ (source_at before index).kind
+  pub contents : (source_at after index).contents ≡ (source_at before index).contents
+  pub count : NeverFalls (source_at before index).faults (source_at after index).faults
   pub others : after ≡ rows_at before index (source_at after index)
 
 -- ---- what a run speaks of

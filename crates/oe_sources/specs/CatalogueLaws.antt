@@ -1,7 +1,8 @@
--- What holds of every read of a catalogue.
-use Rattle.std.specs.Prelude.{◌≡◌, ℕ, ◌+◌, ◌<◌, ◌≤◌, List, length, map, Result}
+-- What holds of every catalogue, and of every read of one.
+use Rattle.std.specs.Prelude.{◌≡◌, ℕ, ◌+◌, ◌<◌, ◌≤◌, true, List, length, map, Some, Result}
 use Rattle.oe_cell.specs.declared.cell.Cell.{Cell}
-use Rattle.oe_sources.specs.Catalogue.{ReadsRow, Row, cells_asked, collections_shown}
+use Rattle.oe_dims.specs.Names.{is_name}
+use Rattle.oe_sources.specs.Catalogue.{ReadsRow, Row, cells_asked, collections_shown, row_index}
 use Rattle.oe_sources.specs.CatalogueDims.{dims_row}
 use Rattle.oe_sources.specs.declared.source.SourceFail.{SourceFail}
 use Rattle.oe_window.specs.Windows.{position_count}
@@ -24,3 +25,7 @@ KeepCollections = AfterReads (λ before window after. collections_shown after �
 -- the ids, the shapes and the kinds of all collections stay
 abbrev pub KeepOutlines : Type 0
 KeepOutlines = AfterReads (λ before window after. map dims_row after ≡ map dims_row before)
+
+-- the id of each row is valid: 1 to 64 bytes of letters, digits, `_`, `-` and `.`
+abbrev pub HaveValidIds : List Row → Type 0
+HaveValidIds rows = (id : List ℕ) (index : ℕ) → row_index rows id ≡ Some index → is_name id ≡ true

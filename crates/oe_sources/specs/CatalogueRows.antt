@@ -13,6 +13,10 @@ use Rattle.oe_sources.specs.declared.catalogue.MountFail.TheVariants.{IdInvalid,
 abbrev pub rows_in : {X : Type 0} {F : X → Type 0} → (DynBox X Global F → Source) → Catalogue X F → List Row
 rows_in seen catalogue = rows_shown seen catalogue.rows.items
 
+-- the same in a signature that names no box
+abbrev pub rows_of : {X : Type 0} {F : X → Type 0} → ((x : X) × F x → Source) → Catalogue X F → List Row
+rows_of seen catalogue = rows_in (λ cube. seen (cube.vtable, cube.value)) catalogue
+
 -- the reason of a refusal, none where it is want of memory
 abbrev pub refusal_of : {X : Type 0} {F : X → Type 0} → MountFail X F → Option MountRefusal
 refusal_of (IdInvalid cube) = Some id_invalid

@@ -10,5 +10,6 @@ pub mod HeadRead
 pub mod OpenedFile
 pub mod Opening
 pub mod Packed
+pub mod Repacked
 pub mod Source
 pub mod StoredCell

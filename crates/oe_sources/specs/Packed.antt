@@ -3,7 +3,7 @@ use Rattle.std.specs.Prelude.{◌≡◌, ℕ, ◌*◌, List, [], ◌∷◌, ◌+
 use Rattle.oe_cell.specs.declared.cell.Cell.{Cell}
 use Rattle.oe_dims.specs.Dimensions.{Dimensions, extent}
 use Rattle.oe_dims.specs.declared.kind.CellKind.{CellKind}
-use Rattle.oe_outside.specs.Visible.{Appends}
+use Rattle.oe_outside.specs.Visible.{Appends, AppendsPrefix}
 use Rattle.oe_sources.specs.Head.{Head, IsHead, front_bytes}
 use Rattle.oe_wide.specs.Wide.{AllFitIn, IsLeastWidth, records_in}
 use Rattle.oe_wide.specs.declared.width.Width.{Width}
@@ -40,3 +40,8 @@ pub record IsPacked (id : List ℕ) (shape : Dimensions) (kind : CellKind) (cell
 abbrev pub AppendsPacked : List ℕ → Dimensions → CellKind → List Cell → Option (List ℕ) → Option (List ℕ) → Type 0
 AppendsPacked id shape kind cells before after =
     (bytes : List ℕ) × IsPacked id shape kind cells bytes × Appends before bytes after
+
+-- a prefix of it follows what was written
+abbrev pub AppendsPartOfPacked : List ℕ → Dimensions → CellKind → List Cell → Option (List ℕ) → Option (List ℕ) → Type 0
+AppendsPartOfPacked id shape kind cells before after =
+    (bytes : List ℕ) × IsPacked id shape kind cells bytes × AppendsPrefix before bytes after

@@ -1,5 +1,8 @@
-// What holds of every read of a catalogue.
-ghost use Rattle.oe_sources.specs.CatalogueLaws.{AskNoMoreThanRead, KeepCollections, KeepOutlines};
+// What holds of every catalogue, and of every read of one.
+ghost use Rattle.oe_sources.specs.CatalogueLaws.{AskNoMoreThanRead, HaveValidIds, KeepCollections, KeepOutlines};
+ghost use Rattle.oe_sources.specs.CatalogueRows.{rows_in};
+
+use crate::Catalogue;
 
 /// Does nothing. Its contract says that a read of a window of one row raises the number of cells asked of a catalogue
 /// by the size of the window at most.
@@ -18,4 +21,9 @@ pub fn collections_stay()
 #[tactic(auto, using(crate::proofs::CatalogueLawLemmas::keep_outlines))]
 pub fn outlines_stay()
     ensures { KeepOutlines }
+{}
+
+/// Does nothing. Its contract says that the ids of the collections of a catalogue are valid.
+pub fn ids_are_valid(_catalogue: &Catalogue)
+    ensures { HaveValidIds (rows_in seen _catalogue.now) }
 {}

@@ -3,7 +3,8 @@
 //! A [`CubeSource`] is a collection with a shape and a kind whose cells are read by windows; contracts see its contents
 //! where they are visible, its damaged positions, its fault counter and how many cells were asked of it.
 //! [`MemoryCube`], [`GeneratedCube`] and [`FileSource`] are such sources, and a [`Catalogue`] has them under their ids.
-//! [`pack`] writes a cube file, and [`FileSource::open`] reads both versions. The layers above use that a read which
+//! [`pack`] writes a cube file, [`repack`] writes that of a mounted collection, and [`FileSource::open`] reads both
+//! versions. The layers above use that a read which
 //! answers `Ok` gave the visible cells, and that mounting, detaching and replacing change one id and leave all else.
 #![tactic(auto)]
 
@@ -15,6 +16,7 @@ mod head;
 mod laws;
 mod memory_cube;
 mod packing;
+mod repacking;
 mod sections;
 mod source;
 mod stored;
@@ -22,7 +24,8 @@ mod stored;
 pub use catalogue::{Catalogue, MountFail};
 pub use file_source::{FileSource, OpenFail};
 pub use generated_cube::GeneratedCube;
-pub use laws::{collections_stay, outlines_stay, reads_are_counted};
+pub use laws::{collections_stay, ids_are_valid, outlines_stay, reads_are_counted};
 pub use memory_cube::MemoryCube;
 pub use packing::{PackFail, pack};
+pub use repacking::{RepackFail, repack};
 pub use source::{CubeSource, SourceFail};

@@ -8,7 +8,7 @@ ghost use Rattle.oe_outside.specs.Faults.{HasCause, HasCauseOf};
 ghost use Rattle.oe_outside.specs.Visible.{Appends, AppendsPrefix};
 ghost use Rattle.oe_wide.specs.Wide.{AllFitIn, byte_count, records_in};
 ghost use Rattle.oe_sources.specs.Head as spec;
-ghost use Rattle.oe_sources.specs.Packed.{AppendsPacked, AreLeastWidths, packed_head, plane_size, section_records};
+ghost use Rattle.oe_sources.specs.Packed.{AppendsPacked, AppendsPartOfPacked, AreLeastWidths, packed_head, plane_size, section_records};
 
 use crate::head::{front_bytes, section_count, section_size};
 use oe_cell::Cell;
@@ -34,17 +34,19 @@ pub enum PackFail {
 /// Appends the cube file of version 2 of a cube under an id, each section of it in the least width that holds all its
 /// cells.
 ///
-/// Refuses: `SinkFailed` only where the output's fault counter rose; `OutOfMemory` where an allocation was refused, and
-/// then nothing was written.
+/// Refuses: `SinkFailed` only where the output's fault counter rose, and then a prefix of the file was written;
+/// `OutOfMemory` where an allocation was refused, and then nothing was written.
 pub fn pack<O: Sink>(alloc: Global, id: &Text, cube: &CubeText, out: &mut O) -> Result<(), PackFail>
     requires id { is_name id.now ≡ true }
     requires counted { length cube.now.cells.items ≡ cell_count cube.now.shape }
     requires of_kind { list_all (is_null_or_of cube.now.kind) cube.now.cells.items ≡ true }
     ensures packed { OnOk result (AppendsPacked id.now cube.now.shape cube.now.kind
         cube.now.cells.items (O.written out.old) (O.written out.new)) }
+    ensures prefix { IfErr result (λ e. e ≡ PackFail.SinkFailed →
+        AppendsPartOfPacked id.now cube.now.shape cube.now.kind cube.now.cells.items
+        (O.written out.old) (O.written out.new)) }
     ensures cause { HasCauseOf PackFail.SinkFailed (O.faults out.old) (O.faults out.new) result }
-    ensures nothing { IfErr result (λ e. e ≡ PackFail.OutOfMemory →
-        O.written out.new ≡ O.written out.old) }
+    ensures nothing { IfErr result (λ e. e ≡ PackFail.OutOfMemory → out.new ≡ out.old) }
 {
     let Ok(widths) = widths_of(alloc, &cube.shape, &cube.cells) else {
         return Err(PackFail::OutOfMemory);
@@ -76,6 +78,9 @@ fn write_file<O: Sink>(
     ensures appended { OnOk result (Appends (O.written out.old) (front.now
         ++ section_records (plane_size cube.now.shape) widths.now cube.now.cells.items)
         (O.written out.new)) }
+    ensures prefix { OnErr result (AppendsPrefix (O.written out.old) (front.now
+        ++ section_records (plane_size cube.now.shape) widths.now cube.now.cells.items)
+        (O.written out.new)) }
     ensures cause { HasCause (O.faults out.old) (O.faults out.new) result }
 {
     match out.write(front) {
@@ -98,6 +103,8 @@ fn write_sections<O: Sink>(
     requires counted { length cells.now ≡ size * length widths.now }
     requires room { vec_len buffer.old ≡ 65536 }
     ensures appended { OnOk result (Appends (O.written out.old)
+        (section_records size widths.now cells.now) (O.written out.new)) }
+    ensures prefix { OnErr result (AppendsPrefix (O.written out.old)
         (section_records size widths.now cells.now) (O.written out.new)) }
     ensures cause { HasCause (O.faults out.old) (O.faults out.new) result }
 {
@@ -137,7 +144,7 @@ fn widths_of(alloc: Global, shape: &Shape, cells: &[Cell]) -> Result<Vec<Width>,
 }
 
 /// All that stands before the records.
-fn front_of(
+pub(crate) fn front_of(
     alloc: Global,
     id: &Text,
     kind: CellKind,
@@ -167,7 +174,7 @@ pub(crate) fn room(alloc: Global) -> Result<Vec<u8>, OutOfMemory>
 }
 
 /// The records of cells in a width, piece by piece.
-fn write_section<O: Sink>(
+pub(crate) fn write_section<O: Sink>(
     out: &mut O,
     buffer: &mut Vec<u8>,
     width: Width,

@@ -1,0 +1,93 @@
+use Rattle.std.proofs.Common.{◌*◌, ◌∙◌, subst, take, arith}
+use Rattle.oe_dims.specs.Dimensions.{Dimensions}
+use Rattle.oe_outside.proofs.Causes.{NeverFalls-refl, NeverFalls-trans}
+use Rattle.oe_sources.specs.Repacked.{AreSidesOf}
+use Rattle.oe_wide.specs.Wide.{AllFitIn}
+use Rattle.oe_sources.proofs.RepackLemmas.{cells_counted, fits_rows, given_before, no_sink_fault, part_fits_width, reads_nothing, reads_on, records_begin, records_end, records_go, records_left, records_stop, still_mounted}
+use Rattle.oe_sources.proofs.repacking.write_one.Goals as goal
+
+pub loop-done-init : goal.loop-done-init
+loop-done-init g c = record {
+  reads = reads_nothing _ c.args.place;
+  room = c.requires.enough;
+  within = omega arith;
+  buffer = c.requires.buffer;
+  sink = NeverFalls-refl _;
+  written = records_begin _ _ c.args.width _ _ c.sides_of-sides.result.x;
+}
+
+pub read_part-requires-clause-mounted : goal.read_part-requires-clause-mounted
+read_part-requires-clause-mounted g c = still_mounted _ _ c.args.place c.loop-done.invariant.reads c.requires.mounted
+
+pub returns-in-Err-clause-left : goal.returns-in-Err-clause-left
+returns-in-Err-clause-left g c = records_left _ _ _ (c.loop-done.done * c.sides_of-sides.result.x) c.args.width _ _ c.loop-done.invariant.written
+
+pub returns-in-Err-clause-sink : goal.returns-in-Err-clause-sink
+returns-in-Err-clause-sink g c = no_sink_fault _ _ c.in-Err.fail c.loop-done.invariant.sink c.in-Err.ensures.refusal
+
+pub returns-in-Err-clause-only : goal.returns-in-Err-clause-only
+returns-in-Err-clause-only g c = reads_on _ _ _ c.args.place c.loop-done.invariant.reads c.read_part.ensures.only
+
+pub returns-then-not-all_fit-clause-left : goal.returns-then-not-all_fit-clause-left
+returns-then-not-all_fit-clause-left g c = records_left _ _ _ (c.loop-done.done * c.sides_of-sides.result.x) c.args.width _ _ c.loop-done.invariant.written
+
+pub returns-then-not-all_fit-clause-damage : goal.returns-then-not-all_fit-clause-damage
+returns-then-not-all_fit-clause-damage g c =
+    let s = c.sides_of-sides.result in
+    let part = c.part_from-part.result in
+    let reads = c.loop-done.invariant.reads in
+    let cells = take c.in-Ok.count c.read_part.new.cells in
+    part_fits_width _ _ s c.args.section c.loop-done.done part cells c.args.width
+    (cells_counted _ _ _ c.shape.ensures.sound)
+    (subst (λ (d : Dimensions). AreSidesOf d s) c.shape.ensures.value c.sides_of-sides.ensures)
+    c.part_from-part.ensures c.requires.section
+    (given_before _ _ c.args.place reads part.window cells c.in-Ok.ensures.given)
+    c.requires.fit (λ (fit : AllFitIn c.args.width cells). cc (c.all_fit.ensures.1 fit, c.if-not-all_fit.true)) _
+
+pub returns-then-not-all_fit-clause-only : goal.returns-then-not-all_fit-clause-only
+returns-then-not-all_fit-clause-only g c = reads_on _ _ _ c.args.place c.loop-done.invariant.reads c.read_part.ensures.only
+
+pub returns-in-Err-write_section-clause-left : goal.returns-in-Err-write_section-clause-left
+returns-in-Err-write_section-clause-left g c =
+    let s = c.sides_of-sides.result in
+    let part = c.part_from-part.result in
+    let reads = c.loop-done.invariant.reads in
+    let cells = take c.in-Ok.count c.read_part.new.cells in
+    records_stop _ _ s c.args.section c.loop-done.done part cells c.args.width _ _ _
+    (cells_counted _ _ _ c.shape.ensures.sound)
+    (subst (λ (d : Dimensions). AreSidesOf d s) c.shape.ensures.value c.sides_of-sides.ensures)
+    c.part_from-part.ensures c.requires.section
+    (given_before _ _ c.args.place reads part.window cells c.in-Ok.ensures.given)
+    c.loop-done.invariant.written c.in-Err-write_section.ensures.prefix
+
+pub returns-in-Err-write_section-clause-only : goal.returns-in-Err-write_section-clause-only
+returns-in-Err-write_section-clause-only g c = reads_on _ _ _ c.args.place c.loop-done.invariant.reads c.read_part.ensures.only
+
+pub loop-done-preserved : goal.loop-done-preserved
+loop-done-preserved g c =
+    let s = c.sides_of-sides.result in
+    let part = c.part_from-part.result in
+    let reads = c.loop-done.invariant.reads in
+    let cells = take c.in-Ok.count c.read_part.new.cells in
+    let next = c.part_from-part.ensures in
+    let all = c.rows_of-rows.ensures.all (omega (arith, c.loop-done-test.true)) in
+    record {
+      reads = reads_on _ _ _ c.args.place reads c.read_part.ensures.only;
+      room = c.read_part.ensures.room ∙ c.loop-done.invariant.room;
+      within = fits_rows _ _ _ _ next.within all;
+      buffer = c.write_section.ensures.kept;
+      sink = NeverFalls-trans c.loop-done.invariant.sink c.write_section.ensures.cause.count;
+      written = records_go _ _ s c.args.section c.loop-done.done part cells c.args.width _ _ _
+          (cells_counted _ _ _ c.shape.ensures.sound)
+          (subst (λ (d : Dimensions). AreSidesOf d s) c.shape.ensures.value c.sides_of-sides.ensures)
+          next c.requires.section
+          (given_before _ _ c.args.place reads part.window cells c.in-Ok.ensures.given)
+          c.loop-done.invariant.written c.in-Ok-write_section.ensures.appended;
+    }
+
+pub returns-clause-written : goal.returns-clause-written
+returns-clause-written g c =
+    let s = c.sides_of-sides.result in
+    records_end _ _ s _ c.loop-done.done c.rows_of-rows.result c.args.width _ _
+    (subst (λ (d : Dimensions). AreSidesOf d s) c.shape.ensures.value c.sides_of-sides.ensures)
+    c.rows_of-rows.ensures.cells (omega (arith, c.loop-done-test.false, c.loop-done.invariant.within)) c.loop-done.invariant.written

@@ -1,0 +1,94 @@
+-- The cube file that is written of a mounted collection, and why it is not.
+use Rattle.std.specs.Prelude.{◌≡◌, ℕ, ◌+◌, ◌*◌, ◌<◌, ◌≤◌, ◌⊎◌, List, Option, take, drop, IfSome}
+use Rattle.std.specs.List.{Contains, range_with_len}
+use Rattle.oe_dims.specs.Dimensions.{Dimensions, cell_count, extent, most_labels}
+use Rattle.oe_outside.specs.Visible.{AppendsPrefix}
+use Rattle.oe_sources.specs.Packed.{AppendsPacked, AreLeastWidths, IsPacked, plane_size}
+use Rattle.oe_sources.specs.Source.{Contents, Source}
+use Rattle.oe_sources.specs.declared.repacking.Part.{Part}
+use Rattle.oe_sources.specs.declared.repacking.RepackFail.{RepackFail}
+use Rattle.oe_sources.specs.declared.repacking.RepackFail.TheVariants.{SourceFailed, SourceDamaged, SinkFailed, OutOfMemory}
+use Rattle.oe_sources.specs.declared.repacking.Sides.{Sides}
+use Rattle.oe_wide.specs.Wide.{AllFitIn, IsLeastWidth}
+use Rattle.oe_wide.specs.declared.width.Width.{Width}
+use Rattle.oe_window.specs.Runs.{window_numbers}
+use Rattle.oe_window.specs.Windows.{position_count, span_at}
+
+-- ---- what was written
+
+-- where the cells of a source are visible, its packed file under an id follows what was written
+abbrev pub AppendsRepacked : List ℕ → Source → Option (List ℕ) → Option (List ℕ) → Type 0
+AppendsRepacked id source before after =
+    IfSome source.contents (λ c. AppendsPacked id source.shape source.kind c.cells before after)
+
+-- a prefix of that file follows what was written
+abbrev pub AppendsPartOfRepacked : List ℕ → Source → Option (List ℕ) → Option (List ℕ) → Type 0
+AppendsPartOfRepacked id source before after =
+    IfSome source.contents (λ c. (bytes : List ℕ)
+    × IsPacked id source.shape source.kind c.cells bytes × AppendsPrefix before bytes after)
+
+-- what a refusal leaves: after a failed read nothing or a prefix of the file was written, after a failed write a prefix;
+-- else nothing, where the cells are visible or memory was wanting
+abbrev pub LeavesWritten : List ℕ → Source → Option (List ℕ) → Option (List ℕ) → RepackFail → Type 0
+LeavesWritten id source before after SourceFailed = (after ≡ before) ⊎ AppendsPartOfRepacked id source before after
+LeavesWritten id source before after (SourceDamaged number) = IfSome source.contents (λ c. after ≡ before)
+LeavesWritten id source before after SinkFailed = AppendsPartOfRepacked id source before after
+LeavesWritten id source before after OutOfMemory = after ≡ before
+
+-- ---- damage
+
+-- none of so many positions is damaged, by their row-major numbers from a first one on
+abbrev pub AreUndamaged : Contents → ℕ → ℕ → Type 0
+AreUndamaged contents first count =
+    (number : ℕ) → first ≤ number → number < first + count → ¬ Contains contents.damaged number
+
+-- where the contents of a source are visible, no position of it is damaged
+abbrev pub IsUndamaged : Source → Type 0
+IsUndamaged source = IfSome source.contents (λ c. AreUndamaged c 0 (cell_count source.shape))
+
+-- what a refusal says of the contents: only a position that is damaged is named as such
+abbrev pub TellsRepackDamage : Source → RepackFail → Type 0
+TellsRepackDamage source SourceFailed = Unit {0}
+TellsRepackDamage source (SourceDamaged number) =
+    IfSome source.contents (λ c. (number < cell_count source.shape) × Contains c.damaged number)
+TellsRepackDamage source SinkFailed = Unit {0}
+TellsRepackDamage source OutOfMemory = Unit {0}
+
+-- a refusal of a read
+abbrev pub IsReadRefusal : RepackFail → Type 0
+IsReadRefusal SourceFailed = Unit {0}
+IsReadRefusal (SourceDamaged number) = Unit {0}
+IsReadRefusal SinkFailed = ⊥
+IsReadRefusal OutOfMemory = ⊥
+
+-- ---- widths
+
+-- the width is the least of so many cells from a number on, and none of their positions is damaged
+pub record IsWidthFrom (contents : Contents) (first count : ℕ) (width : Width) : Type 0 where
+  pub least : IsLeastWidth (λ w. AllFitIn w (take count (drop first contents.cells))) width
+  pub undamaged : AreUndamaged contents first count
+
+-- the widths are the least of the sections, and no position is damaged
+pub record AreWidthsOf (shape : Dimensions) (contents : Contents) (widths : List Width) : Type 0 where
+  pub least : AreLeastWidths (plane_size shape) widths contents.cells
+  pub undamaged : AreUndamaged contents 0 (cell_count shape)
+
+-- ---- the parts of a section
+
+-- how many indices a section of a cube has along bands, y and x
+pub record AreSidesOf (d : Dimensions) (sides : Sides) : Type 0 where
+  pub bands : sides.bands ≡ extent d.bands
+  pub y : sides.y ≡ extent d.y
+  pub x : sides.x ≡ extent d.x
+  pub few : (sides.bands ≤ most_labels) × (sides.y ≤ most_labels) × (sides.x ≤ most_labels)
+
+-- the part has some rows of a section, the next ones after so many, and these are not too many to be read at once
+pub record IsNextPart (sides : Sides) (section done : ℕ) (part : Part) : Type 0 where
+  pub some : (0 < part.rows) × (0 < part.rows * sides.x)
+  pub within : done + part.rows ≤ sides.bands * sides.y
+  pub few : part.rows * sides.x ≤ 65536
+  pub counted : position_count part.window ≡ part.rows * sides.x
+  pub t : part.window.t ≡ span_at section
+  pub ends : (part.window.bands.to ≤ sides.bands) × (part.window.y.to ≤ sides.y) × (part.window.x.to ≤ sides.x)
+  pub numbers : (d : Dimensions) → AreSidesOf d sides → window_numbers d part.window
+      ≡ range_with_len ((section * (sides.bands * sides.y) + done) * sides.x) (part.rows * sides.x)
