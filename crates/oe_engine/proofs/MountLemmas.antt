@@ -1,0 +1,126 @@
+-- What a check has seen of the collections that a graph loads holds of the catalogue that it was checked over.
+use Rattle.std.proofs.Common.{◌≡◌, ℕ, zero, suc, ◌+◌, ◌<◌, Bool, true, false, cond, if◌then◌else◌, is_none, List, [], ◌∷◌, length, get_or, drop, Option, Some, None, refl, sym, ap, ◌∙◌, subst, inl, inr, arith}
+use Rattle.std.proofs.lemmas.Bool.{cases_Bool}
+use Rattle.std.proofs.lemmas.Option.{same_Some}
+use Rattle.std.specs.List.{find}
+use Rattle.std.specs.Option.{option_and_then, option_map, option_map_or}
+use Rattle.oe_dims.specs.Names.{same_name}
+use Rattle.oe_dims.specs.declared.dims.DimsRow.{DimsRow}
+use Rattle.oe_graph.specs.Printed.{node_count}
+use Rattle.oe_graph.specs.declared.code.Code.TheVariants.{CollectionNotFound}
+use Rattle.oe_graph.proofs.ResolvedLemmas.{SomeNode, node_below}
+use Rattle.oe_expr.specs.Rows.{first_row}
+use Rattle.oe_expr.proofs.NodeLemmas.{contains_node}
+use Rattle.oe_shape.specs.Checked.{AreFaultless, CheckedGraph, collection_of_node}
+use Rattle.oe_shape.specs.Graphs.{outline_at, outline_named, row_outline}
+use Rattle.oe_shape.specs.Links.{collection_of, loaded_by}
+use Rattle.oe_shape.specs.Operations.{Outline, no_outline}
+use Rattle.oe_shape.specs.Requests as request
+use Rattle.oe_shape.specs.Requests.{Request, request_at}
+use Rattle.oe_shape.specs.Stands.{HasNoFault, IsSound, cubes_of, early, early_rows, sound}
+use Rattle.oe_shape.proofs.LinkLemmas.{one_node}
+use Rattle.oe_shape.proofs.RequestLemmas.{found}
+use Rattle.oe_sources.specs.Catalogue.{Row, row_index, row_of, source_at}
+use Rattle.oe_sources.specs.CatalogueDims.{AreDimsOf, dims_row}
+use Rattle.oe_plan.specs.Figures.{steps_of}
+use Rattle.oe_engine.specs.Collections.{HasCollections, IsMountedAt}
+
+-- the row of an id, by its index
+pub record IsRowAt (rows : List Row) (id : List ℕ) (row : Row) : Type 0 where
+  pub index : ℕ
+  pub index_is : row_index rows id ≡ Some index
+  pub within : index < length rows
+  pub row_is : source_at rows index ≡ row.source
+
+row_at : (rows : List Row) (id : List ℕ) (row : Row) → row_of rows id ≡ Some row → IsRowAt rows id row
+row_at [] id row e = absurd cc
+row_at (first ∷ rows) id row e = elim (cases_Bool (same_name first.id id)) [
+  | inl t ↦
+      let same : first ≡ row = same_Some first row (rw t at e) in
+      record {
+        index = 0;
+        index_is = ap (λ b. cond b (Some 0) (option_map (λ n. n + 1) (row_index rows id))) t;
+        within = omega arith;
+        row_is = ap (λ (r : Row). r.source) same;
+      }
+  | inr f ↦
+      let rest = row_at rows id row (rw f at e) in
+      let below = rest.within in
+      let more : rest.index + 1 ≡ suc rest.index = omega arith in
+      record {
+        index = suc rest.index;
+        index_is = ap (λ b. cond b (Some 0) (option_map (λ n. n + 1) (row_index rows id))) f
+            ∙ (ap (option_map (λ n. n + 1)) rest.index_is ∙ ap Some more);
+        within = omega arith;
+        row_is = rest.row_is;
+      }
+]
+
+-- a collection whose row a check has seen is mounted so
+pub mounted_so : (c : CheckedGraph) (rows : List Row) → AreDimsOf rows c.rows → (id : List ℕ) (seen : DimsRow)
+    → find (λ (row : DimsRow). same_name row.id id) c.rows ≡ Some seen → (index : ℕ) × IsMountedAt c rows id index
+mounted_so c rows are id seen here = by (row_of rows id) refl
+  where
+    by : (o : Option Row) → row_of rows id ≡ o → (index : ℕ) × IsMountedAt c rows id index
+    by None e =
+        let wrong : None ≡ Some seen = sym (ap (option_map dims_row) e) ∙ (sym (are id) ∙ here) in
+        absurd cc
+    by (Some row) e =
+        let at = row_at rows id row e in
+        let found : find (λ (row : DimsRow). same_name row.id id) c.rows ≡ Some (dims_row row) = are id ∙ ap (option_map dims_row) e in
+        let outline : outline_named c.rows id ≡ row_outline (dims_row row) = ap (λ o. option_map_or row_outline o no_outline) found in (
+          at.index,
+          record {
+            index_is = at.index_is;
+            within = at.within;
+            shape_is = ap (λ s. s.shape) at.row_is ∙ sym (ap (λ (o : Outline). o.shape) outline);
+            kind_is = ap (λ s. s.kind) at.row_is ∙ sym (ap (λ (o : Outline). o.kind) outline);
+          },
+        )
+
+-- of a graph without a fault each collection that a node loads was among those of the check
+module _ (c : CheckedGraph) (f : AreFaultless c) (index : ℕ) (below : index < node_count c.nodes) (id : List ℕ)
+    (is : collection_of_node c index ≡ Some id) where
+  there : SomeNode c.nodes index
+  there = node_below c.nodes index below
+
+  missing : (r : Request) → request_at there.node ≡ Some r → loaded_by r ≡ Some id
+      → find (λ (row : DimsRow). same_name row.id id) c.rows ≡ None → IsSound c.rows c.nodes there.node.id → ⊥
+  missing (request.load_collection name box time bands) asks loads none (sound {n = m} named refs clean) =
+      let at = outline_at c.rows c.nodes in
+      let r = request.load_collection name box time bands in
+      let same : there.node ≡ m = one_node c.nodes f.resolved there.node index m there.is_there named in
+      let is_id : name ≡ id = cc in
+      let lacks : is_none (find (λ (row : DimsRow). same_name row.id name) c.rows) ≡ true =
+      ap (λ n. is_none (find (λ (row : DimsRow). same_name row.id n) c.rows)) is_id ∙ ap is_none none in
+      let first : first_row (early_rows c.rows r (cubes_of c.rows at r)) ≡ Some CollectionNotFound =
+      ap (λ b. if b then Some CollectionNotFound else first_row (drop 1 (early_rows c.rows r (cubes_of c.rows at r)))) lacks in
+      clean CollectionNotFound m.id (early (ap request_at (sym same) ∙ asks) first)
+  missing (request.filter_bbox data_id box) asks loads none s = absurd cc
+  missing (request.filter_temporal data_id time name) asks loads none s = absurd cc
+  missing (request.filter_bands data_id bands) asks loads none s = absurd cc
+  missing (request.apply data_id callback) asks loads none s = absurd cc
+  missing (request.apply_kernel data_id kernel factor border replace) asks loads none s = absurd cc
+  missing (request.reduce_dimension data_id name callback) asks loads none s = absurd cc
+  missing (request.aggregate_temporal data_id intervals name callback) asks loads none s = absurd cc
+  missing (request.merge_cubes one two resolver) asks loads none s = absurd cc
+  missing (request.mask data_id mask_id replacement) asks loads none s = absurd cc
+  missing (request.save_result data_id format) asks loads none s = absurd cc
+
+  pub seen_row : (seen : DimsRow) × (find (λ (row : DimsRow). same_name row.id id) c.rows ≡ Some seen)
+  seen_row = by (find (λ (row : DimsRow). same_name row.id id) c.rows) refl
+    where
+      by : (o : Option DimsRow) → find (λ (row : DimsRow). same_name row.id id) c.rows ≡ o
+          → (seen : DimsRow) × (find (λ (row : DimsRow). same_name row.id id) c.rows ≡ Some seen)
+      by None e =
+          let r = found loaded_by (request_at there.node) id (sym (ap (option_and_then collection_of) there.is_there) ∙ is) in
+          absurd (missing r.0 r.1 r.2 e (f.sound there.node (contains_node c.nodes index there.node there.is_there)))
+      by (Some row) e = (row, e)
+
+-- A graph that was checked over the rows of a catalogue has its collections mounted there.
+pub has_collections : (c : CheckedGraph) → AreFaultless c → (rows : List Row) → AreDimsOf rows c.rows
+    → ((step : ℕ) → step < length (steps_of c) → get_or (steps_of c) step 0 < node_count c.nodes) → HasCollections c rows
+has_collections c f rows are within step id loaded =
+    let node = get_or (steps_of c) step 0 in
+    let row = seen_row c f node (within step loaded.within) id loaded.loads in
+    mounted_so c rows are id row.0 row.1

@@ -1,0 +1,75 @@
+use Rattle.std.proofs.Common.{◌≡◌, ℕ, Result, Ok, Err, OnOk, OnErr, refl, sym, ap, ◌∙◌, subst}
+use Rattle.std.proofs.lemmas.List.{length-set}
+use Rattle.std.proofs.lemmas.List.Elements.{All-set}
+use Rattle.oe_dims.specs.Dimensions.{cell_count}
+use Rattle.oe_plan.specs.Plans.{IsPlan, PlanOf}
+use Rattle.oe_render.specs.Rendered.{AppendsCube, AppendsCubePrefix}
+use Rattle.oe_render.specs.Stored.{HasCells}
+use Rattle.oe_engine.specs.Benches.{IsBenchFor}
+use Rattle.oe_engine.specs.Runs.{RunOf, chunk_total, result_cube, result_shape}
+use Rattle.oe_engine.proofs.RenderLemmas.{has_cells, prefix_is, result_shape_is, result_whole, text_is}
+use Rattle.oe_engine.proofs.rounds.Run.render.Goals as goal
+
+on_ok : {T E : Type 0} (X Y : Type 0) (r : Result T E) → (X → Y) → OnOk r X → OnOk r Y
+on_ok X Y (Ok x) f h = f h
+on_ok X Y (Err x) f h = h
+
+on_err : {T E : Type 0} (X Y : Type 0) (r : Result T E) → (X → Y) → OnErr r X → OnErr r Y
+on_err X Y (Ok x) f h = h
+on_err X Y (Err x) f h = f h
+
+pub render-requires-clause-stored : goal.render-requires-clause-stored
+render-requires-clause-stored g c =
+    let p = c.self.inside.plan in
+    let is = c.workers-workers.ensures.valid in
+    let r = c.args.self.now in
+    let same : r.plan ≡ p = ap (λ (r : RunOf). r.plan) (sym c.self.view_is) in
+    let base : r.base ≡ c.self.inside.base = ap (λ (r : RunOf). r.base) (sym c.self.view_is) in
+    subst (λ (n : ℕ). HasCells (g.P.Store.bytes c.args.spool.now) n (cell_count (result_shape p))) base
+    (has_cells p is r same (subst (λ (plan : PlanOf). r.done ≡ chunk_total plan) same c.requires.complete)
+    (g.P.Store.bytes c.args.spool.now) c.requires.numbers c.requires.records)
+
+pub returns-clause-text : goal.returns-clause-text
+returns-clause-text g c =
+    let r = c.args.self.now in
+    let same : r.plan ≡ c.self.inside.plan = ap (λ (r : RunOf). r.plan) (sym c.self.view_is) in
+    let base : r.base ≡ c.self.inside.base = ap (λ (r : RunOf). r.base) (sym c.self.view_is) in
+    let is : IsPlan r.plan = subst IsPlan (sym same) c.workers-workers.ensures.valid in
+    let store = g.P.Store.bytes c.args.spool.now in
+    let before = g.O.Sink.written c.args.out.now in
+    let after = g.O.Sink.written c.render.new.out in
+    on_ok (AppendsCube store c.self.inside.base (result_shape c.self.inside.plan) before after) _ c.render.result
+    (λ h collections has done. text_is r.plan is r refl c.requires.complete (result_cube collections r.plan)
+    (result_shape_is r.plan is collections has) (result_whole r.plan is collections has) store before after done
+    (subst (λ (n : ℕ). AppendsCube store n (result_shape r.plan) before after) (sym base)
+    (subst (λ (plan : PlanOf). AppendsCube store c.self.inside.base (result_shape plan) before after) (sym same) h)))
+    c.render.ensures.text
+
+pub returns-clause-prefix : goal.returns-clause-prefix
+returns-clause-prefix g c =
+    let r = c.args.self.now in
+    let same : r.plan ≡ c.self.inside.plan = ap (λ (r : RunOf). r.plan) (sym c.self.view_is) in
+    let base : r.base ≡ c.self.inside.base = ap (λ (r : RunOf). r.base) (sym c.self.view_is) in
+    let is : IsPlan r.plan = subst IsPlan (sym same) c.workers-workers.ensures.valid in
+    let store = g.P.Store.bytes c.args.spool.now in
+    let before = g.O.Sink.written c.args.out.now in
+    let after = g.O.Sink.written c.render.new.out in
+    on_err (AppendsCubePrefix store c.self.inside.base (result_shape c.self.inside.plan) before after) _ c.render.result
+    (λ h collections has done. prefix_is r.plan is r refl c.requires.complete (result_cube collections r.plan)
+    (result_shape_is r.plan is collections has) (result_whole r.plan is collections has) store before after done
+    (subst (λ (n : ℕ). AppendsCubePrefix store n (result_shape r.plan) before after) (sym base)
+    (subst (λ (plan : PlanOf). AppendsCubePrefix store c.self.inside.base (result_shape plan) before after) (sym same) h)))
+    c.render.ensures.prefix
+
+pub invariant_of-self : goal.invariant_of-self
+invariant_of-self g c =
+    let p = c.self.inside.plan in
+    let benches = c.self.inside.benches.items in
+    let made = c.self.invariant.2 in (
+      c.self.invariant.0,
+      c.self.invariant.1,
+      record {
+        as_many = length-set benches 0 c.render.new.self ∙ made.as_many;
+        each = All-set (IsBenchFor p) benches 0 c.render.new.self c.render.ensures.bench made.each;
+      },
+    )

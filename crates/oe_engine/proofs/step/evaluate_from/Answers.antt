@@ -1,0 +1,103 @@
+use Rattle.std.proofs.Common.{◌≡◌, ◌∙◌, refl, sym, ap, subst, Some}
+use Rattle.oe_ops.specs.Nodes.{HasRoom}
+use Rattle.oe_plan.specs.Windows.{window_at}
+use Rattle.oe_shape.specs.Checked.{CheckedGraph, operation_of_node}
+use Rattle.oe_shape.specs.Laws.{meaning_of_node}
+use Rattle.oe_shape.specs.PlainRequests.{plain_operation}
+use Rattle.oe_engine.specs.Benches.{kind_at, node_at}
+use Rattle.oe_engine.proofs.EvalLemmas.{cube_at, cube_shape_at, fits_goal, inside_at, kinds_goal, means_goal, need_goal, room_at, second_goal, shape_goal, takes_goal}
+use Rattle.oe_engine.proofs.step.evaluate_from.Goals as goal
+
+pub eval_node-requires-clause-shape_is : goal.eval_node-requires-clause-shape_is
+eval_node-requires-clause-shape_is c =
+    let p = c.args.plan.now in
+    let operates : operation_of_node p.graph (node_at p c.args.step) ≡ Some (plain_operation c.operation-operation.result.now) =
+    ap (λ (g : CheckedGraph). operation_of_node g (node_at p c.args.step)) (sym c.checked.ensures.value)
+    ∙ ap (operation_of_node c.checked.result.now) (sym c.node.ensures.value) ∙ c.operation-operation.ensures in
+    shape_goal p c.node.ensures.valid c.args.step c.requires.step c.requires.works c.args.arguments.0 c.args.arguments.1
+    c.requires.arguments (plain_operation c.operation-operation.result.now) operates c.shape_of-3.result.now c.shape_of.result.now
+    c.shape_of-2.result.now c.shape_of-3.ensures.value c.shape_of.ensures.value c.shape_of-2.ensures.value
+
+pub eval_node-requires-clause-takes : goal.eval_node-requires-clause-takes
+eval_node-requires-clause-takes c =
+    let p = c.args.plan.now in
+    let operates : operation_of_node p.graph (node_at p c.args.step) ≡ Some (plain_operation c.operation-operation.result.now) =
+    ap (λ (g : CheckedGraph). operation_of_node g (node_at p c.args.step)) (sym c.checked.ensures.value)
+    ∙ ap (operation_of_node c.checked.result.now) (sym c.node.ensures.value) ∙ c.operation-operation.ensures in
+    takes_goal p c.node.ensures.valid c.args.step c.requires.step c.requires.works c.args.arguments.0 c.args.arguments.1
+    c.requires.arguments (plain_operation c.operation-operation.result.now) operates c.shape_of.result.now c.args.first.now
+    c.args.second.now c.shape_of.ensures.value c.requires.first.of_kind c.requires.second.of_kind
+
+pub eval_node-requires-clause-within : goal.eval_node-requires-clause-within
+eval_node-requires-clause-within c =
+    inside_at c.args.plan.now c.node.ensures.valid c.requires.windows.0 c.args.windows.now c.requires.windows.1 c.args.step
+    c.shape_of-3.result.now (window_at c.args.windows.now c.args.step) c.requires.step c.shape_of-3.ensures.value refl
+
+pub eval_node-requires-clause-inside : goal.eval_node-requires-clause-inside
+eval_node-requires-clause-inside c =
+    inside_at c.args.plan.now c.node.ensures.valid c.requires.windows.0 c.args.windows.now c.requires.windows.1 c.args.arguments.0
+    c.shape_of.result.now (window_at c.args.windows.now c.args.arguments.0) c.requires.first.within c.shape_of.ensures.value refl
+
+pub eval_node-requires-clause-need : goal.eval_node-requires-clause-need
+eval_node-requires-clause-need c =
+    let p = c.args.plan.now in
+    let operates : operation_of_node p.graph (node_at p c.args.step) ≡ Some (plain_operation c.operation-operation.result.now) =
+    ap (λ (g : CheckedGraph). operation_of_node g (node_at p c.args.step)) (sym c.checked.ensures.value)
+    ∙ ap (operation_of_node c.checked.result.now) (sym c.node.ensures.value) ∙ c.operation-operation.ensures in
+    need_goal p c.node.ensures.valid c.args.step c.requires.step c.requires.works c.args.arguments.0 c.args.arguments.1
+    c.requires.arguments (plain_operation c.operation-operation.result.now) operates c.requires.windows.0 c.args.windows.now
+    c.requires.windows.1 c.shape_of.result.now c.shape_of-2.result.now (window_at c.args.windows.now c.args.arguments.0)
+    c.shape_of.ensures.value c.shape_of-2.ensures.value refl
+
+pub eval_node-requires-clause-two_need : goal.eval_node-requires-clause-two_need
+eval_node-requires-clause-two_need c =
+    let p = c.args.plan.now in
+    let operates : operation_of_node p.graph (node_at p c.args.step) ≡ Some (plain_operation c.operation-operation.result.now) =
+    ap (λ (g : CheckedGraph). operation_of_node g (node_at p c.args.step)) (sym c.checked.ensures.value)
+    ∙ ap (operation_of_node c.checked.result.now) (sym c.node.ensures.value) ∙ c.operation-operation.ensures in
+    second_goal p c.node.ensures.valid c.args.step c.requires.step c.requires.works c.args.arguments.0 c.args.arguments.1
+    c.requires.arguments (plain_operation c.operation-operation.result.now) operates c.requires.windows.0 c.args.windows.now
+    c.requires.windows.1 c.shape_of.result.now c.shape_of-2.result.now (window_at c.args.windows.now c.args.arguments.1)
+    c.shape_of.ensures.value c.shape_of-2.ensures.value refl
+
+pub eval_node-requires-clause-room : goal.eval_node-requires-clause-room
+eval_node-requires-clause-room c =
+    subst (HasRoom c.shape_of.result.now) (sym c.requires.scratch)
+    (room_at c.args.plan.now c.node.ensures.valid c.args.arguments.0 c.shape_of.result.now c.requires.first.within c.shape_of.ensures.value)
+
+pub eval_node-requires-clause-shape_room : goal.eval_node-requires-clause-shape_room
+eval_node-requires-clause-shape_room c =
+    subst (HasRoom c.shape_of-3.result.now) (sym c.requires.scratch)
+    (room_at c.args.plan.now c.node.ensures.valid c.args.step c.shape_of-3.result.now c.requires.step c.shape_of-3.ensures.value)
+
+pub returns-clause-kinds : goal.returns-clause-kinds
+returns-clause-kinds c =
+    let p = c.args.plan.now in
+    let is = c.node.ensures.valid in
+    let operation = plain_operation c.operation-operation.result.now in
+    let operates : operation_of_node p.graph (node_at p c.args.step) ≡ Some operation =
+    ap (λ (g : CheckedGraph). operation_of_node g (node_at p c.args.step)) (sym c.checked.ensures.value)
+    ∙ ap (operation_of_node c.checked.result.now) (sym c.node.ensures.value) ∙ c.operation-operation.ensures in
+    let fits = fits_goal p is c.args.step c.requires.step c.requires.works c.args.arguments.0 c.args.arguments.1
+    c.requires.arguments operation operates c.args.second.now c.requires.second.of_kind in
+    kinds_goal p is c.args.step c.requires.step c.requires.works c.args.arguments.0 c.args.arguments.1 c.requires.arguments
+    operation operates c.eval_node.new.out
+    (c.eval_node.ensures.kinds (kind_at p c.args.arguments.0) c.requires.first.of_kind fits)
+
+pub returns-clause-value : goal.returns-clause-value
+returns-clause-value c = λ collections has one two.
+    let p = c.args.plan.now in
+    let is = c.node.ensures.valid in
+    let operation = plain_operation c.operation-operation.result.now in
+    let a = c.args.arguments.0 in
+    let b = c.args.arguments.1 in
+    let operates : operation_of_node p.graph (node_at p c.args.step) ≡ Some operation =
+    ap (λ (g : CheckedGraph). operation_of_node g (node_at p c.args.step)) (sym c.checked.ensures.value)
+    ∙ ap (operation_of_node c.checked.result.now) (sym c.node.ensures.value) ∙ c.operation-operation.ensures in
+    means_goal p is c.args.step c.requires.step c.requires.works a b c.requires.arguments operation operates collections has
+    c.args.windows.now c.eval_node.new.out
+    (c.eval_node.ensures.value (meaning_of_node collections p.graph (node_at p a)).cube (meaning_of_node collections p.graph (node_at p b)).cube
+    (cube_at p is collections has a c.requires.first.within)
+    (cube_shape_at p is collections has a c.requires.first.within c.shape_of.result.now c.shape_of.ensures.value) one
+    (cube_at p is collections has b c.requires.second.within)
+    (cube_shape_at p is collections has b c.requires.second.within c.shape_of-2.result.now c.shape_of-2.ensures.value) two)

@@ -1,0 +1,139 @@
+-- A bench: what one chunk of a run is evaluated in. Its cells, and when they are those of the nodes of a plan.
+use Rattle.std.specs.Prelude.{◌≡◌, ◌⊎◌, ⊤, ◌<◌, ℕ, ◌+◌, Bool, true, List, length, slice_index, sum_by, take}
+use Rattle.std.specs.List.{All}
+use Rattle.oe_cell.specs.declared.cell.Cell.{Cell}
+use Rattle.oe_cell.specs.declared.cell.Cell.TheVariants.{Empty}
+use Rattle.oe_cube.specs.Kinds.{IsOfKind}
+use Rattle.oe_dims.specs.declared.kind.CellKind.{CellKind}
+use Rattle.oe_order.specs.Graph as order
+use Rattle.oe_order.specs.Live.{is_live}
+use Rattle.oe_shape.specs.Checked.{CheckedGraph, outline_of_node}
+use Rattle.oe_shape.specs.Graphs.{Collections}
+use Rattle.oe_shape.specs.Laws.{meaning_of_node}
+use Rattle.oe_shape.specs.Links.{links_of}
+use Rattle.oe_window.specs.Cells.{cells_on}
+use Rattle.oe_window.specs.Chunks.{chunk_window, tiling_of}
+use Rattle.oe_window.specs.Windows.{position_count}
+use Rattle.oe_window.specs.declared.window.Window.{Window}
+use Rattle.oe_plan.specs.Figures.{chunks_of, largest_window, scratch_of, shape_of_node}
+use Rattle.oe_plan.specs.Plans.{PlanOf}
+use Rattle.oe_plan.specs.Steps.{Takes, arguments_of_node}
+use Rattle.oe_plan.specs.Windows.{AreWindows, window_at}
+use Rattle.oe_engine.specs.Buffers.{AreOfSize, buffer_at}
+use Rattle.oe_engine.specs.declared.bench.State.{State}
+use Rattle.oe_engine.specs.declared.bench.State.TheVariants.{Idle, Loaded, Done}
+
+-- ---- benches
+
+-- whether it has a chunk and how far that is, the window of each step, the buffer of each slot, and the cells that an
+-- evaluation works with besides
+pub record BenchOf : Type 0 where
+  pub state : State
+  pub windows : List Window
+  pub buffers : List (List Cell)
+  pub scratch : List Cell
+
+-- how many cells it holds
+abbrev pub held_cells : BenchOf → ℕ
+held_cells b = sum_by (λ (cells : List Cell). length cells) b.buffers + length b.scratch
+
+-- for each slot of a plan there is a buffer for the largest window
+abbrev pub HaveRoomFor : PlanOf → List (List Cell) → Type 0
+HaveRoomFor p buffers = AreOfSize buffers p.order.width (largest_window p.graph p.size)
+
+-- besides these it has a window for each step, and as many cells to work with as the plan says
+pub record HasRoomFor (p : PlanOf) (b : BenchOf) : Type 0 where
+  pub windows : length b.windows ≡ length p.order.steps
+  pub buffers : HaveRoomFor p b.buffers
+  pub scratch : length b.scratch ≡ scratch_of p.graph
+
+-- ---- the cells of a step
+
+-- the node of a step
+abbrev pub node_at : PlanOf → ℕ → ℕ
+node_at p step = slice_index p.order.steps step
+
+-- whether it loads a collection
+abbrev pub is_load_at : PlanOf → ℕ → Bool
+is_load_at p step = order.is_load (links_of p.graph.nodes) (node_at p step)
+
+-- the kind of its cells
+abbrev pub kind_at : PlanOf → ℕ → CellKind
+kind_at p step = (outline_of_node p.graph (node_at p step)).kind
+
+-- what a bench holds of it: the front of the buffer of its slot, one cell for each position of its window
+abbrev pub cells_at : PlanOf → List Window → List (List Cell) → ℕ → List Cell
+cells_at p windows buffers step =
+    take (position_count (window_at windows step)) (buffer_at buffers (slice_index p.order.slots step))
+
+-- each of these is null, Over or of the node's kind
+abbrev pub AreOfKind : PlanOf → List Window → List (List Cell) → ℕ → Type 0
+AreOfKind p windows buffers step = All (IsOfKind (kind_at p step)) (cells_at p windows buffers step)
+
+-- the cells of a node's cube on a window, over collections
+abbrev pub node_cells : Collections → CheckedGraph → ℕ → Window → List Cell
+node_cells collections c node window = cells_on Empty (meaning_of_node collections c node).cube window
+
+-- what a bench holds of a step are the cells of its node on its window
+abbrev pub AreCells : Collections → PlanOf → List Window → List (List Cell) → ℕ → Type 0
+AreCells collections p windows buffers step =
+    cells_at p windows buffers step ≡ node_cells collections p.graph (node_at p step) (window_at windows step)
+
+-- ---- states
+
+-- the window of a chunk of the result
+abbrev pub chunk_of : PlanOf → ℕ → Window
+chunk_of p k = chunk_window (tiling_of (shape_of_node p.graph p.graph.result) p.size) k
+
+-- each step that loads a collection
+abbrev pub EachLoad : PlanOf → (ℕ → Type 0) → Type 0
+EachLoad p Holds = (step : ℕ) → step < length p.order.steps → is_load_at p step ≡ true → Holds step
+
+-- the step of the result
+abbrev pub OfResult : PlanOf → (ℕ → Type 0) → Type 0
+OfResult p Holds = (step : ℕ) → step < length p.order.steps → node_at p step ≡ p.graph.result → Holds step
+
+-- the windows are those of a chunk, whichever it is
+abbrev pub AreOfChunk : PlanOf → List Window → Type 0
+AreOfChunk p windows = (chunk : Window) × AreWindows p.graph p.size chunk windows
+
+-- it is at this chunk of the plan: it has its windows
+pub record IsAtChunk (p : PlanOf) (k : ℕ) (b : BenchOf) : Type 0 where
+  pub within : k < chunks_of p.graph p.size
+  pub windows : AreWindows p.graph p.size (chunk_of p k) b.windows
+
+-- what a bench keeps, whatever the collections hold: at a chunk it has its windows, and cells of their kind, of each
+-- step that loads a collection, and once it is done of the result
+abbrev pub KeepsState : PlanOf → BenchOf → State → Type 0
+KeepsState p b Idle = ⊤
+KeepsState p b (Loaded k) = IsAtChunk p k b × EachLoad p (AreOfKind p b.windows b.buffers)
+KeepsState p b (Done k) = IsAtChunk p k b × OfResult p (AreOfKind p b.windows b.buffers)
+
+-- a bench for a plan
+pub record IsBenchFor (p : PlanOf) (b : BenchOf) : Type 0 where
+  pub room : HasRoomFor p b
+  pub keeps : KeepsState p b b.state
+
+-- it is loaded for a chunk over these collections: it has the cells of each step that loads one
+pub record IsLoaded (p : PlanOf) (collections : Collections) (k : ℕ) (b : BenchOf) : Type 0 where
+  pub state : b.state ≡ Loaded k
+  pub cells : EachLoad p (AreCells collections p b.windows b.buffers)
+
+-- it is done for a chunk over these collections: it has the cells of the result on the chunk
+pub record IsDone (p : PlanOf) (collections : Collections) (k : ℕ) (b : BenchOf) : Type 0 where
+  pub state : b.state ≡ Done k
+  pub cells : OfResult p (λ step. cells_at p b.windows b.buffers step
+      ≡ node_cells collections p.graph p.graph.result (chunk_of p k))
+
+-- ---- between two steps
+
+-- each step before this one whose node is live at it
+abbrev pub EachLive : PlanOf → ℕ → (ℕ → Type 0) → Type 0
+EachLive p step Holds =
+    (i : ℕ) → i < step → is_live (links_of p.graph.nodes) p.graph.result p.order.steps step i ≡ true → Holds i
+
+-- the node of a step takes the cubes of the nodes of two steps; one that takes one cube has that one as its second too
+pub record AreArguments (p : PlanOf) (step first second : ℕ) : Type 0 where
+  pub first_taken : Takes p.graph step 0 first
+  pub second_taken : Takes p.graph step 1 second
+      ⊎ ((second ≡ first) × (length (arguments_of_node p.graph (node_at p step)) ≡ 1))

@@ -1,0 +1,10 @@
+pub mod Buffers
+pub mod Benches
+pub mod Inputs
+pub mod Collections
+pub mod Runs
+pub mod Rounds
+pub mod Loads
+pub mod Workspaces
+pub mod Chunks
+pub mod Laws

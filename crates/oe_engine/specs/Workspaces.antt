@@ -1,0 +1,14 @@
+-- All the cells of a run.
+use Rattle.std.specs.Prelude.{◌≡◌, ℕ, ◌*◌, List, length, sum_by}
+use Rattle.std.specs.List.{All}
+use Rattle.oe_plan.specs.Plans.{PlanOf}
+use Rattle.oe_engine.specs.Benches.{BenchOf, IsBenchFor, held_cells}
+
+-- how many cells benches hold
+abbrev pub cells_of_benches : List BenchOf → ℕ
+cells_of_benches benches = sum_by held_cells benches
+
+-- the benches of a run: two for each worker of its plan, each with room for every chunk
+pub record AreBenchesFor (p : PlanOf) (benches : List BenchOf) : Type 0 where
+  pub as_many : length benches ≡ 2 * p.workers
+  pub each : All (IsBenchFor p) benches

@@ -1,0 +1,152 @@
+// The chunks of one round, each in a bench of its own.
+ghost use Rattle.std.specs.Prelude.{◌≡◌, ◌+◌, ◌*◌, ◌^◌, ◌≤◌, length, IfErr, OnOk};
+ghost use Rattle.std.specs.List.{All};
+ghost use Rattle.oe_cell.specs.Cells.{IsCell};
+ghost use Rattle.oe_outside.specs.Faults.{HasCauseOf};
+ghost use Rattle.oe_plan.specs.Figures.{largest_window, shape_of_node};
+ghost use Rattle.oe_shape.specs.Graphs.{Collections};
+ghost use Rattle.oe_shape.specs.Laws.{AreCollectionsOf};
+ghost use Rattle.oe_sources.specs.CatalogueRows.{rows_of};
+ghost use Rattle.oe_spool.specs.Spooled.{ChangesOnly, IsInSome};
+ghost use Rattle.oe_engine.specs.Benches.{IsBenchFor, IsDone, IsLoaded};
+ghost use Rattle.oe_engine.specs.Chunks.{EachBench, HasRecordsOf, HasValidCells, IsAtDone, IsAtLoaded, IsLeastOf};
+ghost use Rattle.oe_engine.specs.Collections.{HasCollections};
+ghost use Rattle.oe_engine.specs.Loads.{HasRead, LoadsBench};
+ghost use Rattle.oe_engine.specs.Runs.{chunk_total, chunks_from, evaluated_after, load_count};
+ghost use Rattle.oe_engine.specs.declared.rounds.RunFail.{RunFail};
+
+use crate::bench::Bench;
+use crate::rounds::RunFail;
+use oe_cell::Cell;
+use oe_outside::{Gate, Store};
+use oe_plan::Plan;
+use oe_sources::Catalogue;
+use oe_spool::{least_over, lesser, write_window};
+
+/// Loads the chunks from a first one on, each into a bench.
+///
+/// Refuses: where a read of a collection is refused.
+pub(crate) fn load_chunks(
+    plan: &Plan,
+    benches: &mut [Bench],
+    catalogue: &mut Catalogue,
+    first: u64,
+) -> Result<(), RunFail>
+    requires benches { All (IsBenchFor plan.now) benches.old }
+    requires chunks { first + length benches.old ≤ chunk_total plan.now }
+    requires mounted { HasCollections plan.now.graph (rows_of seen catalogue.old) }
+    ensures loaded { OnOk result
+        (EachBench first (LoadsBench plan.now (rows_of seen catalogue.old)) benches.new) }
+    ensures benches { All (IsBenchFor plan.now) benches.new }
+    ensures count { length benches.new ≡ length benches.old }
+    ensures read { HasRead plan.now.graph (length benches.old
+        * (load_count plan.now * largest_window plan.now.graph plan.now.size))
+        (rows_of seen catalogue.old) (rows_of seen catalogue.new) result }
+{
+    // A plan has at most 2^48 chunks, so that their numbers fit 64 bits.
+    let _chunks = plan.chunks();
+    for index in 0..benches.len() {
+        benches[index].load(plan, catalogue, first + index as u64)?;
+    }
+    Ok(())
+}
+
+/// Evaluates benches that are loaded for the chunks from a first one on, each once behind the gate. Answers the number of
+/// evaluations, before which there were so many.
+pub(crate) fn evaluate_chunks<G: Gate>(
+    plan: &Plan,
+    benches: &mut [Bench],
+    gate: &G,
+    first: u64,
+    evaluations: u64,
+) -> u64
+    requires loaded { EachBench first (IsAtLoaded plan.now) benches.old }
+    requires chunks { first + length benches.old ≤ chunk_total plan.now }
+    ensures done { EachBench first (IsAtDone plan.now) benches.new }
+    // Over whatever collections all were loaded, they are done over the same ones.
+    ensures value { (collections : Collections) → AreCollectionsOf plan.now.graph collections
+        → EachBench first (IsLoaded plan.now collections) benches.old
+        → EachBench first (IsDone plan.now collections) benches.new }
+    ensures count { length benches.new ≡ length benches.old }
+    ensures evaluations { result ≡ evaluated_after evaluations (length benches.old) }
+{
+    // A plan has at most 2^48 chunks, so that their numbers fit 64 bits.
+    let _chunks = plan.chunks();
+    let mut count = evaluations;
+    for index in 0..benches.len() {
+        gate.enter(first + index as u64);
+        benches[index].evaluate(plan);
+        count = count.saturating_add(1);
+    }
+    count
+}
+
+/// Writes the records of the chunks from a first one on, of benches that are done.
+///
+/// Refuses: `SpoolFailed` only where the fault counter of the spool rose.
+pub(crate) fn write_chunks<P: Store>(
+    plan: &Plan,
+    benches: &[Bench],
+    spool: &mut P,
+    base: u64,
+    first: u64,
+) -> Result<(), RunFail>
+    requires done { EachBench first (IsAtDone plan.now) benches.now }
+    requires chunks { first + length benches.now ≤ chunk_total plan.now }
+    requires base { base ≤ 2 ^ 62 }
+    ensures written { OnOk result
+        (EachBench first (HasRecordsOf plan.now (P.bytes spool.new) base) benches.now) }
+    ensures valid { OnOk result (EachBench first (HasValidCells plan.now) benches.now) }
+    ensures changes { ChangesOnly base (shape_of_node plan.now.graph plan.now.graph.result)
+        (IsInSome (chunks_from plan.now first (length benches.now))) (P.bytes spool.old)
+        (P.bytes spool.new) }
+    ensures cause { HasCauseOf RunFail.SpoolFailed (P.faults spool.old) (P.faults spool.new)
+        result }
+    ensures only { IfErr result (λ refusal. refusal ≡ RunFail.SpoolFailed) }
+{
+    // A plan has at most 2^48 chunks, so that their numbers fit 64 bits.
+    let _chunks = plan.chunks();
+    for index in 0..benches.len() {
+        let window = plan.chunk(first + index as u64);
+        let cells = benches[index].result_cells(plan);
+        look_at_cells(cells);
+        if write_window(spool, base, plan.shape(), &window, cells).is_err() {
+            return Err(RunFail::SpoolFailed);
+        }
+    }
+    Ok(())
+}
+
+/// The least number of a cell that is `Over`, in the chunks from a first one on, of benches that are done.
+pub(crate) fn least_of_chunks(plan: &Plan, benches: &[Bench], first: u64) -> Option<u64>
+    requires done { EachBench first (IsAtDone plan.now) benches.now }
+    requires chunks { first + length benches.now ≤ chunk_total plan.now }
+    ensures { IsLeastOf plan.now first benches.now result }
+{
+    // A plan has at most 2^48 chunks, so that their numbers fit 64 bits.
+    let _chunks = plan.chunks();
+    let mut least = None;
+    for index in 0..benches.len() {
+        let window = plan.chunk(first + index as u64);
+        let cells = benches[index].result_cells(plan);
+        least = lesser(least, least_over(plan.shape(), &window, cells));
+    }
+    least
+}
+
+/// Looks at each cell. Its contract says that every number among them is one, as the type of numbers keeps it.
+fn look_at_cells(cells: &[Cell])
+    ensures { All IsCell cells.now }
+{
+    for cell in cells {
+        look_at(cell);
+    }
+}
+
+fn look_at(cell: &Cell)
+    ensures { IsCell cell.now }
+{
+    if let Cell::Number(number) = cell {
+        let _num = number.num();
+    }
+}

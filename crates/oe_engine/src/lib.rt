@@ -1,0 +1,27 @@
+//! Runs of plans: chunks of the result are evaluated in benches, each by itself.
+//!
+//! A [`Bench`] holds the windows of one chunk for all steps of a plan, a buffer for each slot, and cells to work with.
+//! It is loaded with the cells of the collections and evaluated, which takes no memory. The layers above use that a
+//! bench that was loaded over some collections is done over the same ones afterwards: it holds the cells of the
+//! result's cube on the chunk.
+#![tactic(auto)]
+
+mod bench;
+mod chunks;
+mod laws;
+mod loading;
+mod over;
+mod rounds;
+mod run;
+mod step;
+mod taken;
+mod workspace;
+
+pub use bench::{Bench, State};
+pub use laws::{
+    collections_are_mounted, collections_are_shown, collections_are_valid, over_is_of_the_result,
+    reads_change_nothing,
+};
+pub use over::first_over;
+pub use rounds::{Progress, Run, RunFail};
+pub use workspace::Workspace;

@@ -1,0 +1,185 @@
+// The cells of collections that a chunk needs, read into a bench.
+ghost use Rattle.std.specs.Prelude.{◌≡◌, ◌<◌, ◌≤◌, ◌*◌, ◌^◌, ℕ, List, true, Some, IfSome, OnOk, length, replicate, take};
+ghost use Rattle.oe_cell.specs.declared.cell.Cell.TheVariants.{Empty};
+ghost use Rattle.oe_cube.specs.Collections.{IsCollection};
+ghost use Rattle.oe_dims.specs.Dimensions.{IsShape};
+ghost use Rattle.oe_engine.specs.Benches.{AreOfChunk, EachLoad, HaveRoomFor, is_load_at, node_at};
+ghost use Rattle.oe_engine.specs.Buffers.{lists_of};
+ghost use Rattle.oe_engine.specs.Collections.{HasCollections, IsMountedAt};
+ghost use Rattle.oe_engine.specs.Loads.{AreLoaded, HasRead, IsLoadedAt, ReadsBox};
+ghost use Rattle.oe_engine.specs.Runs.{load_count};
+ghost use Rattle.oe_ops.specs.Needs.{plane_window};
+ghost use Rattle.oe_plan.specs.Figures.{largest_window, shape_of_node};
+ghost use Rattle.oe_shape.specs.Checked.{collection_of_node};
+ghost use Rattle.oe_sources.specs.Catalogue.{source_at};
+ghost use Rattle.oe_sources.specs.CatalogueRows.{rows_of};
+ghost use Rattle.oe_sources.specs.Source.{collection_of};
+ghost use Rattle.oe_window.specs.Windows.{Holds, position_count, whole_window};
+
+use crate::rounds::RunFail;
+use crate::run::loads;
+use oe_cell::Cell;
+use oe_dims::{Kind, Shape};
+use oe_ops::source_window;
+use oe_plan::Plan;
+use oe_sources::{Catalogue, SourceFail};
+use oe_window::{Window, size};
+
+/// Reads the cells of each step that loads a collection, on its window, into the buffer of its slot.
+pub(crate) fn load_steps(
+    plan: &Plan,
+    catalogue: &mut Catalogue,
+    windows: &[Window],
+    buffers: &mut [Vec<Cell>],
+) -> Result<(), RunFail>
+    requires windows { AreOfChunk plan.now windows.now }
+    requires room { HaveRoomFor plan.now (lists_of buffers.old) }
+    requires mounted { HasCollections plan.now.graph (rows_of seen catalogue.old) }
+    ensures room { HaveRoomFor plan.now (lists_of buffers.new) }
+    ensures loaded { OnOk result (EachLoad plan.now (IsLoadedAt plan.now
+        (rows_of seen catalogue.old) windows.now (lists_of buffers.new))) }
+    ensures read { HasRead plan.now.graph
+        (load_count plan.now * largest_window plan.now.graph plan.now.size)
+        (rows_of seen catalogue.old) (rows_of seen catalogue.new) result }
+{
+    for step in 0..loads(plan) {
+        let window = windows[step as usize];
+        let buffer = buffers[plan.slot(step) as usize].as_mut_slice();
+        load_step(plan, catalogue, step, &window, buffer)?;
+    }
+    Ok(())
+}
+
+/// Reads the cells of the node of a step on its window into the front of a buffer, plane by plane.
+fn load_step(
+    plan: &Plan,
+    catalogue: &mut Catalogue,
+    step: u32,
+    window: &Window,
+    buffer: &mut [Cell],
+) -> Result<(), RunFail>
+    requires step { step < length plan.now.order.steps }
+    requires load { is_load_at plan.now step ≡ true }
+    requires mounted { HasCollections plan.now.graph (rows_of seen catalogue.old) }
+    requires within { Holds (whole_window (shape_of_node plan.now.graph (node_at plan.now step)))
+        window.now }
+    requires few { position_count window.now < 2 ^ 64 }
+    requires room { position_count window.now ≤ length buffer.old }
+    ensures loaded { OnOk result (AreLoaded plan.now.graph (rows_of seen catalogue.old)
+        (node_at plan.now step) window.now (take (position_count window.now) buffer.new)) }
+    ensures read { HasRead plan.now.graph (position_count window.now)
+        (rows_of seen catalogue.old) (rows_of seen catalogue.new) result }
+{
+    let place = place_of(plan, catalogue, step);
+    let mut done = 0;
+    for number in 0..window.planes() {
+        let plane = window.plane(number);
+        let count = size(&plane) as usize;
+        let piece = &mut buffer[done..done + count];
+        load_plane(plan, catalogue, step, place, &plane, piece)?;
+        done += count;
+    }
+    Ok(())
+}
+
+/// The row of the collection that the node of a step loads.
+fn place_of(plan: &Plan, catalogue: &Catalogue, step: u32) -> u32
+    requires step { step < length plan.now.order.steps }
+    requires load { is_load_at plan.now step ≡ true }
+    requires mounted { HasCollections plan.now.graph (rows_of seen catalogue.now) }
+    ensures { (id : List ℕ) × (collection_of_node plan.now.graph (node_at plan.now step) ≡ Some id)
+        × IsMountedAt plan.now.graph (rows_of seen catalogue.now) id result }
+{
+    let node = plan.node(step);
+    match plan.checked().collection(node) {
+        Some(id) => match catalogue.place(id.as_str()) {
+            Some(place) => place,
+            None => unreachable!(),
+        },
+        None => unreachable!(),
+    }
+}
+
+/// Makes each cell null.
+fn clear(cells: &mut [Cell])
+    ensures { cells.new ≡ replicate (length cells.old) Empty }
+{
+    cells.fill(Cell::Empty);
+}
+
+/// Reads the cells of the node of a step on one plane, from the collection of a row.
+fn load_plane(
+    plan: &Plan,
+    catalogue: &mut Catalogue,
+    step: u32,
+    place: u32,
+    plane: &Window,
+    into: &mut [Cell],
+) -> Result<(), RunFail>
+    requires step { step < length plan.now.order.steps }
+    requires load { is_load_at plan.now step ≡ true }
+    requires mounted { (id : List ℕ)
+        → collection_of_node plan.now.graph (node_at plan.now step) ≡ Some id
+        → IsMountedAt plan.now.graph (rows_of seen catalogue.old) id place }
+    requires within { Holds (whole_window (shape_of_node plan.now.graph (node_at plan.now step)))
+        plane.now }
+    requires one { plane.now ≡ plane_window plane.now plane.now.t.from plane.now.bands.from }
+    requires room { length into.old ≡ position_count plane.now }
+    ensures loaded { OnOk result (AreLoaded plan.now.graph (rows_of seen catalogue.old)
+        (node_at plan.now step) plane.now into.new) }
+    ensures read { HasRead plan.now.graph (position_count plane.now)
+        (rows_of seen catalogue.old) (rows_of seen catalogue.new) result }
+{
+    let node = plan.node(step);
+    let shape = plan.checked().shape(node);
+    let source = source_window(
+        shape,
+        shape_of(catalogue, place),
+        plane.t.from,
+        plane.bands.from,
+        plane,
+    );
+    if source.is_empty() {
+        clear(into);
+        return Ok(());
+    }
+    read_box(catalogue, node, place, &source, into)
+}
+
+/// The shape of the collection of a row, of which the reading of a dimension says that it is valid.
+fn shape_of(catalogue: &Catalogue, place: u32) -> &Shape
+    requires { place < length (rows_of seen catalogue.now) }
+    ensures value { result.now ≡ (source_at (rows_of seen catalogue.now) place).shape }
+    ensures valid { IsShape result.now }
+    ensures sound { IfSome (collection_of (source_at (rows_of seen catalogue.now) place))
+        IsCollection }
+{
+    let shape = catalogue.shape(place);
+    let _count = shape.count(Kind::Time);
+    shape
+}
+
+/// Reads a box of the collection of a row, for a node.
+fn read_box(
+    catalogue: &mut Catalogue,
+    node: u32,
+    place: u32,
+    source: &Window,
+    into: &mut [Cell],
+) -> Result<(), RunFail>
+    requires mounted { place < length (rows_of seen catalogue.old) }
+    requires inside { Holds (whole_window (source_at (rows_of seen catalogue.old) place).shape)
+        source.now }
+    requires room { length into.old ≡ position_count source.now }
+    ensures { ReadsBox (rows_of seen catalogue.old) node place source.now into.new
+        (rows_of seen catalogue.new) result }
+{
+    match catalogue.read(place, source, into) {
+        Ok(()) => Ok(()),
+        Err(SourceFail::Failed) => Err(RunFail::SourceFailed),
+        Err(SourceFail::Damaged(position)) => Err(RunFail::SourceDamaged {
+            load: node,
+            position,
+        }),
+    }
+}

@@ -1,0 +1,69 @@
+// The benches that a round takes: the first so many of a run. The others stay as they are.
+ghost use Rattle.std.specs.Prelude.{◌≡◌, ◌+◌, ◌*◌, ◌≤◌, OnOk, length, take};
+ghost use Rattle.std.specs.List.{All};
+ghost use Rattle.oe_plan.specs.Figures.{largest_window};
+ghost use Rattle.oe_shape.specs.Graphs.{Collections};
+ghost use Rattle.oe_shape.specs.Laws.{AreCollectionsOf};
+ghost use Rattle.oe_sources.specs.CatalogueRows.{rows_of};
+ghost use Rattle.oe_engine.specs.Benches.{IsBenchFor, IsDone, IsLoaded};
+ghost use Rattle.oe_engine.specs.Chunks.{EachBench, IsAtDone, IsAtLoaded};
+ghost use Rattle.oe_engine.specs.Collections.{HasCollections};
+ghost use Rattle.oe_engine.specs.Loads.{HasRead, LoadsBench};
+ghost use Rattle.oe_engine.specs.Runs.{chunk_total, evaluated_after, load_count};
+
+use crate::bench::Bench;
+use crate::chunks::{evaluate_chunks, load_chunks};
+use crate::rounds::RunFail;
+use oe_outside::Gate;
+use oe_plan::Plan;
+use oe_sources::Catalogue;
+
+/// Loads the chunks from a first one on into the first so many benches.
+///
+/// Refuses: where a read of a collection is refused.
+pub(crate) fn load_taken(
+    plan: &Plan,
+    benches: &mut [Bench],
+    count: usize,
+    catalogue: &mut Catalogue,
+    first: u64,
+) -> Result<(), RunFail>
+    requires count { count ≤ length benches.old }
+    requires benches { All (IsBenchFor plan.now) benches.old }
+    requires chunks { first + count ≤ chunk_total plan.now }
+    requires mounted { HasCollections plan.now.graph (rows_of seen catalogue.old) }
+    ensures loaded { OnOk result
+        (EachBench first (LoadsBench plan.now (rows_of seen catalogue.old)) (take count benches.new)) }
+    ensures benches { All (IsBenchFor plan.now) benches.new }
+    ensures many { length benches.new ≡ length benches.old }
+    ensures read { HasRead plan.now.graph (count
+        * (load_count plan.now * largest_window plan.now.graph plan.now.size))
+        (rows_of seen catalogue.old) (rows_of seen catalogue.new) result }
+{
+    load_chunks(plan, &mut benches[..count], catalogue, first)
+}
+
+/// Evaluates the first so many benches, each once behind the gate. Answers the number of evaluations, before which there
+/// were so many.
+pub(crate) fn evaluate_taken<G: Gate>(
+    plan: &Plan,
+    benches: &mut [Bench],
+    count: usize,
+    gate: &G,
+    first: u64,
+    evaluations: u64,
+) -> u64
+    requires count { count ≤ length benches.old }
+    requires benches { All (IsBenchFor plan.now) benches.old }
+    requires loaded { EachBench first (IsAtLoaded plan.now) (take count benches.old) }
+    requires chunks { first + count ≤ chunk_total plan.now }
+    ensures done { EachBench first (IsAtDone plan.now) (take count benches.new) }
+    ensures value { (collections : Collections) → AreCollectionsOf plan.now.graph collections
+        → EachBench first (IsLoaded plan.now collections) (take count benches.old)
+        → EachBench first (IsDone plan.now collections) (take count benches.new) }
+    ensures benches { All (IsBenchFor plan.now) benches.new }
+    ensures many { length benches.new ≡ length benches.old }
+    ensures evaluations { result ≡ evaluated_after evaluations count }
+{
+    evaluate_chunks(plan, &mut benches[..count], gate, first, evaluations)
+}

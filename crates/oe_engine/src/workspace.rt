@@ -1,0 +1,64 @@
+// All the cells of a run.
+ghost use Rattle.std.specs.Prelude.{◌≡◌, IfOk};
+ghost use Rattle.oe_plan.specs.Figures.{bound_of};
+ghost use Rattle.oe_engine.specs.Workspaces.{AreBenchesFor, cells_of_benches};
+
+use crate::bench::Bench;
+use oe_memory::OutOfMemory;
+use oe_plan::Plan;
+use std::alloc::Global;
+use std::marker::Model;
+
+/// The benches of a run, two for each worker. They hold all its cells.
+#[derive(Drop)]
+pub struct Workspace {
+    benches: Vec<Bench>,
+    cells: u64,
+}
+
+impl Model for Workspace {
+    ghost use Rattle.std.specs.Prelude.{◌≡◌, List};
+    ghost use Rattle.oe_engine.specs.Benches.{BenchOf};
+    ghost use Rattle.oe_engine.specs.Workspaces.{cells_of_benches};
+
+    ghost Value = { List BenchOf };
+
+    ghost view = { λ w. w.benches.items };
+
+    ghost invariant = { λ w. w.cells ≡ cells_of_benches w.benches.items };
+}
+
+impl Workspace {
+    /// Idle benches for a plan, two for each worker. All memory of a run is taken here. Refuses: out of memory.
+    #[tactic(auto, using(crate::proofs::WorkspaceLemmas::none_yet, crate::proofs::WorkspaceLemmas::one_more))]
+    pub fn new(alloc: Global, plan: &Plan) -> Result<Workspace, OutOfMemory>
+        ensures benches { IfOk result (AreBenchesFor plan.now) }
+        // They hold as many cells as the bound of the plan.
+        ensures cells { IfOk result (λ benches. cells_of_benches benches
+            ≡ bound_of plan.now.graph plan.now.size plan.now.workers) }
+    {
+        let count = 2 * plan.workers();
+        let mut benches = Vec::with_capacity(alloc, count as usize)?;
+        let mut cells = 0;
+        for _ in 0..count {
+            let bench = Bench::new(alloc, plan)?;
+            cells += bench.cells(plan);
+            benches.push(bench)?;
+        }
+        Ok(Workspace { benches, cells })
+    }
+
+    /// How many cells it holds.
+    pub fn cells(&self) -> u64
+        ensures { result ≡ cells_of_benches self.now }
+    {
+        self.cells
+    }
+
+    /// The benches.
+    pub(crate) fn into_benches(self) -> Vec<Bench>
+        ensures { result.items ≡ self }
+    {
+        self.benches
+    }
+}
