@@ -1,19 +1,17 @@
-// A collection of nulls, from a line.
-ghost use Rattle.std.specs.Prelude.{◌≡◌, IfOk, replicate};
-ghost use Rattle.oe_cell.specs.declared.cell.Cell.TheVariants.{Empty};
+// A collection, from a line.
+ghost use Rattle.std.specs.Prelude.{◌≡◌, IfOk, true};
+ghost use Rattle.std.specs.List.{list_all};
+ghost use Rattle.oe_cube.specs.Kinds.{is_null_or_of};
+ghost use Rattle.oe_dims.specs.declared.kind.CellKind.TheVariants as kind;
 
-use crate::lines::Fault;
-use oe_cell::Cell;
+use crate::fault::Fault;
+use oe_cell::{Cell, Frac};
 use oe_dims::{CellKind, Shape, Text};
-use oe_top::{Catalogue, MemoryCube};
+use oe_sources::MemoryCube;
 use std::alloc::Global;
 
-/// Mounts the collection of a line, unless its id is mounted.
-pub(crate) fn mount_line(
-    alloc: Global,
-    line: &str,
-    catalogue: &mut Catalogue,
-) -> Result<(), Fault> {
+/// The id of a line and its cube.
+pub(crate) fn read_collection(alloc: Global, line: &str) -> Result<(&str, MemoryCube), Fault> {
     let mut words = line.split(' ');
     let (Some(id), Some(kind), Some(epsg)) = (words.next(), words.next(), words.next()) else {
         return Err(Fault::Line);
@@ -35,35 +33,97 @@ pub(crate) fn mount_line(
     ) else {
         return Err(Fault::Line);
     };
-    mount_nulls(alloc, id, shape, kind_of(kind)?, catalogue)
+    Ok((id, cube_of(alloc, shape, kind_of(kind)?, words.next())?))
 }
 
-/// Mounts a collection of nulls, unless its id is mounted.
-fn mount_nulls(
+/// The cube of the cells that a word lists, or of nulls where there is no word.
+fn cube_of(
     alloc: Global,
-    id: &str,
     shape: Shape,
     kind: CellKind,
-    catalogue: &mut Catalogue,
-) -> Result<(), Fault> {
-    if catalogue.place(id).is_some() {
+    word: Option<&str>,
+) -> Result<MemoryCube, Fault> {
+    let cells = cells_of(alloc, kind, shape.cells(), word)?;
+    if cells.len() as u64 != shape.cells() {
         return Err(Fault::Line);
     }
-    let cells = nulls(alloc, shape.cells())?;
-    let cube = MemoryCube::new(shape, kind, cells, Vec::new(alloc));
-    catalogue.mount(Text::of(alloc, id)?, cube)?;
-    Ok(())
+    Ok(MemoryCube::new(shape, kind, cells, Vec::new(alloc)))
 }
 
-/// So many nulls.
-fn nulls(alloc: Global, count: u64) -> Result<Vec<Cell>, Fault>
-    ensures { IfOk result (λ cells. cells.items ≡ replicate count Empty) }
+fn cells_of(
+    alloc: Global,
+    kind: CellKind,
+    count: u64,
+    word: Option<&str>,
+) -> Result<Vec<Cell>, Fault>
+    ensures { IfOk result (λ cells. list_all (is_null_or_of kind) cells.items ≡ true) }
+{
+    match word {
+        Some(word) => listed_cells(alloc, word, kind),
+        None => nulls(alloc, kind, count),
+    }
+}
+
+/// So many nulls, which are cells of every kind.
+fn nulls(alloc: Global, kind: CellKind, count: u64) -> Result<Vec<Cell>, Fault>
+    ensures { IfOk result (λ cells. list_all (is_null_or_of kind) cells.items ≡ true) }
 {
     let mut cells = Vec::new(alloc);
     for _index in 0..count {
-        cells.push(Cell::Empty)?;
+        cells.push(cell_of("null", kind)?)?;
     }
     Ok(cells)
+}
+
+/// Cells of a kind, with commas between them.
+fn listed_cells(alloc: Global, word: &str, kind: CellKind) -> Result<Vec<Cell>, Fault>
+    ensures { IfOk result (λ cells. list_all (is_null_or_of kind) cells.items ≡ true) }
+{
+    let mut cells = Vec::new(alloc);
+    for spelling in word.split(',') {
+        cells.push(cell_of(spelling, kind)?)?;
+    }
+    Ok(cells)
+}
+
+fn cell_of(word: &str, kind: CellKind) -> Result<Cell, Fault>
+    ensures { IfOk result (λ cell. is_null_or_of kind cell ≡ true) }
+{
+    match kind {
+        CellKind::Numbers => number_of(word),
+        CellKind::Flags => flag_of(word),
+    }
+}
+
+fn flag_of(word: &str) -> Result<Cell, Fault>
+    ensures { IfOk result (λ cell. is_null_or_of kind.Flags cell ≡ true) }
+{
+    match word {
+        "null" => Ok(Cell::Empty),
+        "true" => Ok(Cell::Flag(true)),
+        "false" => Ok(Cell::Flag(false)),
+        _ => Err(Fault::Line),
+    }
+}
+
+/// Null, a whole number, or a fraction in lowest terms as `-3/2`.
+fn number_of(word: &str) -> Result<Cell, Fault>
+    ensures { IfOk result (λ cell. is_null_or_of kind.Numbers cell ≡ true) }
+{
+    if word == "null" {
+        return Ok(Cell::Empty);
+    }
+    let (num, den) = match word.split_once('/') {
+        Some((num, den)) => (num, den),
+        None => (word, "1"),
+    };
+    let (Ok(num), Ok(den)) = (num.parse::<i64>(), den.parse::<u64>()) else {
+        return Err(Fault::Line);
+    };
+    match Frac::new(num, den) {
+        Some(number) => Ok(Cell::Number(number)),
+        None => Err(Fault::Line),
+    }
 }
 
 fn kind_of(word: &str) -> Result<CellKind, Fault> {

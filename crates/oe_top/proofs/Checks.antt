@@ -1,5 +1,5 @@
 -- Faults of all phases together, and what a check of them answers.
-use Rattle.std.proofs.Common.{◌≡◌, false, ℕ, zero, suc, ◌<◌, ◌≤◌, ◌⊎◌, inl, inr, List, [], ◌∷◌, length, Option, Some, None, IfSome, IfOk, IfErr, Result, Ok, Err, refl, sym, ap, ◌∙◌, subst, arith}
+use Rattle.std.proofs.Common.{◌≡◌, false, ℕ, ◌<◌, ◌≤◌, inl, inr, List, [], ◌∷◌, length, Option, Some, None, IfSome, IfOk, IfErr, Result, Ok, Err, refl, sym, ap, ◌∙◌, subst, arith}
 use Rattle.oe_dims.specs.declared.dims.DimsRow.{DimsRow}
 use Rattle.oe_graph.proofs.LeastLemmas.{IsLeast-unique}
 use Rattle.oe_graph.specs.Faults.{IsLeast, is_before}
@@ -17,11 +17,13 @@ use Rattle.oe_resolve.specs.Faults as names
 use Rattle.oe_resolve.specs.Filled.{resolved}
 use Rattle.oe_shape.specs.Checked.{CheckedGraph}
 use Rattle.oe_shape.specs.Stands as cubes
-use Rattle.oe_top.proofs.Finds.{whole_same, within, read_all}
+use Rattle.oe_sources.specs.Catalogue.{Row}
+use Rattle.oe_sources.specs.CatalogueDims.{AreDimsOf}
+use Rattle.oe_top.proofs.Inputs.{read_whole, sizes, whole_same, within}
 use Rattle.oe_top.specs.Faults.{Stands, of_form, of_names, of_cubes}
 use Rattle.oe_top.specs.Judged.{IsCheckedText, JudgeEnds, JudgesBytes}
 use Rattle.oe_top.specs.declared.refusal.Refusal.{Refusal}
-use Rattle.oe_top.specs.declared.refusal.Refusal.TheVariants.{Usage, NotBuilt, Graph, ReadFault, WriteFault, OutOfMemory}
+use Rattle.oe_top.specs.declared.refusal.Refusal.TheVariants.{Usage, Graph, NoCubeText, NotMounted, TooLarge, Overflow, ReadFault, Damaged, SpoolFault, WriteFault, OutOfMemory, SpoolDamaged}
 
 -- ---- the phases
 
@@ -146,11 +148,6 @@ module _ (rows : List DimsRow) (bytes : List ℕ) (long : most_input < length by
 
 -- ---- the input
 
-sizes : (m n : ℕ) → (m ≤ n) ⊎ (n < m)
-sizes zero n = inl (omega arith)
-sizes (suc m) zero = inr (omega arith)
-sizes (suc m) (suc n) = elim (sizes m n) [ inl a ↦ inl (omega arith) | inr b ↦ inr (omega arith) ]
-
 fault_of_all : (rows : List DimsRow) (before : Option (List ℕ)) (bytes : List ℕ) (after : Option (List ℕ)) (fault : Fault)
     → ReadsUpTo most_input before bytes after → IsLeast (Stands rows bytes) fault
     → IfSome before (λ all. IsLeast (Stands rows all) fault)
@@ -173,17 +170,32 @@ judges rows before before_faults bytes after after_faults (Ok c) read text =
     ] in
     record {
       bytes = bytes;
-      read_whole = record { all = read_all before bytes after read short; end = read.whole short };
+      read_whole = read_whole before bytes after read short;
       text = text;
     }
 judges rows before before_faults bytes after after_faults (Err Usage) read never = absurd never
-judges rows before before_faults bytes after after_faults (Err NotBuilt) read never = absurd never
 judges rows before before_faults bytes after after_faults (Err (Graph line)) read named = record {
   bytes = bytes;
   was_read = read;
   names = named;
   of_all = fault_of_all rows before bytes after named.fault read named.least;
 }
+judges rows before before_faults bytes after after_faults (Err NoCubeText) read never = absurd never
+judges rows before before_faults bytes after after_faults (Err NotMounted) read never = absurd never
+judges rows before before_faults bytes after after_faults (Err (TooLarge line)) read never = absurd never
+judges rows before before_faults bytes after after_faults (Err (Overflow line)) read never = absurd never
 judges rows before before_faults bytes after after_faults (Err ReadFault) read never = absurd never
+judges rows before before_faults bytes after after_faults (Err (Damaged line)) read never = absurd never
+judges rows before before_faults bytes after after_faults (Err SpoolFault) read never = absurd never
 judges rows before before_faults bytes after after_faults (Err WriteFault) read never = absurd never
 judges rows before before_faults bytes after after_faults (Err OutOfMemory) read free = tt
+judges rows before before_faults bytes after after_faults (Err (SpoolDamaged line)) read never = absurd never
+
+-- ---- the collections
+
+-- a graph that was checked over the rows of a catalogue has these rows
+pub found_rows : (rows : List Row) (dims : List DimsRow) (bytes : List ℕ) (result : Result CheckedGraph Refusal)
+    → JudgesBytes dims bytes result → AreDimsOf rows dims → IfOk result (λ c. AreDimsOf rows c.rows)
+found_rows rows dims bytes (Ok c) text found =
+    subst (AreDimsOf rows) (sym (ap (λ (k : CheckedGraph). k.rows) text.checked_is)) found
+found_rows rows dims bytes (Err refusal) judged found = tt

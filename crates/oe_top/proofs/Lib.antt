@@ -1,11 +1,14 @@
-pub mod Answered
-pub mod Catalogues
 pub mod Checks
+pub mod Commands
 pub mod Endings
-pub mod Finds
-pub mod Forms
-pub mod Loads
-pub mod Mounts
+pub mod Inputs
 pub mod Numbers
+pub mod Packings
+pub mod Plans
+pub mod Repackings
 pub mod Said
-mod Worked
+pub mod Rounds
+pub mod Evaluations
+pub mod Demos
+pub mod Namings
+pub mod Runs

@@ -10,10 +10,10 @@ use Rattle.oe_outside.specs.Input.{ReadsUpTo, TakesAtMost}
 use Rattle.oe_resolve.specs.Filled.{resolved}
 use Rattle.oe_shape.specs.Checked.{CheckedGraph}
 use Rattle.oe_top.specs.Faults.{Stands, fault_line}
-use Rattle.oe_top.specs.Form.{most_input}
+use Rattle.oe_graph.specs.Form.{most_input}
 use Rattle.oe_top.specs.Objects.{IsReadWhole}
 use Rattle.oe_top.specs.declared.refusal.Refusal.{Refusal}
-use Rattle.oe_top.specs.declared.refusal.Refusal.TheVariants.{Usage, NotBuilt, Graph, ReadFault, WriteFault, OutOfMemory}
+use Rattle.oe_top.specs.declared.refusal.Refusal.TheVariants.{Usage, Graph, NoCubeText, NotMounted, TooLarge, Overflow, ReadFault, Damaged, SpoolFault, WriteFault, OutOfMemory, SpoolDamaged}
 
 -- a graph with all defaults, over collections of these shapes and kinds
 abbrev pub checked_over : List DimsRow → PlainGraph → CheckedGraph
@@ -51,11 +51,17 @@ module _ (rows : List DimsRow) where
 abbrev pub JudgeEnds : List DimsRow → Option (List ℕ) → ℕ → Option (List ℕ) → ℕ → Result CheckedGraph Refusal → Type 0
 JudgeEnds rows before before_faults after after_faults (Ok c) = IsCheckedInput rows before after c
 JudgeEnds rows before before_faults after after_faults (Err Usage) = ⊥
-JudgeEnds rows before before_faults after after_faults (Err NotBuilt) = ⊥
 JudgeEnds rows before before_faults after after_faults (Err (Graph line)) = NamesFault rows before after line.items
+JudgeEnds rows before before_faults after after_faults (Err NoCubeText) = ⊥
+JudgeEnds rows before before_faults after after_faults (Err NotMounted) = ⊥
+JudgeEnds rows before before_faults after after_faults (Err (TooLarge line)) = ⊥
+JudgeEnds rows before before_faults after after_faults (Err (Overflow line)) = ⊥
 JudgeEnds rows before before_faults after after_faults (Err ReadFault) = Rose before_faults after_faults
+JudgeEnds rows before before_faults after after_faults (Err (Damaged line)) = ⊥
+JudgeEnds rows before before_faults after after_faults (Err SpoolFault) = ⊥
 JudgeEnds rows before before_faults after after_faults (Err WriteFault) = ⊥
 JudgeEnds rows before before_faults after after_faults (Err OutOfMemory) = ⊤
+JudgeEnds rows before before_faults after after_faults (Err (SpoolDamaged line)) = ⊥
 
 pub record JudgesInput (before : Option (List ℕ)) (before_faults : ℕ) (rows : List DimsRow) (after : Option (List ℕ)) (after_faults : ℕ) (result : Result CheckedGraph Refusal) : Type 0 where
   pub ends : JudgeEnds rows before before_faults after after_faults result
@@ -66,8 +72,14 @@ pub record JudgesInput (before : Option (List ℕ)) (before_faults : ℕ) (rows 
 abbrev pub JudgesBytes : List DimsRow → List ℕ → Result CheckedGraph Refusal → Type 0
 JudgesBytes rows bytes (Ok c) = IsCheckedText rows bytes c
 JudgesBytes rows bytes (Err Usage) = ⊥
-JudgesBytes rows bytes (Err NotBuilt) = ⊥
 JudgesBytes rows bytes (Err (Graph line)) = NamesFaultOf rows bytes line.items
+JudgesBytes rows bytes (Err NoCubeText) = ⊥
+JudgesBytes rows bytes (Err NotMounted) = ⊥
+JudgesBytes rows bytes (Err (TooLarge line)) = ⊥
+JudgesBytes rows bytes (Err (Overflow line)) = ⊥
 JudgesBytes rows bytes (Err ReadFault) = ⊥
+JudgesBytes rows bytes (Err (Damaged line)) = ⊥
+JudgesBytes rows bytes (Err SpoolFault) = ⊥
 JudgesBytes rows bytes (Err WriteFault) = ⊥
 JudgesBytes rows bytes (Err OutOfMemory) = ⊤
+JudgesBytes rows bytes (Err (SpoolDamaged line)) = ⊥

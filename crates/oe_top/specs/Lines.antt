@@ -1,9 +1,9 @@
 -- The status and the line on the error output that each ending has.
-use Rattle.std.specs.Prelude.{◌≡◌, ℕ, List, Option, ◌⊎◌, Result, Ok, Err, codes}
+use Rattle.std.specs.Prelude.{◌≡◌, ℕ, List, Option, ◌⊎◌, ◌++◌, Result, Ok, Err, codes, decimal}
 use Rattle.oe_outside.specs.Faults.{NeverFalls, Rose}
 use Rattle.oe_outside.specs.Visible.{Appends, AppendsPrefix}
 use Rattle.oe_top.specs.declared.refusal.Refusal.{Refusal}
-use Rattle.oe_top.specs.declared.refusal.Refusal.TheVariants.{Usage, NotBuilt, Graph, ReadFault, WriteFault, OutOfMemory}
+use Rattle.oe_top.specs.declared.refusal.Refusal.TheVariants.{Usage, Graph, NoCubeText, NotMounted, TooLarge, Overflow, ReadFault, Damaged, SpoolFault, WriteFault, OutOfMemory, SpoolDamaged}
 
 -- the error output before and after a call: what it holds, where that is visible, and its fault counter
 pub record ErrorOutput : Type 0 where
@@ -35,11 +35,25 @@ pub record IsSilent (err : ErrorOutput) : Type 0 where
 -- the line of a refusal
 abbrev pub line_of : Refusal → List ℕ
 line_of Usage = codes "openeo: Usage\n"
-line_of NotBuilt = codes "openeo: NotBuilt\n"
 line_of (Graph line) = line.items
+line_of NoCubeText = codes "openeo: CubeTextInvalid\n"
+line_of NotMounted = codes "openeo: CollectionNotFound\n"
+line_of (TooLarge line) = line.items
+line_of (Overflow line) = line.items
 line_of ReadFault = codes "openeo: ReadFault\n"
+line_of (Damaged line) = line.items
+line_of SpoolFault = codes "openeo: SpoolFault\n"
 line_of WriteFault = codes "openeo: WriteFault\n"
 line_of OutOfMemory = codes "openeo: OutOfMemory\n"
+line_of (SpoolDamaged line) = line.items
+
+-- the line of a limit or a position, by its name and its number
+abbrev pub number_line : List ℕ → ℕ → List ℕ
+number_line name number = codes "openeo: " ++ name ++ codes " " ++ decimal number ++ codes "\n"
+
+-- the line of a damaged position of a collection
+abbrev pub damage_line : List ℕ → ℕ → List ℕ
+damage_line id number = codes "openeo: SourceDamaged " ++ id ++ codes " " ++ decimal number ++ codes "\n"
 
 -- the line of an ending: none of a command that finished
 abbrev pub SaysEnding : Result (Unit {0}) Refusal → ErrorOutput → Type 0
@@ -51,11 +65,17 @@ SaysEnding (Err refusal) err = Says (line_of refusal) err
 -- the status of a refusal
 abbrev pub status_of_refusal : Refusal → ℕ
 status_of_refusal Usage = 1
-status_of_refusal NotBuilt = 2
 status_of_refusal (Graph line) = 2
+status_of_refusal NoCubeText = 2
+status_of_refusal NotMounted = 2
+status_of_refusal (TooLarge line) = 3
+status_of_refusal (Overflow line) = 4
 status_of_refusal ReadFault = 5
+status_of_refusal (Damaged line) = 6
+status_of_refusal SpoolFault = 7
 status_of_refusal WriteFault = 8
 status_of_refusal OutOfMemory = 9
+status_of_refusal (SpoolDamaged line) = 15
 
 -- the status of an ending
 abbrev pub status_of : Result (Unit {0}) Refusal → ℕ

@@ -6,13 +6,13 @@ use Rattle.oe_outside.specs.Visible.{Appends}
 use Rattle.oe_plan.specs.Figures.{bound_of, chunks_of}
 use Rattle.oe_shape.specs.Checked.{CheckedGraph}
 use Rattle.oe_window.specs.declared.grid.ChunkSize.{ChunkSize}
-use Rattle.oe_top.specs.Form.{most_input}
+use Rattle.oe_graph.specs.Form.{most_input}
 use Rattle.oe_top.specs.Judged.{IsCheckedInput, NamesFault}
-use Rattle.oe_top.specs.Mounted.{dims_of}
-use Rattle.oe_top.specs.Objects.{Objects}
+use Rattle.oe_sources.specs.CatalogueDims.{dims_of}
+use Rattle.oe_top.specs.Objects.{Objects, UsesStreamsAlone}
 use Rattle.oe_top.specs.Written.{IsUnwritten, StopsWriting}
 use Rattle.oe_top.specs.declared.refusal.Refusal.{Refusal}
-use Rattle.oe_top.specs.declared.refusal.Refusal.TheVariants.{Usage, NotBuilt, Graph, ReadFault, WriteFault, OutOfMemory}
+use Rattle.oe_top.specs.declared.refusal.Refusal.TheVariants.{Usage, Graph, NoCubeText, NotMounted, TooLarge, Overflow, ReadFault, Damaged, SpoolFault, WriteFault, OutOfMemory, SpoolDamaged}
 
 -- the line of two figures: how many cells a run holds at most, and in how many chunks it goes
 abbrev pub figures_text : ℕ → ℕ → List ℕ
@@ -39,17 +39,23 @@ module _ (size : ChunkSize) (workers : ℕ) where
   abbrev pub PlanEnds : Objects → Objects → Result (Unit {0}) Refusal → Type 0
   PlanEnds before after (Ok x) = WritesPlan before after
   PlanEnds before after (Err Usage) = ⊥
-  PlanEnds before after (Err NotBuilt) = ⊥
   PlanEnds before after (Err (Graph line)) =
       NamesFault (dims_of before.collections) before.input after.input line.items × IsUnwritten before after
+  PlanEnds before after (Err NoCubeText) = ⊥
+  PlanEnds before after (Err NotMounted) = ⊥
+  PlanEnds before after (Err (TooLarge line)) = ⊥
+  PlanEnds before after (Err (Overflow line)) = ⊥
   PlanEnds before after (Err ReadFault) = Rose before.input_faults after.input_faults × IsUnwritten before after
+  PlanEnds before after (Err (Damaged line)) = ⊥
+  PlanEnds before after (Err SpoolFault) = ⊥
   PlanEnds before after (Err WriteFault) = StopsPlan before after
   PlanEnds before after (Err OutOfMemory) = IsUnwritten before after
+  PlanEnds before after (Err (SpoolDamaged line)) = ⊥
 
   -- No collection is read, and a plan that holds too many cells to be run is written too.
   pub record PlanAnswers (before after : Objects) (ending : Result (Unit {0}) Refusal) : Type 0 where
     pub ends : PlanEnds before after ending
-    pub collections_kept : after.collections ≡ before.collections
+    pub others_kept : UsesStreamsAlone before after
     -- the input is read only up to one byte past the limit
     pub input_taken : TakesAtMost before.input (most_input + 1) after.input
     -- no fault counter falls

@@ -1,123 +1,129 @@
--- How the command `run` ends: the table of its statuses, one clause a row.
-use Rattle.std.specs.Prelude.{◌≡◌, ◌≢◌, ℕ, ◌+◌, ◌⊎◌, List, Option, Some, Result, Err, IfSome, IfOk, IfErr, OnOk, IsErrOf, slice_get}
-use Rattle.oe_cell.specs.declared.cell.Cell.{Cell}
-use Rattle.oe_dims.specs.Cube.{Cube}
-use Rattle.oe_outside.specs.Faults.{HasCauseOf, NeverFalls, Rose}
+-- How the command `run` ends: the table of its statuses, one case a row.
+use Rattle.std.specs.Prelude.{◌≡◌, ◌<◌, ◌⊎◌, ℕ, ◌+◌, List, None, Some, Result, Ok, Err, codes}
+use Rattle.oe_engine.specs.Collections.{LoadRose}
+use Rattle.oe_engine.specs.Rounds.{KeepsDamage}
+use Rattle.oe_graph.specs.Form.{most_input}
+use Rattle.oe_outside.specs.Faults.{NeverFalls, Rose}
 use Rattle.oe_outside.specs.Input.{TakesAtMost}
 use Rattle.oe_outside.specs.Visible.{Appends, AppendsPrefix}
-use Rattle.oe_top.specs.Collection.{Row, OnlyRead, faults_at, loaded}
-use Rattle.oe_top.specs.Form.{most_input}
-use Rattle.oe_top.specs.Lines.{status_of}
-use Rattle.oe_top.specs.Meaning.{IsSupported, LoadsRow, Means, answer_text}
-use Rattle.oe_top.specs.Objects.{Objects, IsReadWhole}
+use Rattle.oe_plan.specs.Figures.{bound_of, most_cells}
+use Rattle.oe_plan.specs.Plans.{PlanOf}
+use Rattle.oe_render.specs.Text.{cube_text}
+use Rattle.oe_shape.specs.Checked.{CheckedGraph, collection_of_node}
+use Rattle.oe_sources.specs.CatalogueDims.{dims_of}
+use Rattle.oe_window.specs.declared.grid.ChunkSize.{ChunkSize}
+use Rattle.oe_top.specs.Evaluated.{HasNoOver, IsOverFirst, IsPlanOf, IsVisible, OfMeaning, ReadsForPlan}
+use Rattle.oe_top.specs.Judged.{IsCheckedInput, NamesFault}
+use Rattle.oe_top.specs.Lines.{damage_line, number_line}
+use Rattle.oe_top.specs.Objects.{Objects, IsUntouched}
+use Rattle.oe_top.specs.Written.{IsUnwritten}
 use Rattle.oe_top.specs.declared.refusal.Refusal.{Refusal}
-use Rattle.oe_top.specs.declared.refusal.Refusal.TheVariants.{NotBuilt, ReadFault, WriteFault, OutOfMemory}
+use Rattle.oe_top.specs.declared.refusal.Refusal.TheVariants.{Usage, Graph, NoCubeText, NotMounted, TooLarge, Overflow, ReadFault, Damaged, SpoolFault, WriteFault, OutOfMemory, SpoolDamaged}
 
--- the whole input was read, and this cube is what it means
-pub record IsAsked (before after : Objects) (cube : Cube Cell) : Type 0 where
-  pub bytes : List ℕ
-  pub read_whole : IsReadWhole before.input after.input bytes
-  pub means : Means before.collections bytes cube
+-- ---- how the evaluation of a planned graph ends
 
--- status 0: the whole text of the cube that the input means follows what the output held
-pub record Finishes (before after : Objects) : Type 0 where
-  pub cube : Cube Cell
-  pub asked : IsAsked before after cube
-  pub text : Appends before.out (answer_text cube) after.out
+module _ (p : PlanOf) (before after : Objects) where
+  -- 0: no cell of the result is Over, and the text of what the graph means follows what the output held
+  pub record WritesText : Type 0 where
+    pub numbers : OfMeaning before.collections p.graph HasNoOver
+    pub text : IsVisible before.spool → OfMeaning before.collections p.graph
+        (λ cube. Appends before.out (cube_text cube) after.out)
 
--- status 8: the fault counter of the output rose, and a prefix of that text follows what the output held
-pub record StopsWriting (before after : Objects) : Type 0 where
-  pub cube : Cube Cell
-  pub asked : IsAsked before after cube
-  pub rose : Rose before.out_faults after.out_faults
-  pub prefix : AppendsPrefix before.out (answer_text cube) after.out
+  -- 7 and 8: a prefix of that text follows what the output held
+  abbrev pub WritesPrefix : Type 0
+  WritesPrefix = IsVisible before.spool → OfMeaning before.collections p.graph
+      (λ cube. AppendsPrefix before.out (cube_text cube) after.out)
 
--- status 5, of a collection: the fault counter of one that the input loads rose
-pub record StopsReading (before after : Objects) : Type 0 where
-  pub bytes : List ℕ
-  pub read_whole : IsReadWhole before.input after.input bytes
-  pub row : Row
-  pub loads : LoadsRow before.collections bytes row
-  pub place : ℕ
-  pub mounted : slice_get before.collections place ≡ Some row
-  pub rose : Rose (faults_at before.collections place) (faults_at after.collections place)
+  -- 4: this is the least number of a cell of the result that is Over
+  pub record Overflows (line : List ℕ) : Type 0 where
+    pub number : ℕ
+    pub line_is : line ≡ number_line (codes "NumberOverflow") number
+    pub least : OfMeaning before.collections p.graph (IsOverFirst number)
+    pub unwritten : IsUnwritten before after
 
--- no fault counter rose: not that of the input, of a collection or of the output
-pub record NoneRose (before after : Objects) : Type 0 where
-  pub input : ¬ Rose before.input_faults after.input_faults
-  pub collections : (place : ℕ) → ¬ Rose (faults_at before.collections place) (faults_at after.collections place)
-  pub out : ¬ Rose before.out_faults after.out_faults
+  -- 6: a node of the run keeps the labels of a damaged position of its collection, and the line names both
+  pub record MeetsDamage (line : List ℕ) : Type 0 where
+    pub node : ℕ
+    pub number : ℕ
+    pub id : List ℕ
+    pub loads : collection_of_node p.graph node ≡ Some id
+    pub keeps : KeepsDamage p.graph before.collections node number
+    pub line_is : line ≡ damage_line id number
+    pub unwritten : IsUnwritten before after
 
--- the statuses that a run may have
-abbrev pub IsStatus : ℕ → Type 0
-IsStatus status = (status ≡ 0) ⊎ ((status ≡ 2) ⊎ ((status ≡ 5) ⊎ ((status ≡ 8) ⊎ (status ≡ 9))))
+  -- 15: what was read back from the spool is no record of a number, which never comes of one whose bytes are visible
+  pub record MeetsSpoolDamage (line : List ℕ) : Type 0 where
+    pub number : ℕ
+    pub line_is : line ≡ number_line (codes "SpoolDamaged") number
+    pub hidden : before.spool ≡ None
 
--- The table of statuses. 9 is out of memory, which has no cause. What yields to it says so: where an input has no meaning
--- the status is 2, 5 or 9 (`refuses_unsupported`), and where it has one and no fault counter rose, 0 or 9 (`complete`).
-pub record RunAnswers (before after : Objects) (status : ℕ) : Type 0 where
-  pub known : IsStatus status
-  -- 5, `ReadFault`: only where the fault counter of the input, or of a collection that it loads, rose
-  pub read_fault : status ≡ 5 → Rose before.input_faults after.input_faults ⊎
-      StopsReading before after
-  -- 2, `NotBuilt`: exactly where the whole input means no cube, if it could be read
-  pub not_built : status ≡ 2 → IfSome before.input (λ bytes. ¬ IsSupported before.collections bytes)
-  pub refuses_unsupported : IfSome before.input (λ bytes.
-      ¬ IsSupported before.collections bytes →
-      (status ≡ 2) ⊎ ((status ≡ 5) ⊎ (status ≡ 9)))
-  -- 8, `WriteFault`: only where the fault counter of the output rose; a prefix of the text stands there
-  pub write_fault : status ≡ 8 → StopsWriting before after
-  -- 0: the text of the cube that the input means stands on the output
-  pub finished : status ≡ 0 → Finishes before after
-  -- in every other status than 0 and 8 nothing was written
-  pub nothing_written : status ≢ 0 → status ≢ 8 → (after.out ≡ before.out) ×
-      (after.out_faults ≡ before.out_faults)
-  -- 2 and 9 leave the collections as they were
-  pub collections_kept : (status ≡ 2) ⊎ (status ≡ 9) →
-      after.collections ≡ before.collections
-  -- it does not give up: where the input means a cube and no fault counter rose, the status is 0 or 9
-  pub complete : NoneRose before after → IfSome before.input (λ bytes.
-      IsSupported before.collections bytes →
-      (status ≡ 0) ⊎ (status ≡ 9))
-  -- the input is read only up to one byte past the limit
-  pub input_taken : TakesAtMost before.input (most_input + 1) after.input
-  -- reading changes no collection, and no fault counter falls
-  pub collections_read : OnlyRead before.collections after.collections
-  pub input_count : NeverFalls before.input_faults after.input_faults
-  pub out_count : NeverFalls before.out_faults after.out_faults
+  abbrev pub EvaluationEnds : Result (Unit {0}) Refusal → Type 0
+  EvaluationEnds (Ok x) = WritesText
+  EvaluationEnds (Err Usage) = ⊥
+  EvaluationEnds (Err (Graph line)) = ⊥
+  EvaluationEnds (Err NoCubeText) = ⊥
+  EvaluationEnds (Err NotMounted) = ⊥
+  EvaluationEnds (Err (TooLarge line)) = ⊥
+  EvaluationEnds (Err (Overflow line)) = Overflows line.items
+  EvaluationEnds (Err ReadFault) = LoadRose p.graph before.collections after.collections × IsUnwritten before after
+  EvaluationEnds (Err (Damaged line)) = MeetsDamage line.items
+  EvaluationEnds (Err SpoolFault) = Rose before.spool_faults after.spool_faults × WritesPrefix
+  EvaluationEnds (Err WriteFault) = Rose before.out_faults after.out_faults × WritesPrefix
+  EvaluationEnds (Err OutOfMemory) = ⊥
+  EvaluationEnds (Err (SpoolDamaged line)) = MeetsSpoolDamage line.items
 
--- a run ends by that table, and an input without a meaning is refused as not built
-pub record RunEnds (before after : Objects) (ending : Result (Unit {0}) Refusal) : Type 0 where
-  pub table : RunAnswers before after (status_of ending)
-  pub not_built : status_of ending ≡ 2 → ending ≡ Err NotBuilt
+  -- it reads no more than the plan says, and no fault counter falls
+  pub record Evaluates (ending : Result (Unit {0}) Refusal) : Type 0 where
+    pub ends : EvaluationEnds ending
+    pub reads : ReadsForPlan p before.collections after.collections
+    pub out_count : NeverFalls before.out_faults after.out_faults
+    pub spool_count : NeverFalls before.spool_faults after.spool_faults
 
--- the input was read whole, and loads this row
-pub record IsFound (before : Option (List ℕ)) (rows : List Row) (after : Option (List ℕ)) (place : ℕ) : Type 0 where
-  pub bytes : List ℕ
-  pub read_whole : IsReadWhole before after bytes
-  pub row : Row
-  pub mounted : slice_get rows place ≡ Some row
-  pub loads : LoadsRow rows bytes row
+-- ---- how the command ends
 
--- the answer of looking for the row that an input loads
-pub record FindsRow (before : Option (List ℕ)) (before_faults : ℕ) (rows : List Row) (after : Option (List ℕ)) (after_faults : ℕ) (result : Result ℕ Refusal) : Type 0 where
-  pub found : IfOk result (IsFound before rows after)
-  pub not_built : IsErrOf result NotBuilt → IfSome before (λ bytes. ¬ IsSupported rows bytes)
-  pub only : IfErr result (λ refusal. (refusal ≡ NotBuilt) ⊎ ((refusal ≡ ReadFault) ⊎
-      (refusal ≡ OutOfMemory)))
-  pub cause : HasCauseOf ReadFault before_faults after_faults result
-  pub taken : TakesAtMost before (most_input + 1) after
+module _ (size : ChunkSize) (workers : ℕ) (before after : Objects) where
+  -- the whole input was read, it is a graph without a fault whose run holds no more cells than are allowed, and it was
+  -- evaluated by this plan
+  pub record IsEvaluated (ending : Result (Unit {0}) Refusal) : Type 0 where
+    pub graph : CheckedGraph
+    pub input : IsCheckedInput (dims_of before.collections) before.input after.input graph
+    pub p : PlanOf
+    pub plan : IsPlanOf graph size workers p
+    pub evaluates : Evaluates p before after ending
 
--- the answer of writing the text of the collection of a row
-pub record Loading (place : ℕ) (rows : List Row) (before : Option (List ℕ)) (before_faults : ℕ) (after_rows : List Row) (after : Option (List ℕ)) (after_faults : ℕ) (result : Result (Unit {0}) Refusal) : Type 0 where
-  pub written : OnOk result (IfSome (slice_get rows place) (λ row.
-      Appends before (answer_text (loaded row.source.collection)) after))
-  pub unread : IsErrOf result ReadFault → (after ≡ before) × (after_faults ≡ before_faults) ×
-      Rose (faults_at rows place) (faults_at after_rows place)
-  pub stopped : IsErrOf result WriteFault → Rose before_faults after_faults ×
-      IfSome (slice_get rows place) (λ row. AppendsPrefix before (answer_text (loaded row.source.collection)) after)
-  pub kept : IsErrOf result OutOfMemory → (after ≡ before) × (after_faults ≡ before_faults) ×
-      (after_rows ≡ rows)
-  pub only : IfErr result (λ refusal. (refusal ≡ ReadFault) ⊎ ((refusal ≡ WriteFault) ⊎
-      (refusal ≡ OutOfMemory)))
-  pub rows_read : OnlyRead rows after_rows
-  pub count : NeverFalls before_faults after_faults
+  -- 3: the run would hold more cells than are allowed, so many
+  pub record IsTooLarge (line : List ℕ) : Type 0 where
+    pub graph : CheckedGraph
+    pub input : IsCheckedInput (dims_of before.collections) before.input after.input graph
+    pub over : most_cells < bound_of graph size workers
+    pub line_is : line ≡ number_line (codes "PlanTooLarge") (bound_of graph size workers)
+    pub untouched : IsUntouched before after
+
+  -- what each ending says; out of memory has no cause, and comes only before anything is read but the input
+  abbrev pub RunEnds : Result (Unit {0}) Refusal → Type 0
+  RunEnds (Ok x) = IsEvaluated (Ok x)
+  RunEnds (Err Usage) = ⊥
+  RunEnds (Err (Graph line)) =
+      NamesFault (dims_of before.collections) before.input after.input line.items × IsUntouched before after
+  RunEnds (Err NoCubeText) = ⊥
+  RunEnds (Err NotMounted) = ⊥
+  RunEnds (Err (TooLarge line)) = IsTooLarge line.items
+  RunEnds (Err (Overflow line)) = IsEvaluated (Err (Overflow line))
+  RunEnds (Err ReadFault) =
+      (Rose before.input_faults after.input_faults × IsUntouched before after) ⊎ IsEvaluated (Err ReadFault)
+  RunEnds (Err (Damaged line)) = IsEvaluated (Err (Damaged line))
+  RunEnds (Err SpoolFault) = IsEvaluated (Err SpoolFault)
+  RunEnds (Err WriteFault) = IsEvaluated (Err WriteFault)
+  RunEnds (Err OutOfMemory) = IsUntouched before after
+  RunEnds (Err (SpoolDamaged line)) = IsEvaluated (Err (SpoolDamaged line))
+
+  -- So where the input is visible and holds a graph without a fault whose run is not too large, no load keeps a damaged
+  -- position, no cell of the result is Over and no fault counter rose, it ends by the whole text, or out of memory.
+  pub record RunAnswers (ending : Result (Unit {0}) Refusal) : Type 0 where
+    pub ends : RunEnds ending
+    -- the input is read only up to one byte past the limit
+    pub input_taken : TakesAtMost before.input (most_input + 1) after.input
+    -- no fault counter falls
+    pub input_count : NeverFalls before.input_faults after.input_faults
+    pub out_count : NeverFalls before.out_faults after.out_faults
+    pub spool_count : NeverFalls before.spool_faults after.spool_faults

@@ -1,8 +1,9 @@
 -- The words of a command, and the command that they spell.
-use Rattle.std.specs.Prelude.{◌≡◌, ℕ, ◌≤◌, List, [], ◌∷◌, codes, decimal}
+use Rattle.std.specs.Prelude.{◌≡◌, ℕ, ◌≤◌, true, List, [], ◌∷◌, codes, decimal, slice_index_or}
+use Rattle.oe_dims.specs.Names.{is_name}
 use Rattle.oe_window.specs.declared.grid.ChunkSize.{ChunkSize}
 use Rattle.oe_top.specs.declared.words.Command.{Command}
-use Rattle.oe_top.specs.declared.words.Command.TheVariants.{Run, Plan, Check}
+use Rattle.oe_top.specs.declared.words.Command.TheVariants.{Run, Plan, Demo, Check, Pack, Repack}
 
 -- a number from low to high, spelled in decimal with no sign and no leading zero
 pub record IsNumberWord (low high : ℕ) (word : List ℕ) (number : ℕ) : Type 0 where
@@ -29,20 +30,38 @@ pub record SpellsNumbers (verb : List ℕ) (words : List (List ℕ)) (size : Chu
   pub words_are : words ≡ verb ∷ cx ∷ cy ∷ ct ∷ w ∷ []
   pub numbers : AreNumbers cx cy ct w size workers
 
--- the one word `check`
-abbrev pub IsCheckCommand : List (List ℕ) → Type 0
-IsCheckCommand words = words ≡ codes "check" ∷ []
+-- `demo SEED SIDE CX CY CT W`: a seed, a side in pixels, the sides of a chunk and a number of workers
+pub record SpellsDemo (words : List (List ℕ)) (seed side : ℕ) (size : ChunkSize) (workers : ℕ) : Type 0 where
+  pub seed_word : List ℕ
+  pub side_word : List ℕ
+  pub cx : List ℕ
+  pub cy : List ℕ
+  pub ct : List ℕ
+  pub w : List ℕ
+  pub words_are : words ≡ codes "demo" ∷ seed_word ∷ side_word ∷ cx ∷ cy ∷ ct ∷ w ∷ []
+  pub seed_is : IsNumberWord 0 1000000000 seed_word seed
+  pub side_is : IsNumberWord 1 1024 side_word side
+  pub numbers : AreNumbers cx cy ct w size workers
+
+-- `VERB ID`: a verb and the id of a collection
+pub record SpellsId (verb : List ℕ) (words : List (List ℕ)) : Type 0 where
+  pub id : List ℕ
+  pub words_are : words ≡ verb ∷ id ∷ []
+  pub valid : is_name id ≡ true
+
+-- the word behind the verb
+abbrev pub id_in : List (List ℕ) → List ℕ
+id_in words = slice_index_or words 1 []
 
 -- the words spell this command
 abbrev pub Spells : List (List ℕ) → Command → Type 0
 Spells words (Run size workers) = SpellsNumbers (codes "run") words size workers
 Spells words (Plan size workers) = SpellsNumbers (codes "plan") words size workers
-Spells words Check = IsCheckCommand words
+Spells words (Demo seed side size workers) = SpellsDemo words seed side size workers
+Spells words Check = words ≡ codes "check" ∷ []
+Spells words Pack = SpellsId (codes "pack") words
+Spells words Repack = SpellsId (codes "repack") words
 
 -- the words spell a command
 abbrev pub IsCommand : List (List ℕ) → Type 0
 IsCommand words = (command : Command) × Spells words command
-
--- the words spell a run
-abbrev pub IsRunCommand : List (List ℕ) → Type 0
-IsRunCommand words = (size : ChunkSize) × (workers : ℕ) × SpellsNumbers (codes "run") words size workers

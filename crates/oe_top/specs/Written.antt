@@ -4,7 +4,7 @@ use Rattle.oe_outside.specs.Faults.{NeverFalls, Rose}
 use Rattle.oe_outside.specs.Visible.{Appends, AppendsPrefix}
 use Rattle.oe_top.specs.Objects.{Objects}
 use Rattle.oe_top.specs.declared.refusal.Refusal.{Refusal}
-use Rattle.oe_top.specs.declared.refusal.Refusal.TheVariants.{Usage, NotBuilt, Graph, ReadFault, WriteFault, OutOfMemory}
+use Rattle.oe_top.specs.declared.refusal.Refusal.TheVariants.{Usage, Graph, NoCubeText, NotMounted, TooLarge, Overflow, ReadFault, Damaged, SpoolFault, WriteFault, OutOfMemory, SpoolDamaged}
 
 -- the output was left alone
 pub record IsUnwritten (before after : Objects) : Type 0 where
@@ -20,11 +20,17 @@ pub record StopsWriting (text : List ℕ) (before : Option (List ℕ)) (before_f
 abbrev pub WriteEnds : List ℕ → Option (List ℕ) → ℕ → Option (List ℕ) → ℕ → Result (Unit {0}) Refusal → Type 0
 WriteEnds text before before_faults after after_faults (Ok x) = Appends before text after
 WriteEnds text before before_faults after after_faults (Err Usage) = ⊥
-WriteEnds text before before_faults after after_faults (Err NotBuilt) = ⊥
 WriteEnds text before before_faults after after_faults (Err (Graph line)) = ⊥
+WriteEnds text before before_faults after after_faults (Err NoCubeText) = ⊥
+WriteEnds text before before_faults after after_faults (Err NotMounted) = ⊥
+WriteEnds text before before_faults after after_faults (Err (TooLarge line)) = ⊥
+WriteEnds text before before_faults after after_faults (Err (Overflow line)) = ⊥
 WriteEnds text before before_faults after after_faults (Err ReadFault) = ⊥
+WriteEnds text before before_faults after after_faults (Err (Damaged line)) = ⊥
+WriteEnds text before before_faults after after_faults (Err SpoolFault) = ⊥
 WriteEnds text before before_faults after after_faults (Err WriteFault) = StopsWriting text before before_faults after after_faults
 WriteEnds text before before_faults after after_faults (Err OutOfMemory) = ⊥
+WriteEnds text before before_faults after after_faults (Err (SpoolDamaged line)) = ⊥
 
 pub record Writes (text : List ℕ) (before : Option (List ℕ)) (before_faults : ℕ) (after : Option (List ℕ)) (after_faults : ℕ) (result : Result (Unit {0}) Refusal) : Type 0 where
   pub ends : WriteEnds text before before_faults after after_faults result

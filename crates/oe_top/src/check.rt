@@ -1,12 +1,14 @@
 // The command `check`: from the input to the least fault of its graph.
+ghost use Rattle.std.specs.Prelude.{ℕ, List, Option};
+ghost use Rattle.oe_sources.specs.CatalogueRows.{rows_of};
 ghost use Rattle.oe_top.specs.CheckAnswer.{CheckAnswers};
 ghost use Rattle.oe_top.specs.Objects.{objects};
 
-use crate::Catalogue;
 use crate::judge::judge_input;
 use crate::output::write_line;
 use crate::refusal::Refusal;
 use oe_outside::{Sink, Source};
+use oe_sources::Catalogue;
 use std::alloc::Global;
 
 /// Writes `valid` where no fault stands in the graph of the input. No collection is read.
@@ -16,9 +18,11 @@ pub(crate) fn check<I: Source, O: Sink>(
     out: &mut O,
     catalogue: &Catalogue,
 ) -> Result<(), Refusal>
-    ensures { CheckAnswers
-        (objects I.left I.faults O.written O.faults input.old out.old catalogue.now)
-        (objects I.left I.faults O.written O.faults input.new out.new catalogue.now) result }
+    ensures { (spool : Option (List ℕ)) (spool_faults : ℕ) → CheckAnswers
+        (objects (I.left input.old) (I.faults input.old) (O.written out.old) (O.faults out.old)
+        spool spool_faults (rows_of seen catalogue.now))
+        (objects (I.left input.new) (I.faults input.new) (O.written out.new) (O.faults out.new)
+        spool spool_faults (rows_of seen catalogue.now)) result }
 {
     match judge_input(alloc, input, catalogue) {
         Ok(_checked) => write_line(b"valid\n", out),

@@ -2,12 +2,14 @@
 ghost use Rattle.std.specs.Prelude.{◌≡◌, ◌+◌, ◌⊎◌, IfOk, IfErr};
 ghost use Rattle.oe_outside.specs.Faults.{HasCauseOf};
 ghost use Rattle.oe_outside.specs.Input.{ReadsUpTo, TakesAtMost};
-ghost use Rattle.oe_top.specs.Form.{most_input};
+ghost use Rattle.oe_graph.specs.Form.{most_input};
 
-use crate::form::MOST_INPUT;
 use crate::refusal::Refusal;
 use oe_outside::{ReadRefusal, Source, read_up_to};
 use std::alloc::Global;
+
+/// The most bytes that an input may have.
+const MOST_INPUT: usize = 1048576;
 
 /// The whole input, or its front up to one byte past the limit.
 pub(crate) fn read_input<I: Source>(alloc: Global, input: &mut I) -> Result<Vec<u8>, Refusal>

@@ -1,20 +1,23 @@
 // The graph of an input, judged over the collections of a catalogue.
-ghost use Rattle.std.specs.Prelude.{◌≡◌, IfOk, IfErr};
+ghost use Rattle.std.specs.Prelude.{◌≡◌, IfOk, IfErr, OnOk};
 ghost use Rattle.oe_dims.specs.Plain.{plain_rows};
 ghost use Rattle.oe_graph.specs.Read.{IsFault};
 ghost use Rattle.oe_top.specs.Faults.{Stands, fault_line};
 ghost use Rattle.oe_top.specs.Judged.{IsCheckedText, JudgesBytes, JudgesInput};
-ghost use Rattle.oe_top.specs.Mounted.{dims_of};
+ghost use Rattle.oe_engine.specs.Laws.{GivesCollections};
+ghost use Rattle.oe_sources.specs.CatalogueDims.{AreDimsOf, dims_of};
+ghost use Rattle.oe_sources.specs.CatalogueRows.{rows_of};
 
-use crate::Catalogue;
 use crate::input::read_input;
 use crate::refusal::Refusal;
 use oe_dims::Dims;
+use oe_engine::collections_are_valid;
 use oe_graph::{Fault, read_graph};
 use oe_memory::OutOfMemory;
 use oe_outside::Source;
 use oe_resolve::resolve;
 use oe_shape::Checked;
+use oe_sources::Catalogue;
 use std::alloc::Global;
 
 /// The graph of the input, expanded and checked over the collections of the catalogue, of which no cell is read.
@@ -26,22 +29,25 @@ pub(crate) fn judge_input<I: Source>(
     input: &mut I,
     catalogue: &Catalogue,
 ) -> Result<Checked, Refusal>
-    ensures { JudgesInput (I.left input.old) (I.faults input.old) (dims_of catalogue.now)
-        (I.left input.new) (I.faults input.new) result }
+    ensures judged { JudgesInput (I.left input.old) (I.faults input.old)
+        (dims_of (rows_of seen catalogue.now)) (I.left input.new) (I.faults input.new) result }
+    ensures collections { OnOk result (GivesCollections (rows_of seen catalogue.now)) }
+    ensures found { IfOk result (λ c. AreDimsOf (rows_of seen catalogue.now) c.rows) }
 {
     let bytes = match read_input(alloc, input) {
         Ok(bytes) => bytes,
         Err(refusal) => return Err(refusal),
     };
-    let dims = match catalogue.dims(alloc) {
+    let dims = match catalogue.dims() {
         Ok(dims) => dims,
         Err(_) => return Err(Refusal::OutOfMemory),
     };
+    collections_are_valid(catalogue, &dims);
     judge_bytes(alloc, &bytes, &dims)
 }
 
 /// The checked graph of the bytes, or the line of the least fault.
-fn judge_bytes(alloc: Global, bytes: &[u8], dims: &Dims) -> Result<Checked, Refusal>
+pub(crate) fn judge_bytes(alloc: Global, bytes: &[u8], dims: &Dims) -> Result<Checked, Refusal>
     ensures { JudgesBytes (plain_rows dims.now) bytes.now result }
 {
     match checked_graph(alloc, bytes, dims) {

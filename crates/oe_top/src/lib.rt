@@ -1,23 +1,24 @@
 //! The top call of the program.
 //!
-//! [`openeo`] takes the words of a command, the bytes of a process graph and a [`Catalogue`] of collections, and writes
-//! the text of what the graph means. It answers a status, and says on `err` in one line why a command did not finish.
-//! The table of statuses with the cause of each is the contract of [`openeo`] itself. So far it has the commands
-//! `check` and `plan`, and `run` over graphs of one `load_collection` node without extents, where the size of chunks and
-//! the number of workers have no effect yet.
+//! [`openeo`] takes the words of a command, the bytes of its input and a catalogue of collections, and writes what the
+//! command gives: of `run` the text of what a process graph means. It answers a status, and says on `err` in one line why
+//! a command did not finish. The table of statuses with the cause of each is the contract of [`openeo`] itself: a record
+//! for each command.
 #![tactic(auto)]
 
-mod catalogue;
 mod check;
 mod command;
-mod form;
+mod demo;
+mod evaluation;
 mod input;
 mod judge;
+mod line;
 mod output;
+mod pack;
 mod plan;
 mod refusal;
+mod repack;
 mod run;
 mod words;
 
-pub use catalogue::{Catalogue, MemoryCube};
 pub use command::openeo;

@@ -1,10 +1,10 @@
 // The command `plan`: from the input to the figures of its plan.
-ghost use Rattle.std.specs.Prelude.{◌≡◌, IfOk};
+ghost use Rattle.std.specs.Prelude.{◌≡◌, ℕ, List, Option, IfOk};
 ghost use Rattle.oe_plan.specs.Ranges.{IsWithinRanges};
+ghost use Rattle.oe_sources.specs.CatalogueRows.{rows_of};
 ghost use Rattle.oe_top.specs.Objects.{objects};
 ghost use Rattle.oe_top.specs.PlanAnswer.{PlanAnswers, figures_text, plan_text};
 
-use crate::Catalogue;
 use crate::judge::judge_input;
 use crate::output::write_line;
 use crate::refusal::Refusal;
@@ -13,6 +13,7 @@ use oe_memory::OutOfMemory;
 use oe_outside::{Sink, Source};
 use oe_plan::{PlanFigures, figures};
 use oe_shape::Checked;
+use oe_sources::Catalogue;
 use oe_window::ChunkSize;
 use std::alloc::Global;
 
@@ -27,9 +28,11 @@ pub(crate) fn plan<I: Source, O: Sink>(
     catalogue: &Catalogue,
 ) -> Result<(), Refusal>
     requires { IsWithinRanges size workers }
-    ensures { PlanAnswers size workers
-        (objects I.left I.faults O.written O.faults input.old out.old catalogue.now)
-        (objects I.left I.faults O.written O.faults input.new out.new catalogue.now) result }
+    ensures { (spool : Option (List ℕ)) (spool_faults : ℕ) → PlanAnswers size workers
+        (objects (I.left input.old) (I.faults input.old) (O.written out.old) (O.faults out.old)
+        spool spool_faults (rows_of seen catalogue.now))
+        (objects (I.left input.new) (I.faults input.new) (O.written out.new) (O.faults out.new)
+        spool spool_faults (rows_of seen catalogue.now)) result }
 {
     let checked = match judge_input(alloc, input, catalogue) {
         Ok(checked) => checked,

@@ -1,91 +1,92 @@
-// The command `run`: from the input to the text of what it means.
-ghost use Rattle.std.specs.Prelude.{◌≡◌, ◌<◌, [], length};
+// The command `run`: from the input to the text of what its graph means.
+ghost use Rattle.std.specs.Prelude.{◌≡◌, ℕ, List, Option, []};
+ghost use Rattle.oe_engine.specs.Laws.{GivesCollections};
+ghost use Rattle.oe_engine.specs.Runs.{chunk_total};
+ghost use Rattle.oe_plan.specs.Ranges.{IsWithinRanges};
+ghost use Rattle.oe_sources.specs.CatalogueDims.{AreDimsOf, dims_of};
+ghost use Rattle.oe_sources.specs.CatalogueRows.{rows_of};
+ghost use Rattle.oe_top.specs.Evaluated.{IsBegun};
 ghost use Rattle.oe_top.specs.Objects.{objects};
-ghost use Rattle.oe_top.specs.RunAnswer.{FindsRow, Loading, RunEnds};
+ghost use Rattle.oe_top.specs.RunAnswer.{Evaluates, RunAnswers};
 
-use crate::Catalogue;
-use crate::form::read_form;
-use crate::input::read_input;
+use crate::evaluation::{begin, complete, refusal_of_run, refusal_of_text};
+use crate::judge::judge_input;
+use crate::line::Line;
 use crate::refusal::Refusal;
-use oe_outside::{Pending, Sink, Source};
-use oe_render::write_text;
+use oe_engine::{Run, collections_are_mounted, over_is_of_the_result};
+use oe_outside::{Gate, Pending, Sink, Source, Store};
+use oe_plan::PlanFail;
+use oe_sources::{Catalogue, ids_are_valid};
+use oe_window::ChunkSize;
 use std::alloc::Global;
 
-/// Writes the text of what the input means. Chunks and workers have no part in it yet.
-pub fn run<I: Source, O: Sink>(
+/// Writes the text of what the graph of the input means over the collections of the catalogue. It is evaluated in
+/// chunks of a size, with so many workers; neither has any effect on the text.
+pub(crate) fn run<I: Source, O: Sink, P: Store, G: Gate>(
     alloc: Global,
+    sizes: (ChunkSize, u32),
     input: &mut I,
     out: &mut O,
     catalogue: &mut Catalogue,
+    spool: &mut P,
+    gate: &G,
 ) -> Result<(), Refusal>
-    ensures { RunEnds
-        (objects I.left I.faults O.written O.faults input.old out.old catalogue.old)
-        (objects I.left I.faults O.written O.faults input.new out.new catalogue.new) result }
+    requires { IsWithinRanges sizes.0 sizes.1 }
+    ensures { RunAnswers sizes.0 sizes.1
+        (objects (I.left input.old) (I.faults input.old) (O.written out.old) (O.faults out.old)
+        (P.bytes spool.old) (P.faults spool.old) (rows_of seen catalogue.old))
+        (objects (I.left input.new) (I.faults input.new) (O.written out.new) (O.faults out.new)
+        (P.bytes spool.new) (P.faults spool.new) (rows_of seen catalogue.new)) result }
 {
-    match find_row(alloc, input, catalogue) {
-        Ok(place) => load(alloc, catalogue, place, out),
-        Err(refusal) => Err(refusal),
-    }
-}
-
-/// The row of the catalogue that the input loads.
-fn find_row<I: Source>(
-    alloc: Global,
-    input: &mut I,
-    catalogue: &Catalogue,
-) -> Result<usize, Refusal>
-    ensures { FindsRow (I.left input.old) (I.faults input.old) catalogue.now
-        (I.left input.new) (I.faults input.new) result }
-{
-    let bytes = match read_input(alloc, input) {
-        Ok(bytes) => bytes,
+    let checked = match judge_input(alloc, input, catalogue) {
+        Ok(checked) => checked,
         Err(refusal) => return Err(refusal),
     };
-    let id = match read_form(alloc, &bytes) {
-        Ok(id) => id,
-        Err(refusal) => return Err(refusal),
-    };
-    match catalogue.place(id.as_str()) {
-        Some(place) => Ok(place),
-        None => Err(Refusal::NotBuilt),
+    let line = Line::new(alloc)?;
+    let mut pending = Pending::new(alloc)?;
+    match begin(alloc, checked, sizes.0, sizes.1) {
+        Ok((run, chunks)) => {
+            write_result(run, chunks, line, &mut pending, out, catalogue, spool, gate)
+        }
+        Err(PlanFail::TooLarge(cells)) => {
+            Err(Refusal::TooLarge(line.of_number(b"PlanTooLarge", cells)))
+        }
+        Err(PlanFail::OutOfMemory) => Err(Refusal::OutOfMemory),
     }
 }
 
-/// Writes the text of the collection of a row. The room for the text is taken before the collection is
-/// read.
-fn load<O: Sink>(
-    alloc: Global,
-    catalogue: &mut Catalogue,
-    place: usize,
-    out: &mut O,
-) -> Result<(), Refusal>
-    requires { place < length catalogue.old }
-    ensures { Loading place catalogue.old (O.written out.old) (O.faults out.old)
-        catalogue.new (O.written out.new) (O.faults out.new) result }
-{
-    match Pending::new(alloc) {
-        Ok(mut pending) => write_row(catalogue, place, &mut pending, out),
-        Err(_) => Err(Refusal::OutOfMemory),
-    }
-}
-
-/// Reads the collection of a row, and then writes its text through an empty buffer.
-fn write_row<O: Sink>(
-    catalogue: &mut Catalogue,
-    place: usize,
+/// Evaluates the graph of a run before its first round, which has so many chunks, and writes its text.
+fn write_result<O: Sink, P: Store, G: Gate>(
+    mut run: Run,
+    chunks: u64,
+    line: Line,
     pending: &mut Pending,
     out: &mut O,
+    catalogue: &mut Catalogue,
+    spool: &mut P,
+    gate: &G,
 ) -> Result<(), Refusal>
-    requires there { place < length catalogue.old }
-    requires empty { pending.old ≡ [] }
-    ensures { Loading place catalogue.old (O.written out.old) (O.faults out.old)
-        catalogue.new (O.written out.new) (O.faults out.new) result }
+    requires begun { IsBegun run }
+    requires chunks { chunks ≡ chunk_total run.plan }
+    requires empty { line ≡ [] }
+    requires rows { run.plan.graph.rows ≡ dims_of (rows_of seen catalogue.old) }
+    requires found { AreDimsOf (rows_of seen catalogue.old) run.plan.graph.rows }
+    requires collections { GivesCollections (rows_of seen catalogue.old) }
+    // whatever became of the input before
+    ensures { (input input_after : Option (List ℕ)) (faults faults_after : ℕ) → Evaluates run.plan
+        (objects input faults (O.written out.old) (O.faults out.old)
+        (P.bytes spool.old) (P.faults spool.old) (rows_of seen catalogue.old))
+        (objects input_after faults_after (O.written out.new) (O.faults out.new)
+        (P.bytes spool.new) (P.faults spool.new) (rows_of seen catalogue.new)) result }
 {
-    if catalogue.read(place).is_err() {
-        return Err(Refusal::ReadFault);
-    }
-    match write_text(catalogue.shape(place), catalogue.cells(place), pending, out) {
-        Ok(()) => Ok(()),
-        Err(_) => Err(Refusal::WriteFault),
+    collections_are_mounted();
+    over_is_of_the_result();
+    ids_are_valid(catalogue);
+    match complete(&mut run, chunks, catalogue, spool, gate) {
+        Ok(()) => match run.render(spool, out, pending) {
+            Ok(()) => Ok(()),
+            Err(fail) => Err(refusal_of_text(line, fail)),
+        },
+        Err(fail) => Err(refusal_of_run(line, run.checked(), fail)),
     }
 }

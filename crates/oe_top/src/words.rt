@@ -4,18 +4,35 @@ ghost use Rattle.oe_window.specs.declared.grid.ChunkSize.{ChunkSize as Size};
 ghost use Rattle.oe_top.specs.Words.{AreNumbers, AreSides, IsCommand, IsNumberWord, Spells};
 
 use itoa::Buffer;
-use oe_dims::Text;
+use oe_dims::{Text, is_name};
 use oe_window::ChunkSize;
 
 /// What the words ask for: one variant a command.
 #[derive(Clone, Copy, Debug, PartialEq, Eq)]
 pub enum Command {
     /// To evaluate the graph of the input, in chunks of this size, with 1 to 64 workers.
-    Run { size: ChunkSize, workers: u32 },
+    Run {
+        size: ChunkSize,
+        workers: u32,
+    },
     /// To say how many cells such a run holds at most, and how many chunks it has.
-    Plan { size: ChunkSize, workers: u32 },
+    Plan {
+        size: ChunkSize,
+        workers: u32,
+    },
+    /// To evaluate a graph over the generated collection of a seed and a side in pixels.
+    Demo {
+        seed: u32,
+        side: u32,
+        size: ChunkSize,
+        workers: u32,
+    },
     /// To look for a fault of the graph of the input.
     Check,
+    /// To write the cube file of the result text of the input, under the id of the second word.
+    Pack,
+    /// To write the cube file of the mounted collection of the id of the second word.
+    Repack,
 }
 
 /// The command that the words spell, `None` exactly where they spell none.
@@ -24,34 +41,79 @@ pub fn read_command(words: &[Text]) -> Option<Command>
     ensures none { IfNone result (¬ IsCommand words.now) }
 {
     match words {
+        [verb] => read_alone(verb),
+        [verb, id] => read_with_id(verb, id),
         [verb, cx, cy, ct, workers] => read_numbered(verb, cx, cy, ct, workers),
-        [verb] => {
-            if is_check(verb) {
-                Some(Command::Check)
-            } else {
-                None
-            }
+        [verb, seed, side, cx, cy, ct, workers] => {
+            read_demo(verb, seed, side, cx, cy, ct, workers)
         }
         _ => None,
     }
 }
 
-fn is_check(verb: &Text) -> bool
-    ensures { IsTrue result ↔ verb.now ≡ codes "check" }
+/// The command of one word.
+fn read_alone(verb: &Text) -> Option<Command>
+    ensures some { IfSome result (Spells (verb.now ∷ [])) }
+    ensures none { IfNone result (¬ IsCommand (verb.now ∷ [])) }
 {
-    verb.as_str() == "check"
+    if is_word(verb, "check") {
+        Some(Command::Check)
+    } else {
+        None
+    }
 }
 
-fn is_run(verb: &Text) -> bool
-    ensures { IsTrue result ↔ verb.now ≡ codes "run" }
+/// The command of a verb and an id.
+fn read_with_id(verb: &Text, id: &Text) -> Option<Command>
+    ensures some { IfSome result (Spells (verb.now ∷ id.now ∷ [])) }
+    ensures none { IfNone result (¬ IsCommand (verb.now ∷ id.now ∷ [])) }
 {
-    verb.as_str() == "run"
+    if !is_name(id.as_str()) {
+        return None;
+    }
+    if is_word(verb, "pack") {
+        return Some(Command::Pack);
+    }
+    if is_word(verb, "repack") {
+        return Some(Command::Repack);
+    }
+    None
 }
 
-fn is_plan(verb: &Text) -> bool
-    ensures { IsTrue result ↔ verb.now ≡ codes "plan" }
+/// The command `demo` with its numbers.
+fn read_demo(
+    verb: &Text,
+    seed: &Text,
+    side: &Text,
+    cx: &Text,
+    cy: &Text,
+    ct: &Text,
+    workers: &Text,
+) -> Option<Command>
+    ensures some { IfSome result (Spells (verb.now ∷ seed.now ∷ side.now ∷ cx.now ∷ cy.now
+        ∷ ct.now ∷ workers.now ∷ [])) }
+    ensures none { IfNone result (¬ IsCommand (verb.now ∷ seed.now ∷ side.now ∷ cx.now ∷ cy.now
+        ∷ ct.now ∷ workers.now ∷ [])) }
 {
-    verb.as_str() == "plan"
+    if !is_word(verb, "demo") {
+        return None;
+    }
+    let seed = read_number(seed, 0, 1000000000)?;
+    let side = read_number(side, 1, 1024)?;
+    let (size, workers) = read_numbers(cx, cy, ct, workers)?;
+    Some(Command::Demo {
+        seed,
+        side,
+        size,
+        workers,
+    })
+}
+
+/// The word is these letters.
+fn is_word(word: &Text, letters: &str) -> bool
+    ensures { IsTrue result ↔ word.now ≡ letters.now }
+{
+    word.as_str() == letters
 }
 
 /// The command of a verb, the sides of a chunk and a number of workers, `None` exactly where they spell none.
@@ -62,10 +124,10 @@ fn read_numbered(verb: &Text, cx: &Text, cy: &Text, ct: &Text, workers: &Text) -
         (¬ IsCommand (verb.now ∷ cx.now ∷ cy.now ∷ ct.now ∷ workers.now ∷ [])) }
 {
     let (size, workers) = read_numbers(cx, cy, ct, workers)?;
-    if is_run(verb) {
+    if is_word(verb, "run") {
         return Some(Command::Run { size, workers });
     }
-    if is_plan(verb) {
+    if is_word(verb, "plan") {
         return Some(Command::Plan { size, workers });
     }
     None

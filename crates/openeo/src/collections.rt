@@ -1,52 +1,126 @@
-// The collections that the program has.
-ghost use Rattle.std.specs.Prelude.{◌≡◌, [], ◌∷◌, IfOk};
-ghost use Rattle.openeo.specs.One.{row_one};
+// The cube files of the folder `collections`.
+ghost use Rattle.std.specs.Prelude.{◌↔◌, ◌⊎◌, IfErr, IsOk, codes};
+ghost use Rattle.openeo.specs.Ends.{IsSetupFault};
 
-use crate::fault::{Fault, Part};
-use oe_cell::{Cell, Frac};
-use oe_dims::{CellKind, Shape, Text};
-use oe_top::{Catalogue, MemoryCube};
+use crate::fault::Fault;
+use crate::files::FileStore;
+use crate::streams::read_again;
+use oe_dims::Text;
+use oe_sources::{FileSource, MountFail, OpenFail};
 use std::alloc::Global;
+use std::fs::{File, Files};
+use std::io::{ErrorKind, Read};
+use std::os::unix::fs::FileExt;
 
-/// 2024-01-01T00:00:00Z.
-const NEW_YEAR_2024: i64 = 1704067200;
+/// The folder's name, by which a file is named whose own name is not UTF-8.
+const FOLDER: &[u8] = b"collections";
 
-/// The EPSG code of longitudes and latitudes.
-const WGS_84: u32 = 4326;
-
-/// A catalogue of the one collection `ONE`: a single cell 7 on 2024-01-01, in band B1, at y 0 and x 0.
-pub fn mount_collections(alloc: Global) -> Result<Catalogue, Fault>
-    ensures { IfOk result (λ catalogue. catalogue ≡ row_one ∷ []) }
+/// The names in the folder that end in `.cube`, in byte order; none where there is no such folder.
+///
+/// Refuses: the set-up fault of the folder where it could not be read; out of memory.
+pub fn cube_files<R: Files>(alloc: Global, files: &R) -> Result<Vec<Vec<u8>>, Fault>
+    ensures { IfErr result (IsSetupFault (codes "collections")) }
 {
-    let mut catalogue = Catalogue::new(alloc);
-    let one = collection_one(alloc)?;
-    catalogue.mount(Text::of(alloc, "ONE")?, one)?;
-    Ok(catalogue)
+    let mut folder = match files.open_dir("collections/") {
+        Ok(folder) => folder,
+        Err(error) => {
+            if error.kind() == ErrorKind::NotFound {
+                return Ok(Vec::new(alloc));
+            }
+            return Err(Fault::of_error(alloc, &error, FOLDER));
+        }
+    };
+    let mut names = cube_names(alloc, &read_names(alloc, &mut folder)?)?;
+    names.sort()?;
+    Ok(names)
 }
 
-fn collection_one(alloc: Global) -> Result<MemoryCube, Fault>
-    ensures { IfOk result (λ cube. cube ≡ row_one.source) }
+/// The names that a folder reads as, each ended by a zero byte.
+fn read_names<D: Read>(alloc: Global, folder: &mut D) -> Result<Vec<u8>, Fault>
+    ensures { IfErr result (IsSetupFault (codes "collections")) }
 {
-    let Some(seven) = Frac::new(7, 1) else {
-        return Err(Fault::Setup(Part::Collections));
-    };
-    let t = list(alloc, NEW_YEAR_2024)?;
-    let bands = list(alloc, Text::of(alloc, "B1")?)?;
-    let y = list(alloc, 0i64)?;
-    let x = list(alloc, 0i64)?;
-    let cells = list(alloc, Cell::Number(seven))?;
-    match Shape::new(WGS_84, Some(t), Some(bands), Some(y), Some(x)) {
-        Ok(shape) => Ok(MemoryCube::new(shape, CellKind::Numbers, cells, Vec::new(alloc))),
-        Err(_) => Err(Fault::Setup(Part::Collections)),
+    let mut names = Vec::new(alloc);
+    // A name has up to 255 bytes, and no read ends inside one.
+    let mut buffer = [0u8; 4096];
+    for _ in 0..u64::MAX {
+        let Some(count) = read_again(folder, &mut buffer) else {
+            return Err(Fault::setup(alloc, FOLDER));
+        };
+        if count == 0 {
+            return Ok(names);
+        }
+        names.extend_from_slice(&buffer[..count])?;
+    }
+    Err(Fault::setup(alloc, FOLDER))
+}
+
+/// Those of the names that end in `.cube`.
+fn cube_names(alloc: Global, names: &[u8]) -> Result<Vec<Vec<u8>>, Fault>
+    ensures { IfErr result (IsSetupFault (codes "collections")) }
+{
+    let mut found = Vec::new(alloc);
+    let mut start = 0;
+    for end in 0..names.len() {
+        if names[end] == 0 {
+            let name = &names[start..end];
+            if name.ends_with(b".cube") {
+                push(&mut found, Vec::from_slice(alloc, name)?)?;
+            }
+            start = end + 1;
+        }
+    }
+    Ok(found)
+}
+
+fn push(names: &mut Vec<Vec<u8>>, name: Vec<u8>) -> Result<(), Fault>
+    ensures { IfErr result (IsSetupFault (codes "collections")) }
+{
+    match names.push(name) {
+        Ok(()) => Ok(()),
+        Err(_) => Err(Fault::OutOfMemory),
     }
 }
 
-fn list<T: Drop>(alloc: Global, item: T) -> Result<Vec<T>, Fault>
-    ensures { IfOk result (λ list. list.items ≡ item ∷ []) }
+/// The id that a cube file of the folder has, and the file as a collection.
+///
+/// Refuses: the set-up fault of the file where it could not be opened or is no cube file, and that of the folder where
+/// its name is not UTF-8; out of memory.
+pub fn open_collection<R: Files>(
+    alloc: Global,
+    files: &R,
+    name: &[u8],
+) -> Result<(Text, FileSource<FileStore<R::File>>), Fault>
+where
+    R::File: FileExt,
+    ensures { IfErr result (λ fault. IsSetupFault name.now fault
+        ⊎ IsSetupFault (codes "collections") fault) }
 {
-    let mut list = Vec::new(alloc);
-    match list.push(item) {
-        Ok(()) => Ok(list),
-        Err(_) => Err(Fault::OutOfMemory),
+    let Ok(text) = std::str::from_utf8(name) else {
+        return Err(Fault::setup(alloc, FOLDER));
+    };
+    let path = format!(in alloc; "collections/{text}")?;
+    let file = match File::open(files, path.as_str()) {
+        Ok(file) => file,
+        Err(error) => return Err(Fault::of_error(alloc, &error, name)),
+    };
+    match FileSource::open(alloc, FileStore::new(file)) {
+        Ok(source) => Ok((Text::of(alloc, source.id().as_str())?, source)),
+        Err(OpenFail::OutOfMemory(_)) => Err(Fault::OutOfMemory),
+        Err(OpenFail::Failed(_)) => Err(Fault::setup(alloc, name)),
+        Err(OpenFail::Invalid(_)) => Err(Fault::setup(alloc, name)),
+    }
+}
+
+/// What mounting the collection of a file came to.
+///
+/// Refuses: the set-up fault of the file where the id was taken or 64 collections are mounted; out of memory.
+pub fn mounted(alloc: Global, name: &[u8], outcome: Result<(), MountFail>) -> Result<(), Fault>
+    ensures mounted { IsOk result ↔ IsOk outcome }
+    ensures refused { IfErr result (IsSetupFault name.now) }
+{
+    match outcome {
+        Ok(()) => Ok(()),
+        Err(MountFail::OutOfMemory(_)) => Err(Fault::OutOfMemory),
+        Err(_) => Err(Fault::setup(alloc, name)),
     }
 }

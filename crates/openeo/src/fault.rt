@@ -1,21 +1,17 @@
 // Why the program ended before its command began.
-ghost use Rattle.std.specs.Prelude.{◌≡◌};
-ghost use Rattle.openeo.specs.Ends.{fault_line, fault_status};
+ghost use Rattle.std.specs.Prelude.{◌≡◌, IfOk};
+ghost use Rattle.openeo.specs.Ends.{IsSetupFault, fault_line, fault_status, setup_line};
+ghost use Rattle.openeo.specs.declared.fault.Fault.TheVariants as variant;
 
 use oe_memory::OutOfMemory;
-
-/// What the program sets up before its command.
-#[derive(Clone, Copy, Debug, PartialEq, Eq)]
-pub enum Part {
-    /// The mounted collections.
-    Collections,
-}
+use std::alloc::{AllocError, Global};
+use std::io::{Error, ErrorKind};
 
 /// A fault of the program's own.
-#[derive(Clone, Copy, Debug, PartialEq, Eq)]
+#[derive(Debug, Drop)]
 pub enum Fault {
-    /// What the program needs could not be opened, made, read or mounted.
-    Setup(Part),
+    /// What the program needs could not be opened, made, read or mounted, and this is the line that names it.
+    Setup(Vec<u8>),
     /// Standard output could not be written.
     Write,
     /// An allocation was refused.
@@ -23,9 +19,31 @@ pub enum Fault {
 }
 
 impl Fault {
+    /// That a file could not be set up, by its name within its folder; out of memory where its line takes more than
+    /// there is.
+    pub fn setup(alloc: Global, name: &[u8]) -> Fault
+        ensures { IsSetupFault name.now result }
+    {
+        match spell_setup(alloc, name) {
+            Ok(line) => Fault::Setup(line),
+            Err(_) => Fault::OutOfMemory,
+        }
+    }
+
+    /// That the system refused a file: out of memory where that is the cause.
+    pub fn of_error(alloc: Global, error: &Error, name: &[u8]) -> Fault
+        ensures { IsSetupFault name.now result }
+    {
+        if error.kind() == ErrorKind::OutOfMemory {
+            Fault::OutOfMemory
+        } else {
+            Fault::setup(alloc, name)
+        }
+    }
+
     /// The exit status: 14, 8 or 9.
-    pub fn status(self) -> u8
-        ensures { result ≡ fault_status self }
+    pub fn status(&self) -> u8
+        ensures { result ≡ fault_status self.now }
     {
         match self {
             Fault::Setup(_) => 14,
@@ -35,19 +53,40 @@ impl Fault {
     }
 
     /// The line that goes to standard error, with its line feed.
-    pub fn line(self) -> &'static [u8]
-        ensures { result.now ≡ fault_line self }
+    pub fn line(&self) -> &[u8]
+        ensures { result.now ≡ fault_line self.now }
     {
         match self {
-            Fault::Setup(Part::Collections) => b"openeo: Setup collections\n",
+            Fault::Setup(line) => line.as_slice(),
             Fault::Write => b"openeo: WriteFault\n",
             Fault::OutOfMemory => b"openeo: OutOfMemory\n",
         }
     }
 }
 
+/// The line of a file that could not be set up.
+fn spell_setup(alloc: Global, name: &[u8]) -> Result<Vec<u8>, AllocError>
+    ensures { IfOk result (λ line. line.items ≡ setup_line name.now) }
+{
+    let mut line = Vec::new(alloc);
+    line.extend_from_slice(b"openeo: Setup ")?;
+    line.extend_from_slice(name)?;
+    line.push(b'\n')?;
+    Ok(line)
+}
+
 impl From<OutOfMemory> for Fault {
+    ghost from_gives = { λ _ e. e ≡ variant.OutOfMemory };
+
     fn from(_error: OutOfMemory) -> Fault {
+        Fault::OutOfMemory
+    }
+}
+
+impl From<AllocError> for Fault {
+    ghost from_gives = { λ _ e. e ≡ variant.OutOfMemory };
+
+    fn from(_error: AllocError) -> Fault {
         Fault::OutOfMemory
     }
 }

@@ -1,6 +1,6 @@
 // What `--help` and `--version` print.
 ghost use Rattle.std.specs.Prelude.{◌≡◌, ◌↔◌, ◌⊎◌, IsSome, codes};
-ghost use Rattle.openeo.specs.Ends.{AsksForText};
+ghost use Rattle.openeo.specs.Ends.{AsksForText, IsTextWord, IsVerb};
 
 use oe_dims::Text;
 
@@ -8,44 +8,126 @@ const HELP: &str = "\
 openeo: an openEO back end whose answers are exact
 
 Usage:
-  openeo run CX CY CT W    read a process graph from standard input and write its result text
-  openeo check             read a process graph and write 'valid', or say which fault stands in it
-  openeo plan CX CY CT W   read a process graph and write how many cells a run holds at most, and its chunks
-  openeo --help            print this text
-  openeo --version         print the version
+  openeo run CX CY CT W            read a process graph and write its result text
+  openeo check                     read a process graph and write 'valid', or say which fault stands in it
+  openeo plan CX CY CT W           read a process graph and write how many cells a run holds at most, and its chunks
+  openeo demo SEED SIDE CX CY CT W evaluate a graph over a generated collection and write its first and last cell
+  openeo pack ID                   read a result text and write it as a cube file
+  openeo repack ID                 write the cube file of a collection, as short as it can be
+  openeo --help                    print this text; after a command, the text about that command
+  openeo --version                 print the version
 
-CX, CY and CT are the sides of a chunk along x, y and t, from 1 to 4096; W is the number of workers, from 1 to 64.
-They have no effect on the result.
+Graphs and texts are read from standard input, and what a command gives goes to standard output.
 
-The graph of a run is one load_collection node without extents, as
-  {\"process_graph\":{\"a\":{\"process_id\":\"load_collection\",\"arguments\":
-    {\"id\":\"ONE\",\"spatial_extent\":null,\"temporal_extent\":null},\"result\":true}}}
+CX, CY, CT  the sides of a chunk along x, y and t, from 1 to 4096
+W           the number of workers, from 1 to 64; neither these nor the sides have an effect on the result
+SEED, SIDE  what a generated collection is made from, from 0 to 1000000000, and its pixels a side, from 1 to 1024
+ID          the id of a collection: 1 to 64 letters, digits, '_', '-' and '.'
 
-Exit status: 0 the whole text was written; 1 Usage, the words are no command; 2 NotBuilt, the graph of a run is of
-another form, or CODE NODE, the least fault of a graph that was checked or planned; 5 ReadFault; 8 WriteFault;
-9 OutOfMemory; 14 Setup. The line that names it goes to standard error.
+Collections are the files collections/*.cube below the working directory, 64 at most; each is loaded by the id that
+stands in the file. A file openeo.spool is made beside that folder, where runs keep their cells.
+
+Exit status, and the line on standard error:
+  0   the whole text was written
+  1   Usage: the words are no command
+  2   CODE NODE: the least fault of a graph; CubeTextInvalid: the input of pack; CollectionNotFound: the id of repack
+  3   PlanTooLarge CELLS: a run would hold more than 67108864 cells; try smaller chunks or extents
+  4   NumberOverflow POSITION: a number of the result is out of range
+  5   ReadFault: the input or a collection could not be read
+  6   SourceDamaged ID POSITION: this position of the collection is damaged
+  7   SpoolFault: openeo.spool could not be read or written
+  8   WriteFault: standard output could not be written
+  9   OutOfMemory: an allocation was refused
+  14  Setup NAME: this file could not be opened, made or mounted
+  15  SpoolDamaged POSITION: openeo.spool gave back what was not written
+";
+
+const RUN: &str = "\
+openeo run CX CY CT W < GRAPH
+
+Reads a process graph from standard input, evaluates it over the files collections/*.cube and writes its result text.
+CX, CY and CT are the sides of a chunk along x, y and t, from 1 to 4096, and W is the number of workers, from 1 to 64.
+They decide how much memory a run takes, and have no effect on the text.
+Exit status: 0, 1 Usage, 2 CODE NODE, 3 PlanTooLarge, 4 NumberOverflow, 5 ReadFault, 6 SourceDamaged, 7 SpoolFault,
+8 WriteFault, 9 OutOfMemory, 14 Setup, 15 SpoolDamaged.
+";
+
+const CHECK: &str = "\
+openeo check < GRAPH
+
+Reads a process graph from standard input and writes 'valid', or says which fault stands in it. No collection is read.
+Exit status: 0, 1 Usage, 2 CODE NODE, 5 ReadFault, 8 WriteFault, 9 OutOfMemory, 14 Setup.
+";
+
+const PLAN: &str = "\
+openeo plan CX CY CT W < GRAPH
+
+Reads a process graph from standard input and writes 'bound B chunks N': a run with these words holds at most B cells
+at once, and has N chunks. The words are those of run. No collection is read.
+Exit status: 0, 1 Usage, 2 CODE NODE, 5 ReadFault, 8 WriteFault, 9 OutOfMemory, 14 Setup.
+";
+
+const DEMO: &str = "\
+openeo demo SEED SIDE CX CY CT W
+
+Evaluates a kernel of 3 x 3 ones and the greatest cell of the bands over a collection that is generated from SEED, 0 to
+1000000000, with SIDE pixels a side, 1 to 1024. It writes 'cells N first A last B'. The other words are those of run.
+Exit status: 0, 1 Usage, 3 PlanTooLarge, 4 NumberOverflow, 7 SpoolFault, 8 WriteFault, 9 OutOfMemory, 14 Setup,
+15 SpoolDamaged.
+";
+
+const PACK: &str = "\
+openeo pack ID < TEXT > collections/ID.cube
+
+Reads a result text from standard input and writes it as a cube file of the collection ID: 1 to 64 letters, digits, '_',
+'-' and '.'. The file may have any name that ends in .cube.
+Exit status: 0, 1 Usage, 2 CubeTextInvalid, 5 ReadFault, 8 WriteFault, 9 OutOfMemory, 14 Setup.
+";
+
+const REPACK: &str = "\
+openeo repack ID > FILE
+
+Writes the cube file of the mounted collection ID in the least widths that hold its cells.
+Exit status: 0, 1 Usage, 2 CollectionNotFound, 5 ReadFault, 6 SourceDamaged, 8 WriteFault, 9 OutOfMemory, 14 Setup.
 ";
 
 const VERSION: &str = "openeo 0.1.0 (openEO API 1.2)\n";
 
-/// The text that the words ask for, if they ask for one.
+/// The text that the words ask for, if they ask for one: `--help` or `--version`, alone or after the word of a command.
 pub fn text_of(words: &[Text]) -> Option<&'static str>
     ensures { IsSome result ↔ AsksForText words.now }
 {
     match words {
-        [word] => text_of_word(word.as_str()),
+        [word] => text_of_word(word.as_str(), HELP),
+        [verb, word] => text_of_word(word.as_str(), help_of(verb.as_str())?),
         _ => None,
     }
 }
 
-fn text_of_word(word: &str) -> Option<&'static str>
-    ensures { IsSome result ↔ ((word.now ≡ codes "--help") ⊎ (word.now ≡ codes "--version")) }
+/// The version, or this help.
+fn text_of_word(word: &str, help: &'static str) -> Option<&'static str>
+    ensures { IsSome result ↔ IsTextWord word.now }
 {
     if word == "--help" {
-        Some(HELP)
+        Some(help)
     } else if word == "--version" {
         Some(VERSION)
     } else {
         None
+    }
+}
+
+/// The text about one command, by its word.
+fn help_of(verb: &str) -> Option<&'static str>
+    ensures { IsSome result ↔ IsVerb verb.now }
+{
+    match verb {
+        "run" => Some(RUN),
+        "check" => Some(CHECK),
+        "plan" => Some(PLAN),
+        "demo" => Some(DEMO),
+        "pack" => Some(PACK),
+        "repack" => Some(REPACK),
+        _ => None,
     }
 }

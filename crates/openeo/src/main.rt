@@ -1,45 +1,69 @@
 //! The program `openeo`: an openEO back end over exact datacubes.
 //!
-//! `main` makes a text of each word and hands these with standard input, output and error to [`program::run`], which
-//! prints a text about the program, or mounts the collections and calls `oe_top`, whose answer is the exit status. The
-//! bytes that pass the adapters are hidden, so over them the causes by fault counters hold; what the top call writes
-//! is its own contract.
+//! `main` makes a text of each word and prints a text about the program where they ask for one. Else it sets up what a
+//! command works on, the cube files of the folder `collections` and the file `openeo.spool`, and calls `oe_top`, whose
+//! answer is the exit status. The boxed collections are made in `main` itself; all else runs over traits, so that tests
+//! can make it fail. The bytes that pass the adapters are hidden, so over them the causes by fault counters hold; what
+//! the top call writes is its own contract.
 #![tactic(auto)]
 
 mod collections;
+#[cfg(test)]
+mod fake;
 mod fault;
+mod files;
 mod help;
 mod program;
+mod spool;
 mod streams;
 #[cfg(test)]
 mod tests;
 mod words;
 
+use collections::{mounted, open_collection};
 use fault::Fault;
-use oe_dims::Text;
-use std::alloc::Global;
-use std::io::{Stderr, Stdin, Stdout};
+use oe_outside::NoGate;
+use oe_sources::Catalogue;
+use program::{end, set_up};
+use spool::open_spool;
 use std::process::ExitCode;
 use streams::{Reader, Writer};
 
 fn main(rt: HostRuntime) -> ExitCode {
-    let words = words::of_process(&rt);
-    ExitCode::from(run(rt.alloc(), words, rt.stdin(), rt.stdout(), rt.stderr()))
-}
-
-/// Runs the program over the streams of the process, each of which has its own type.
-fn run(
-    alloc: Global,
-    words: Result<Vec<Text>, Fault>,
-    input: Stdin,
-    out: Stdout,
-    err: Stderr,
-) -> u8 {
-    program::run(
-        alloc,
-        words,
-        &mut Reader::new(input),
-        &mut Writer::new(out),
-        &mut Writer::new(err),
-    )
+    let alloc = rt.alloc();
+    let mut out = Writer::new(rt.stdout());
+    let mut err = Writer::new(rt.stderr());
+    let start = match set_up(alloc, &rt, words::of_process(&rt), &mut out) {
+        Ok(Some(start)) => start,
+        Ok(None) => return ExitCode::SUCCESS,
+        Err(fault) => return ExitCode::from(end(&fault, &mut err)),
+    };
+    let mut catalogue = Catalogue::new(alloc);
+    for index in 0..start.names.len() {
+        let name = start.names[index].as_slice();
+        let outcome = match open_collection(alloc, &rt, name) {
+            Ok((id, source)) => match Box::new(alloc, source) {
+                Ok(cube) => mounted(alloc, name, catalogue.mount(id.as_str(), cube)),
+                Err(_) => Err(Fault::OutOfMemory),
+            },
+            Err(fault) => Err(fault),
+        };
+        if let Err(fault) = outcome {
+            return ExitCode::from(end(&fault, &mut err));
+        }
+    }
+    let mut input = Reader::new(rt.stdin());
+    match open_spool(alloc, &rt) {
+        Ok(mut spool) => ExitCode::from(oe_top::openeo(
+            alloc,
+            &start.words,
+            &mut input,
+            &mut out,
+            &mut err,
+            &mut catalogue,
+            &mut spool,
+            &NoGate,
+        )),
+        Err(fault) => ExitCode::from(end(&fault, &mut err)),
+    }
 }

@@ -1,59 +1,67 @@
-// The program over any streams.
-ghost use Rattle.std.specs.Prelude.{◌≡◌, IfErr};
+// What the program does before its command, over any files and streams.
+ghost use Rattle.std.specs.Prelude.{◌≡◌, ◌↔◌, IfErr, IfOk, IsErrOf, IsNone};
 ghost use Rattle.oe_top.specs.Lines.{error_output};
-ghost use Rattle.openeo.specs.Ends.{Ends};
+ghost use Rattle.openeo.specs.Ends.{AsksForText, Ends};
 
-use crate::collections::mount_collections;
+use crate::collections::cube_files;
 use crate::fault::Fault;
 use crate::help::text_of;
+use crate::streams::hold_standard;
 use oe_dims::Text;
-use oe_outside::{Sink, Source};
+use oe_outside::Sink;
 use std::alloc::Global;
+use std::fs::Files;
 
-/// Runs the program with these words, where they could be had, and answers the exit status. A fault of the program's
-/// own is one line on `err`.
-pub fn run<I: Source, O: Sink, E: Sink>(
+/// What a command starts from: its words, the names of the cube files to mount, and three files that stand in for
+/// standard streams that are closed.
+#[derive(Drop)]
+pub struct Start<F> {
+    pub words: Vec<Text>,
+    pub names: Vec<Vec<u8>>,
+    _standard: [F; 3],
+}
+
+/// Prints the text that the words ask for, and answers `None`; else looks for what a command works on.
+///
+/// Refuses: as the words were; as [`hold_standard`] and [`cube_files`] do; `Write` only where the output failed.
+pub fn set_up<R: Files, O: Sink>(
     alloc: Global,
+    files: &R,
     words: Result<Vec<Text>, Fault>,
-    input: &mut I,
     out: &mut O,
-    err: &mut E,
-) -> u8
-    ensures { IfErr words (λ fault. Ends fault result
-        (error_output E.written E.faults err.old err.new)) }
+) -> Result<Option<Start<R::File>>, Fault>
+    ensures asked { IfOk words (λ w. IfOk result (λ start. IsNone start ↔ AsksForText w.items)) }
+    ensures refused { IfErr words (λ fault. IsErrOf result fault) }
 {
-    match words {
-        Ok(words) => match start(alloc, &words, input, out, err) {
-            Ok(status) => status,
-            Err(fault) => end(fault, err),
-        },
-        Err(fault) => end(fault, err),
+    let words = words?;
+    if let Some(text) = text_of(&words) {
+        print(text, out)?;
+        return Ok(None);
     }
+    let standard = hold_standard(alloc, files)?;
+    let names = cube_files(alloc, files)?;
+    Ok(Some(Start {
+        words,
+        names,
+        _standard: standard,
+    }))
 }
 
 /// Says why the program ended, and answers its exit status.
-fn end<E: Sink>(fault: Fault, err: &mut E) -> u8
-    ensures { Ends fault result (error_output E.written E.faults err.old err.new) }
+pub fn end<E: Sink>(fault: &Fault, err: &mut E) -> u8
+    ensures { Ends fault.now result (error_output E.written E.faults err.old err.new) }
 {
     // Where the line can't be written, the status alone tells.
     let _ = err.write(fault.line());
     fault.status()
 }
 
-/// Prints the text that the words ask for, or hands them to the top call.
-fn start<I: Source, O: Sink, E: Sink>(
-    alloc: Global,
-    words: &[Text],
-    input: &mut I,
-    out: &mut O,
-    err: &mut E,
-) -> Result<u8, Fault> {
-    if let Some(text) = text_of(words) {
-        return match out.write(text.as_bytes()) {
-            Ok(()) => Ok(0),
-            Err(_) => Err(Fault::Write),
-        };
+/// Prints a text about the program.
+///
+/// Refuses: `Write` only where the output failed.
+fn print<O: Sink>(text: &str, out: &mut O) -> Result<(), Fault> {
+    match out.write(text.as_bytes()) {
+        Ok(()) => Ok(()),
+        Err(_) => Err(Fault::Write),
     }
-    let mut catalogue = mount_collections(alloc)?;
-    Ok(oe_top::openeo(alloc, words, input, out, err, &mut catalogue))
 }

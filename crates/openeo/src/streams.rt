@@ -1,7 +1,11 @@
 // The streams of the process as the top call sees them. The bytes that pass are hidden.
-ghost use Rattle.std.specs.Prelude.{◌≡◌, ◌≤◌, length, None, IfSome};
+ghost use Rattle.std.specs.Prelude.{◌≡◌, ◌≤◌, length, None, IfErr, IfSome, codes};
+ghost use Rattle.openeo.specs.Ends.{IsSetupFault};
 
+use crate::fault::Fault;
 use oe_outside::{Failed, Sink, Source};
+use std::alloc::Global;
+use std::fs::{File, Files};
 use std::io::{ErrorKind, Read, Write};
 
 /// A reader of the system with its fault counter.
@@ -38,7 +42,7 @@ impl<R: Read> Source for Reader<R> {
 }
 
 /// Reads until no signal interrupts it, `None` where that fails.
-fn read_again<R: Read>(from: &mut R, into: &mut [u8]) -> Option<usize>
+pub(crate) fn read_again<R: Read>(from: &mut R, into: &mut [u8]) -> Option<usize>
     ensures { IfSome result (λ count. count ≤ length into.old) }
 {
     for _ in 0..u64::MAX {
@@ -87,10 +91,32 @@ impl<W: Write> Sink for Writer<W> {
     }
 }
 
+/// Three files that can be read as empty and cannot be written. While they are open, no other file is taken for a
+/// standard input, output or error that the process was started without: the system gives the lowest free number.
+///
+/// Refuses: the set-up fault of `/dev/null` where it could not be opened; out of memory.
+pub fn hold_standard<R: Files>(alloc: Global, files: &R) -> Result<[R::File; 3], Fault>
+    ensures { IfErr result (IsSetupFault (codes "/dev/null")) }
+{
+    Ok([
+        open_empty(alloc, files)?,
+        open_empty(alloc, files)?,
+        open_empty(alloc, files)?,
+    ])
+}
+
+fn open_empty<R: Files>(alloc: Global, files: &R) -> Result<R::File, Fault>
+    ensures { IfErr result (IsSetupFault (codes "/dev/null")) }
+{
+    match File::open(files, "/dev/null") {
+        Ok(file) => Ok(file),
+        Err(error) => Err(Fault::of_error(alloc, &error, b"/dev/null")),
+    }
+}
+
 #[cfg(test)]
 mod tests {
     use super::*;
-    use std::alloc::Global;
     use std::io::Error;
     use std::test::Fail;
 

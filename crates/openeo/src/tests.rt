@@ -1,87 +1,263 @@
-// The program over streams that fail.
-use crate::fault::{Fault, Part};
-use crate::program::run;
+// What the program says about itself, and what it sets up, over files that stumble.
+use crate::collections::{cube_files, mounted, open_collection};
+use crate::fake::{FakeFile, FakeFiles};
+use crate::fault::Fault;
+use crate::files::FileStore;
+use crate::help::text_of;
+use crate::program::{end, set_up};
+use crate::spool::open_spool;
+use crate::streams::hold_standard;
 use oe_dims::Text;
-use oe_outside::{MemorySink, MemorySource};
+use oe_outside::MemorySink;
+use oe_sources::{Catalogue, FileSource};
 use std::alloc::Global;
+use std::io::ErrorKind;
+use std::process::Abort;
 use std::test::Fail;
 
-const HELP: &str = "\
-openeo: an openEO back end whose answers are exact
+/// The cube file of a single null without dimensions, under the id `A`.
+const FILE: &[u8] =
+    b"OEOCUBE2\0\0\0\x38{\"id\":\"A\",\"cells\":\"number\",\"widths\":[1],\"dimensions\":[]}\0";
 
-Usage:
-  openeo run CX CY CT W    read a process graph from standard input and write its result text
-  openeo check             read a process graph and write 'valid', or say which fault stands in it
-  openeo plan CX CY CT W   read a process graph and write how many cells a run holds at most, and its chunks
-  openeo --help            print this text
-  openeo --version         print the version
-
-CX, CY and CT are the sides of a chunk along x, y and t, from 1 to 4096; W is the number of workers, from 1 to 64.
-They have no effect on the result.
-
-The graph of a run is one load_collection node without extents, as
-  {\"process_graph\":{\"a\":{\"process_id\":\"load_collection\",\"arguments\":
-    {\"id\":\"ONE\",\"spatial_extent\":null,\"temporal_extent\":null},\"result\":true}}}
-
-Exit status: 0 the whole text was written; 1 Usage, the words are no command; 2 NotBuilt, the graph of a run is of
-another form, or CODE NODE, the least fault of a graph that was checked or planned; 5 ReadFault; 8 WriteFault;
-9 OutOfMemory; 14 Setup. The line that names it goes to standard error.
-";
-
-/// What a run of the program left.
-#[derive(Drop)]
-struct Ran {
-    status: u8,
-    out: MemorySink,
-    err: MemorySink,
-}
-
-/// Runs the program on the one word and no input, where this write of the output fails.
-fn run_on(alloc: Global, words: Result<Vec<Text>, Fault>, failing: u64) -> Result<Ran, Fail> {
-    let mut numbers = Vec::new(alloc);
-    numbers.push(failing)?;
-    let mut input = MemorySource::new(Vec::new(alloc), Vec::new(alloc))?;
-    let mut out = MemorySink::new(alloc, 4096, numbers)?;
-    let mut err = MemorySink::new(alloc, 64, Vec::new(alloc))?;
-    let status = run(alloc, words, &mut input, &mut out, &mut err);
-    Ok(Ran { status, out, err })
-}
-
-fn word(alloc: Global, text: &str) -> Result<Result<Vec<Text>, Fault>, Fail> {
-    let mut words = Vec::new(alloc);
-    words.push(Text::of(alloc, text)?)?;
-    Ok(Ok(words))
-}
-
-// The texts about the program, whole, and each line of a fault of its own, by hand. A fault never ends with 0.
-#[test]
-fn prints_each_text_once(rt: HostRuntime) -> Result<(), Fail> {
-    let alloc = rt.alloc();
-    for (asked, failing, status, printed, said) in [
-        ("--help", 9, 0, HELP, ""),
-        ("--version", 9, 0, "openeo 0.1.0 (openEO API 1.2)\n", ""),
-        ("--version", 0, 8, "openeo 0.1.0 (o", "openeo: WriteFault\n"),
-        ("", 9, 1, "", "openeo: Usage\n"),
-        ("check", 9, 2, "", "openeo: GraphUnreadable\n"),
-    ] {
-        let ran = run_on(alloc, word(alloc, asked)?, failing)?;
-        assert_eq!(rt; ran.status, status, "{asked} {failing}");
-        assert_eq!(rt; ran.out.bytes(), printed.as_bytes(), "{asked} {failing}");
-        assert_eq!(rt; ran.err.bytes(), said.as_bytes(), "{asked} {failing}");
+/// A working directory whose folder has these files, each the cube file above.
+fn with_names(alloc: Global, names: &'static [u8]) -> FakeFiles {
+    FakeFiles {
+        alloc,
+        names,
+        end: None,
+        bytes: FILE,
+        folder: None,
+        file: None,
     }
-    for (fault, status, said) in [
+}
+
+fn words_of(alloc: Global, texts: &[&str]) -> Result<Vec<Text>, Fail> {
+    let mut words = Vec::new(alloc);
+    for index in 0..texts.len() {
+        words.push(Text::of(alloc, texts[index])?)?;
+    }
+    Ok(words)
+}
+
+/// The status of a fault and its line as they leave the program, 0 and nothing where there is none.
+fn ending<T: Drop>(alloc: Global, outcome: Result<T, Fault>) -> Result<(u8, Vec<u8>), Fail> {
+    let mut err = MemorySink::new(alloc, 64, Vec::new(alloc))?;
+    let status = match outcome {
+        Ok(_) => 0,
+        Err(fault) => end(&fault, &mut err),
+    };
+    Ok((status, Vec::from_slice(alloc, err.bytes())?))
+}
+
+fn assert_ends<T: Drop>(
+    rt: &impl Abort,
+    alloc: Global,
+    outcome: Result<T, Fault>,
+    status: u8,
+    line: &str,
+) -> Result<(), Fail> {
+    let (ended, said) = ending(alloc, outcome)?;
+    assert_eq!(rt; ended, status, "{line}");
+    assert_eq!(rt; said.as_slice(), line.as_bytes(), "{line}");
+    Ok(())
+}
+
+fn assert_no_text(rt: &impl Abort, alloc: Global, words: &[&str]) -> Result<(), Fail> {
+    assert_eq!(rt; text_of(&words_of(alloc, words)?), None);
+    Ok(())
+}
+
+// Each text is asked for alone or behind the word of a command, and nothing else asks for one.
+#[test]
+fn prints_the_texts_that_are_asked_for(rt: HostRuntime) -> Result<(), Fail> {
+    let alloc = rt.alloc();
+    for (verb, first) in [
+        ("run", "openeo run CX CY CT W < GRAPH\n"),
+        ("check", "openeo check < GRAPH\n"),
+        ("plan", "openeo plan CX CY CT W < GRAPH\n"),
+        ("demo", "openeo demo SEED SIDE CX CY CT W\n"),
+        ("pack", "openeo pack ID < TEXT > collections/ID.cube\n"),
+        ("repack", "openeo repack ID > FILE\n"),
+    ] {
+        let Some(text) = text_of(&words_of(alloc, &[verb, "--help"])?) else {
+            return Err(Fail::from("no text"));
+        };
+        assert!(rt; text.starts_with(first), "{verb}");
+        let version = text_of(&words_of(alloc, &[verb, "--version"])?);
+        assert_eq!(rt; version, Some("openeo 0.1.0 (openEO API 1.2)\n"), "{verb}");
+        let whole = text_of(&words_of(alloc, &["--help"])?);
+        assert!(rt;
+            matches!(whole, Some(text) if text.contains(verb)),
+            "{verb}"
+        );
+    }
+    assert_no_text(&rt, alloc, &["--help", "run"])?;
+    assert_no_text(&rt, alloc, &["halp", "--help"])?;
+    assert_no_text(&rt, alloc, &["run", "--help", "--help"])?;
+    assert_no_text(&rt, alloc, &[""])?;
+    assert_no_text(&rt, alloc, &[])?;
+    Ok(())
+}
+
+// A text is printed whether or not there is anything to set up; one that could not be written is a fault.
+#[test]
+fn prints_before_it_sets_up(rt: HostRuntime) -> Result<(), Fail> {
+    let alloc = rt.alloc();
+    let mut files = with_names(alloc, b"a.cube\0");
+    files.folder = Some(ErrorKind::PermissionDenied);
+    for (word, failing, status, line) in [
+        ("--version", 9, 0, ""),
+        ("--version", 0, 8, "openeo: WriteFault\n"),
+        ("check", 9, 14, "openeo: Setup collections\n"),
+    ] {
+        let mut numbers = Vec::new(alloc);
+        numbers.push(failing)?;
+        let mut out = MemorySink::new(alloc, 64, numbers)?;
+        let words = words_of(alloc, &[word])?;
+        assert_ends(
+            &rt,
+            alloc,
+            set_up(alloc, &files, Ok(words), &mut out),
+            status,
+            line,
+        )?;
+    }
+    let mut out = MemorySink::new(alloc, 64, Vec::new(alloc))?;
+    let unread = set_up(alloc, &files, Err(Fault::OutOfMemory), &mut out);
+    assert_ends(&rt, alloc, unread, 9, "openeo: OutOfMemory\n")?;
+    Ok(())
+}
+
+// Files that end in `.cube`, in byte order; none where there is no folder.
+#[test]
+fn lists_cube_files(rt: HostRuntime) -> Result<(), Fail> {
+    let alloc = rt.alloc();
+    let names = b".\0b.cube\0..\0a.cube\0readme\0a.cubes\0\xff.cube\0B.cube\0";
+    let found = cube_files(alloc, &with_names(alloc, names))?;
+    let expected = [b"B.cube".as_slice(), b"a.cube", b"b.cube", b"\xff.cube"];
+    assert_eq!(rt; found.len(), expected.len());
+    for index in 0..expected.len() {
+        assert_eq!(rt; found[index].as_slice(), expected[index]);
+    }
+    Ok(())
+}
+
+// A folder that could not be read is named; want of memory is not laid on it.
+#[test]
+fn names_the_folder(rt: HostRuntime) -> Result<(), Fail> {
+    let alloc = rt.alloc();
+    for (error, status, line) in [
+        (ErrorKind::NotFound, 0, ""),
         (
-            Fault::Setup(Part::Collections),
+            ErrorKind::PermissionDenied,
             14,
             "openeo: Setup collections\n",
         ),
-        (Fault::Write, 8, "openeo: WriteFault\n"),
-        (Fault::OutOfMemory, 9, "openeo: OutOfMemory\n"),
+        (ErrorKind::OutOfMemory, 9, "openeo: OutOfMemory\n"),
     ] {
-        let ran = run_on(alloc, Err(fault), 9)?;
-        assert_eq!(rt; ran.status, status, "{said}");
-        assert_eq!(rt; ran.out.bytes().len(), 0, "{said}");
-        assert_eq!(rt; ran.err.bytes(), said.as_bytes(), "{said}");
+        let mut files = with_names(alloc, b"a.cube\0");
+        files.folder = Some(error);
+        assert_ends(&rt, alloc, cube_files(alloc, &files), status, line)?;
+    }
+    let mut files = with_names(alloc, b"a.cube\0");
+    files.end = Some(ErrorKind::Other);
+    assert_ends(
+        &rt,
+        alloc,
+        cube_files(alloc, &files),
+        14,
+        "openeo: Setup collections\n",
+    )?;
+    Ok(())
+}
+
+// A file that could not be opened or is no cube file is named within its folder, and the folder where it has no name
+// that could be printed.
+#[test]
+fn names_the_file(rt: HostRuntime) -> Result<(), Fail> {
+    let alloc = rt.alloc();
+    for (error, status, line) in [
+        (None, 0, ""),
+        (Some(ErrorKind::NotFound), 14, "openeo: Setup a.cube\n"),
+        (Some(ErrorKind::OutOfMemory), 9, "openeo: OutOfMemory\n"),
+    ] {
+        let mut files = with_names(alloc, b"a.cube\0");
+        files.file = error;
+        assert_ends(
+            &rt,
+            alloc,
+            open_collection(alloc, &files, b"a.cube"),
+            status,
+            line,
+        )?;
+    }
+    let mut files = with_names(alloc, b"a.cube\0");
+    let unnamed = open_collection(alloc, &files, b"\xff.cube");
+    assert_ends(&rt, alloc, unnamed, 14, "openeo: Setup collections\n")?;
+    files.bytes = &FILE[1..];
+    assert_ends(
+        &rt,
+        alloc,
+        open_collection(alloc, &files, b"a.cube"),
+        14,
+        "openeo: Setup a.cube\n",
+    )?;
+    Ok(())
+}
+
+// The other files by their names.
+#[test]
+fn names_the_spool(rt: HostRuntime) -> Result<(), Fail> {
+    let alloc = rt.alloc();
+    let mut files = with_names(alloc, b"");
+    assert_ends(&rt, alloc, open_spool(alloc, &files), 0, "")?;
+    files.file = Some(ErrorKind::PermissionDenied);
+    assert_ends(
+        &rt,
+        alloc,
+        open_spool(alloc, &files),
+        14,
+        "openeo: Setup openeo.spool\n",
+    )?;
+    assert_ends(
+        &rt,
+        alloc,
+        hold_standard(alloc, &files),
+        14,
+        "openeo: Setup /dev/null\n",
+    )?;
+    files.file = Some(ErrorKind::OutOfMemory);
+    assert_ends(
+        &rt,
+        alloc,
+        open_spool(alloc, &files),
+        9,
+        "openeo: OutOfMemory\n",
+    )?;
+    Ok(())
+}
+
+/// The cube file, opened.
+fn opened(alloc: Global) -> Result<FileSource<FileStore<FakeFile>>, Fail> {
+    let (_id, source) = open_collection(alloc, &with_names(alloc, b"a.cube\0"), b"a.cube")?;
+    Ok(source)
+}
+
+// An id that is taken and a 65th collection are faults of the file that has them.
+#[test]
+fn names_the_file_that_is_one_too_many(rt: HostRuntime) -> Result<(), Fail> {
+    let alloc = rt.alloc();
+    let mut catalogue = Catalogue::new(alloc);
+    for number in 0..64 {
+        let cube = Box::new(alloc, opened(alloc)?)?;
+        let id = Text::of(alloc, format!(in alloc; "C{number}")?.as_str())?;
+        let outcome = mounted(alloc, b"b.cube", catalogue.mount(id.as_str(), cube));
+        assert_ends(&rt, alloc, outcome, 0, "")?;
+    }
+    for id in ["C63", "D"] {
+        let cube = Box::new(alloc, opened(alloc)?)?;
+        let outcome = mounted(alloc, b"c.cube", catalogue.mount(id, cube));
+        assert_ends(&rt, alloc, outcome, 14, "openeo: Setup c.cube\n")?;
     }
     Ok(())
 }

@@ -1,18 +1,18 @@
 use Rattle.std.proofs.Common.{refl}
-use Rattle.oe_top.proofs.Answered.{run_refused, run_loaded}
-use Rattle.oe_top.specs.Objects.{objects}
+use Rattle.oe_outside.proofs.Causes.{NeverFalls-refl}
+use Rattle.oe_top.proofs.Runs.{run_evaluated, run_too_large}
 use Rattle.oe_top.proofs.run.run.Goals as goal
 
-pub returns-in-Ok : goal.returns-in-Ok
-returns-in-Ok g c =
-    run_loaded
-    (objects g.I.Source.left g.I.Source.faults g.O.Sink.written g.O.Sink.faults c.args.input.now c.args.out.now c.args.catalogue.now)
-    (objects g.I.Source.left g.I.Source.faults g.O.Sink.written g.O.Sink.faults c.find_row.new.input c.load.new.out c.load.new.catalogue)
-    c.in-Ok.place c.load.result c.in-Ok.ensures c.load.ensures
+pub returns-in-Ok-begin : goal.returns-in-Ok-begin
+returns-in-Ok-begin g c =
+    run_evaluated c.args.sizes.0 c.args.sizes.1 _ _ c.in-Ok.checked c.in-Ok.ensures.judged.ends c.in-Ok-begin.run'.plan
+    c.in-Ok-begin.ensures.plan c.write_result.result (c.write_result.ensures _ _ _ _) c.in-Ok.ensures.judged.taken
+    c.in-Ok.ensures.judged.count
 
-pub returns-in-Err : goal.returns-in-Err
-returns-in-Err g c =
-    run_refused
-    (objects g.I.Source.left g.I.Source.faults g.O.Sink.written g.O.Sink.faults c.args.input.now c.args.out.now c.args.catalogue.now)
-    (objects g.I.Source.left g.I.Source.faults g.O.Sink.written g.O.Sink.faults c.find_row.new.input c.args.out.now c.args.catalogue.now)
-    c.in-Err.refusal (record { out = refl; out_faults = refl; collections = refl }) c.in-Err.ensures
+pub returns-in-Err-TooLarge : goal.returns-in-Err-TooLarge
+returns-in-Err-TooLarge g c =
+    run_too_large c.args.sizes.0 c.args.sizes.1 _ _ c.in-Ok.checked c.in-Ok.ensures.judged.ends c.in-Err-TooLarge.cells c.of_number.result
+    (c.in-Err-TooLarge.ensures.too_large c.in-Err-TooLarge.cells (let same = c.in-Err-TooLarge.field-0-is in cc))
+    (rw c.in-Err-TooLarge.field-0-is at c.of_number.ensures)
+    (record { out = refl; out_faults = refl; spool = refl; spool_faults = refl; collections = refl })
+    c.in-Ok.ensures.judged.taken c.in-Ok.ensures.judged.count (NeverFalls-refl _) (NeverFalls-refl _)

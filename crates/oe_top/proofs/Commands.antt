@@ -1,0 +1,105 @@
+-- Words spell one command alone.
+use Rattle.std.proofs.Common.{◌≡◌, ℕ, ◌^◌, ◌<◌, List, [], ◌∷◌, get_or, refl, sym, ap, ◌∙◌, codes, arith}
+use Rattle.oe_top.proofs.Numbers.{one_number}
+use Rattle.oe_top.specs.Words.{AreNumbers, IsNumberWord, Spells, SpellsDemo, SpellsId, SpellsNumbers}
+use Rattle.oe_top.specs.declared.words.Command.{Command}
+use Rattle.oe_top.specs.declared.words.Command.TheVariants.{Run, Plan, Demo, Check, Pack, Repack}
+use Rattle.oe_window.specs.declared.grid.ChunkSize.{ChunkSize}
+
+-- ---- the verb of a command
+
+abbrev verb_of : Command → List ℕ
+verb_of (Run size workers) = codes "run"
+verb_of (Plan size workers) = codes "plan"
+verb_of (Demo seed side size workers) = codes "demo"
+verb_of Check = codes "check"
+verb_of Pack = codes "pack"
+verb_of Repack = codes "repack"
+
+-- it is the first word
+begins : (words : List (List ℕ)) (command : Command) → Spells words command → get_or words 0 [] ≡ verb_of command
+begins words (Run size workers) spells = ap (λ w. get_or w 0 []) spells.words_are
+begins words (Plan size workers) spells = ap (λ w. get_or w 0 []) spells.words_are
+begins words (Demo seed side size workers) spells = ap (λ w. get_or w 0 []) spells.words_are
+begins words Check is = ap (λ w. get_or w 0 []) is
+begins words Pack spells = ap (λ w. get_or w 0 []) spells.words_are
+begins words Repack spells = ap (λ w. get_or w 0 []) spells.words_are
+
+-- so words that spell two commands have one verb
+one_verb : (words : List (List ℕ)) (a b : Command) → Spells words a → Spells words b → verb_of a ≡ verb_of b
+one_verb words a b first second = sym (begins words a first) ∙ begins words b second
+
+-- ---- the numbers of a command
+
+-- the words of two spellings of one number are the same
+pub same_word : (first second : List (List ℕ)) (n : ℕ) → first ≡ second → get_or first n [] ≡ get_or second n []
+same_word first second n same = ap (λ words. get_or words n []) same
+
+-- words that spell the sides of two chunks and two numbers of workers spell the same ones
+one_run : (verb : List ℕ) (words : List (List ℕ)) (size other : ChunkSize) (workers number : ℕ)
+    → SpellsNumbers verb words size workers → SpellsNumbers verb words other number
+    → ◌≡◌ {A = ChunkSize × ℕ} (size, workers) (other, number)
+one_run verb words size other workers number one two =
+    let same : verb ∷ one.cx ∷ one.cy ∷ one.ct ∷ one.w ∷ [] ≡ verb ∷ two.cx ∷ two.cy ∷ two.ct ∷ two.w ∷ [] =
+    sym one.words_are ∙ two.words_are in
+    let x : size.x ≡ other.x = one_number one.cx two.cx (omega arith) (same_word _ _ 1 same) one.numbers.0.x two.numbers.0.x in
+    let y : size.y ≡ other.y = one_number one.cy two.cy (omega arith) (same_word _ _ 2 same) one.numbers.0.y two.numbers.0.y in
+    let t : size.t ≡ other.t = one_number one.ct two.ct (omega arith) (same_word _ _ 3 same) one.numbers.0.t two.numbers.0.t in
+    let n : workers ≡ number = one_number one.w two.w (omega arith) (same_word _ _ 4 same) one.numbers.1 two.numbers.1 in
+    rw (x, y, t, n) refl
+
+-- and so of a demonstration
+one_demo : (words : List (List ℕ)) (seed seed2 side side2 : ℕ) (size other : ChunkSize) (workers number : ℕ)
+    → SpellsDemo words seed side size workers → SpellsDemo words seed2 side2 other number
+    → Demo seed side size workers ≡ Demo seed2 side2 other number
+one_demo words seed seed2 side side2 size other workers number one two =
+    let same : codes "demo" ∷ one.seed_word ∷ one.side_word ∷ one.cx ∷ one.cy ∷ one.ct ∷ one.w ∷ []
+    ≡ codes "demo" ∷ two.seed_word ∷ two.side_word ∷ two.cx ∷ two.cy ∷ two.ct ∷ two.w ∷ [] =
+    sym one.words_are ∙ two.words_are in
+    let s : seed ≡ seed2 = one_number one.seed_word two.seed_word (omega arith) (same_word _ _ 1 same) one.seed_is two.seed_is in
+    let d : side ≡ side2 = one_number one.side_word two.side_word (omega arith) (same_word _ _ 2 same) one.side_is two.side_is in
+    let x : size.x ≡ other.x = one_number one.cx two.cx (omega arith) (same_word _ _ 3 same) one.numbers.0.x two.numbers.0.x in
+    let y : size.y ≡ other.y = one_number one.cy two.cy (omega arith) (same_word _ _ 4 same) one.numbers.0.y two.numbers.0.y in
+    let t : size.t ≡ other.t = one_number one.ct two.ct (omega arith) (same_word _ _ 5 same) one.numbers.0.t two.numbers.0.t in
+    let n : workers ≡ number = one_number one.w two.w (omega arith) (same_word _ _ 6 same) one.numbers.1 two.numbers.1 in
+    rw (s, d, x, y, t, n) refl
+
+-- ---- the command
+
+pub one_command : (words : List (List ℕ)) (a b : Command) → Spells words a → Spells words b → a ≡ b
+one_command words (Run s n) (Run t m) one two = ap (λ (p : ChunkSize × ℕ). Run p.0 p.1) (one_run (codes "run") words s t n m one two)
+one_command words (Run s n) (Plan t m) one two = let same : verb_of (Run s n) ≡ verb_of (Plan t m) = one_verb words (Run s n) (Plan t m) one two in cc
+one_command words (Run s n) (Demo l e t m) one two = let same : verb_of (Run s n) ≡ verb_of (Demo l e t m) = one_verb words (Run s n) (Demo l e t m) one two in cc
+one_command words (Run s n) Check one two = let same : verb_of (Run s n) ≡ verb_of Check = one_verb words (Run s n) Check one two in cc
+one_command words (Run s n) Pack one two = let same : verb_of (Run s n) ≡ verb_of Pack = one_verb words (Run s n) Pack one two in cc
+one_command words (Run s n) Repack one two = let same : verb_of (Run s n) ≡ verb_of Repack = one_verb words (Run s n) Repack one two in cc
+one_command words (Plan s n) (Run t m) one two = let same : verb_of (Plan s n) ≡ verb_of (Run t m) = one_verb words (Plan s n) (Run t m) one two in cc
+one_command words (Plan s n) (Plan t m) one two = ap (λ (p : ChunkSize × ℕ). Plan p.0 p.1) (one_run (codes "plan") words s t n m one two)
+one_command words (Plan s n) (Demo l e t m) one two = let same : verb_of (Plan s n) ≡ verb_of (Demo l e t m) = one_verb words (Plan s n) (Demo l e t m) one two in cc
+one_command words (Plan s n) Check one two = let same : verb_of (Plan s n) ≡ verb_of Check = one_verb words (Plan s n) Check one two in cc
+one_command words (Plan s n) Pack one two = let same : verb_of (Plan s n) ≡ verb_of Pack = one_verb words (Plan s n) Pack one two in cc
+one_command words (Plan s n) Repack one two = let same : verb_of (Plan s n) ≡ verb_of Repack = one_verb words (Plan s n) Repack one two in cc
+one_command words (Demo k d s n) (Run t m) one two = let same : verb_of (Demo k d s n) ≡ verb_of (Run t m) = one_verb words (Demo k d s n) (Run t m) one two in cc
+one_command words (Demo k d s n) (Plan t m) one two = let same : verb_of (Demo k d s n) ≡ verb_of (Plan t m) = one_verb words (Demo k d s n) (Plan t m) one two in cc
+one_command words (Demo k d s n) (Demo l e t m) one two = one_demo words k l d e s t n m one two
+one_command words (Demo k d s n) Check one two = let same : verb_of (Demo k d s n) ≡ verb_of Check = one_verb words (Demo k d s n) Check one two in cc
+one_command words (Demo k d s n) Pack one two = let same : verb_of (Demo k d s n) ≡ verb_of Pack = one_verb words (Demo k d s n) Pack one two in cc
+one_command words (Demo k d s n) Repack one two = let same : verb_of (Demo k d s n) ≡ verb_of Repack = one_verb words (Demo k d s n) Repack one two in cc
+one_command words Check (Run t m) one two = let same : verb_of Check ≡ verb_of (Run t m) = one_verb words Check (Run t m) one two in cc
+one_command words Check (Plan t m) one two = let same : verb_of Check ≡ verb_of (Plan t m) = one_verb words Check (Plan t m) one two in cc
+one_command words Check (Demo l e t m) one two = let same : verb_of Check ≡ verb_of (Demo l e t m) = one_verb words Check (Demo l e t m) one two in cc
+one_command words Check Check one two = refl
+one_command words Check Pack one two = let same : verb_of Check ≡ verb_of Pack = one_verb words Check Pack one two in cc
+one_command words Check Repack one two = let same : verb_of Check ≡ verb_of Repack = one_verb words Check Repack one two in cc
+one_command words Pack (Run t m) one two = let same : verb_of Pack ≡ verb_of (Run t m) = one_verb words Pack (Run t m) one two in cc
+one_command words Pack (Plan t m) one two = let same : verb_of Pack ≡ verb_of (Plan t m) = one_verb words Pack (Plan t m) one two in cc
+one_command words Pack (Demo l e t m) one two = let same : verb_of Pack ≡ verb_of (Demo l e t m) = one_verb words Pack (Demo l e t m) one two in cc
+one_command words Pack Check one two = let same : verb_of Pack ≡ verb_of Check = one_verb words Pack Check one two in cc
+one_command words Pack Pack one two = refl
+one_command words Pack Repack one two = let same : verb_of Pack ≡ verb_of Repack = one_verb words Pack Repack one two in cc
+one_command words Repack (Run t m) one two = let same : verb_of Repack ≡ verb_of (Run t m) = one_verb words Repack (Run t m) one two in cc
+one_command words Repack (Plan t m) one two = let same : verb_of Repack ≡ verb_of (Plan t m) = one_verb words Repack (Plan t m) one two in cc
+one_command words Repack (Demo l e t m) one two = let same : verb_of Repack ≡ verb_of (Demo l e t m) = one_verb words Repack (Demo l e t m) one two in cc
+one_command words Repack Check one two = let same : verb_of Repack ≡ verb_of Check = one_verb words Repack Check one two in cc
+one_command words Repack Pack one two = let same : verb_of Repack ≡ verb_of Pack = one_verb words Repack Pack one two in cc
+one_command words Repack Repack one two = refl

@@ -1,0 +1,418 @@
+-- How the evaluation of the demonstration ends, by what its rounds left and by what was written of its figures.
+use Rattle.std.proofs.Common.{◌≡◌, ◌≢◌, ℕ, zero, suc, ◌+◌, ◌-◌, ◌*◌, ◌<◌, ◌≤◌, Bool, true, false, List, length, take, drop, get_or, Option, Some, None, IfSome, Result, Ok, Err, refl, sym, ap, ◌∙◌, subst, arith, inl, inr, codes, Vec}
+use Rattle.std.specs.declared.alloc.Global.{Global}
+use Rattle.std.specs.List.{Contains}
+use Rattle.std.specs.Option.{IsSome}
+use Rattle.std.proofs.lemmas.List.{get_or_past}
+use Rattle.oe_cell.specs.Cells.{IsCell}
+use Rattle.oe_cell.specs.Record.{record_of}
+use Rattle.oe_cell.specs.declared.cell.Cell.{Cell}
+use Rattle.oe_cell.specs.declared.cell.Cell.TheVariants.{Empty, Over}
+use Rattle.oe_cell.proofs.RecordLemmas.{length-record_of, same_from_record}
+use Rattle.oe_dims.specs.Cube.{Cube, IsCube}
+use Rattle.oe_dims.specs.Dimensions.{cell_count}
+use Rattle.oe_dims.specs.Positions.{IsPosition, Position}
+use Rattle.oe_dims.proofs.CubeLemmas.{position_there}
+use Rattle.oe_engine.specs.Laws.{BeginAndEnd, GivesCollections, LoadsVisible}
+use Rattle.oe_engine.specs.Rounds.{KeepsDamage}
+use Rattle.oe_engine.specs.Runs.{HasDone, HasRecords, IsHiddenDamage, RunOf, ShowsDone, chunk_total, chunks_from, result_cube, result_shape}
+use Rattle.oe_engine.specs.declared.rounds.RunFail.{RunFail}
+use Rattle.oe_engine.specs.declared.rounds.RunFail.TheVariants as run
+use Rattle.oe_engine.proofs.GridLemmas.{all_inside}
+use Rattle.oe_engine.proofs.RenderLemmas.{result_shape_is, result_whole}
+use Rattle.oe_outside.specs.Faults.{HasCauseOf, NeverFalls}
+use Rattle.oe_outside.specs.Stored.{HoldsAt, StoreHolds}
+use Rattle.oe_outside.specs.Visible.{Appends, AppendsPrefix}
+use Rattle.oe_outside.proofs.Causes.{NeverFalls-refl, NeverFalls-trans, then-Rose}
+use Rattle.oe_outside.proofs.Stores.{HoldsAt-inside}
+use Rattle.oe_plan.specs.Figures.{bound_of, most_cells}
+use Rattle.oe_plan.specs.Plans.{IsPlan, PlanOf}
+use Rattle.oe_window.specs.declared.grid.ChunkSize.{ChunkSize}
+use Rattle.oe_render.specs.declared.rendering.RenderFail.{RenderFail}
+use Rattle.oe_render.specs.declared.rendering.RenderFail.TheVariants as text
+use Rattle.oe_shape.specs.Checked.{CheckedGraph}
+use Rattle.oe_shape.specs.Graphs.{Collections}
+use Rattle.oe_shape.specs.Laws.{AreCollectionsOf}
+use Rattle.oe_sources.specs.Catalogue.{Row, demonstration, source_at}
+use Rattle.oe_sources.specs.CatalogueDims.{dims_of}
+use Rattle.oe_spool.specs.Spooled.{HoldsRecord, IsInSome}
+use Rattle.oe_spool.proofs.CubeRecords.{cells_counted}
+use Rattle.oe_top.specs.DemoAnswer.{DemoAnswers, DemoEnds, Demonstrates, FiguresEnd, IsDemo, IsDemonstrated, IsDemonstration}
+use Rattle.oe_top.specs.Demonstration.{HasSpooled, IsSpooled, demo_graph, demo_text, figures_text}
+use Rattle.oe_top.specs.Evaluated.{CanBeNamed, Completes, IsPlanOf, IsRefusalOfRun, IsRefusalOfText, IsVisible, result_of}
+use Rattle.oe_top.specs.Judged.{IsCheckedText}
+use Rattle.oe_top.specs.Lines.{number_line}
+use Rattle.oe_top.specs.Objects.{Objects, objects}
+use Rattle.oe_top.specs.Written.{WriteEnds, Writes}
+use Rattle.oe_top.specs.declared.refusal.Refusal.{Refusal}
+use Rattle.oe_top.specs.declared.refusal.Refusal.TheVariants.{Usage, Graph, NoCubeText, NotMounted, TooLarge, Overflow, ReadFault, Damaged, SpoolFault, WriteFault, OutOfMemory, SpoolDamaged}
+use Rattle.oe_top.proofs.Evaluations.{of_meaning, over_is}
+use Rattle.oe_top.proofs.Inputs.{sizes}
+
+-- ---- one record
+
+-- records that stand at one offset are the same
+same_record : (all : List ℕ) (at : ℕ) (a b : List ℕ) → length a ≡ length b → HoldsAt all at a → HoldsAt all at b → a ≡ b
+same_record all at a b long first second = sym first ∙ ap (λ n. take n (drop at all)) long ∙ second
+
+at_front : (all : List ℕ) (number : ℕ) (c : Cell) → HoldsRecord (Some all) 0 number c → HoldsAt all (17 * number) (record_of c)
+at_front all number c held = let same : 0 + 17 * number ≡ 17 * number = omega arith in subst (λ n. HoldsAt all n (record_of c)) same held
+
+not_some : (c : Cell) → ◌≡◌ {A = Option Cell} None (Some c) → ⊥
+not_some c e = cc
+
+-- what was read is no record of a number only where the bytes are hidden
+pub unread : (store : Option (List ℕ)) (count number : ℕ) (read : List ℕ) → HasSpooled store count number → number < count
+    → length read ≡ 17 → StoreHolds store (17 * number) read
+    → ((c : Cell) → IsCell c → c ≢ Over → record_of c ≡ read → ◌≡◌ {A = Option Cell} None (Some c)) → store ≡ None
+unread None count number read has below long held none = refl
+unread (Some all) count number read (c, is) below long held none =
+    let same = same_record all (17 * number) (record_of c) read (length-record_of c ∙ sym long) (at_front all number c (is.held below)) held in
+    absurd (not_some c (none c is.valid is.numbered same))
+
+-- and there are too few bytes only there
+pub too_short : (store : Option (List ℕ)) (count number : ℕ) (whole : Bool) → HasSpooled store count number → number < count
+    → whole ≡ false → IfSome store (λ all. 17 * number + 17 ≤ length all → whole ≡ true) → store ≡ None
+too_short None count number whole has below no_whole short = refl
+too_short (Some all) count number whole (c, is) below no_whole short =
+    let long = length-record_of c in
+    let inside = HoldsAt-inside all (17 * number) (record_of c) (at_front all number c (is.held below)) (omega (arith, long)) in
+    let all_there : whole ≡ true = short (omega (arith, inside, long)) in
+    cc (no_whole, all_there)
+
+-- ---- the records of a run that is done
+
+module _ (r : RunOf) (is : IsPlan r.plan) (complete : r.done ≡ chunk_total r.plan) (front : r.base ≡ 0) where
+  in_chunks : (q : Position) → IsPosition (result_shape r.plan) q → IsInSome (chunks_from r.plan 0 r.done) q
+  in_chunks q h = subst (λ n. IsInSome (chunks_from r.plan 0 n) q) (sym complete) (all_inside r.plan is q h)
+
+  -- each number has a cell in the spool
+  pub spooled : (store : Option (List ℕ)) → r.over ≡ None → HasRecords r store → (number : ℕ)
+      → HasSpooled store (cell_count (result_shape r.plan)) number
+  spooled store numbers records number = elim (sizes (cell_count (result_shape r.plan)) number) [
+    | inl past ↦ (Empty, record { valid = tt; numbered = λ e. cc; held = λ below. absurd (omega (arith, past, below)); missing = λ more. refl })
+    | inr below ↦
+        let found = position_there (result_shape r.plan) number below in
+        let some = records found.0 (in_chunks found.0 found.1.inside) in (
+          some.cell,
+          record {
+            valid = some.valid;
+            numbered = some.numbered numbers;
+            held = λ less. subst (λ base. HoldsRecord store base number some.cell) front
+                (subst (λ n. HoldsRecord store r.base n some.cell) found.1.number_is some.held);
+            missing = λ past. absurd (omega (arith, past, below));
+          },
+        )
+  ]
+
+  -- which is that of the cube whose records stand there
+  module _ (cube : Cube Cell) (of_shape : cube.shape ≡ result_shape r.plan) (whole : IsCube cube) (bytes : List ℕ)
+      (done : HasDone r (Some bytes) cube) where
+    abbrev cells_all : ℕ
+    cells_all = cell_count (result_shape r.plan)
+
+    counted : length cube.cells ≡ cells_all
+    counted = cells_counted cube whole ∙ ap cell_count of_shape
+
+    same_cell : (number : ℕ) (c : Cell) → IsSpooled (Some bytes) cells_all number c → c ≡ get_or cube.cells number Empty
+    same_cell number c here = elim (sizes cells_all number) [
+      | inl past ↦ here.missing past ∙ sym (get_or_past cube.cells number Empty (let many = counted in omega (arith, many, past)))
+      | inr below ↦
+          let shaped = ap cell_count of_shape in
+          let found = position_there cube.shape number (omega (arith, shaped, below)) in
+          let inside = in_chunks found.0 (subst (λ d. IsPosition d found.0) of_shape found.1.inside) in
+          let cell = get_or cube.cells number Empty in
+          let valid : IsCell cell = subst (λ n. IsCell (get_or cube.cells n Empty)) found.1.number_is (done.valid found.0 inside) in
+          let held : HoldsRecord (Some bytes) 0 number cell =
+          subst (λ base. HoldsRecord (Some bytes) base number cell) front
+          (subst (λ n. HoldsRecord (Some bytes) r.base n (get_or cube.cells n Empty)) found.1.number_is (done.records found.0 inside)) in
+          same_from_record c cell here.valid valid
+          (same_record bytes (0 + 17 * number) (record_of c) (record_of cell) (length-record_of c ∙ sym (length-record_of cell)) (here.held below) held)
+    ]
+
+    pub figures_are : (first last : Cell) → IsSpooled (Some bytes) cells_all 0 first → IsSpooled (Some bytes) cells_all (cells_all - 1) last
+        → figures_text cells_all first last ≡ demo_text cube
+    figures_are first last at_first at_last =
+        let many = counted in
+        ap (λ (c : Cell). figures_text cells_all c last) (same_cell 0 first at_first)
+        ∙ ap (λ (c : Cell). figures_text cells_all (get_or cube.cells 0 Empty) c) (same_cell (cells_all - 1) last at_last)
+        ∙ ap (λ (n : ℕ). figures_text n (get_or cube.cells 0 Empty) (get_or cube.cells (n - 1) Empty)) (sym counted)
+
+-- ---- the generated collection
+
+none_beyond : (index : ℕ) → suc index < 1 → ⊥
+none_beyond index h = omega arith
+
+visible_at : (seed side index : ℕ) → index < 1 → IsSome (source_at (demonstration seed side) index).contents
+visible_at seed side zero within = refl
+visible_at seed side (suc index) within = absurd (none_beyond index within)
+
+-- it is visible
+pub loads_visible : (c : CheckedGraph) (rows : List Row) → IsDemonstration rows → LoadsVisible c rows
+loads_visible c rows demo step id index loaded mounted =
+    let within : index < length (demonstration demo.seed demo.side) = subst (λ (rs : List Row). index < length rs) demo.rows_are mounted.within in
+    subst (λ (rs : List Row). IsSome (source_at rs index).contents) (sym demo.rows_are)
+    (visible_at demo.seed demo.side index within)
+
+-- and none of its positions is damaged
+undamaged : (seed side index number : ℕ) → index < 1
+    → IfSome (source_at (demonstration seed side) index).contents (λ contents. Contains contents.damaged number) → ⊥
+undamaged seed side zero number within (k, below, same) = omega (arith, below)
+undamaged seed side (suc index) number within damaged = absurd (none_beyond index within)
+
+pub keeps_none : (c : CheckedGraph) (rows : List Row) (node number : ℕ) → IsDemonstration rows → KeepsDamage c rows node number → ⊥
+keeps_none c rows node number demo keeps =
+    let within : keeps.index < length (demonstration demo.seed demo.side) =
+    subst (λ (rs : List Row). keeps.index < length rs) demo.rows_are keeps.mounted.within in
+    undamaged demo.seed demo.side keeps.index number within
+    (subst (λ (rs : List Row). IfSome (source_at rs keeps.index).contents (λ contents. Contains contents.damaged number)) demo.rows_are keeps.damaged)
+
+-- ---- how it ends
+
+hidden_before : (store store_after : Option (List ℕ)) → (IsVisible store → IsVisible store_after) → store_after ≡ None → store ≡ None
+hidden_before None store_after stays none = refl
+hidden_before (Some bytes) store_after stays none = absurd (subst IsVisible none (stays tt))
+
+-- a damaged position is never met, so that none has to be named
+pub named : (r after : RunOf) (rows rows_after : List Row) (store store_after : Option (List ℕ)) (faults faults_after : ℕ)
+    → IsDemonstration rows → (graph : CheckedGraph) (fail : RunFail)
+    → Completes r after rows rows_after store store_after faults faults_after (Err fail) → CanBeNamed graph fail
+named r after rows rows_after store store_after faults faults_after demo graph run.SourceFailed c = tt
+named r after rows rows_after store store_after faults faults_after demo graph (run.SourceDamaged node number) c =
+    absurd (keeps_none r.plan.graph rows node number demo (c.through.says node number refl))
+named r after rows rows_after store store_after faults faults_after demo graph run.SpoolFailed c = tt
+named r after rows rows_after store store_after faults faults_after demo graph (run.Overflow number) c = tt
+
+-- a run that was completed has all its records from the first byte on
+module _ (r after : RunOf) (rows rows_after : List Row) (store store_after : Option (List ℕ)) (faults faults_after : ℕ)
+    (is : IsPlan r.plan) (front : r.base ≡ 0)
+    (c : Completes r after rows rows_after store store_after faults faults_after (Ok tt)) where
+  planned : IsPlan after.plan
+  planned = subst IsPlan (sym c.through.goes.plan) is
+
+  all_done : after.done ≡ chunk_total after.plan
+  all_done = c.through.done ∙ ap chunk_total (sym c.through.goes.plan)
+
+  begins : after.base ≡ 0
+  begins = c.through.goes.base ∙ front
+
+  pub has_spooled : (count : ℕ) → count ≡ cell_count (result_shape after.plan) → (number : ℕ) → HasSpooled store_after count number
+  has_spooled count count_is number =
+      subst (λ n. HasSpooled store_after n number) (sym count_is)
+      (spooled after planned all_done begins store_after c.numbers c.through.goes.records number)
+
+  module _ (first last : Cell) where
+    shown : (s : Option (List ℕ)) (n : ℕ) → n ≡ cell_count (result_shape after.plan) → IsSpooled s n 0 first → IsSpooled s n (n - 1) last
+        → (collections : Collections) → AreCollectionsOf after.plan.graph collections
+        → ShowsDone after s (result_cube collections after.plan)
+        → figures_text n first last ≡ demo_text (result_cube collections after.plan)
+    shown None n n_is one other collections are done = absurd done
+    shown (Some bytes) n n_is one other collections are done = by n (sym n_is) one other
+      where
+        by : (n : ℕ) → cell_count (result_shape after.plan) ≡ n → IsSpooled (Some bytes) n 0 first → IsSpooled (Some bytes) n (n - 1) last
+            → figures_text n first last ≡ demo_text (result_cube collections after.plan)
+        by n same one other = subst
+            (λ (m : ℕ). IsSpooled (Some bytes) m 0 first → IsSpooled (Some bytes) m (m - 1) last
+            → figures_text m first last ≡ demo_text (result_cube collections after.plan)) same
+            (figures_are after planned all_done begins (result_cube collections after.plan)
+            (result_shape_is after.plan planned collections are) (result_whole after.plan planned collections are) bytes done first last)
+            one other
+
+module _ (r after : RunOf) (rows rows_after : List Row) (store store_after : Option (List ℕ)) (faults faults_after : ℕ)
+    (demo : IsDemonstration rows) (given : GivesCollections rows) (rows_are : r.plan.graph.rows ≡ dims_of rows)
+    (ends : BeginAndEnd) (is : IsPlan r.plan) where
+  abbrev p : PlanOf
+  p = r.plan
+
+  loads : LoadsVisible p.graph rows
+  loads = loads_visible p.graph rows demo
+
+  module _ (input : Option (List ℕ)) (input_faults : ℕ) (out : Option (List ℕ)) (out_faults : ℕ) (lent : List Row) where
+    abbrev start : Objects
+    start = objects input input_faults out out_faults store faults lent
+
+    -- ---- before the figures
+
+    abbrev ended : Option (List ℕ) → ℕ → Option (List ℕ) → ℕ → Objects
+    ended out_after out_faults_after store_last faults_last = objects input input_faults out_after out_faults_after store_last faults_last lent
+
+    abbrev stopped_at : Option (List ℕ) → ℕ → Objects
+    stopped_at store_last faults_last = objects input input_faults out out_faults store_last faults_last lent
+
+    pub refused : (fail : RunFail) (refusal : Refusal) → Completes r after rows rows_after store store_after faults faults_after (Err fail)
+        → IsRefusalOfRun p.graph fail refusal
+        → Demonstrates rows p start (stopped_at store_after faults_after) (Err refusal)
+    refused fail refusal c same = record {
+      ends = by fail c same;
+      out_count = NeverFalls-refl out_faults;
+      spool_count = c.through.spool_cause.count;
+    }
+      where
+        by : (fail : RunFail) → Completes r after rows rows_after store store_after faults faults_after (Err fail)
+            → IsRefusalOfRun p.graph fail refusal → FiguresEnd rows p start (stopped_at store_after faults_after) (Err refusal)
+        by run.SourceFailed c same = subst (λ (e : Refusal). FiguresEnd rows p start (stopped_at store_after faults_after) (Err e)) (sym same)
+            (record { rows_after = rows_after; rose = c.through.read_cause refl; unwritten = record { out = refl; faults = refl } })
+        by (run.SourceDamaged node number) c same =
+            absurd (keeps_none p.graph rows node number demo (c.through.says node number refl))
+        by run.SpoolFailed c same = subst (λ (e : Refusal). FiguresEnd rows p start (stopped_at store_after faults_after) (Err e)) (sym same)
+            (record { rose = c.through.spool_cause.failed refl; unwritten = record { out = refl; faults = refl } })
+        by (run.Overflow number) c (line, same, line_is) =
+            let over = c.overflow number refl in
+            subst (λ (e : Refusal). FiguresEnd rows p start (stopped_at store_after faults_after) (Err e)) (sym same)
+            (record {
+              number = number;
+              line_is = line_is;
+              least = sym (over_is r after rows rows_after store store_after faults faults_after given rows_are ends is
+                  c.through.goes over.0 loads) ∙ over.1;
+              unwritten = record { out = refl; faults = refl };
+            })
+
+    module _ (c : Completes r after rows rows_after store store_after faults faults_after (Ok tt)) where
+      pub unspooled : (store_last : Option (List ℕ)) (faults_last : ℕ) (fail : RenderFail) (refusal : Refusal) → IsRefusalOfText fail refusal
+          → HasCauseOf {T = Cell × Cell} text.SpoolFailed faults_after faults_last (Err fail) → IsHiddenDamage store_after fail
+          → fail ≢ text.SinkFailed
+          → Demonstrates rows p start (stopped_at store_last faults_last) (Err refusal)
+      unspooled store_last faults_last fail refusal same cause damage other = record {
+        ends = by fail same cause damage other;
+        out_count = NeverFalls-refl out_faults;
+        spool_count = NeverFalls-trans c.through.spool_cause.count cause.count;
+      }
+        where
+          by : (fail : RenderFail) → IsRefusalOfText fail refusal
+              → HasCauseOf {T = Cell × Cell} text.SpoolFailed faults_after faults_last (Err fail) → IsHiddenDamage store_after fail
+              → fail ≢ text.SinkFailed → FiguresEnd rows p start (stopped_at store_last faults_last) (Err refusal)
+          by text.SpoolFailed same cause damage other =
+              subst (λ (e : Refusal). FiguresEnd rows p start (stopped_at store_last faults_last) (Err e)) (sym same)
+              (record {
+                rose = then-Rose c.through.spool_cause.count (cause.failed refl);
+                unwritten = record { out = refl; faults = refl };
+              })
+          by (text.SpoolDamaged number) (line, same, line_is) cause damage other =
+              subst (λ (e : Refusal). FiguresEnd rows p start (stopped_at store_last faults_last) (Err e)) (sym same)
+              (record {
+                number = number;
+                line_is = line_is;
+                hidden = hidden_before store store_after c.through.goes.visible damage;
+                unwritten = record { out = refl; faults = refl };
+              })
+          by text.SinkFailed same cause damage other = absurd (other refl)
+
+      -- ---- with the figures
+
+      module _ (front : r.base ≡ 0) (count : ℕ) (count_is : count ≡ cell_count (result_shape after.plan))
+          (first last : Cell) (at_first : IsSpooled store_after count 0 first) (at_last : IsSpooled store_after count (count - 1) last) where
+        figures_of_meaning : IsVisible store → figures_text count first last ≡ demo_text (result_of rows p.graph)
+        figures_of_meaning visible =
+            of_meaning r after rows rows_after store store_after faults faults_after given rows_are ends is c
+            input input input_faults input_faults out out out_faults out_faults faults_after
+            (λ (cube : Cube Cell). figures_text count first last ≡ demo_text cube)
+            (shown r after rows rows_after store store_after faults faults_after is front c first last store_after count count_is at_first at_last)
+            visible loads
+
+        pub written : (line : List ℕ) → line ≡ figures_text count first last → (store_last : Option (List ℕ)) (faults_last : ℕ) → NeverFalls faults_after faults_last
+            → (out_after : Option (List ℕ)) (out_faults_after : ℕ) (ending : Result (Unit {0}) Refusal)
+            → Writes line out out_faults out_after out_faults_after ending
+            → Demonstrates rows p start (ended out_after out_faults_after store_last faults_last) ending
+        written line line_is store_last faults_last count_falls out_after out_faults_after ending writes = record {
+          ends = by ending writes.ends;
+          out_count = writes.count;
+          spool_count = NeverFalls-trans c.through.spool_cause.count count_falls;
+        }
+          where
+            line_of_meaning : IsVisible store → line ≡ demo_text (result_of rows p.graph)
+            line_of_meaning visible = line_is ∙ figures_of_meaning visible
+
+            by : (ending : Result (Unit {0}) Refusal) → WriteEnds line out out_faults out_after out_faults_after ending
+                → FiguresEnd rows p start (ended out_after out_faults_after store_last faults_last) ending
+            by (Ok x) appends = record {
+              numbers = sym (over_is r after rows rows_after store store_after faults faults_after given rows_are ends is
+                  c.through.goes c.through.done loads) ∙ c.numbers;
+              text = λ visible. subst (λ t. Appends out t out_after) (line_of_meaning visible) appends;
+            }
+            by (Err Usage) never = absurd never
+            by (Err (Graph l)) never = absurd never
+            by (Err NoCubeText) never = absurd never
+            by (Err NotMounted) never = absurd never
+            by (Err (TooLarge l)) never = absurd never
+            by (Err (Overflow l)) never = absurd never
+            by (Err ReadFault) never = absurd never
+            by (Err (Damaged l)) never = absurd never
+            by (Err SpoolFault) never = absurd never
+            by (Err WriteFault) stops = record {
+              rose = stops.rose;
+              prefix = λ visible. subst (λ t. AppendsPrefix out t out_after) (line_of_meaning visible) stops.prefix;
+            }
+            by (Err OutOfMemory) never = absurd never
+            by (Err (SpoolDamaged l)) never = absurd never
+
+-- ---- how the command ends
+
+module _ (seed side : ℕ) (size : ChunkSize) (workers : ℕ) (graph : CheckedGraph)
+    (checked : IsCheckedText (dims_of (demonstration seed side)) demo_graph graph)
+    (input : Option (List ℕ)) (input_faults : ℕ) (out : Option (List ℕ)) (out_faults : ℕ) (store : Option (List ℕ)) (faults : ℕ)
+    (lent : List Row) where
+  abbrev first : Objects
+  first = objects input input_faults out out_faults store faults lent
+
+  -- where the graph is planned, as its evaluation does
+  module _ (p : PlanOf) (plan : IsPlanOf graph size workers p) (rows : List Row) (rows_are : rows ≡ demonstration seed side)
+      (out_after : Option (List ℕ)) (out_faults_after : ℕ) (store_after : Option (List ℕ)) (faults_after : ℕ) where
+    abbrev last : Objects
+    last = objects input input_faults out_after out_faults_after store_after faults_after lent
+
+    is_demo : IsDemo seed side size workers p
+    is_demo = record {
+      text = subst (IsCheckedText (dims_of (demonstration seed side)) demo_graph) (sym plan.graph_is) checked;
+      plan = record { graph_is = refl; planned = plan.planned; size_is = plan.size_is; workers_are = plan.workers_are };
+    }
+
+    demonstrated : (ending : Result (Unit {0}) Refusal) → FiguresEnd rows p first last ending
+        → IsDemonstrated seed side size workers first last ending
+    demonstrated ending e = record {
+      p = p;
+      demo = is_demo;
+      ends = subst (λ (rs : List Row). FiguresEnd rs p first last ending) rows_are e;
+    }
+
+    pub answered : (ending : Result (Unit {0}) Refusal) → Demonstrates rows p first last ending
+        → DemoAnswers seed side size workers first last ending
+    answered ending d = record {
+      ends = by ending d.ends;
+      input_kept = (refl, refl);
+      collections_kept = refl;
+      out_count = d.out_count;
+      spool_count = d.spool_count;
+    }
+      where
+        by : (ending : Result (Unit {0}) Refusal) → FiguresEnd rows p first last ending → DemoEnds seed side size workers first last ending
+        by (Ok x) e = demonstrated (Ok x) e
+        by (Err Usage) never = never
+        by (Err (Graph line)) never = absurd never
+        by (Err NoCubeText) never = never
+        by (Err NotMounted) never = never
+        by (Err (TooLarge line)) never = absurd never
+        by (Err (Overflow line)) e = demonstrated (Err (Overflow line)) e
+        by (Err ReadFault) e = demonstrated (Err ReadFault) e
+        by (Err (Damaged line)) never = never
+        by (Err SpoolFault) e = demonstrated (Err SpoolFault) e
+        by (Err WriteFault) e = demonstrated (Err WriteFault) e
+        by (Err OutOfMemory) never = absurd never
+        by (Err (SpoolDamaged line)) e = demonstrated (Err (SpoolDamaged line)) e
+
+  -- and where it would hold too many cells
+  pub too_large : (line : Vec ℕ Global) (cells : ℕ) → (cells ≡ bound_of graph size workers) × (most_cells < cells)
+      → line.items ≡ number_line (codes "PlanTooLarge") cells
+      → DemoAnswers seed side size workers first first (Err (TooLarge line))
+  too_large line cells (is, over) said = record {
+    ends = record {
+      graph = graph;
+      text = checked;
+      over = subst (λ n. most_cells < n) is over;
+      line_is = said ∙ ap (number_line (codes "PlanTooLarge")) is;
+      unwritten = record { out = refl; faults = refl };
+    };
+    input_kept = (refl, refl);
+    collections_kept = refl;
+    out_count = NeverFalls-refl out_faults;
+    spool_count = NeverFalls-refl faults;
+  }

@@ -1,0 +1,74 @@
+-- Refusals that name a number.
+use Rattle.std.proofs.Common.{◌≡◌, ℕ, ◌<◌, ◌≤◌, ◌&&◌, nat_le, true, List, length, slice_get, Option, Some, None, codes, refl, sym, subst, Vec}
+use Rattle.std.proofs.lemmas.Bool.{and_parts, leb-true}
+use Rattle.std.proofs.lemmas.Option.{slice_get_within}
+use Rattle.std.specs.List.{list_all}
+use Rattle.std.specs.Option.{option_and_then}
+use Rattle.std.specs.declared.alloc.Global.{Global}
+use Rattle.oe_dims.specs.Names.{is_name, is_name_byte}
+use Rattle.oe_engine.specs.Rounds.{KeepsDamage}
+use Rattle.oe_engine.specs.declared.rounds.RunFail.{RunFail}
+use Rattle.oe_engine.specs.declared.rounds.RunFail.TheVariants as run
+use Rattle.oe_graph.specs.Printed.{node_count}
+use Rattle.oe_graph.specs.References.{each_node}
+use Rattle.oe_graph.specs.Tree.{PlainNode}
+use Rattle.oe_render.specs.declared.rendering.RenderFail.{RenderFail}
+use Rattle.oe_render.specs.declared.rendering.RenderFail.TheVariants as text
+use Rattle.oe_shape.specs.Checked.{CheckedGraph, collection_of_node}
+use Rattle.oe_shape.specs.Links.{collection_of}
+use Rattle.oe_shape.proofs.LinkLemmas.{each_count}
+use Rattle.oe_sources.specs.Catalogue.{Row}
+use Rattle.oe_sources.specs.CatalogueLaws.{HaveValidIds}
+use Rattle.oe_top.specs.Evaluated.{CanBeNamed, IsRefusalOfRun, IsRefusalOfText}
+use Rattle.oe_top.specs.Lines.{damage_line, number_line}
+use Rattle.oe_top.specs.declared.refusal.Refusal.TheVariants.{Damaged, Overflow, SpoolDamaged}
+
+pub named_damage : (c : CheckedGraph) (fail : RunFail) (node number : ℕ) (id : List ℕ) (line : Vec ℕ Global)
+    → fail ≡ run.SourceDamaged node number → collection_of_node c node ≡ Some id → line.items ≡ damage_line id number
+    → IsRefusalOfRun c fail (Damaged line)
+named_damage c fail node number id line is loads said =
+    subst (λ (f : RunFail). IsRefusalOfRun c f (Damaged line)) (sym is) (id, line, loads, refl, said)
+
+pub named_overflow : (c : CheckedGraph) (fail : RunFail) (number : ℕ) (line : Vec ℕ Global)
+    → fail ≡ run.Overflow number → line.items ≡ number_line (codes "NumberOverflow") number
+    → IsRefusalOfRun c fail (Overflow line)
+named_overflow c fail number line is said =
+    subst (λ (f : RunFail). IsRefusalOfRun c f (Overflow line)) (sym is) (line, refl, said)
+
+pub named_spool_damage : (fail : RenderFail) (number : ℕ) (line : Vec ℕ Global)
+    → fail ≡ text.SpoolDamaged number → line.items ≡ number_line (codes "SpoolDamaged") number
+    → IsRefusalOfText fail (SpoolDamaged line)
+named_spool_damage fail number line is said =
+    subst (λ (f : RenderFail). IsRefusalOfText f (SpoolDamaged line)) (sym is) (line, refl, said)
+
+-- ---- what can be named
+
+-- a name is short enough for a line
+short_name : (id : List ℕ) → is_name id ≡ true → length id ≤ 64
+short_name id valid =
+    let parts = and_parts (nat_le 1 (length id) && nat_le (length id) 64) (list_all is_name_byte id) valid in
+    let sizes = and_parts (nat_le 1 (length id)) (nat_le (length id) 64) parts.0 in
+    leb-true (length id) 64 sizes.1
+
+-- a node that loads a collection is one of the graph
+node_there : (c : CheckedGraph) (node : ℕ) (id : List ℕ) → collection_of_node c node ≡ Some id → node < node_count c.nodes
+node_there c node id loads = by (slice_get (each_node c.nodes) node) refl loads
+  where
+    by : (o : Option PlainNode) → slice_get (each_node c.nodes) node ≡ o → option_and_then collection_of o ≡ Some id → node < node_count c.nodes
+    by None is e = absurd cc
+    by (Some n) is e = subst (λ (count : ℕ). node < count) (each_count c.nodes) (slice_get_within (each_node c.nodes) node n is)
+
+-- a damaged position that a node keeps is one of a collection whose id fits a line
+pub can_be_named : (c : CheckedGraph) (rows : List Row) → HaveValidIds rows → (fail : RunFail)
+    → ((node number : ℕ) → fail ≡ run.SourceDamaged node number → KeepsDamage c rows node number) → CanBeNamed c fail
+can_be_named c rows valid run.SourceFailed says = tt
+can_be_named c rows valid (run.SourceDamaged node number) says =
+    let keeps = says node number refl in
+    record {
+      within = node_there c node keeps.id keeps.node_is;
+      id = keeps.id;
+      loads = keeps.node_is;
+      short = short_name keeps.id (valid keeps.id keeps.index keeps.mounted.index_is);
+    }
+can_be_named c rows valid run.SpoolFailed says = tt
+can_be_named c rows valid (run.Overflow number) says = tt

@@ -1,0 +1,120 @@
+-- Mounted collections that are repacked.
+use Rattle.std.proofs.Common.{◌≡◌, ◌≢◌, true, ◌&&◌, nat_le, ℕ, zero, suc, ◌<◌, ◌≤◌, List, [], ◌∷◌, length, Option, Some, None, IfSome, Result, Ok, Err, IsErrAnd, Vec, refl, sym, ap, ◌∙◌, subst, slice_get, arith}
+use Rattle.std.proofs.lemmas.Bool.{and_parts, leb-true}
+use Rattle.std.specs.List.{Contains, list_all}
+use Rattle.std.specs.declared.alloc.Global.{Global}
+use Rattle.oe_dims.specs.Names.{is_name, is_name_byte}
+use Rattle.oe_outside.proofs.Causes.{NeverFalls-refl}
+use Rattle.oe_outside.specs.Faults.{NeverFalls, Rose}
+use Rattle.oe_dims.specs.Dimensions.{cell_count}
+use Rattle.oe_sources.specs.Catalogue.{OnlyReads, Row, row_index, row_of, rows_at, source_at}
+use Rattle.oe_sources.specs.Repacked.{AppendsRepacked, IsUndamaged, LeavesWritten, TellsRepackDamage}
+use Rattle.oe_sources.specs.Source.{Contents, Source}
+use Rattle.oe_sources.specs.declared.repacking.RepackFail.TheVariants as fail
+use Rattle.oe_top.specs.Lines.{damage_line}
+use Rattle.oe_top.specs.Objects.{Objects}
+use Rattle.oe_top.specs.RepackAnswer.{IsOfMounted, RepackAnswers, RepackEnds}
+use Rattle.oe_top.specs.declared.refusal.Refusal.{Refusal}
+use Rattle.oe_top.specs.declared.refusal.Refusal.TheVariants.{NotMounted, ReadFault, Damaged, WriteFault, OutOfMemory}
+
+-- ---- a catalogue of which nothing is read
+
+rows_at_same : (rows : List Row) (index : ℕ) → rows_at rows index (source_at rows index) ≡ rows
+rows_at_same [] index = refl
+rows_at_same (row ∷ rows) zero = refl
+rows_at_same (row ∷ rows) (suc index) = ap (λ rest. row ∷ rest) (rows_at_same rows index)
+
+pub reads_none : (rows : List Row) (index : ℕ) → OnlyReads rows index rows
+reads_none rows index = record {
+  shape = refl;
+  kind = refl;
+  contents = refl;
+  count = NeverFalls-refl (source_at rows index).faults;
+  others = sym (rows_at_same rows index);
+}
+
+-- ---- a collection that is mounted
+
+-- its id fits a line
+pub name_short : (name : List ℕ) → is_name name ≡ true → length name ≤ 64
+name_short name is =
+    let parts = and_parts (nat_le 1 (length name) && nat_le (length name) 64) (list_all is_name_byte name) is in
+    leb-true (length name) 64 (and_parts (nat_le 1 (length name)) (nat_le (length name) 64) parts.0).1
+
+-- a row stands at an index within
+there : (rows : List Row) (index : ℕ) → index < length rows → ¬ (slice_get rows index ≡ None)
+there [] index below is = absurd (omega arith)
+there (row ∷ rows) zero below is = cc
+there (row ∷ rows) (suc index) below is = there rows index (omega arith) is
+
+-- the position that a refusal names is damaged
+position_damaged : (source : Source) (number : ℕ) → TellsRepackDamage source (fail.SourceDamaged number)
+    → IfSome source.contents (λ c. Contains c.damaged number)
+position_damaged source number tells = by source.contents tells
+  where
+    by : (contents : Option Contents) → IfSome contents (λ c. (number < cell_count source.shape) × Contains c.damaged number)
+        → IfSome contents (λ c. Contains c.damaged number)
+    by None tells = tt
+    by (Some contents) tells = tells.1
+
+module _ (id text : List ℕ) (before after : Objects) (place : ℕ) (same : text ≡ id) (index : Some place ≡ row_index before.collections text)
+    (within : place < length before.collections) (found : slice_get before.collections place ≡ row_of before.collections text)
+    (only : OnlyReads before.collections place after.collections)
+    (input : (after.input ≡ before.input) × (after.input_faults ≡ before.input_faults))
+    (spool : (after.spool ≡ before.spool) × (after.spool_faults ≡ before.spool_faults))
+    (count : NeverFalls before.out_faults after.out_faults) where
+  mounted : IsOfMounted id before after place
+  mounted = record { index_is = sym (rw same at index); within = within; only = only }
+
+  -- what repacking it answers
+  answers : (ending : Result (Unit {0}) Refusal) → ending ≢ Err NotMounted → RepackEnds id before after ending
+      → RepackAnswers id before after ending
+  answers ending other ends = record {
+    ends = ends;
+    not_mounted = (
+      λ is. absurd (other is),
+      λ none. absurd (there before.collections place within ((rw same at found) ∙ none)),
+    );
+    input_kept = input;
+    spool_kept = spool;
+    out_count = count;
+  }
+
+  pub repacked : IsUndamaged (source_at before.collections place)
+      → AppendsRepacked id (source_at before.collections place) before.out after.out → RepackAnswers id before after (Ok tt)
+  repacked undamaged file =
+      answers (Ok tt) (λ is. cc) (record { index = place; mounted = mounted; undamaged = undamaged; file = file })
+
+  pub unread : Rose (source_at before.collections place).faults (source_at after.collections place).faults
+      → LeavesWritten id (source_at before.collections place) before.out after.out fail.SourceFailed
+      → RepackAnswers id before after (Err ReadFault)
+  unread rose written =
+      answers (Err ReadFault) (λ is. cc) (record { index = place; mounted = mounted; rose = rose; written = written })
+
+  pub damaged : (number : ℕ) (line : Vec ℕ Global) → line.items ≡ damage_line id number
+      → TellsRepackDamage (source_at before.collections place) (fail.SourceDamaged number)
+      → LeavesWritten id (source_at before.collections place) before.out after.out (fail.SourceDamaged number)
+      → RepackAnswers id before after (Err (Damaged line))
+  damaged number line is tells unwritten = answers (Err (Damaged line)) (λ is. cc) (record {
+    index = place;
+    mounted = mounted;
+    number = number;
+    line_is = is;
+    damaged = position_damaged (source_at before.collections place) number tells;
+    unwritten = unwritten;
+  })
+
+  pub unwritten : Rose before.out_faults after.out_faults
+      → LeavesWritten id (source_at before.collections place) before.out after.out fail.SinkFailed
+      → RepackAnswers id before after (Err WriteFault)
+  unwritten rose prefix =
+      answers (Err WriteFault) (λ is. cc) (record { index = place; mounted = mounted; rose = rose; prefix = prefix })
+
+  pub no_memory : after.out ≡ before.out → RepackAnswers id before after (Err OutOfMemory)
+  no_memory kept = answers (Err OutOfMemory) (λ is. cc) (record { index = place; mounted = mounted; unwritten = kept })
+
+  -- the same of an error that was made of another
+  pub no_memory_of : (ending : Result (Unit {0}) Refusal) → IsErrAnd ending (λ e. e ≡ OutOfMemory) → after.out ≡ before.out
+      → RepackAnswers id before after ending
+  no_memory_of (Ok x) is kept = absurd is
+  no_memory_of (Err e) is kept = subst (λ e. RepackAnswers id before after (Err e)) (sym is) (no_memory kept)

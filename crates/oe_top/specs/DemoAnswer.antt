@@ -1,0 +1,139 @@
+-- How the command `demo` ends: the table of its statuses, one case a row.
+use Rattle.std.specs.Prelude.{◌≡◌, ◌<◌, ℕ, List, None, Result, Ok, Err, codes}
+use Rattle.oe_engine.specs.Collections.{LoadRose}
+use Rattle.oe_outside.specs.Faults.{NeverFalls, Rose}
+use Rattle.oe_outside.specs.Visible.{Appends, AppendsPrefix}
+use Rattle.oe_plan.specs.Figures.{bound_of, most_cells}
+use Rattle.oe_plan.specs.Plans.{PlanOf}
+use Rattle.oe_shape.specs.Checked.{CheckedGraph}
+use Rattle.oe_sources.specs.Catalogue.{Row, demonstration}
+use Rattle.oe_sources.specs.CatalogueDims.{dims_of}
+use Rattle.oe_window.specs.declared.grid.ChunkSize.{ChunkSize}
+use Rattle.oe_top.specs.Demonstration.{demo_graph, demo_text}
+use Rattle.oe_top.specs.Evaluated.{HasNoOver, IsOverFirst, IsPlanOf, IsVisible, result_of}
+use Rattle.oe_top.specs.Judged.{IsCheckedText, NamesFaultOf}
+use Rattle.oe_top.specs.Lines.{number_line}
+use Rattle.oe_top.specs.Objects.{Objects}
+use Rattle.oe_top.specs.Written.{IsUnwritten}
+use Rattle.oe_top.specs.declared.refusal.Refusal.{Refusal}
+use Rattle.oe_top.specs.declared.refusal.Refusal.TheVariants.{Usage, Graph, NoCubeText, NotMounted, TooLarge, Overflow, ReadFault, Damaged, SpoolFault, WriteFault, OutOfMemory, SpoolDamaged}
+
+-- these are the rows of the generated collection of some seed and side
+pub record IsDemonstration (rows : List Row) : Type 0 where
+  pub seed : ℕ
+  pub side : ℕ
+  pub rows_are : rows ≡ demonstration seed side
+
+-- ---- how the evaluation of a planned graph over a generated collection ends
+
+module _ (rows : List Row) (p : PlanOf) (before after : Objects) where
+  -- 0: no cell of the result is Over, and its figures follow what the output held
+  pub record WritesFigures : Type 0 where
+    pub numbers : HasNoOver (result_of rows p.graph)
+    pub text : IsVisible before.spool → Appends before.out (demo_text (result_of rows p.graph)) after.out
+
+  -- 4: this is the least number of a cell of the result that is Over
+  pub record OverflowsFirst (line : List ℕ) : Type 0 where
+    pub number : ℕ
+    pub line_is : line ≡ number_line (codes "NumberOverflow") number
+    pub least : IsOverFirst number (result_of rows p.graph)
+    pub unwritten : IsUnwritten before after
+
+  -- 5: the fault counter of the generated collection rose, which none of its reads makes rise
+  pub record StopsReading : Type 0 where
+    pub rows_after : List Row
+    pub rose : LoadRose p.graph rows rows_after
+    pub unwritten : IsUnwritten before after
+
+  -- 7: the fault counter of the spool rose
+  pub record StopsSpooling : Type 0 where
+    pub rose : Rose before.spool_faults after.spool_faults
+    pub unwritten : IsUnwritten before after
+
+  -- 8: the fault counter of the output rose, and a prefix of the figures follows what it held
+  pub record StopsFigures : Type 0 where
+    pub rose : Rose before.out_faults after.out_faults
+    pub prefix : IsVisible before.spool → AppendsPrefix before.out (demo_text (result_of rows p.graph)) after.out
+
+  -- 15: what was read back from the spool is no record of a number, which never comes of one whose bytes are visible
+  pub record MeetsNoRecord (line : List ℕ) : Type 0 where
+    pub number : ℕ
+    pub line_is : line ≡ number_line (codes "SpoolDamaged") number
+    pub hidden : before.spool ≡ None
+    pub unwritten : IsUnwritten before after
+
+  -- no position of a generated collection is damaged
+  abbrev pub FiguresEnd : Result (Unit {0}) Refusal → Type 0
+  FiguresEnd (Ok x) = WritesFigures
+  FiguresEnd (Err Usage) = ⊥
+  FiguresEnd (Err (Graph line)) = ⊥
+  FiguresEnd (Err NoCubeText) = ⊥
+  FiguresEnd (Err NotMounted) = ⊥
+  FiguresEnd (Err (TooLarge line)) = ⊥
+  FiguresEnd (Err (Overflow line)) = OverflowsFirst line.items
+  FiguresEnd (Err ReadFault) = StopsReading
+  FiguresEnd (Err (Damaged line)) = ⊥
+  FiguresEnd (Err SpoolFault) = StopsSpooling
+  FiguresEnd (Err WriteFault) = StopsFigures
+  FiguresEnd (Err OutOfMemory) = ⊥
+  FiguresEnd (Err (SpoolDamaged line)) = MeetsNoRecord line.items
+
+  -- and no fault counter falls
+  pub record Demonstrates (ending : Result (Unit {0}) Refusal) : Type 0 where
+    pub ends : FiguresEnd ending
+    pub out_count : NeverFalls before.out_faults after.out_faults
+    pub spool_count : NeverFalls before.spool_faults after.spool_faults
+
+-- ---- how the command ends
+
+module _ (seed side : ℕ) (size : ChunkSize) (workers : ℕ) where
+  -- this is the graph of the demonstration, over the generated collection of the seed and the side
+  abbrev pub IsDemoGraph : CheckedGraph → Type 0
+  IsDemoGraph c = IsCheckedText (dims_of (demonstration seed side)) demo_graph c
+
+  -- and its plan
+  pub record IsDemo (p : PlanOf) : Type 0 where
+    pub text : IsDemoGraph p.graph
+    pub plan : IsPlanOf p.graph size workers p
+
+  module _ (before after : Objects) where
+    -- the demonstration was evaluated, and ended so
+    pub record IsDemonstrated (ending : Result (Unit {0}) Refusal) : Type 0 where
+      pub p : PlanOf
+      pub demo : IsDemo p
+      pub ends : FiguresEnd (demonstration seed side) p before after ending
+
+    -- 3: the run would hold more cells than are allowed, so many
+    pub record IsTooLarge (line : List ℕ) : Type 0 where
+      pub graph : CheckedGraph
+      pub text : IsDemoGraph graph
+      pub over : most_cells < bound_of graph size workers
+      pub line_is : line ≡ number_line (codes "PlanTooLarge") (bound_of graph size workers)
+      pub unwritten : IsUnwritten before after
+
+    -- What each ending says; out of memory has no cause. The graph of the demonstration has no fault, so that `Graph`
+    -- never comes; no clause says so.
+    abbrev pub DemoEnds : Result (Unit {0}) Refusal → Type 0
+    DemoEnds (Ok x) = IsDemonstrated (Ok x)
+    DemoEnds (Err Usage) = ⊥
+    DemoEnds (Err (Graph line)) =
+        NamesFaultOf (dims_of (demonstration seed side)) demo_graph line.items × IsUnwritten before after
+    DemoEnds (Err NoCubeText) = ⊥
+    DemoEnds (Err NotMounted) = ⊥
+    DemoEnds (Err (TooLarge line)) = IsTooLarge line.items
+    DemoEnds (Err (Overflow line)) = IsDemonstrated (Err (Overflow line))
+    DemoEnds (Err ReadFault) = IsDemonstrated (Err ReadFault)
+    DemoEnds (Err (Damaged line)) = ⊥
+    DemoEnds (Err SpoolFault) = IsDemonstrated (Err SpoolFault)
+    DemoEnds (Err WriteFault) = IsDemonstrated (Err WriteFault)
+    DemoEnds (Err OutOfMemory) = IsUnwritten before after
+    DemoEnds (Err (SpoolDamaged line)) = IsDemonstrated (Err (SpoolDamaged line))
+
+    -- Neither the input nor a mounted collection is touched.
+    pub record DemoAnswers (ending : Result (Unit {0}) Refusal) : Type 0 where
+      pub ends : DemoEnds ending
+      pub input_kept : (after.input ≡ before.input) × (after.input_faults ≡ before.input_faults)
+      pub collections_kept : after.collections ≡ before.collections
+      -- no fault counter falls
+      pub out_count : NeverFalls before.out_faults after.out_faults
+      pub spool_count : NeverFalls before.spool_faults after.spool_faults

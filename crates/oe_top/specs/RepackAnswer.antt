@@ -1,0 +1,80 @@
+-- How the command `repack` ends.
+use Rattle.std.specs.Prelude.{◌≡◌, ◌<◌, ◌⊎◌, ◌↔◌, ℕ, List, length, None, Some, Result, Ok, Err, IfSome}
+use Rattle.std.specs.List.{Contains}
+use Rattle.oe_outside.specs.Faults.{NeverFalls, Rose}
+use Rattle.oe_sources.specs.Catalogue.{OnlyReads, row_index, row_of, source_at}
+use Rattle.oe_sources.specs.Repacked.{AppendsPartOfRepacked, AppendsRepacked, IsUndamaged}
+use Rattle.oe_top.specs.Lines.{damage_line}
+use Rattle.oe_top.specs.Objects.{Objects, IsUntouched}
+use Rattle.oe_top.specs.declared.refusal.Refusal.{Refusal}
+use Rattle.oe_top.specs.declared.refusal.Refusal.TheVariants.{Usage, Graph, NoCubeText, NotMounted, TooLarge, Overflow, ReadFault, Damaged, SpoolFault, WriteFault, OutOfMemory, SpoolDamaged}
+
+module _ (id : List ℕ) where
+  -- the collection of the id is mounted, and nothing but its counters changed in the catalogue
+  pub record IsOfMounted (before after : Objects) (index : ℕ) : Type 0 where
+    pub index_is : row_index before.collections id ≡ Some index
+    pub within : index < length before.collections
+    pub only : OnlyReads before.collections index after.collections
+
+  -- 0: its cube file in least widths follows what the output held
+  pub record Repacks (before after : Objects) : Type 0 where
+    pub index : ℕ
+    pub mounted : IsOfMounted before after index
+    pub undamaged : IsUndamaged (source_at before.collections index)
+    pub file : AppendsRepacked id (source_at before.collections index) before.out after.out
+
+  -- 5: its fault counter rose; nothing was written, or a prefix of the file
+  pub record StopsReading (before after : Objects) : Type 0 where
+    pub index : ℕ
+    pub mounted : IsOfMounted before after index
+    pub rose : Rose (source_at before.collections index).faults (source_at after.collections index).faults
+    pub written : (after.out ≡ before.out)
+        ⊎ AppendsPartOfRepacked id (source_at before.collections index) before.out after.out
+
+  -- 6: this position of it is damaged, where its contents are visible; then nothing was written. The line names both.
+  pub record MeetsDamage (before after : Objects) (line : List ℕ) : Type 0 where
+    pub index : ℕ
+    pub mounted : IsOfMounted before after index
+    pub number : ℕ
+    pub line_is : line ≡ damage_line id number
+    pub damaged : IfSome (source_at before.collections index).contents (λ c. Contains c.damaged number)
+    pub unwritten : IfSome (source_at before.collections index).contents (λ c. after.out ≡ before.out)
+
+  -- 8: the fault counter of the output rose; a prefix of the file stands there
+  pub record StopsWriting (before after : Objects) : Type 0 where
+    pub index : ℕ
+    pub mounted : IsOfMounted before after index
+    pub rose : Rose before.out_faults after.out_faults
+    pub prefix : AppendsPartOfRepacked id (source_at before.collections index) before.out after.out
+
+  -- 9, which has no cause: nothing was written
+  pub record IsOutOfMemory (before after : Objects) : Type 0 where
+    pub index : ℕ
+    pub mounted : IsOfMounted before after index
+    pub unwritten : after.out ≡ before.out
+
+  -- what each ending says
+  abbrev pub RepackEnds : Objects → Objects → Result (Unit {0}) Refusal → Type 0
+  RepackEnds before after (Ok x) = Repacks before after
+  RepackEnds before after (Err Usage) = ⊥
+  RepackEnds before after (Err (Graph line)) = ⊥
+  RepackEnds before after (Err NoCubeText) = ⊥
+  RepackEnds before after (Err NotMounted) = IsUntouched before after
+  RepackEnds before after (Err (TooLarge line)) = ⊥
+  RepackEnds before after (Err (Overflow line)) = ⊥
+  RepackEnds before after (Err ReadFault) = StopsReading before after
+  RepackEnds before after (Err (Damaged line)) = MeetsDamage before after line.items
+  RepackEnds before after (Err SpoolFault) = ⊥
+  RepackEnds before after (Err WriteFault) = StopsWriting before after
+  RepackEnds before after (Err OutOfMemory) = IsOutOfMemory before after
+  RepackEnds before after (Err (SpoolDamaged line)) = ⊥
+
+  -- Neither the input nor the spool is touched.
+  pub record RepackAnswers (before after : Objects) (ending : Result (Unit {0}) Refusal) : Type 0 where
+    pub ends : RepackEnds before after ending
+    -- `CollectionNotFound` comes exactly where no collection is mounted under the id
+    pub not_mounted : (ending ≡ Err NotMounted) ↔ (row_of before.collections id ≡ None)
+    pub input_kept : (after.input ≡ before.input) × (after.input_faults ≡ before.input_faults)
+    pub spool_kept : (after.spool ≡ before.spool) × (after.spool_faults ≡ before.spool_faults)
+    -- no fault counter falls
+    pub out_count : NeverFalls before.out_faults after.out_faults

@@ -1,0 +1,222 @@
+// The command `demo`: the figures of a graph over a generated collection.
+ghost use Rattle.std.specs.Prelude.{◌≡◌, ◌≢◌, ◌-◌, ◌+◌, ◌++◌, ◌≤◌, ◌<◌, ℕ, List, Option, [], IfErr, IfOk, IfSome, OnOk, Some, length};
+ghost use Rattle.oe_cell.specs.Cells.{IsCell};
+ghost use Rattle.oe_cell.specs.Record.{record_of};
+ghost use Rattle.oe_cell.specs.Spelling.{cell_text};
+ghost use Rattle.oe_cell.specs.declared.cell.Cell.{Cell};
+ghost use Rattle.oe_cell.specs.declared.cell.Cell.TheVariants.{Over};
+ghost use Rattle.oe_dims.specs.Dimensions.{most_cells};
+ghost use Rattle.oe_engine.specs.Laws.{GivesCollections};
+ghost use Rattle.oe_engine.specs.Runs.{IsHiddenDamage, chunk_total};
+ghost use Rattle.oe_outside.specs.Faults.{HasCauseOf};
+ghost use Rattle.oe_plan.specs.Ranges.{IsWithinRanges};
+ghost use Rattle.oe_sources.specs.Catalogue.{Row};
+ghost use Rattle.oe_sources.specs.CatalogueDims.{AreDimsOf, dims_of};
+ghost use Rattle.oe_sources.specs.CatalogueRows.{rows_of};
+ghost use Rattle.oe_top.specs.DemoAnswer.{DemoAnswers, Demonstrates, IsDemonstration};
+ghost use Rattle.oe_top.specs.Demonstration.{HasSpooled, IsSpooled, demo_graph, figures_text};
+ghost use Rattle.oe_top.specs.Evaluated.{IsBegun};
+ghost use Rattle.oe_top.specs.Judged.{JudgesBytes};
+ghost use Rattle.oe_top.specs.Objects.{objects};
+
+use crate::evaluation::{begin, complete, refusal_of_run, refusal_of_text};
+use crate::judge::judge_bytes;
+use crate::line::Line;
+use crate::output::write_line;
+use crate::refusal::Refusal;
+use oe_cell::{Cell, TextBuf, print_cell, read_record};
+use oe_engine::{Run, collections_are_mounted, collections_are_valid, over_is_of_the_result};
+use oe_outside::{Gate, Sink, Store, fill_at};
+use oe_plan::PlanFail;
+use oe_render::RenderFail;
+use oe_shape::Checked;
+use oe_sources::Catalogue;
+use oe_window::ChunkSize;
+use std::alloc::Global;
+
+/// The collection `demo` whole, then a kernel of 3 × 3 ones whose border repeats the nearest pixel, then the greatest
+/// cell of the bands.
+const GRAPH: &str = "{\"process_graph\":{\
+\"load\":{\"process_id\":\"load_collection\",\"arguments\":{\"id\":\"demo\",\"spatial_extent\":null,\"temporal_extent\":null}},\
+\"sum\":{\"process_id\":\"apply_kernel\",\"arguments\":{\"data\":{\"from_node\":\"load\"},\"kernel\":[[1,1,1],[1,1,1],[1,1,1]],\"border\":\"replicate\"}},\
+\"top\":{\"process_id\":\"reduce_dimension\",\"arguments\":{\"data\":{\"from_node\":\"sum\"},\"dimension\":\"bands\",\"reducer\":{\"process_graph\":\
+{\"max\":{\"process_id\":\"max\",\"arguments\":{\"data\":{\"from_parameter\":\"data\"}},\"result\":true}}}},\"result\":true}}}";
+
+/// Evaluates the graph of the demonstration over the generated collection of a seed and a side, and writes how many
+/// cells its result has, and the first and the last of them.
+pub(crate) fn demo<O: Sink, P: Store, G: Gate>(
+    alloc: Global,
+    source: (u32, u32),
+    sizes: (ChunkSize, u32),
+    out: &mut O,
+    spool: &mut P,
+    gate: &G,
+) -> Result<(), Refusal>
+    requires seed { source.0 ≤ 1000000000 }
+    requires side { (1 ≤ source.1) × (source.1 ≤ 1024) }
+    requires sizes { IsWithinRanges sizes.0 sizes.1 }
+    ensures { (input : Option (List ℕ)) (input_faults : ℕ) (rows : List Row)
+        → DemoAnswers source.0 source.1 sizes.0 sizes.1
+        (objects input input_faults (O.written out.old) (O.faults out.old)
+        (P.bytes spool.old) (P.faults spool.old) rows)
+        (objects input input_faults (O.written out.new) (O.faults out.new)
+        (P.bytes spool.new) (P.faults spool.new) rows) result }
+{
+    let mut catalogue = Catalogue::generated(alloc, source.0, source.1)?;
+    let checked = match checked_graph(alloc, &catalogue) {
+        Ok(checked) => checked,
+        Err(refusal) => return Err(refusal),
+    };
+    let line = Line::new(alloc)?;
+    let text = Line::new(alloc)?;
+    match begin(alloc, checked, sizes.0, sizes.1) {
+        Ok((run, chunks)) => {
+            write_figures(run, chunks, line, text, out, &mut catalogue, spool, gate)
+        }
+        Err(PlanFail::TooLarge(cells)) => {
+            Err(Refusal::TooLarge(line.of_number(b"PlanTooLarge", cells)))
+        }
+        Err(PlanFail::OutOfMemory) => Err(Refusal::OutOfMemory),
+    }
+}
+
+/// The graph of the demonstration, expanded and checked over the collections of a catalogue.
+fn checked_graph(alloc: Global, catalogue: &Catalogue) -> Result<Checked, Refusal>
+    ensures judged { JudgesBytes (dims_of (rows_of seen catalogue.now)) demo_graph result }
+    ensures collections { OnOk result (GivesCollections (rows_of seen catalogue.now)) }
+    ensures found { IfOk result (λ c. AreDimsOf (rows_of seen catalogue.now) c.rows) }
+{
+    let dims = match catalogue.dims() {
+        Ok(dims) => dims,
+        Err(_) => return Err(Refusal::OutOfMemory),
+    };
+    collections_are_valid(catalogue, &dims);
+    judge_bytes(alloc, GRAPH.as_bytes(), &dims)
+}
+
+/// Evaluates the graph of a run before its first round, which has so many chunks, and writes its figures.
+fn write_figures<O: Sink, P: Store, G: Gate>(
+    mut run: Run,
+    chunks: u64,
+    line: Line,
+    mut text: Line,
+    out: &mut O,
+    catalogue: &mut Catalogue,
+    spool: &mut P,
+    gate: &G,
+) -> Result<(), Refusal>
+    requires begun { IsBegun run }
+    requires front { run.base ≡ 0 }
+    requires chunks { chunks ≡ chunk_total run.plan }
+    requires empty { (line ≡ []) × (text ≡ []) }
+    requires demonstration { IsDemonstration (rows_of seen catalogue.old) }
+    requires rows { run.plan.graph.rows ≡ dims_of (rows_of seen catalogue.old) }
+    requires found { AreDimsOf (rows_of seen catalogue.old) run.plan.graph.rows }
+    requires collections { GivesCollections (rows_of seen catalogue.old) }
+    ensures { (input : Option (List ℕ)) (input_faults : ℕ) (lent : List Row)
+        → Demonstrates (rows_of seen catalogue.old) run.plan
+        (objects input input_faults (O.written out.old) (O.faults out.old)
+        (P.bytes spool.old) (P.faults spool.old) lent)
+        (objects input input_faults (O.written out.new) (O.faults out.new)
+        (P.bytes spool.new) (P.faults spool.new) lent) result }
+{
+    collections_are_mounted();
+    over_is_of_the_result();
+    if let Err(fail) = complete(&mut run, chunks, catalogue, spool, gate) {
+        return Err(refusal_of_run(line, run.checked(), fail));
+    }
+    let count = run.shape().cells();
+    match read_ends(spool, count) {
+        Ok((first, last)) => {
+            spell_figures(count, first, last, &mut text);
+            write_line(text.as_slice(), out)
+        }
+        Err(fail) => Err(refusal_of_text(line, fail)),
+    }
+}
+
+/// The figures of so many cells, of which these are the first and the last, in an empty line.
+fn spell_figures(count: u64, first: Cell, last: Cell, line: &mut Line)
+    requires empty { line.old ≡ [] }
+    requires first { first ≢ Over }
+    requires last { last ≢ Over }
+    ensures { line.new ≡ figures_text count first last }
+{
+    line.push(b"cells ");
+    line.push_number(u128::from(count));
+    line.push(b" first ");
+    push_cell(first, line);
+    line.push(b" last ");
+    push_cell(last, line);
+    line.push(b"\n");
+}
+
+/// Appends the spelling of a cell.
+fn push_cell(cell: Cell, line: &mut Line)
+    requires numbered { cell ≢ Over }
+    requires room { length line.old ≤ 200 }
+    ensures appended { line.new ≡ line.old ++ cell_text cell }
+    ensures short { length line.new ≤ length line.old + 48 }
+{
+    let mut text = TextBuf::new();
+    print_cell(cell, &mut text);
+    line.push(text.bytes());
+}
+
+/// The first and the last of so many cells whose records stand in the spool. Refuses: as [`cell_at`] does.
+fn read_ends<P: Store>(spool: &mut P, count: u64) -> Result<(Cell, Cell), RenderFail>
+    requires few { count ≤ most_cells }
+    requires first { HasSpooled (P.bytes spool.old) count 0 }
+    requires last { HasSpooled (P.bytes spool.old) count (count - 1) }
+    ensures first { IfOk result (λ ends. IsSpooled (P.bytes spool.old) count 0 ends.0) }
+    ensures last { IfOk result (λ ends. IsSpooled (P.bytes spool.old) count (count - 1) ends.1) }
+    ensures cause { HasCauseOf RenderFail.SpoolFailed (P.faults spool.old)
+        (P.faults spool.new) result }
+    ensures damage { IfErr result (IsHiddenDamage (P.bytes spool.old)) }
+    ensures only { IfErr result (λ e. e ≢ RenderFail.SinkFailed) }
+    ensures same { P.bytes spool.new ≡ P.bytes spool.old }
+{
+    let first = cell_at(spool, count, 0)?;
+    let last = cell_at(spool, count, count.saturating_sub(1))?;
+    Ok((first, last))
+}
+
+/// The cell of a number among so many whose records stand in the spool, null where there are not so many.
+///
+/// Refuses: `SpoolFailed` only where the fault counter of the spool rose; `SpoolDamaged` only where what was read is no
+/// record, or that of `Over`, and so never of a spool whose bytes are visible.
+fn cell_at<P: Store>(spool: &mut P, count: u64, number: u64) -> Result<Cell, RenderFail>
+    requires few { count ≤ most_cells }
+    requires stored { HasSpooled (P.bytes spool.old) count number }
+    ensures cell { IfOk result (IsSpooled (P.bytes spool.old) count number) }
+    ensures cause { HasCauseOf RenderFail.SpoolFailed (P.faults spool.old)
+        (P.faults spool.new) result }
+    ensures damage { IfErr result (IsHiddenDamage (P.bytes spool.old)) }
+    ensures only { IfErr result (λ e. e ≢ RenderFail.SinkFailed) }
+    ensures same { P.bytes spool.new ≡ P.bytes spool.old }
+{
+    if number >= count {
+        return Ok(Cell::Empty);
+    }
+    let mut record = [0u8; 17];
+    match fill_at(spool, 17 * number, &mut record) {
+        Ok(true) => match numbered_cell(&record) {
+            Some(cell) => Ok(cell),
+            None => Err(RenderFail::SpoolDamaged(number)),
+        },
+        Ok(false) => Err(RenderFail::SpoolDamaged(number)),
+        Err(_) => Err(RenderFail::SpoolFailed),
+    }
+}
+
+/// The cell of a record, none where the bytes are no record, or that of `Over`.
+fn numbered_cell(bytes: &[u8; 17]) -> Option<Cell>
+    ensures cell { IfSome result (λ c. IsCell c × (c ≢ Over) × (record_of c ≡ bytes.now)) }
+    ensures round_trip { (c : Cell) → IsCell c → c ≢ Over → record_of c ≡ bytes.now
+        → result ≡ Some c }
+{
+    match read_record(bytes) {
+        Some(cell) => { if cell.is_over() { None } else { Some(cell) } }
+        None => None,
+    }
+}

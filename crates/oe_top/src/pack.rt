@@ -1,0 +1,71 @@
+// The command `pack`: from a result text to a cube file.
+ghost use Rattle.std.specs.Prelude.{◌≡◌, ◌⊎◌, ℕ, List, Option, true, length, IfErr, OnOk};
+ghost use Rattle.std.specs.List.{list_all};
+ghost use Rattle.oe_cube.specs.Kinds.{is_null_or_of};
+ghost use Rattle.oe_dims.specs.Dimensions.{cell_count};
+ghost use Rattle.oe_dims.specs.Names.{is_name};
+ghost use Rattle.oe_outside.specs.Faults.{HasCauseOf};
+ghost use Rattle.oe_sources.specs.Catalogue.{Row};
+ghost use Rattle.oe_sources.specs.Packed.{AppendsPacked, AppendsPartOfPacked};
+ghost use Rattle.oe_top.specs.Objects.{objects};
+ghost use Rattle.oe_top.specs.PackAnswer.{PackAnswers};
+
+use crate::input::read_input;
+use crate::refusal::Refusal;
+use oe_dims::Text;
+use oe_outside::{Sink, Source};
+use oe_render::{CubeText, CubeTextFail, read_cube_text};
+use oe_sources::PackFail;
+use std::alloc::Global;
+
+/// Writes the cube file of the result text of the input, under an id.
+pub(crate) fn pack<I: Source, O: Sink>(
+    alloc: Global,
+    id: &Text,
+    input: &mut I,
+    out: &mut O,
+) -> Result<(), Refusal>
+    requires { is_name id.now ≡ true }
+    ensures { (spool : Option (List ℕ)) (spool_faults : ℕ) (rows : List Row) → PackAnswers id.now
+        (objects (I.left input.old) (I.faults input.old) (O.written out.old) (O.faults out.old)
+        spool spool_faults rows)
+        (objects (I.left input.new) (I.faults input.new) (O.written out.new) (O.faults out.new)
+        spool spool_faults rows) result }
+{
+    let bytes = match read_input(alloc, input) {
+        Ok(bytes) => bytes,
+        Err(refusal) => return Err(refusal),
+    };
+    match read_cube_text(alloc, &bytes) {
+        Ok(cube) => write_file(alloc, id, &cube, out),
+        Err(CubeTextFail::Invalid) => Err(Refusal::NoCubeText),
+        Err(CubeTextFail::OutOfMemory) => Err(Refusal::OutOfMemory),
+    }
+}
+
+/// Writes the cube file of a cube.
+fn write_file<O: Sink>(
+    alloc: Global,
+    id: &Text,
+    cube: &CubeText,
+    out: &mut O,
+) -> Result<(), Refusal>
+    requires id { is_name id.now ≡ true }
+    requires counted { length cube.now.cells.items ≡ cell_count cube.now.shape }
+    requires of_kind { list_all (is_null_or_of cube.now.kind) cube.now.cells.items ≡ true }
+    ensures packed { OnOk result (AppendsPacked id.now cube.now.shape cube.now.kind
+        cube.now.cells.items (O.written out.old) (O.written out.new)) }
+    ensures prefix { IfErr result (λ e. e ≡ Refusal.WriteFault →
+        AppendsPartOfPacked id.now cube.now.shape cube.now.kind cube.now.cells.items
+        (O.written out.old) (O.written out.new)) }
+    ensures cause { HasCauseOf Refusal.WriteFault (O.faults out.old) (O.faults out.new) result }
+    ensures nothing { IfErr result (λ e. e ≡ Refusal.OutOfMemory →
+        (O.written out.new ≡ O.written out.old) × (O.faults out.new ≡ O.faults out.old)) }
+    ensures only { IfErr result (λ e. (e ≡ Refusal.WriteFault) ⊎ (e ≡ Refusal.OutOfMemory)) }
+{
+    match oe_sources::pack(alloc, id, cube, out) {
+        Ok(()) => Ok(()),
+        Err(PackFail::SinkFailed) => Err(Refusal::WriteFault),
+        Err(PackFail::OutOfMemory) => Err(Refusal::OutOfMemory),
+    }
+}
