@@ -96,7 +96,7 @@ in_named names name is =
     let p = any_one (λ other. same_name other name) names is in
     subst (λ n. Contains names n) (sym (same_name_is p.one name p.is)) p.is_there
 
-among : (names : List (List ℕ)) (name : List ℕ) → Contains names name → list_any (same_name name) names ≡ true
+pub among : (names : List (List ℕ)) (name : List ℕ) → Contains names name → list_any (same_name name) names ≡ true
 among names name there = any_there (same_name name) names name there (same_name_refl name)
 
 in_among : (names : List (List ℕ)) (name : List ℕ) → list_any (same_name name) names ≡ true → Contains names name

@@ -1,13 +1,15 @@
 -- Expanding round by round.
-use Rattle.std.proofs.Common.{◌≡◌, ℕ, zero, suc, ◌+◌, ◌-◌, ◌<◌, ◌≤◌, ◌⊎◌, inl, inr, Bool, true, false, List, [], Option, Some, None, is_some, is_none, option_map, Contains, length, map, refl, sym, ap, ◌∙◌, subst, true≢false, arith}
+use Rattle.std.proofs.Common.{◌≡◌, ℕ, zero, suc, ◌+◌, ◌-◌, ◌<◌, ◌≤◌, ◌⊎◌, inl, inr, Bool, true, false, List, [], Option, Some, None, is_some, option_map, Contains, length, map, refl, sym, ap, ◌∙◌, subst, true≢false, arith}
 use Rattle.oe_dims.specs.Names.{names_rise}
 use Rattle.oe_graph.specs.Codes.{phase_of}
 use Rattle.oe_graph.specs.Faults.{least}
+use Rattle.oe_graph.specs.Plain.{plain_graph}
 use Rattle.oe_graph.specs.Printed.{ids_of}
 use Rattle.oe_graph.specs.Resolved as resolved
 use Rattle.oe_graph.specs.Tree.{Nodes, PlainGraph, PlainNode, PlainStored}
 use Rattle.oe_graph.specs.declared.code.Code.{Code}
 use Rattle.oe_graph.specs.declared.fault.Fault.{Fault}
+use Rattle.oe_graph.specs.declared.tree.Graph.{Graph}
 use Rattle.oe_graph.proofs.LeastLemmas.{IsLeastOf, IsLeastOf-iff, IsLeastOf-least, Either}
 use Rattle.oe_resolve.specs.Called.{nodes_call}
 use Rattle.oe_resolve.specs.Calls.{callee}
@@ -19,7 +21,8 @@ use Rattle.oe_resolve.specs.Rounds.{round, expanded_by, expanded, known_stored, 
 use Rattle.oe_graph.specs.Valid.{IsValidGraph, AreValidStored}
 use Rattle.oe_resolve.proofs.CountLemmas.{callee_known}
 use Rattle.oe_resolve.proofs.ExpansionLemmas.{Standing, Formed, expanded_in_order}
-use Rattle.oe_resolve.proofs.OrderLemmas.{each_ordered}
+use Rattle.oe_resolve.proofs.KnownLemmas.{known_same}
+use Rattle.oe_resolve.proofs.OrderLemmas.{each_ordered, valid_in_order}
 use Rattle.oe_resolve.proofs.SettledLemmas.{settled}
 use Rattle.oe_resolve.proofs.StandingLemmas.{early_stands, last_stands, InRound, earlier, last_round, in_round}
 
@@ -67,6 +70,14 @@ module _ (stored : List PlainStored) (g : PlainGraph) (stored_valid : AreValidSt
       ∙ ap (round (map known_stored stored)) (settled_by times more is)
       ∙ settled stored (map known_stored stored) leaf (Standing stored g times) (Formed stored g times) false (expanded_by times stored g) is
       (expanded_in_order stored g stored_valid times valid)
+
+-- in a graph as it is written too
+pub rise_of : (g : PlainGraph) → IsValidGraph g → IdsRise g.nodes
+rise_of g valid inner inside =
+    let w = within_of inner g.nodes false [] g.result inside in
+    let order = valid_in_order (λ in_callback namespace p. Unit {0}) (λ places. Unit {0}) false g valid (λ k has. tt)
+    (λ k has h there. (tt, λ j m at holds. (tt, λ i calls. tt))) in
+    (each_ordered (λ in_callback namespace p. Unit {0}) (λ places. Unit {0}) g order w.in_callback w.scope inner w.result w.within).ids_rise
 
 -- ---- the least fault so far
 
@@ -172,3 +183,26 @@ module _ (stored : List PlainStored) (g : PlainGraph) where
         IsLeastOf-iff (Either (IsEarly stored g is.times) LastFault) (IsNameFault stored g) (least fault found) stands_all
         (λ f stands. found_all f (in_round stored g f.code f.node stands.1 stands.0))
         (IsLeastOf-least (IsEarly stored g is.times) LastFault fault found is.early last)
+
+none_by : (P : Fault → Type 0) (o : Option Fault) → IsLeastOf P o → is_some o ≡ false → (f : Fault) → ¬ P f
+none_by P None least none = least
+none_by P (Some f) least none = absurd (true≢false none)
+
+-- a graph that calls no stored process and has no fault of names is its own expansion
+pub itself_expanded : (stored : List PlainStored) (g : Graph) (o : Option Fault) → AreValidStored stored → IsValidGraph (plain_graph g)
+    → nodes_call stored (plain_graph g).nodes ≡ false → IsLeastOf (λ f. OfObject stored true f [] [] (plain_graph g).nodes) o
+    → is_some o ≡ false → IsExpansion stored (plain_graph g) (g, None)
+itself_expanded stored written o stored_valid valid no_call least none =
+    let g = plain_graph written in
+    let faultless = none_by (λ f. OfObject stored true f [] [] g.nodes) o least none in
+    let same = known_same stored true g faultless in
+    let is : IsSettled stored g g None = record {
+      times = 0;
+      is = sym same;
+      settled = λ more fits.
+          settled_by stored g stored_valid valid 0 more (subst (λ (h : PlainGraph). nodes_call stored h.nodes ≡ false) (sym same) no_call)
+          ∙ same;
+      few = omega arith;
+      early = early_none stored g;
+    } in
+    record { graph = all_rounds stored g g None None is; fault = all_faults stored g g None None is faultless }

@@ -13,7 +13,7 @@ use Rattle.oe_graph.specs.Printed.{ids_of, node_count}
 use Rattle.oe_graph.specs.Resolved.{IsResolved, most_nodes}
 use Rattle.oe_graph.specs.Tree.{Nodes, no_nodes, PlainGraph, PlainNode, PlainStored}
 use Rattle.oe_graph.specs.declared.code.Code.{Code}
-use Rattle.oe_resolve.specs.Calls.{means_stored, stored_named, callee, may_stand, Holds, itself, by_callback, Calls, Reaches, calls, onwards, CallsReach, directly, Brings, by_call}
+use Rattle.oe_resolve.specs.Calls.{means_stored, stored_named, callee, may_stand, HoldsNode, itself, by_callback, Calls, Reaches, calls, onwards, CallsReach, directly, Brings, by_call}
 use Rattle.oe_resolve.specs.Faults.{Stands, process_unsupported, process_recursive, graph_too_large, callback_too_large, most_main_nodes, most_callback_nodes}
 use Rattle.oe_resolve.specs.Filled.{resolved}
 use Rattle.oe_resolve.specs.Rounds as rounds
@@ -108,7 +108,7 @@ brings_on stored a b c n m k (by_call {k = h} called has_h rest) more =
     by_call called has_h (brings_on stored a b c h m k rest more)
 
 -- in a callback a node brings what it holds
-held_brings : (stored : List PlainStored) (h m : PlainNode) → Holds h m → Brings stored true h true m
+held_brings : (stored : List PlainStored) (h m : PlainNode) → HoldsNode h m → Brings stored true h true m
 held_brings stored h m itself = itself
 held_brings stored h m (by_callback {k = k} has_g has_k holds) =
     by_callback has_g has_k (held_brings stored k m holds)

@@ -16,6 +16,7 @@ pub mod JudgeLemmas
 pub mod Along
 pub mod CycleLemmas
 pub mod CodeLemmas
+pub mod KnownLemmas
 pub mod FaultLemmas
 pub mod FindLemmas
 pub mod CountLemmas

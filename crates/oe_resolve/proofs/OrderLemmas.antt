@@ -11,7 +11,7 @@ use Rattle.oe_graph.specs.Printed.{ids_of, names_of, node_count}
 use Rattle.oe_graph.specs.References.{each_node, argument_named, callbacks_in, callbacks_each, callbacks_named}
 use Rattle.oe_graph.specs.Resolved.{IsScopedWithin, itself, inside}
 use Rattle.oe_graph.specs.Tree.{Argument, null, flag, whole, inexact, text, list, object, from_node, from_parameter, callback, ListValues, no_arguments, argument, Named, no_named, named, Nodes, no_nodes, node, PlainGraph, PlainNode, PlainParameter, PlainStored}
-use Rattle.oe_resolve.specs.Calls.{means_stored, stored_named, callee, callback_parameters, Holds, by_callback}
+use Rattle.oe_resolve.specs.Calls.{means_stored, stored_named, callee, callback_parameters, HoldsNode, by_callback}
 use Rattle.oe_resolve.specs.Calls as calls
 use Rattle.oe_resolve.specs.Replaced as replaced
 use Rattle.oe_resolve.specs.Replaced.{default_of, value_before, values_given, carried, carried_each, carried_named, without}
@@ -549,13 +549,13 @@ abbrev pub HoldsInside : (Bool → Option (List ℕ) → List ℕ → Type 0) �
 HoldsInside Holding Forming gs =
     (g : PlainGraph) → Contains gs g
     → Forming (places_of g.nodes)
-    × ((k m : PlainNode) → Contains (each_node g.nodes) k → Holds k m
+    × ((k m : PlainNode) → Contains (each_node g.nodes) k → HoldsNode k m
     → Holding true m.namespace m.process_id
     × ((h : PlainGraph) → Contains (callbacks_named m.arguments) h → Forming (places_of h.nodes)))
 
 module _ (Holding : Bool → Option (List ℕ) → List ℕ → Type 0) (Forming : List Place → Type 0) where
   inner : (k : PlainNode)
-      → ((m : PlainNode) → Holds k m → Holding true m.namespace m.process_id
+      → ((m : PlainNode) → HoldsNode k m → Holding true m.namespace m.process_id
       × ((h : PlainGraph) → Contains (callbacks_named m.arguments) h → Forming (places_of h.nodes)))
       → HoldsInside Holding Forming (callbacks_named k.arguments)
   inner k each g has_g = ((each k calls.itself).1 g has_g, λ h m has_h holds. each m (by_callback has_g has_h holds))

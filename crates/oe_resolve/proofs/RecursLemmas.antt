@@ -6,7 +6,7 @@ use Rattle.oe_graph.specs.Tree.{PlainNode, PlainStored}
 use Rattle.oe_order.specs.Graph as order
 use Rattle.oe_order.specs.Graph.{arguments, RefersWithin}
 use Rattle.oe_resolve.specs.Calls as calls
-use Rattle.oe_resolve.specs.Calls.{callee, Brings, Calls, CallsReach, Holds, Reaches}
+use Rattle.oe_resolve.specs.Calls.{callee, Brings, Calls, CallsReach, HoldsNode, Reaches}
 use Rattle.oe_resolve.specs.Reached.{held_nodes, held_named, held_by, index_at, back_from, IsIndexOf, IsCalledBehind, IsCallGraph, IsReached, AreReached, AnyRecurs, IsRecursive}
 use Rattle.oe_graph.specs.Valid.{AreValidStored}
 use Rattle.oe_resolve.proofs.Along.{first_there, later_there, none_there}
@@ -52,10 +52,10 @@ module _ (stored : List PlainStored) where
   from_process s t k is_node (calls.directly c) = calls.calls is_node c
   from_process s t k is_node (calls.onwards c r) = calls.onwards is_node c r
 
-  held_calls : {n k : PlainNode} {t : PlainStored} → ((m : PlainNode) → Holds k m → Holds n m) → Calls stored k t → Calls stored n t
+  held_calls : {n k : PlainNode} {t : PlainStored} → ((m : PlainNode) → HoldsNode k m → HoldsNode n m) → Calls stored k t → Calls stored n t
   held_calls more c = record { caller = c.caller; holds = more c.caller c.holds; calls = c.calls }
 
-  held_reach : {n k : PlainNode} {t : PlainStored} → ((m : PlainNode) → Holds k m → Holds n m) → CallsReach stored k t
+  held_reach : {n k : PlainNode} {t : PlainStored} → ((m : PlainNode) → HoldsNode k m → HoldsNode n m) → CallsReach stored k t
       → CallsReach stored n t
   held_reach more (calls.directly c) = calls.directly (held_calls more c)
   held_reach more (calls.onwards c r) = calls.onwards (held_calls more c) r
@@ -77,7 +77,7 @@ module _ (stored : List PlainStored) where
     pub brings : Brings stored a n in_callback caller
     pub calls : callee stored caller.namespace caller.process_id ≡ Some t
 
-  holds_brings : {n m : PlainNode} (a : Bool) → Holds n m → (b : Bool) × Brings stored a n b m
+  holds_brings : {n m : PlainNode} (a : Bool) → HoldsNode n m → (b : Bool) × Brings stored a n b m
   holds_brings a calls.itself = (a, calls.itself)
   holds_brings a (calls.by_callback there is_node rest) =
       let r = holds_brings true rest in (r.0, calls.by_callback there is_node r.1)
@@ -200,7 +200,7 @@ module _ (stored : List PlainStored) where
         }
 
     module _ (valid : AreValidStored stored) where
-      holds_held : {n m : PlainNode} → Holds n m → Contains (held_by true n) (true, m)
+      holds_held : {n m : PlainNode} → HoldsNode n m → Contains (held_by true n) (true, m)
       holds_held {n} {m} calls.itself = first_there (true, m) (held_named m.arguments)
       holds_held {n} {m} (calls.by_callback {k = h} {g = g} there is_node rest) =
           later_there (true, n) (held_named n.arguments) (true, m)

@@ -221,12 +221,12 @@ pub record HasName (scope : List (List ℕ)) (nodes : Nodes) (at : List ℕ) (ou
   pub name : List ℕ
   pub within : faults.IsWithin name scope nodes at outer_scope outer
 
-record CallbackOf (ms : Named) (g : PlainGraph) : Type 0 where
+pub record CallbackOf (ms : Named) (g : PlainGraph) : Type 0 where
   pub argument : List ℕ × Argument
   pub has : Contains (each_argument ms) argument
   pub calls : Contains (callbacks_in argument.1) g
 
-callback_of : (ms : Named) (g : PlainGraph) → Contains (callbacks_named ms) g → CallbackOf ms g
+pub callback_of : (ms : Named) (g : PlainGraph) → Contains (callbacks_named ms) g → CallbackOf ms g
 callback_of no_named g has = absurd (in_none g has)
 callback_of (named k a rest) g has =
     elim (Contains-append_cases (callbacks_in a) (callbacks_named rest) g has) as (λ _. CallbackOf (named k a rest) g) [

@@ -49,15 +49,15 @@ callback_parameters stored namespace process_id =
 -- ---- what calls lead to
 
 -- a node holds itself and the nodes of its callbacks, at any depth
-pub data Holds : PlainNode → PlainNode → Type 0 where
-  itself : {n : PlainNode} → Holds n n
+pub data HoldsNode : PlainNode → PlainNode → Type 0 where
+  itself : {n : PlainNode} → HoldsNode n n
   by_callback : {n k m : PlainNode} {g : PlainGraph}
-      → Contains (callbacks_named n.arguments) g → Contains (each_node g.nodes) k → Holds k m → Holds n m
+      → Contains (callbacks_named n.arguments) g → Contains (each_node g.nodes) k → HoldsNode k m → HoldsNode n m
 
 -- a node that it holds calls a stored process
 pub record Calls (stored : List PlainStored) (n : PlainNode) (called : PlainStored) : Type 0 where
   pub caller : PlainNode
-  pub holds : Holds n caller
+  pub holds : HoldsNode n caller
   pub calls : callee stored caller.namespace caller.process_id ≡ Some called
 
 -- a stored process reaches another: a node of it calls that one, or calls one that reaches it

@@ -15,7 +15,7 @@ mod under;
 mod values;
 mod weigh;
 
-ghost use Rattle.std.specs.Prelude.{◌≡◌, ℕ, true, List, [], IfOk, IfErr, map};
+ghost use Rattle.std.specs.Prelude.{◌≡◌, ℕ, true, List, [], None, IfOk, IfErr, map};
 ghost use Rattle.oe_graph.specs.declared.code.Code.{Code};
 ghost use Rattle.oe_graph.specs.Plain.{plain_graph, plain_stored};
 ghost use Rattle.oe_graph.specs.Read.{IsFault};
@@ -65,11 +65,29 @@ pub fn resolve(alloc: Global, graph: &Graph, stored: &[StoredProcess]) -> Result
             node: Text::of(alloc, "")?,
         }));
     }
+    if is_expanded(alloc, stored, graph)? {
+        return Ok(fill::filled_graph(alloc, graph)?);
+    }
     let (expanded, fault) = expand(alloc, stored, graph)?;
     if let Some(fault) = fault {
         return Err(Refusal::Fault(fault));
     }
     Ok(fill::filled_graph(alloc, &expanded)?)
+}
+
+/// Whether a graph is its own expansion: it calls no stored process, and no fault of names stands in it. Then no
+/// reference of it is unknown, and it need not be copied to be judged.
+fn is_expanded(alloc: Global, stored: &[StoredProcess], graph: &Graph) -> Result<bool, OutOfMemory>
+    requires graph_valid { IsValidGraph (plain_graph graph.now) }
+    requires stored_valid { AreValidStored (map plain_stored stored.now) }
+    ensures { IfOk result (λ is. is ≡ true
+        → IsExpansion (map plain_stored stored.now) (plain_graph graph.now) (graph.now, None)) }
+{
+    if reach::has_call(stored, graph) {
+        return Ok(false);
+    }
+    let fault = names_fault(alloc, stored, true, graph)?;
+    Ok(fault.is_none())
 }
 
 /// The graph after all rounds, and the least fault of names in any.

@@ -1,4 +1,4 @@
-use Rattle.std.proofs.Common.{◌≡◌, ◌≢◌, false, true, List, [], ◌∙◌, ap, map, sym, subst, true≢false}
+use Rattle.std.proofs.Common.{◌≡◌, ◌≢◌, false, true, List, [], ◌∙◌, None, ap, map, refl, sym, subst, true≢false}
 use Rattle.oe_graph.specs.Plain.{plain_graph, plain_stored}
 use Rattle.oe_graph.specs.Resolved.{IsResolved}
 use Rattle.oe_graph.specs.Tree.{PlainGraph}
@@ -19,6 +19,30 @@ returns-then-branch-clause-refused c =
     of_size_least (map plain_stored c.args.stored.now) (plain_graph c.args.graph.now) c.in_ok-fault.field-0 c.in_ok-fault.ensures
     c.in_default.is c.in_ok-of.field-0 c.in_ok-of.ensures (c.in_ok-is_too_large.ensures.0 c.if-branch.true)
 
+pub returns-then-branch-2-clause-graph : goal.returns-then-branch-2-clause-graph
+returns-then-branch-2-clause-graph c =
+    c.in_ok-filled_graph.ensures
+    ∙ ap (λ (h : PlainGraph). filled_graph h) (c.in_ok-is_expanded.ensures c.if-branch-2.true).graph
+
+pub returns-then-branch-2-clause-without_fault : goal.returns-then-branch-2-clause-without_fault
+returns-then-branch-2-clause-without_fault c =
+    without_fault (map plain_stored c.args.stored.now) (plain_graph c.args.graph.now) c.in_ok-fault.field-0 c.in_ok-fault.ensures
+    c.in_default.is (λ has. true≢false (sym (c.in_ok-is_too_large.ensures.1 has) ∙ c.if-branch.false))
+    None (c.in_ok-is_expanded.ensures c.if-branch-2.true).fault refl
+
+pub returns-then-branch-2-clause-resolved : goal.returns-then-branch-2-clause-resolved
+returns-then-branch-2-clause-resolved c =
+    let stored = map plain_stored c.args.stored.now in
+    let g = plain_graph c.args.graph.now in
+    let expansion = c.in_ok-is_expanded.ensures c.if-branch-2.true in
+    subst (λ (h : PlainGraph). IsResolved h)
+    (sym (c.in_ok-filled_graph.ensures ∙ ap (λ (h : PlainGraph). filled_graph h) expansion.graph))
+    (resolved-without_fault stored g c.requires.stored_valid
+    (without_fault stored g c.in_ok-fault.field-0 c.in_ok-fault.ensures
+    c.in_default.is (λ has. true≢false (sym (c.in_ok-is_too_large.ensures.1 has) ∙ c.if-branch.false))
+    None expansion.fault refl)
+    c.requires.graph_valid)
+
 pub returns-in-Some-fault-clause-refused : goal.returns-in-Some-fault-clause-refused
 returns-in-Some-fault-clause-refused c =
     of_names_least (map plain_stored c.args.stored.now) (plain_graph c.args.graph.now) c.in_ok-fault.field-0 c.in_ok-fault.ensures
@@ -36,7 +60,7 @@ returns-clause-resolved c =
     let stored = map plain_stored c.args.stored.now in
     let g = plain_graph c.args.graph.now in
     subst (λ (h : PlainGraph). IsResolved h)
-    (sym (c.in_ok-filled_graph.ensures ∙ ap (λ (h : PlainGraph). filled_graph h) c.in_ok-expanded.ensures.graph))
+    (sym (c.in_ok-filled_graph-2.ensures ∙ ap (λ (h : PlainGraph). filled_graph h) c.in_ok-expanded.ensures.graph))
     (resolved-without_fault stored g c.requires.stored_valid
     (without_fault stored g c.in_ok-fault.field-0 c.in_ok-fault.ensures
     c.in_default.is (λ has. true≢false (sym (c.in_ok-is_too_large.ensures.1 has) ∙ c.if-branch.false))
