@@ -1,5 +1,5 @@
 -- What a kernel makes of a cube, at the positions of a window.
-use Rattle.std.proofs.Common.{◌≡◌, ℕ, ◌+◌, ◌-◌, ◌≤◌, Bool, true, false, ◌∷◌, [], map, refl, sym, ap, ◌∙◌, subst, arith, Option, Some, None, IfSome, min}
+use Rattle.std.proofs.Common.{◌≡◌, ℕ, ◌+◌, ◌-◌, ◌*◌, ◌<◌, ◌≤◌, Bool, true, false, List, ◌∷◌, [], length, map, get_or, refl, sym, ap, ◌∙◌, subst, arith, Option, Some, None, IfSome, min}
 use Rattle.std.specs.Option.{unwrap_or}
 use Rattle.oe_cell.specs.Fraction.{Fraction}
 use Rattle.oe_cell.specs.declared.cell.Cell.{Cell}
@@ -19,20 +19,22 @@ use Rattle.oe_kernel.proofs.KindLemmas.{IsAmount-convolved}
 use Rattle.oe_kernel.proofs.NeedLemmas.{convolved-same}
 use Rattle.oe_kernel.proofs.WindowLemmas.{CoversWindow-near, CoversWindow-whole}
 use Rattle.oe_window.specs.Cells.{cells_on}
-use Rattle.oe_window.specs.Windows.{Holds, IsIn, positions, whole_window}
+use Rattle.oe_window.specs.Windows.{Holds, IsIn, number_in, position_count, positions, span_length, whole_window}
 use Rattle.oe_window.specs.declared.window.Window.{Window}
 use Rattle.oe_window.proofs.CellLemmas.{cell_at-at, cells_on-tabulate}
 use Rattle.oe_window.proofs.WholeLemmas.{position_in}
+use Rattle.oe_window.proofs.WindowLemmas.{filled_by, length-positions, position_number, within_from_holds}
 use Rattle.oe_shape.specs.Meaning as meaning
 use Rattle.oe_shape.specs.Meaning.{cell, convolution, plane_of}
 use Rattle.oe_shape.specs.Operations.{convolve}
-use Rattle.oe_ops.specs.Needs.{HoldsNeed, IsWithinReach, Needs}
-use Rattle.oe_ops.specs.Planes.{CoversPixel, plane_at}
+use Rattle.oe_ops.specs.Needs.{HoldsNeed, IsWithinReach, Needs, plane_window}
 use Rattle.oe_ops.specs.Slices.{IsOn, at_indices}
 use Rattle.oe_ops.specs.declared.slice.Slice.{Slice}
 use Rattle.oe_ops.proofs.FoundLemmas.{cell_of_is}
 use Rattle.oe_ops.proofs.IndexLemmas.{x_found, y_found}
-use Rattle.oe_ops.proofs.ListLemmas.{map-agree}
+use Rattle.oe_ops.proofs.ListLemmas.{map-agree, map-from_each}
+use Rattle.oe_ops.proofs.NumberLemmas.{are_some}
+use Rattle.oe_ops.proofs.PlaneLemmas.{CoversPixel, HasSides, has_sides, plane_at}
 
 -- ---- the slice has the pixels that are read
 
@@ -153,6 +155,129 @@ pub convolution_is : (kernel : KernelValues) (factor : Fraction) (border : Borde
 convolution_is kernel factor border replace cube slice window d same is valid whole on =
     subst (λ d. Holds (whole_window d) slice.window → Holds (whole_window d) window → HoldsNeed (Needs (convolve kernel factor border replace) (d ∷ []) 0) window slice.window → map (λ p. convolved kernel factor border replace (plane_at slice (extent d.y) (extent d.x) p) p.y p.x) (positions window) ≡ cells_on Empty (convolution kernel factor border replace cube) window) same
     (convolution_here kernel factor border replace cube slice window is (subst IsShape (sym same) valid) whole on)
+
+-- ---- a plane
+
+-- what a kernel reads for a plane of a window, and that it lies within the sides
+pub record ReadsPlane (kernel : KernelValues) (border : Border) (box : Window) (side_y side_x : ℕ) (w : Window) : Type 0 where
+  pub inside : IsIn box (at_indices w.t.from w.bands.from w.y.from w.x.from)
+  pub sides : HasSides box side_y side_x
+  pub y_order : w.y.from < w.y.to
+  pub x_order : w.x.from < w.x.to
+  pub y_in : w.y.to ≤ side_y
+  pub x_in : w.x.to ≤ side_x
+  pub rows : (row : ℕ) → row < span_length w.y → CoversWindow border (w.y.from + row) kernel.height side_y box.y.from box.y.to
+  pub columns : (k : ℕ) → k < span_length w.x → CoversWindow border (w.x.from + k) kernel.width side_x box.x.from box.x.to
+
+-- a row and a column of a plane
+pixel_in : (w : Window) (row k : ℕ) → w ≡ plane_window w w.t.from w.bands.from → row < span_length w.y → k < span_length w.x → IsIn w (at_indices w.t.from w.bands.from (w.y.from + row) (w.x.from + k))
+pixel_in w row k one y x =
+    let t : w.t.to ≡ w.t.from + 1 = ap (λ (v : Window). v.t.to) one in
+    let bands : w.bands.to ≡ w.bands.from + 1 = ap (λ (v : Window). v.bands.to) one in
+    record {
+      t = record { begun = omega arith; before = omega arith };
+      bands = record { begun = omega arith; before = omega arith };
+      y = record { begun = omega arith; before = omega arith };
+      x = record { begun = omega arith; before = omega arith };
+    }
+
+first_pixel : (w : Window) → w ≡ plane_window w w.t.from w.bands.from → 0 < position_count w → IsIn w (at_indices w.t.from w.bands.from w.y.from w.x.from)
+first_pixel w one some =
+    let each = are_some w some in
+    let y : w.y.from + 0 ≡ w.y.from = omega arith in
+    let x : w.x.from + 0 ≡ w.x.from = omega arith in
+    subst (λ j. IsIn w (at_indices w.t.from w.bands.from w.y.from j)) x (subst (λ i. IsIn w (at_indices w.t.from w.bands.from i (w.x.from + 0))) y (pixel_in w 0 0 one each.y each.x))
+
+-- the first pixel of the box's own plane is one of the box
+pub corner_in : (box : Window) (p : Position) → IsIn box p → IsIn box (at_indices p.t p.band box.y.from box.x.from)
+corner_in box p h =
+    let in_y = h.y in
+    let in_x = h.x in
+    record {
+      t = h.t;
+      bands = h.bands;
+      y = record { begun = omega arith; before = omega arith };
+      x = record { begun = omega arith; before = omega arith };
+    }
+
+-- how many pixels there are
+pub block_count : (w : Window) → w ≡ plane_window w w.t.from w.bands.from → span_length w.y * span_length w.x ≡ position_count w
+block_count w one =
+    let t : span_length w.t ≡ 1 = (let end : w.t.to ≡ w.t.from + 1 = ap (λ (v : Window). v.t.to) one in omega arith) in
+    let bands : span_length w.bands ≡ 1 = (let end : w.bands.to ≡ w.bands.from + 1 = ap (λ (v : Window). v.bands.to) one in omega arith) in
+    rw (t, bands) (omega arith)
+
+pub reads_plane : (kernel : KernelValues) (factor : Fraction) (border : Border) (replace : Fraction) (d : Dimensions) (box w : Window) → IsKernel kernel → IsShape d → Holds (whole_window d) w → Holds (whole_window d) box → HoldsNeed (Needs (convolve kernel factor border replace) (d ∷ []) 0) w box → w ≡ plane_window w w.t.from w.bands.from → 0 < position_count w → ReadsPlane kernel border box (extent d.y) (extent d.x) w
+reads_plane kernel factor border replace d box w is valid holds inside need one some =
+    let each = are_some w some in
+    let ny = each.y in
+    let nx = each.x in
+    let first = first_pixel w one some in
+    let own = own_pixel kernel factor replace d w box _ is (position_in d _ (holds _ first)) first border need in
+    let within = within_from_holds w (whole_window d) (filled_by w _ first) holds in
+    let covers : (row k : ℕ) → row < span_length w.y → k < span_length w.x → CoversPixel kernel border box (extent d.y) (extent d.x) (at_indices w.t.from w.bands.from (w.y.from + row) (w.x.from + k)) = λ row k y x.
+    let here = pixel_in w row k one y x in
+    covers_pixel kernel factor replace d w box _ is (position_in d _ (holds _ here)) here border need in
+    record {
+      inside = own;
+      sides = has_sides d box _ valid inside own;
+      y_order = omega arith;
+      x_order = omega arith;
+      y_in = within.y.to;
+      x_in = within.x.to;
+      rows = λ row lt. (covers row 0 lt nx).rows;
+      columns = λ k lt. (covers 0 k ny lt).columns;
+    }
+
+-- where a position of a plane stands in it
+record IsOnPlane (w : Window) (p : Position) : Type 0 where
+  pub t : w.t.from ≡ p.t
+  pub band : w.bands.from ≡ p.band
+  pub y : w.y.from + (p.y - w.y.from) ≡ p.y
+  pub x : w.x.from + (p.x - w.x.from) ≡ p.x
+  pub row : p.y - w.y.from < span_length w.y
+  pub column : p.x - w.x.from < span_length w.x
+  pub number : number_in w p ≡ (p.y - w.y.from) * span_length w.x + (p.x - w.x.from)
+
+number_of_pixel : (w : Window) (p : Position) → w.t.from ≡ p.t → w.bands.from ≡ p.band → number_in w p ≡ (p.y - w.y.from) * span_length w.x + (p.x - w.x.from)
+number_of_pixel w p t band =
+    let no_t : p.t - w.t.from ≡ 0 = omega arith in
+    let no_band : p.band - w.bands.from ≡ 0 = omega arith in
+    rw (no_t, no_band) (omega arith)
+
+on_plane : (w : Window) (p : Position) → w ≡ plane_window w w.t.from w.bands.from → IsIn w p → IsOnPlane w p
+on_plane w p one h =
+    let end_t : w.t.to ≡ w.t.from + 1 = ap (λ (v : Window). v.t.to) one in
+    let end_band : w.bands.to ≡ w.bands.from + 1 = ap (λ (v : Window). v.bands.to) one in
+    let in_t = h.t in
+    let in_bands = h.bands in
+    let in_y = h.y in
+    let in_x = h.x in
+    let t : w.t.from ≡ p.t = omega arith in
+    let band : w.bands.from ≡ p.band = omega arith in
+    record {
+      t = t;
+      band = band;
+      y = omega arith;
+      x = omega arith;
+      row = omega arith;
+      column = omega arith;
+      number = number_of_pixel w p t band;
+    }
+
+-- the cells of its rows, one behind the other, are those at its positions
+module _ (kernel : KernelValues) (factor : Fraction) (border : Border) (replace : Fraction) (slice : Slice) (side_y side_x : ℕ) where
+  same_pixel : (t band y x : ℕ) (p : Position) → t ≡ p.t → band ≡ p.band → y ≡ p.y → x ≡ p.x → convolved kernel factor border replace (plane_at slice side_y side_x (at_indices t band 0 0)) y x ≡ convolved kernel factor border replace (plane_at slice side_y side_x p) p.y p.x
+  same_pixel t band y x p et eb ey ex = rw (et, eb, ey, ex) refl
+
+  pub block_is : (w : Window) (cells : List Cell) → w ≡ plane_window w w.t.from w.bands.from → length cells ≡ position_count w → ((row k : ℕ) → row < span_length w.y → k < span_length w.x → get_or cells (row * span_length w.x + k) Empty ≡ convolved kernel factor border replace (plane_at slice side_y side_x (at_indices w.t.from w.bands.from 0 0)) (w.y.from + row) (w.x.from + k)) → cells ≡ map (λ p. convolved kernel factor border replace (plane_at slice side_y side_x p) p.y p.x) (positions w)
+  block_is w cells one long each =
+      map-from_each _ w cells (long ∙ sym (length-positions w)) (λ n p e.
+      let here = position_number w n p e in
+      let steps = on_plane w p one here.0 in
+      ap (λ i. get_or cells i Empty) (here.1 ∙ steps.number)
+      ∙ each (p.y - w.y.from) (p.x - w.x.from) steps.row steps.column
+      ∙ same_pixel w.t.from w.bands.from _ _ p steps.t steps.band steps.y steps.x)
 
 -- ---- kinds
 

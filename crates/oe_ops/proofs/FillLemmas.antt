@@ -1,17 +1,24 @@
--- One row after the other fills a window.
-use Rattle.std.proofs.Common.{◌≡◌, ℕ, suc, ◌+◌, ◌-◌, ◌*◌, ◌/◌, ◌%◌, ◌<◌, ◌≤◌, List, [], ◌∷◌, length, map, take, drop, get_or, refl, sym, ap, ◌∙◌, arith, Some, inl, inr}
-use Rattle.std.specs.List.{slice_get, range_with_len}
+-- One row, or one piece, after the other fills a window.
+use Rattle.std.proofs.Common.{◌≡◌, ◌==◌, ℕ, zero, suc, ◌+◌, ◌-◌, ◌*◌, ◌/◌, ◌%◌, ◌<◌, ◌≤◌, List, [], ◌∷◌, ◌++◌, length, map, take, drop, get_or, refl, sym, ap, ◌∙◌, subst, arith, Some, inl, inr}
+use Rattle.std.specs.List.{All, slice_get, slice_range, range_with_len}
 use Rattle.std.proofs.Math.Nat.{mul-div_cancel}
 use Rattle.std.proofs.lemmas.Bool.{cases_lt}
-use Rattle.std.proofs.lemmas.List.{length-take-le, length-drop, get_or-take, get_or_append_left, get_or-append_right}
+use Rattle.std.proofs.lemmas.Bool.Decides.{nat_tests}
+use Rattle.std.proofs.Math.Seq.{take-append-add, take-append_seam}
+use Rattle.std.proofs.lemmas.List.{length-take-le, length-drop, get_or-take, get_or_append_left, get_or-append_right, take-append-drop}
+use Rattle.std.proofs.lemmas.List.Elements.{All-append}
+use Rattle.std.proofs.lemmas.List.Folds.{drop_split}
 use Rattle.std.proofs.lemmas.Nat.{mul-le}
 use Rattle.std.proofs.lemmas.Option.{same_Some, slice_get_within}
 use borrow.Rule.Slice.PartMut.{put_mid}
 use Rattle.oe_cell.specs.declared.cell.Cell.{Cell}
 use Rattle.oe_cell.specs.declared.cell.Cell.TheVariants.{Empty}
 use Rattle.oe_dims.specs.Positions.{Position}
+use Rattle.oe_window.specs.Parts.{plane_count, plane_of, plane_size}
 use Rattle.oe_window.specs.Windows.{IsIn, span_length, positions, position_count, number_in}
 use Rattle.oe_window.specs.declared.window.Window.{Window}
+use Rattle.oe_window.proofs.ChunkLemmas.{none_or_more}
+use Rattle.oe_window.proofs.PartLemmas.{plane_ends, plane_of_size}
 use Rattle.oe_window.proofs.WindowLemmas.{position_at, length-positions}
 use Rattle.oe_ops.specs.Slices.{at_indices, along_x}
 use Rattle.oe_ops.proofs.ListLemmas.{map-from_each}
@@ -91,3 +98,63 @@ list_from f a (x ∷ xs) h =
 pub list_from_each : (f : ℕ → Cell) (xs : List Cell) (n : ℕ) → length xs ≡ n → ((k : ℕ) → k < n → get_or xs k Empty ≡ f k) → xs ≡ map f (range_with_len 0 n)
 list_from_each f xs n long h =
     list_from f 0 xs (λ k lt. h k (omega arith) ∙ ap f (let e : k ≡ 0 + k = omega arith in e)) ∙ ap (λ m. map f (range_with_len 0 m)) long
+
+-- ---- one piece after the other
+
+piece_written : (before piece rest : List Cell) (done n : ℕ) → done ≤ length before → length piece ≡ n → take (done + n) (take done before ++ (piece ++ rest)) ≡ take done before ++ piece
+piece_written before piece rest done n inside long =
+    let front : length (take done before) ≡ done = length-take-le done before inside in
+    let count : done + n ≡ length (take done before) + length piece = omega (arith, front, long) in
+    ap (λ k. take k (take done before ++ (piece ++ rest))) count
+    ∙ take-append-add (take done before) (piece ++ rest) (length piece)
+    ∙ ap (λ ys. take done before ++ ys) (take-append_seam piece rest)
+
+piece_follows : (xs : List Cell) (done n : ℕ) → done + n ≤ length xs → take (done + n) xs ≡ take done xs ++ slice_range xs done (done + n)
+piece_follows xs done n inside =
+    let piece = slice_range xs done (done + n) in
+    let rest = drop (done + n) xs in
+    let split : xs ≡ take done xs ++ (piece ++ rest) = sym (take-append-drop done xs) ∙ ap (λ ys. take done xs ++ ys) (drop_split xs done (done + n) (omega arith)) in
+    ap (take (done + n)) split ∙ piece_written xs piece rest done n (omega arith) (length-part xs done n inside)
+
+-- a list is that of all cells one piece further
+pub piece_more : (all before piece rest : List Cell) (done n : ℕ) → length before ≡ length all → done + n ≤ length all → length piece ≡ n → take done before ≡ take done all → piece ≡ slice_range all done (done + n) → take (done + n) (take done before ++ (piece ++ rest)) ≡ take (done + n) all
+piece_more all before piece rest done n same inside long was is =
+    piece_written before piece rest done n (omega arith) long
+    ∙ ap (λ xs. xs ++ piece) was
+    ∙ ap (λ ys. take done all ++ ys) is
+    ∙ sym (piece_follows all done n inside)
+
+-- and its cells have a property one piece further
+pub all_more : (P : Cell → Type 0) (before piece rest : List Cell) (done n : ℕ) → done ≤ length before → length piece ≡ n → All P (take done before) → All P piece → All P (take (done + n) (take done before ++ (piece ++ rest)))
+all_more P before piece rest done n inside long was is =
+    subst (All P) (sym (piece_written before piece rest done n inside long)) (All-append P (take done before) piece was is)
+
+-- the cells of a plane of a window stand behind those of the planes before it, and end within the window
+pub record IsPieceOf (w plane : Window) (n : ℕ) : Type 0 where
+  pub counted : position_count plane ≡ plane_size w
+  pub some : 0 < plane_size w
+  pub within : n * plane_size w + plane_size w ≤ position_count w
+  pub next : (n + 1) * plane_size w ≡ n * plane_size w + plane_size w
+
+one_more : (n size : ℕ) → (n + 1) * size ≡ n * size + size
+one_more n size = omega arith
+
+some_size : (n size total : ℕ) → n * size ≡ total → 0 < total → 0 < size
+some_size n zero total e h = absurd (omega arith)
+some_size n (suc size) total e h = omega arith
+
+filled_count : (w : Window) (n : ℕ) → n < plane_count w → 0 < position_count w
+filled_count w n under =
+    let test = (none_or_more (position_count w == 0) (span_length w.t * span_length w.bands) n under).0 in
+    grind (arith, nat_tests)
+
+pub piece_of : (w plane : Window) (n planes : ℕ) → plane ≡ plane_of w n → planes ≡ plane_count w → planes * plane_size w ≡ position_count w → n < planes → IsPieceOf w plane n
+piece_of w plane n planes is all whole below =
+    let under : n < plane_count w = omega (arith, all, below) in
+    let some : 0 < position_count w = filled_count w n under in
+    record {
+      counted = ap position_count is ∙ plane_of_size w n;
+      some = some_size planes (plane_size w) (position_count w) whole some;
+      within = plane_ends w n under;
+      next = one_more n (plane_size w);
+    }

@@ -1,36 +1,120 @@
-use Rattle.std.proofs.Common.{ap, ◌∙◌, map}
-use Rattle.oe_dims.specs.Dimensions.{extent}
+use Rattle.std.proofs.Common.{◌≡◌, ◌+◌, ◌-◌, ◌*◌, ◌≤◌, ℕ, length, take, drop, sym, ap, ◌∙◌, subst, arith}
+use borrow.Rule.Slice.PartMut.{post_of}
+use Rattle.std.specs.List.{All, slice_range}
+use Rattle.std.proofs.lemmas.List.{length-take, length-drop, take_all}
+use Rattle.oe_cell.specs.declared.cell.Cell.TheVariants.{Empty}
+use Rattle.oe_cube.specs.Kinds.{IsOfKind}
 use Rattle.oe_dims.specs.declared.kind.CellKind.TheVariants.{Numbers}
-use Rattle.oe_kernel.specs.Convolution.{convolved}
-use Rattle.oe_window.specs.Windows.{positions}
-use Rattle.oe_window.proofs.WholeLemmas.{position_in}
-use Rattle.oe_ops.specs.Planes.{plane_at}
-use Rattle.oe_ops.proofs.ConvolveLemmas.{convolution_is, convolved_fits, covers_pixel, own_pixel}
-use Rattle.oe_ops.proofs.KindLemmas.{all_fit}
-use Rattle.oe_ops.proofs.PlaneLemmas.{has_sides}
+use Rattle.oe_shape.specs.Meaning.{convolution}
+use Rattle.oe_window.specs.Cells.{cells_on}
+use Rattle.oe_window.specs.Parts.{IsPartFrom, plane_size}
+use Rattle.oe_window.specs.Windows.{position_count}
+use Rattle.oe_window.proofs.CellLemmas.{cells_on-part, length-cells_on}
+use Rattle.oe_ops.proofs.FillLemmas.{all_more, length-part, piece_more, piece_of}
 use Rattle.oe_ops.proofs.convolve.eval_convolve.Goals as goal
 
-pub fill-requires-clause-serves : goal.fill-requires-clause-serves
-fill-requires-clause-serves c = λ p h.
-    let on = position_in c.args.shape.now p (c.requires.within p h) in
-    let own = own_pixel c.args.kernel.now c.args.factor c.args.replace c.args.shape.now c.args.window.now c.args.slice.window p c.width-width.ensures.valid on h c.args.border c.requires.need in
-    rw (c.side.ensures, c.side-2.ensures) (
-      c.requires.counted,
-      own,
-      has_sides c.args.shape.now c.args.slice.window p c.requires.valid c.requires.inside own,
-      covers_pixel c.args.kernel.now c.args.factor c.args.replace c.args.shape.now c.args.window.now c.args.slice.window p c.width-width.ensures.valid on h c.args.border c.requires.need,
-    )
+pub size-count-requires : goal.size-count-requires
+size-count-requires c =
+    let w = c.args.window.now in
+    let n = c.loop-number.number in
+    let piece = piece_of w c.plane-plane.result n c.planes-number-end.result c.plane-plane.ensures.value c.planes-number-end.ensures.value c.planes-number-end.ensures.all c.loop-number-test.true in
+    omega (arith, piece.counted, piece.within, c.requires.length)
+
+pub overflow_add-part : goal.overflow_add-part
+overflow_add-part c =
+    let w = c.args.window.now in
+    let n = c.loop-number.number in
+    let piece = piece_of w c.plane-plane.result n c.planes-number-end.result c.plane-plane.ensures.value c.planes-number-end.ensures.value c.planes-number-end.ensures.all c.loop-number-test.true in
+    let size = c.size-count.ensures.value in
+    let done = c.loop-number.invariant.done_is in
+    let counted = c.loop-number.auto.out ∙ c.requires.length in
+    omega (arith, size, done, counted, piece.counted, piece.within)
+
+pub slice_bounds-part-end : goal.slice_bounds-part-end
+slice_bounds-part-end c =
+    let w = c.args.window.now in
+    let n = c.loop-number.number in
+    let piece = piece_of w c.plane-plane.result n c.planes-number-end.result c.plane-plane.ensures.value c.planes-number-end.ensures.value c.planes-number-end.ensures.all c.loop-number-test.true in
+    let size = c.size-count.ensures.value in
+    let done = c.loop-number.invariant.done_is in
+    let counted = c.loop-number.auto.out ∙ c.requires.length in
+    omega (arith, size, done, counted, piece.counted, piece.within)
+
+pub convolve_plane-requires-clause-within : goal.convolve_plane-requires-clause-within
+convolve_plane-requires-clause-within c =
+    λ p h. c.requires.within p (c.plane-plane.ensures.part.inside p h)
+
+pub convolve_plane-requires-clause-some : goal.convolve_plane-requires-clause-some
+convolve_plane-requires-clause-some c =
+    let w = c.args.window.now in
+    let n = c.loop-number.number in
+    let piece = piece_of w c.plane-plane.result n c.planes-number-end.result c.plane-plane.ensures.value c.planes-number-end.ensures.value c.planes-number-end.ensures.all c.loop-number-test.true in
+    let size = c.size-count.ensures.value in
+    let done = c.loop-number.invariant.done_is in
+    let counted = c.loop-number.auto.out ∙ c.requires.length in
+    let long = length-part c.loop-number.out c.loop-number.done c.size-count.result (omega (arith, size, done, counted, piece.counted, piece.within)) in
+    omega (arith, long, size, piece.counted, piece.some)
+
+pub convolve_plane-requires-clause-need : goal.convolve_plane-requires-clause-need
+convolve_plane-requires-clause-need c =
+    λ p q h needed. c.requires.need p q (c.plane-plane.ensures.part.inside p h) needed
+
+pub overflow_add-done : goal.overflow_add-done
+overflow_add-done c =
+    let w = c.args.window.now in
+    let n = c.loop-number.number in
+    let piece = piece_of w c.plane-plane.result n c.planes-number-end.result c.plane-plane.ensures.value c.planes-number-end.ensures.value c.planes-number-end.ensures.all c.loop-number-test.true in
+    let size = c.size-count.ensures.value in
+    let done = c.loop-number.invariant.done_is in
+    let counted = c.loop-number.auto.out ∙ c.requires.length in
+    omega (arith, size, done, counted, piece.counted, piece.within)
+
+pub loop-number-preserved : goal.loop-number-preserved
+loop-number-preserved c =
+    let w = c.args.window.now in
+    let n = c.loop-number.number in
+    let piece = piece_of w c.plane-plane.result n c.planes-number-end.result c.plane-plane.ensures.value c.planes-number-end.ensures.value c.planes-number-end.ensures.all c.loop-number-test.true in
+    let size = c.size-count.ensures.value in
+    let done = c.loop-number.invariant.done_is in
+    let counted = c.loop-number.auto.out ∙ c.requires.length in
+    let plane = c.plane-plane.result in
+    let before = c.loop-number.out in
+    let k = c.loop-number.done in
+    let m = c.size-count.result in
+    let inside : k + m ≤ length before = omega (arith, size, done, counted, piece.counted, piece.within) in
+    let made = c.convolve_plane.new.out in
+    let rest = post_of k (k + m - k) before in
+    let long : length made ≡ m = c.convolve_plane.auto.out ∙ length-part before k m inside in
+    let part : IsPartFrom k w plane = subst (λ (i : ℕ). IsPartFrom i w plane) (sym done) c.plane-plane.ensures.part in
+    record {
+      done_is = omega (arith, size, done, piece.counted, piece.next);
+      within = omega (arith, inside, c.convolve_plane.auto.out);
+      value = λ cube whole same on.
+          let all = cells_on Empty (convolution c.args.kernel.now c.args.factor c.args.border c.args.replace cube) w in
+          let total = length-cells_on Empty (convolution c.args.kernel.now c.args.factor c.args.border c.args.replace cube) w in
+          piece_more all before made rest k m (omega (arith, counted, total)) (omega (arith, inside, counted, total)) long (c.loop-number.invariant.value cube whole same on)
+          (c.convolve_plane.ensures.value cube whole same on
+          ∙ sym (cells_on-part Empty (convolution c.args.kernel.now c.args.factor c.args.border c.args.replace cube) k w plane part)
+          ∙ ap (λ (i : ℕ). slice_range all k (k + i)) (sym size));
+      kinds = all_more (IsOfKind Numbers) before made rest k m (omega (arith, inside)) long c.loop-number.invariant.kinds c.convolve_plane.ensures.kinds;
+    }
 
 pub returns-clause-value : goal.returns-clause-value
 returns-clause-value c = λ cube whole same on.
-    let k = c.args.kernel.now in
+    let cells = cells_on Empty (convolution c.args.kernel.now c.args.factor c.args.border c.args.replace cube) c.args.window.now in
+    let total = length-cells_on Empty (convolution c.args.kernel.now c.args.factor c.args.border c.args.replace cube) c.args.window.now in
     let w = c.args.window.now in
-    c.fill.ensures
-    ∙ ap (λ side. map (λ p. convolved k c.args.factor c.args.border c.args.replace (plane_at c.args.slice side c.side-2.result p) p.y p.x) (positions w)) c.side.ensures
-    ∙ ap (λ side. map (λ p. convolved k c.args.factor c.args.border c.args.replace (plane_at c.args.slice (extent c.args.shape.now.y) side p) p.y p.x) (positions w)) c.side-2.ensures
-    ∙ convolution_is k c.args.factor c.args.border c.args.replace cube c.args.slice w c.args.shape.now same c.width-width.ensures.valid c.requires.valid whole on c.requires.inside c.requires.within c.requires.need
+    let out = c.loop-number.out in
+    let end : c.loop-number.number ≡ c.planes-number-end.result = omega (arith, c.loop-number-test.false, c.loop-number.auto.number-end) in
+    let all : c.loop-number.done ≡ position_count w = c.loop-number.invariant.done_is ∙ (ap (λ (m : ℕ). m * plane_size w) end ∙ c.planes-number-end.ensures.all) in
+    let whole_out : take c.loop-number.done out ≡ out = take_all c.loop-number.done out (omega (arith, all, c.loop-number.auto.out, c.requires.length)) in
+    sym whole_out ∙ c.loop-number.invariant.value cube whole same on ∙ take_all c.loop-number.done cells (omega (arith, all, total))
 
 pub returns-clause-kinds : goal.returns-clause-kinds
 returns-clause-kinds c =
-    all_fit Numbers (λ p. convolved c.args.kernel.now c.args.factor c.args.border c.args.replace (plane_at c.args.slice c.side.result c.side-2.result p) p.y p.x) (positions c.args.window.now) _ c.fill.ensures
-    (λ p. convolved_fits c.args.kernel.now c.args.factor c.args.border c.args.replace (plane_at c.args.slice c.side.result c.side-2.result p) p.y p.x)
+    let w = c.args.window.now in
+    let out = c.loop-number.out in
+    let end : c.loop-number.number ≡ c.planes-number-end.result = omega (arith, c.loop-number-test.false, c.loop-number.auto.number-end) in
+    let all : c.loop-number.done ≡ position_count w = c.loop-number.invariant.done_is ∙ (ap (λ (m : ℕ). m * plane_size w) end ∙ c.planes-number-end.ensures.all) in
+    let whole_out : take c.loop-number.done out ≡ out = take_all c.loop-number.done out (omega (arith, all, c.loop-number.auto.out, c.requires.length)) in
+    subst (All (IsOfKind Numbers)) whole_out c.loop-number.invariant.kinds

@@ -9,31 +9,34 @@ use Rattle.oe_ops.proofs.convolve.plane_of.Goals as goal
 
 pub overflow_mul-area : goal.overflow_mul-area
 overflow_mul-area c =
-    let end = plane_end c.args.rows.now.slice.window c.args.t c.args.band c.args.y c.args.x c.requires.inside in
+    let w = c.args.slice.now.window in
+    let end = plane_end w c.args.t c.args.band w.y.from w.x.from c.requires.inside in
     rw (c.indices.ensures, c.indices-2.ensures) (omega (arith, end, c.requires.counted))
 
 pub overflow_add-result : goal.overflow_add-result
 overflow_add-result c =
-    let end = plane_end c.args.rows.now.slice.window c.args.t c.args.band c.args.y c.args.x c.requires.inside in
+    let w = c.args.slice.now.window in
+    let end = plane_end w c.args.t c.args.band w.y.from w.x.from c.requires.inside in
     rw (c.indices.ensures, c.indices-2.ensures) (omega (arith, end, c.requires.counted, c.number-first.ensures.value))
 
 pub slice_bounds-result-end : goal.slice_bounds-result-end
 slice_bounds-result-end c =
-    let end = plane_end c.args.rows.now.slice.window c.args.t c.args.band c.args.y c.args.x c.requires.inside in
-    let area : c.indices.result * c.indices-2.result ≡ span_length c.args.rows.now.slice.window.y * span_length c.args.rows.now.slice.window.x = rw (c.indices.ensures, c.indices-2.ensures) refl in
-    let within : c.number-first.result + c.indices.result * c.indices-2.result ≤ length c.args.rows.now.slice.cells.now = omega (arith, end, area, c.requires.counted, c.number-first.ensures.value) in
+    let w = c.args.slice.now.window in
+    let end = plane_end w c.args.t c.args.band w.y.from w.x.from c.requires.inside in
+    let area : c.indices.result * c.indices-2.result ≡ span_length c.args.slice.now.window.y * span_length c.args.slice.now.window.x = rw (c.indices.ensures, c.indices-2.ensures) refl in
+    let within : c.number-first.result + c.indices.result * c.indices-2.result ≤ length c.args.slice.now.cells.now = omega (arith, end, area, c.requires.counted, c.number-first.ensures.value) in
     search rules
 
 pub returns : goal.returns
 returns c =
-    let w = c.args.rows.now.slice.window in
-    let cells = c.args.rows.now.slice.cells.now in
-    let end = plane_end w c.args.t c.args.band c.args.y c.args.x c.requires.inside in
+    let w = c.args.slice.now.window in
+    let cells = c.args.slice.now.cells.now in
+    let end = plane_end w c.args.t c.args.band w.y.from w.x.from c.requires.inside in
     let area : c.indices.result * c.indices-2.result ≡ span_length w.y * span_length w.x = rw (c.indices.ensures, c.indices-2.ensures) refl in
     let within : c.number-first.result + c.indices.result * c.indices-2.result ≤ length cells = omega (arith, end, area, c.requires.counted, c.number-first.ensures.value) in
     record {
-      side_y_is = refl;
-      side_x_is = refl;
+      side_y_is = c.side-2.ensures;
+      side_x_is = c.side.ensures;
       from_y = refl;
       to_y = refl;
       from_x = refl;
