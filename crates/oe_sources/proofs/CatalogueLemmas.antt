@@ -11,6 +11,7 @@ use Rattle.oe_dims.specs.Indices.{index_where}
 use Rattle.oe_dims.specs.Names.{is_name, same_name}
 use Rattle.oe_cell.specs.declared.cell.Cell.{Cell}
 use Rattle.oe_sources.specs.Catalogue.{id_taken, is_full, mount_refusal, ReadsRow, Row, box_row, has_box, is_boxed, is_mounted, kept_source, mounted_ids, mounted_index, row_index, row_of, row_shown, rows_at, rows_replaced, rows_shown, rows_without, source_at}
+use Rattle.oe_sources.specs.CatalogueLaws.{NeverFailed}
 use Rattle.oe_sources.specs.Source.{Reads, Source}
 use Rattle.oe_sources.specs.declared.catalogue.Kept.{Kept}
 use Rattle.oe_sources.specs.declared.catalogue.Kept.TheVariants.{Boxed, Generated}
@@ -135,6 +136,14 @@ pub source_shown : {B : Type 0} (seen : B → Source) (items : List (Mounted B))
 source_shown seen [] k m below is = absurd (omega arith)
 source_shown seen (x ∷ items) zero m below is = ap (λ (y : Mounted _). kept_source seen y.cube) (sym is)
 source_shown seen (x ∷ items) (suc k) m below is = source_shown seen items k m (omega arith) is
+
+-- what holds of a generated cube holds of the row of its index
+pub never_failed_shown : {B : Type 0} (seen : B → Source) (items : List (Mounted B)) (k : ℕ) (m : Mounted B) → k < length (rows_shown seen items) → m ≡ get_or items k m
+    → (is_boxed m.cube ≡ false → (kept_source seen m.cube).faults ≡ 0) → NeverFailed (rows_shown seen items) k
+never_failed_shown seen [] k m below is none = absurd (omega arith)
+never_failed_shown seen (x ∷ items) zero m below is none =
+    subst (λ (y : Mounted _). is_boxed y.cube ≡ false → (kept_source seen y.cube).faults ≡ 0) is none
+never_failed_shown seen (x ∷ items) (suc k) m below is none = never_failed_shown seen items k m (omega arith) is none
 
 pub source_at-rows_at : (rows : List Row) (k : ℕ) (s : Source) → k < length rows → source_at (rows_at rows k s) k ≡ s
 source_at-rows_at [] k s below = absurd (omega arith)

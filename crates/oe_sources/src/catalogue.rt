@@ -1,5 +1,5 @@
 // The collections that graphs may load.
-ghost use Rattle.std.specs.Prelude.{◌≡◌, ◌≤◌, ◌<◌, [], ◌∷◌, ◌++◌, length, take, drop, true, IfSome, IfOk, IfErr, OnErr, OnOk};
+ghost use Rattle.std.specs.Prelude.{◌≡◌, ◌≤◌, ◌<◌, [], ◌∷◌, ◌++◌, length, take, drop, true, false, IfSome, IfOk, IfErr, OnErr, OnOk};
 ghost use Rattle.std.specs.List.{list_all};
 ghost use Rattle.oe_cube.specs.Collections.{IsCollection};
 ghost use Rattle.oe_dims.specs.Dimensions.{all_differ};
@@ -91,6 +91,16 @@ fn read_kept(cube: &mut Kept<Boxed>, window: &Window, into: &mut [Cell]) -> Resu
     }
 }
 
+/// Does nothing. Its contract says that no read of a generated cube has failed.
+fn never_failed(cube: &Kept<Boxed>)
+    ensures { is_boxed cube.now ≡ false → (kept_source seen cube.now).faults ≡ 0 }
+{
+    match cube {
+        Kept::Boxed(_) => {}
+        Kept::Generated(cube) => cube.never_failed(),
+    }
+}
+
 fn is_boxed(cube: &Kept<Boxed>) -> bool
     ensures { result ≡ is_boxed cube.now }
 {
@@ -152,6 +162,7 @@ impl Catalogue {
     ghost use Rattle.oe_dims.specs.Plain.{HaveRisingIds, plain_rows};
     ghost use Rattle.oe_sources.specs.Catalogue.{ReadsRow, box_row, demonstration, has_box, mount_refusal, row_index, row_of, rows_replaced, rows_without, source_at};
     ghost use Rattle.oe_sources.specs.CatalogueDims.{AreDimsOf, dims_of};
+    ghost use Rattle.oe_sources.specs.CatalogueLaws.{NeverFailed};
     ghost use Rattle.oe_sources.specs.CatalogueRows.{box_of, refusal_of, rows_in};
     ghost use Rattle.oe_sources.specs.Source.{collection_of};
     ghost use Rattle.oe_window.specs.Windows.{Holds, position_count, whole_window};
@@ -318,6 +329,15 @@ impl Catalogue {
         ensures { result ≡ (source_at (rows_in seen self.now) place).kind }
     {
         kind_of(&self.rows[place as usize].cube)
+    }
+
+    /// Does nothing. Its contract says that no read of the collection of a row has failed, where it is a generated cube:
+    /// its fault counter is 0.
+    pub fn generated_never_failed(&self, place: u32)
+        requires mounted { place < length (rows_in seen self.now) }
+        ensures { NeverFailed (rows_in seen self.now) place }
+    {
+        never_failed(&self.rows[place as usize].cube);
     }
 
     /// The id, the shape and the kind of each collection, in byte order of the ids. Refuses: out of memory.

@@ -1,5 +1,5 @@
 -- How the evaluation of the demonstration ends, by what its rounds left and by what was written of its figures.
-use Rattle.std.proofs.Common.{◌≡◌, ◌≢◌, ℕ, zero, suc, ◌+◌, ◌-◌, ◌*◌, ◌<◌, ◌≤◌, Bool, true, false, List, length, take, drop, get_or, Option, Some, None, IfSome, Result, Ok, Err, refl, sym, ap, ◌∙◌, subst, arith, inl, inr, codes, Vec}
+use Rattle.std.proofs.Common.{◌≡◌, ◌≢◌, ℕ, zero, suc, ◌+◌, ◌-◌, ◌*◌, ◌<◌, ◌≤◌, Bool, true, false, List, [], ◌∷◌, length, take, drop, get_or, map, Option, Some, None, IfSome, Result, Ok, Err, refl, sym, ap, ◌∙◌, subst, arith, inl, inr, codes, Vec}
 use Rattle.std.specs.declared.alloc.Global.{Global}
 use Rattle.std.specs.List.{Contains}
 use Rattle.std.specs.Option.{IsSome}
@@ -13,6 +13,7 @@ use Rattle.oe_dims.specs.Cube.{Cube, IsCube}
 use Rattle.oe_dims.specs.Dimensions.{cell_count}
 use Rattle.oe_dims.specs.Positions.{IsPosition, Position}
 use Rattle.oe_dims.proofs.CubeLemmas.{position_there}
+use Rattle.oe_engine.specs.Collections.{AreRead, LoadRose, without_counts}
 use Rattle.oe_engine.specs.Laws.{BeginAndEnd, GivesCollections, LoadsVisible}
 use Rattle.oe_engine.specs.Rounds.{KeepsDamage}
 use Rattle.oe_engine.specs.Runs.{HasDone, HasRecords, IsHiddenDamage, RunOf, ShowsDone, chunk_total, chunks_from, result_cube, result_shape}
@@ -20,7 +21,7 @@ use Rattle.oe_engine.specs.declared.rounds.RunFail.{RunFail}
 use Rattle.oe_engine.specs.declared.rounds.RunFail.TheVariants as run
 use Rattle.oe_engine.proofs.GridLemmas.{all_inside}
 use Rattle.oe_engine.proofs.RenderLemmas.{result_shape_is, result_whole}
-use Rattle.oe_outside.specs.Faults.{HasCauseOf, NeverFalls}
+use Rattle.oe_outside.specs.Faults.{HasCauseOf, NeverFalls, Rose}
 use Rattle.oe_outside.specs.Stored.{HoldsAt, StoreHolds}
 use Rattle.oe_outside.specs.Visible.{Appends, AppendsPrefix}
 use Rattle.oe_outside.proofs.Causes.{NeverFalls-refl, NeverFalls-trans, then-Rose}
@@ -35,6 +36,7 @@ use Rattle.oe_shape.specs.Graphs.{Collections}
 use Rattle.oe_shape.specs.Laws.{AreCollectionsOf}
 use Rattle.oe_sources.specs.Catalogue.{Row, demonstration, source_at}
 use Rattle.oe_sources.specs.CatalogueDims.{dims_of}
+use Rattle.oe_sources.specs.CatalogueLaws.{NeverFailed}
 use Rattle.oe_spool.specs.Spooled.{HoldsRecord, IsInSome}
 use Rattle.oe_spool.proofs.CubeRecords.{cells_counted}
 use Rattle.oe_top.specs.DemoAnswer.{DemoAnswers, DemoEnds, Demonstrates, FiguresEnd, IsDemo, IsDemonstrated, IsDemonstration}
@@ -167,6 +169,39 @@ keeps_none c rows node number demo keeps =
     undamaged demo.seed demo.side keeps.index number within
     (subst (λ (rs : List Row). IfSome (source_at rs keeps.index).contents (λ contents. Contains contents.damaged number)) demo.rows_are keeps.damaged)
 
+-- none of its reads has failed: the one row that was read is still that of a generated cube
+some_row : (seed side : ℕ) (after : List Row) → map without_counts after ≡ map without_counts (demonstration seed side) → 0 < length after
+some_row seed side [] same = cc
+some_row seed side (row ∷ rest) same = omega arith
+
+pub has_row : (rows rows_after : List Row) → IsDemonstration rows → AreRead rows rows_after → 0 < length rows_after
+has_row rows rows_after demo read =
+    some_row demo.seed demo.side rows_after (read.same ∙ ap (map without_counts) demo.rows_are)
+
+abbrev first_boxed : List Row → Bool
+first_boxed [] = true
+first_boxed (row ∷ rest) = row.boxed
+
+none_rose : (seed side index before : ℕ) (after : List Row) → index < 1
+    → map without_counts after ≡ map without_counts (demonstration seed side) → NeverFailed after 0
+    → Rose before (source_at after index).faults → ⊥
+none_rose seed side zero before [] within same never rose = cc
+none_rose seed side zero before (row ∷ rest) within same never rose =
+    let none : row.source.faults ≡ 0 = never (ap first_boxed same) in
+    elim rose [
+      | inl less ↦ omega (arith, less, none)
+      | inr last ↦ omega (arith, last, none)
+    ]
+none_rose seed side (suc index) before after within same never rose = absurd (none_beyond index within)
+
+never_rose : (c : CheckedGraph) (rows rows_after : List Row) → IsDemonstration rows → AreRead rows rows_after
+    → NeverFailed rows_after 0 → LoadRose c rows rows_after → ⊥
+never_rose c rows rows_after demo read never load =
+    let within : load.index < length (demonstration demo.seed demo.side) =
+    subst (λ (rs : List Row). load.index < length rs) demo.rows_are load.mounted.within in
+    none_rose demo.seed demo.side load.index (source_at rows load.index).faults rows_after within
+    (read.same ∙ ap (map without_counts) demo.rows_are) never load.rose
+
 -- ---- how it ends
 
 hidden_before : (store store_after : Option (List ℕ)) → (IsVisible store → IsVisible store_after) → store_after ≡ None → store ≡ None
@@ -239,10 +274,11 @@ module _ (r after : RunOf) (rows rows_after : List Row) (store store_after : Opt
     abbrev stopped_at : Option (List ℕ) → ℕ → Objects
     stopped_at store_last faults_last = objects input input_faults out out_faults store_last faults_last lent
 
-    pub refused : (fail : RunFail) (refusal : Refusal) → Completes r after rows rows_after store store_after faults faults_after (Err fail)
+    pub refused : NeverFailed rows_after 0 → (fail : RunFail) (refusal : Refusal)
+        → Completes r after rows rows_after store store_after faults faults_after (Err fail)
         → IsRefusalOfRun p.graph fail refusal
         → Demonstrates rows p start (stopped_at store_after faults_after) (Err refusal)
-    refused fail refusal c same = record {
+    refused never fail refusal c same = record {
       ends = by fail c same;
       out_count = NeverFalls-refl out_faults;
       spool_count = c.through.spool_cause.count;
@@ -250,8 +286,8 @@ module _ (r after : RunOf) (rows rows_after : List Row) (store store_after : Opt
       where
         by : (fail : RunFail) → Completes r after rows rows_after store store_after faults faults_after (Err fail)
             → IsRefusalOfRun p.graph fail refusal → FiguresEnd rows p start (stopped_at store_after faults_after) (Err refusal)
-        by run.SourceFailed c same = subst (λ (e : Refusal). FiguresEnd rows p start (stopped_at store_after faults_after) (Err e)) (sym same)
-            (record { rows_after = rows_after; rose = c.through.read_cause refl; unwritten = record { out = refl; faults = refl } })
+        by run.SourceFailed c same =
+            absurd (never_rose p.graph rows rows_after demo c.through.goes.read never (c.through.read_cause refl))
         by (run.SourceDamaged node number) c same =
             absurd (keeps_none p.graph rows node number demo (c.through.says node number refl))
         by run.SpoolFailed c same = subst (λ (e : Refusal). FiguresEnd rows p start (stopped_at store_after faults_after) (Err e)) (sym same)
@@ -392,7 +428,7 @@ module _ (seed side : ℕ) (size : ChunkSize) (workers : ℕ) (graph : CheckedGr
         by (Err NotMounted) never = never
         by (Err (TooLarge line)) never = absurd never
         by (Err (Overflow line)) e = demonstrated (Err (Overflow line)) e
-        by (Err ReadFault) e = demonstrated (Err ReadFault) e
+        by (Err ReadFault) never = never
         by (Err (Damaged line)) never = never
         by (Err SpoolFault) e = demonstrated (Err SpoolFault) e
         by (Err WriteFault) e = demonstrated (Err WriteFault) e

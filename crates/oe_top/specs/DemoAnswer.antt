@@ -1,6 +1,5 @@
 -- How the command `demo` ends: the table of its statuses, one case a row.
 use Rattle.std.specs.Prelude.{◌≡◌, ◌<◌, ℕ, List, None, Result, Ok, Err, codes}
-use Rattle.oe_engine.specs.Collections.{LoadRose}
 use Rattle.oe_outside.specs.Faults.{NeverFalls, Rose}
 use Rattle.oe_outside.specs.Visible.{Appends, AppendsPrefix}
 use Rattle.oe_plan.specs.Figures.{bound_of, most_cells}
@@ -39,12 +38,6 @@ module _ (rows : List Row) (p : PlanOf) (before after : Objects) where
     pub least : IsOverFirst number (result_of rows p.graph)
     pub unwritten : IsUnwritten before after
 
-  -- 5: the fault counter of the generated collection rose, which none of its reads makes rise
-  pub record StopsReading : Type 0 where
-    pub rows_after : List Row
-    pub rose : LoadRose p.graph rows rows_after
-    pub unwritten : IsUnwritten before after
-
   -- 7: the fault counter of the spool rose
   pub record StopsSpooling : Type 0 where
     pub rose : Rose before.spool_faults after.spool_faults
@@ -62,7 +55,7 @@ module _ (rows : List Row) (p : PlanOf) (before after : Objects) where
     pub hidden : before.spool ≡ None
     pub unwritten : IsUnwritten before after
 
-  -- no position of a generated collection is damaged
+  -- no read of a generated collection fails, and no position of it is damaged
   abbrev pub FiguresEnd : Result (Unit {0}) Refusal → Type 0
   FiguresEnd (Ok x) = WritesFigures
   FiguresEnd (Err Usage) = ⊥
@@ -71,7 +64,7 @@ module _ (rows : List Row) (p : PlanOf) (before after : Objects) where
   FiguresEnd (Err NotMounted) = ⊥
   FiguresEnd (Err (TooLarge line)) = ⊥
   FiguresEnd (Err (Overflow line)) = OverflowsFirst line.items
-  FiguresEnd (Err ReadFault) = StopsReading
+  FiguresEnd (Err ReadFault) = ⊥
   FiguresEnd (Err (Damaged line)) = ⊥
   FiguresEnd (Err SpoolFault) = StopsSpooling
   FiguresEnd (Err WriteFault) = StopsFigures
@@ -122,7 +115,7 @@ module _ (seed side : ℕ) (size : ChunkSize) (workers : ℕ) where
     DemoEnds (Err NotMounted) = ⊥
     DemoEnds (Err (TooLarge line)) = IsTooLarge line.items
     DemoEnds (Err (Overflow line)) = IsDemonstrated (Err (Overflow line))
-    DemoEnds (Err ReadFault) = IsDemonstrated (Err ReadFault)
+    DemoEnds (Err ReadFault) = ⊥
     DemoEnds (Err (Damaged line)) = ⊥
     DemoEnds (Err SpoolFault) = IsDemonstrated (Err SpoolFault)
     DemoEnds (Err WriteFault) = IsDemonstrated (Err WriteFault)

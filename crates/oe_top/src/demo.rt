@@ -123,6 +123,7 @@ fn write_figures<O: Sink, P: Store, G: Gate>(
     collections_are_mounted();
     over_is_of_the_result();
     if let Err(fail) = complete(&mut run, chunks, catalogue, spool, gate) {
+        catalogue.generated_never_failed(0);
         return Err(refusal_of_run(line, run.checked(), fail));
     }
     let count = run.shape().cells();

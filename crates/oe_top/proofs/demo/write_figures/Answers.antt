@@ -3,7 +3,7 @@ use Rattle.oe_dims.specs.Dimensions.{cell_count}
 use Rattle.oe_plan.specs.Plans.{PlanOf}
 use Rattle.oe_shape.specs.Checked.{CheckedGraph}
 use Rattle.oe_sources.specs.CatalogueRows.{rows_of}
-use Rattle.oe_top.proofs.Demos.{has_spooled, named, refused, unspooled, written}
+use Rattle.oe_top.proofs.Demos.{has_row, has_spooled, named, refused, unspooled, written}
 use Rattle.oe_top.specs.Evaluated.{IsRefusalOfRun}
 use Rattle.oe_top.proofs.demo.write_figures.Goals as goal
 
@@ -11,6 +11,12 @@ pub complete-requires-clause-mounted : goal.complete-requires-clause-mounted
 complete-requires-clause-mounted g c = λ _ _.
     c.collections_are_mounted.ensures c.args.run.plan (rows_of (λ z. (goal.CubeSource-dyn g z).seen z.1) c.args.catalogue.now)
     c.requires.begun.planned c.requires.found
+
+pub generated_never_failed-requires : goal.generated_never_failed-requires
+generated_never_failed-requires g c =
+    let rows = rows_of (λ z. (goal.CubeSource-dyn g z).seen z.1) c.args.catalogue.now in
+    let rows_after = rows_of (λ z. (goal.CubeSource-dyn g z).seen z.1) c.complete.new.catalogue in
+    record { mounted = has_row rows rows_after c.requires.demonstration c.in-Err.ensures.through.goes.read }
 
 pub refusal_of_run-requires-clause-named : goal.refusal_of_run-requires-clause-named
 refusal_of_run-requires-clause-named g c =
@@ -29,7 +35,7 @@ returns-in-Err g c = λ input input_faults lent.
     (g.P.Store.faults c.args.spool.now) (g.P.Store.faults c.complete.new.spool)
     c.requires.demonstration c.requires.collections c.requires.rows c.over_is_of_the_result.ensures c.requires.begun.planned
     input input_faults (g.O.Sink.written c.args.out.now) (g.O.Sink.faults c.args.out.now) lent
-    c.in-Err.fail c.refusal_of_run.result c.in-Err.ensures
+    c.generated_never_failed.ensures c.in-Err.fail c.refusal_of_run.result c.in-Err.ensures
     (subst (λ (k : CheckedGraph). IsRefusalOfRun k c.in-Err.fail c.refusal_of_run.result) graph_is c.refusal_of_run.ensures)
 
 pub read_ends-requires-clause-first : goal.read_ends-requires-clause-first
