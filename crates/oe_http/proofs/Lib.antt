@@ -4,6 +4,7 @@ mod FieldLemmas
 mod Fronts
 mod HeadLemmas
 mod HeadLines
+mod LawLemmas
 mod Lines
 mod Messages
 mod Phrases

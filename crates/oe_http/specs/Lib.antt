@@ -4,6 +4,7 @@ pub mod Fields
 pub mod Found
 pub mod Front
 pub mod Heads
+pub mod Laws
 pub mod Parts
 pub mod Plain
 pub mod Reading

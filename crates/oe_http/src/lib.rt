@@ -9,12 +9,14 @@ mod body;
 mod fields;
 mod front;
 mod head;
+mod laws;
 mod reply;
 mod request;
 mod response;
 mod write;
 mod written;
 
+pub use laws::head_and_body_are_reply;
 pub use reply::{ResponseRefusal, read_response};
 pub use request::{Request, RequestRefusal, read_request};
 pub use response::{Response, write_head, write_response};

@@ -1,83 +1,70 @@
-//! Replies and requests as they are written, worked by hand from the order of the fields and the phrases of RFC 9110.
+// Messages that are written.
 ghost use Rattle.std.specs.Prelude.{IsSome, IsTrue};
 ghost use Rattle.http.specs.StatusCode.{reason_phrase};
 
-use crate::bytes::text_of;
-use crate::seen::say;
+use crate::fault::Fault;
+use crate::link::{Links, outgoing_link, spell_faults};
+use crate::spelling::{bytes_of, spell_part, text_of};
 use http::{Method, StatusCode};
 use oe_dims::Text;
-use oe_http::{
-    Request, Response, read_request, read_response, write_head, write_request, write_response,
-};
-use oe_memory::OutOfMemory;
-use oe_outside::MemoryLink;
-use std::test::Fail;
+use oe_http::{Request, Response, write_head, write_request, write_response};
+use oe_outside::{Failed, MemoryLink};
+use std::alloc::Global;
 
-/// A reply and its bytes.
-type ReplyRow = (
-    u16,
-    Option<&'static str>,
-    Option<&'static str>,
-    bool,
-    &'static [u8],
-    &'static [u8],
-);
-
-// Worked by hand from the order of the fields and the phrases of RFC 9110.
-fn replies() -> [ReplyRow; 6] {
-    [
-        (
-            200,
-            None,
-            None,
-            true,
-            b"{\"conformsTo\":[\"https://api.openeo.org/1.2.0\"]}",
-            b"HTTP/1.1 200 OK\r\nContent-Type: application/json\r\nContent-Length: 47\r\nConnection: close\r\n\r\n{\"conformsTo\":[\"https://api.openeo.org/1.2.0\"]}",
-        ),
-        (
-            201,
-            Some("http://127.0.0.1:80/jobs/j-1"),
-            Some("j-1"),
-            false,
-            b"",
-            b"HTTP/1.1 201 Created\r\nLocation: http://127.0.0.1:80/jobs/j-1\r\nOpenEO-Identifier: j-1\r\nContent-Length: 0\r\nConnection: close\r\n\r\n",
-        ),
-        (
-            202,
-            None,
-            None,
-            false,
-            b"",
-            b"HTTP/1.1 202 Accepted\r\nContent-Length: 0\r\nConnection: close\r\n\r\n",
-        ),
-        (
-            204,
-            None,
-            None,
-            false,
-            b"",
-            b"HTTP/1.1 204 No Content\r\nConnection: close\r\n\r\n",
-        ),
-        (
-            404,
-            None,
-            None,
-            true,
-            b"{\"code\":\"JobNotFound\",\"message\":\"JobNotFound\"}",
-            b"HTTP/1.1 404 Not Found\r\nContent-Type: application/json\r\nContent-Length: 46\r\nConnection: close\r\n\r\n{\"code\":\"JobNotFound\",\"message\":\"JobNotFound\"}",
-        ),
-        (
-            413,
-            None,
-            None,
-            true,
-            b"{}",
-            b"HTTP/1.1 413 Payload Too Large\r\nContent-Type: application/json\r\nContent-Length: 2\r\nConnection: close\r\n\r\n{}",
-        ),
-    ]
+/// Writes a reply, and appends what was written.
+pub(crate) fn answer_reply(
+    alloc: Global,
+    links: Links<'_>,
+    rest: &str,
+    answers: &mut Vec<u8>,
+) -> Result<(), Fault> {
+    let response = response_of(alloc, rest)?;
+    if !has_phrase(response.status) {
+        return Err(Fault::Line);
+    }
+    let mut link = outgoing_link(alloc, links.calls)?;
+    let outcome = write_response(&mut link, &response);
+    spell_written(&link, outcome, answers)
 }
 
-/// Whether the status has a standard phrase, as every status has that is written.
+/// Writes the head of a reply, and appends what was written.
+pub(crate) fn answer_head(
+    alloc: Global,
+    links: Links<'_>,
+    rest: &str,
+    answers: &mut Vec<u8>,
+) -> Result<(), Fault> {
+    let Some((status, length)) = rest.split_once(' ') else {
+        return Err(Fault::Line);
+    };
+    let (Ok(status), Ok(length)) = (status.parse::<u16>(), length.parse::<u64>()) else {
+        return Err(Fault::Line);
+    };
+    if !has_phrase(status) {
+        return Err(Fault::Line);
+    }
+    let mut link = outgoing_link(alloc, links.calls)?;
+    let outcome = write_head(&mut link, status, length);
+    spell_written(&link, outcome, answers)
+}
+
+/// Writes a request, and appends what was written.
+pub(crate) fn answer_written(
+    alloc: Global,
+    links: Links<'_>,
+    rest: &str,
+    answers: &mut Vec<u8>,
+) -> Result<(), Fault> {
+    let Some((host, rest)) = rest.split_once(' ') else {
+        return Err(Fault::Line);
+    };
+    let request = request_of(alloc, rest)?;
+    let mut link = outgoing_link(alloc, links.calls)?;
+    let outcome = write_request(&mut link, &request, host);
+    spell_written(&link, outcome, answers)
+}
+
+/// Whether the status has a standard phrase, as every status has that may be written.
 fn has_phrase(status: u16) -> bool
     ensures { IsTrue result → IsSome (reason_phrase status) }
 {
@@ -87,137 +74,92 @@ fn has_phrase(status: u16) -> bool
     }
 }
 
-#[test]
-fn replies_as_bytes(rt: HostRuntime) -> Result<(), Fail> {
-    let alloc = rt.alloc();
-    for row in &replies() {
-        if !has_phrase(row.0) {
-            return Err(Fail::from("no phrase"));
-        }
-        let response = Response {
-            status: row.0,
-            location: text_of(alloc, row.1)?,
-            identifier: text_of(alloc, row.2)?,
-            json: row.3,
-            body: row.4.to_vec(alloc)?,
-        };
-        let mut link = MemoryLink::new(alloc, Vec::new(alloc), 1, 1024, Vec::new(alloc))?;
-        let answer = write_response(&mut link, &response);
-        assert_eq!(rt; answer, Ok(()), "{}", row.0);
-        assert_eq!(rt; link.written(), row.5, "{}", row.0);
+/// The reply that `STATUS TYPE LOCATION IDENTIFIER BODY` spell.
+fn response_of(alloc: Global, rest: &str) -> Result<Response, Fault> {
+    let mut words = rest.split(' ');
+    let (Some(status), Some(kind), Some(location), Some(identifier), Some(body), None) = (
+        words.next(),
+        words.next(),
+        words.next(),
+        words.next(),
+        words.next(),
+        words.next(),
+    ) else {
+        return Err(Fault::Line);
+    };
+    let Ok(status) = status.parse::<u16>() else {
+        return Err(Fault::Line);
+    };
+    Ok(Response {
+        status,
+        location: text_or_none(alloc, location)?,
+        identifier: text_or_none(alloc, identifier)?,
+        json: is_json(kind)?,
+        body: bytes_or_none(alloc, body)?,
+    })
+}
+
+fn is_json(word: &str) -> Result<bool, Fault> {
+    match word {
+        "json" => Ok(true),
+        "-" => Ok(false),
+        _ => Err(Fault::Line),
     }
-    Ok(())
 }
 
-/// The status and the length of a body that follows, and the head.
-type HeadRow = (u16, u64, &'static [u8]);
-
-fn heads() -> [HeadRow; 3] {
-    [
-        (
-            200,
-            18446744073709551615,
-            b"HTTP/1.1 200 OK\r\nContent-Type: application/json\r\nContent-Length: 18446744073709551615\r\nConnection: close\r\n\r\n",
-        ),
-        (
-            424,
-            0,
-            b"HTTP/1.1 424 Failed Dependency\r\nContent-Type: application/json\r\nContent-Length: 0\r\nConnection: close\r\n\r\n",
-        ),
-        (
-            503,
-            9,
-            b"HTTP/1.1 503 Service Unavailable\r\nContent-Type: application/json\r\nContent-Length: 9\r\nConnection: close\r\n\r\n",
-        ),
-    ]
+/// The request that `METHOD PATH QUERY AUTHORIZATION BODY` spell.
+fn request_of(alloc: Global, rest: &str) -> Result<Request, Fault> {
+    let mut words = rest.split(' ');
+    let (Some(method), Some(path), Some(query), Some(authorization), Some(body), None) = (
+        words.next(),
+        words.next(),
+        words.next(),
+        words.next(),
+        words.next(),
+        words.next(),
+    ) else {
+        return Err(Fault::Line);
+    };
+    let Ok(method) = Method::from_bytes(alloc, method.as_bytes()) else {
+        return Err(Fault::Line);
+    };
+    let query = if query == "-" { "" } else { query };
+    Ok(Request {
+        method,
+        path: text_of(alloc, path)?,
+        query: text_of(alloc, query)?,
+        authorization: text_or_none(alloc, authorization)?,
+        body: bytes_or_none(alloc, body)?,
+    })
 }
 
-#[test]
-fn heads_as_bytes(rt: HostRuntime) -> Result<(), Fail> {
-    let alloc = rt.alloc();
-    for row in &heads() {
-        if !has_phrase(row.0) {
-            return Err(Fail::from("no phrase"));
-        }
-        let mut link = MemoryLink::new(alloc, Vec::new(alloc), 1, 1024, Vec::new(alloc))?;
-        let answer = write_head(&mut link, row.0, row.1);
-        assert_eq!(rt; answer, Ok(()), "{}", row.0);
-        assert_eq!(rt; link.written(), row.2, "{}", row.0);
+fn text_or_none(alloc: Global, word: &str) -> Result<Option<Text>, Fault> {
+    match word {
+        "-" => Ok(None),
+        _ => Ok(Some(text_of(alloc, word)?)),
     }
-    Ok(())
 }
 
-#[test]
-fn replies_read(rt: HostRuntime) -> Result<(), Fail> {
-    let alloc = rt.alloc();
-    for row in &replies() {
-        let mut link = MemoryLink::new(alloc, row.5.to_vec(alloc)?, 7, 0, Vec::new(alloc))?;
-        let response = read_response(alloc, &mut link).map_err(|_e| OutOfMemory)?;
-        assert_eq!(rt; response.status, row.0, "{}", row.0);
-        assert_eq!(rt; response.body.as_slice(), row.4, "{}", row.0);
+fn bytes_or_none(alloc: Global, word: &str) -> Result<Vec<u8>, Fault> {
+    match word {
+        "-" => Ok(Vec::new(alloc)),
+        _ => bytes_of(alloc, word),
     }
-    Ok(())
 }
 
-/// A written request: its method, path, query, authorization and body, and its bytes.
-type WrittenRow = (
-    &'static str,
-    &'static str,
-    &'static str,
-    Option<&'static str>,
-    &'static [u8],
-    &'static [u8],
-);
-
-// Worked by hand from the order of the fields.
-fn written() -> [WrittenRow; 3] {
-    [
-        (
-            "GET",
-            "/jobs",
-            "",
-            None,
-            b"",
-            b"GET /jobs HTTP/1.1\r\nHost: 127.0.0.1:80\r\nContent-Length: 0\r\nConnection: close\r\n\r\n",
-        ),
-        (
-            "POST",
-            "/jobs",
-            "a=b&c=d",
-            Some("Bearer basic//tok"),
-            b"{}",
-            b"POST /jobs?a=b&c=d HTTP/1.1\r\nHost: 127.0.0.1:80\r\nAuthorization: Bearer basic//tok\r\nContent-Length: 2\r\nConnection: close\r\n\r\n{}",
-        ),
-        (
-            "DELETE",
-            "/jobs/j-1",
-            "",
-            Some("x"),
-            b"\x00\xff",
-            b"DELETE /jobs/j-1 HTTP/1.1\r\nHost: 127.0.0.1:80\r\nAuthorization: x\r\nContent-Length: 2\r\nConnection: close\r\n\r\n\x00\xff",
-        ),
-    ]
-}
-
-#[test]
-fn requests_written_and_read(rt: HostRuntime) -> Result<(), Fail> {
-    let alloc = rt.alloc();
-    for row in &written() {
-        let request = Request {
-            method: Method::from_bytes(alloc, row.0.as_bytes()).map_err(|_e| OutOfMemory)?,
-            path: Text::of(alloc, row.1)?,
-            query: Text::of(alloc, row.2)?,
-            authorization: text_of(alloc, row.3)?,
-            body: row.4.to_vec(alloc)?,
-        };
-        let mut link = MemoryLink::new(alloc, Vec::new(alloc), 1, 1024, Vec::new(alloc))?;
-        let answer = write_request(&mut link, &request, "127.0.0.1:80");
-        assert_eq!(rt; answer, Ok(()), "{}", row.1);
-        assert_eq!(rt; link.written(), row.5, "{}", row.1);
-        let mut back = MemoryLink::new(alloc, row.5.to_vec(alloc)?, 7, 0, Vec::new(alloc))?;
-        let read = read_request(alloc, &mut back).map_err(|_e| OutOfMemory)?;
-        assert_eq!(rt; say(&read), say(&request), "{}", row.1);
-        assert_eq!(rt; read.body.as_slice(), row.4, "{}", row.1);
-    }
+/// Appends a line of what was written to a link.
+fn spell_written(
+    link: &MemoryLink,
+    outcome: Result<(), Failed>,
+    answers: &mut Vec<u8>,
+) -> Result<(), Fault> {
+    let word = if outcome.is_ok() {
+        "written "
+    } else {
+        "Failed "
+    };
+    spell_part(word, link.written(), answers)?;
+    spell_faults(link, answers)?;
+    answers.push(b'\n')?;
     Ok(())
 }

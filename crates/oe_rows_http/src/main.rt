@@ -1,0 +1,102 @@
+//! HTTP messages that are read from links in memory and written to them, whose answers were found by hand from RFC 9112,
+//! RFC 9110 and the limits of this profile.
+//!
+//! The input has a line for each step; each line but those of links has lines of answers in the output.
+//!
+//! | Line | What it does |
+//! |---|---|
+//! | `# WORDS` | is printed as it is |
+//! | `links PIECES` | says how the links of the lines behind it give their bytes: sizes with commas between them, one link for each, which gives at most so many bytes in a read |
+//! | `links PIECES CALLS` | and which of their reads and writes fail: numbers with commas between them, counted from 0 |
+//! | `request BYTES` | reads a request from links that give these bytes and end |
+//! | `response BYTES` | reads a response from them |
+//! | `reply STATUS TYPE LOCATION IDENTIFIER BODY` | writes a reply; TYPE is `json` or `-` |
+//! | `head STATUS LENGTH` | writes the head of a reply whose body of so many bytes follows |
+//! | `written HOST METHOD PATH QUERY AUTHORIZATION BODY` | writes a request to a host |
+//!
+//! Bytes are spelled as they are, with `\r` and `\n` for the bytes of a line end, `\HH` for any byte in two hexadecimal
+//! digits, and bars between parts, of which one as `N*BYTES` has its bytes N times. In the lines that write, the words
+//! have no blanks (a blank is `\20`), and `-` stands for none.
+//!
+//! An answer is a refusal, or all that was read, or the bytes that were written, behind `Failed` where a write failed;
+//! then the number of the link's calls that failed, if any did. Of several links each has a line where its answer
+//! differs from that of the one before it, so one line says that all agree. Over 16 equal bytes side by side are spelled
+//! as `|N*B|`.
+#![tactic(auto)]
+
+mod fault;
+mod link;
+mod reading;
+mod spelling;
+mod writing;
+
+use fault::Fault;
+use link::{Links, links_of};
+use reading::{answer_request, answer_response};
+use std::alloc::Global;
+use std::io::{Read, Write};
+use std::process::ExitCode;
+use writing::{answer_head, answer_reply, answer_written};
+
+fn main(rt: HostRuntime) -> ExitCode {
+    let alloc = rt.alloc();
+    let mut text = String::new(alloc);
+    if rt.stdin().read_to_string(&mut text).is_err() {
+        return ExitCode::from(5);
+    }
+    let mut answers = Vec::new(alloc);
+    match answer_lines(alloc, &text, &mut answers) {
+        Ok(()) => {}
+        Err(Fault::Line) => return ExitCode::from(1),
+        Err(Fault::OutOfMemory) => return ExitCode::from(9),
+    }
+    match rt.stdout().write_all(answers.as_slice()) {
+        Ok(()) => ExitCode::from(0),
+        Err(_) => ExitCode::from(8),
+    }
+}
+
+/// Appends the answers of all lines.
+fn answer_lines(alloc: Global, text: &str, answers: &mut Vec<u8>) -> Result<(), Fault> {
+    let mut links = Links {
+        pieces: "1",
+        calls: "",
+    };
+    for line in text.lines() {
+        let Some((word, rest)) = line.split_once(' ') else {
+            return Err(Fault::Line);
+        };
+        if word == "links" {
+            links = links_of(rest);
+        } else {
+            answer_line(alloc, links, word, rest, answers)?;
+        }
+    }
+    Ok(())
+}
+
+/// Appends the answer of a line that begins with this word.
+fn answer_line(
+    alloc: Global,
+    links: Links<'_>,
+    word: &str,
+    rest: &str,
+    answers: &mut Vec<u8>,
+) -> Result<(), Fault> {
+    match word {
+        "#" => print_heading(rest, answers),
+        "request" => answer_request(alloc, links, rest, answers),
+        "response" => answer_response(alloc, links, rest, answers),
+        "reply" => answer_reply(alloc, links, rest, answers),
+        "head" => answer_head(alloc, links, rest, answers),
+        "written" => answer_written(alloc, links, rest, answers),
+        _ => Err(Fault::Line),
+    }
+}
+
+fn print_heading(words: &str, answers: &mut Vec<u8>) -> Result<(), Fault> {
+    answers.extend_from_slice(b"# ")?;
+    answers.extend_from_slice(words.as_bytes())?;
+    answers.push(b'\n')?;
+    Ok(())
+}

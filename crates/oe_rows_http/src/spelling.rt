@@ -1,0 +1,138 @@
+// Bytes as a line spells them, and as an answer does.
+use crate::fault::Fault;
+use itoa::Buffer;
+use oe_dims::Text;
+use std::alloc::Global;
+use std::str;
+
+/// How many equal bytes side by side are spelled one by one at most.
+const MOST_EQUAL: usize = 16;
+
+/// The bytes that are spelled so.
+pub(crate) fn bytes_of(alloc: Global, spelled: &str) -> Result<Vec<u8>, Fault> {
+    let mut bytes = Vec::new(alloc);
+    for part in spelled.split('|') {
+        let (times, text) = times_of(part);
+        let once = plain_bytes(alloc, text)?;
+        for _ in 0..times {
+            bytes.extend_from_slice(&once)?;
+        }
+    }
+    Ok(bytes)
+}
+
+/// The text that is spelled so.
+pub(crate) fn text_of(alloc: Global, spelled: &str) -> Result<Text, Fault> {
+    match str::from_utf8(&bytes_of(alloc, spelled)?) {
+        Ok(text) => Ok(Text::of(alloc, text)?),
+        Err(_) => Err(Fault::Line),
+    }
+}
+
+/// How often a part has its bytes, and how it spells them.
+fn times_of(part: &str) -> (usize, &str) {
+    match part.split_once('*') {
+        None => (1, part),
+        Some((times, text)) => match times.parse::<usize>() {
+            Ok(times) => (times, text),
+            Err(_) => (1, part),
+        },
+    }
+}
+
+fn plain_bytes(alloc: Global, text: &str) -> Result<Vec<u8>, Fault> {
+    let mut bytes = Vec::new(alloc);
+    let mut pieces = text.split('\\');
+    if let Some(first) = pieces.next() {
+        bytes.extend_from_slice(first.as_bytes())?;
+    }
+    for piece in pieces {
+        let (byte, rest) = escaped_byte(piece)?;
+        bytes.push(byte)?;
+        bytes.extend_from_slice(rest.as_bytes())?;
+    }
+    Ok(bytes)
+}
+
+/// The byte that is spelled behind a backslash, and what follows its spelling.
+fn escaped_byte(piece: &str) -> Result<(u8, &str), Fault> {
+    if let Some(rest) = piece.strip_prefix('r') {
+        return Ok((b'\r', rest));
+    }
+    if let Some(rest) = piece.strip_prefix('n') {
+        return Ok((b'\n', rest));
+    }
+    let (Some(digits), Some(rest)) = (piece.get(..2), piece.get(2..)) else {
+        return Err(Fault::Line);
+    };
+    match u8::from_str_radix(digits, 16) {
+        Ok(byte) => Ok((byte, rest)),
+        Err(_) => Err(Fault::Line),
+    }
+}
+
+/// Appends a number.
+pub(crate) fn spell_number(number: u64, answer: &mut Vec<u8>) -> Result<(), Fault> {
+    answer.extend_from_slice(Buffer::new().format(number).as_bytes())?;
+    Ok(())
+}
+
+/// Appends a name and bytes in quotation marks.
+pub(crate) fn spell_part(name: &str, bytes: &[u8], answer: &mut Vec<u8>) -> Result<(), Fault> {
+    answer.extend_from_slice(name.as_bytes())?;
+    answer.push(b'"')?;
+    spell_bytes(bytes, answer)?;
+    answer.push(b'"')?;
+    Ok(())
+}
+
+/// Appends the spelling of bytes.
+fn spell_bytes(bytes: &[u8], answer: &mut Vec<u8>) -> Result<(), Fault> {
+    for run in bytes.chunk_by(|a, b| a == b) {
+        spell_equal(run, answer)?;
+    }
+    Ok(())
+}
+
+/// Appends the spelling of equal bytes.
+fn spell_equal(bytes: &[u8], answer: &mut Vec<u8>) -> Result<(), Fault> {
+    if bytes.len() <= MOST_EQUAL {
+        for byte in bytes {
+            spell_byte(*byte, answer)?;
+        }
+        return Ok(());
+    }
+    answer.push(b'|')?;
+    spell_number(bytes.len() as u64, answer)?;
+    answer.push(b'*')?;
+    spell_byte(bytes[0], answer)?;
+    answer.push(b'|')?;
+    Ok(())
+}
+
+fn spell_byte(byte: u8, answer: &mut Vec<u8>) -> Result<(), Fault> {
+    match byte {
+        b'\r' => answer.extend_from_slice(b"\\r")?,
+        b'\n' => answer.extend_from_slice(b"\\n")?,
+        _ if is_plain(byte) => answer.push(byte)?,
+        _ => {
+            answer.push(b'\\')?;
+            answer.push(digit_of(byte / 16))?;
+            answer.push(digit_of(byte % 16))?;
+        }
+    }
+    Ok(())
+}
+
+/// Whether a byte spells itself: a visible one of ASCII other than the backslash and the bar, or a blank.
+fn is_plain(byte: u8) -> bool {
+    byte == b' ' || byte.is_ascii_graphic() && byte != b'\\' && byte != b'|'
+}
+
+/// The hexadecimal digit of a number below 16.
+fn digit_of(number: u8) -> u8 {
+    match char::from_digit(u32::from(number), 16) {
+        Some(digit) => digit as u8,
+        None => b'?',
+    }
+}
