@@ -116,7 +116,7 @@ fn is_whole_along(checked: &Checked, steps: &[u32], along: Kind) -> bool
 }
 
 /// How many labels a window can have along a dimension with so many, for chunks of this side.
-fn widened(most: u32, side: u32, reach: Reach) -> u32
+fn side_with_reach(most: u32, side: u32, reach: Reach) -> u32
     requires most_in { most ≤ 65536 }
     requires side_in { side ≤ 4096 }
     requires halo_in { reach.halo ≤ 65536 }
@@ -173,10 +173,10 @@ pub(crate) fn sizes_of(checked: &Checked, steps: &[u32], size: ChunkSize) -> Siz
         halo: halo_x,
     };
     let largest = product(
-        widened(t, size.t, reach_t),
+        side_with_reach(t, size.t, reach_t),
         bands,
-        widened(y, size.y, reach_y),
-        widened(x, size.x, reach_x),
+        side_with_reach(y, size.y, reach_y),
+        side_with_reach(x, size.x, reach_x),
     );
     Sizes {
         largest,

@@ -93,7 +93,13 @@ fn step_of_argument(checked: &Checked, order: &NodeOrder, step: usize, argument:
 }
 
 /// What a window of a node needs of its argument of a number, which is this node.
-fn needed(checked: &Checked, node: u32, number: usize, argument: u32, window: &Window) -> Window
+fn need_of_argument(
+    checked: &Checked,
+    node: u32,
+    number: usize,
+    argument: u32,
+    window: &Window,
+) -> Window
     requires faultless { AreFaultless checked.now }
     requires node { node < node_count checked.now.nodes }
     requires works { is_load (links_of checked.now.nodes) node ≡ false }
@@ -130,7 +136,7 @@ fn widen(checked: &Checked, order: &NodeOrder, step: usize, number: usize, windo
     let argument = argument_of(checked, node, number);
     let earlier = step_of_argument(checked, order, step, argument);
     let window = windows[step];
-    let needed = needed(checked, node, number, argument, &window);
+    let needed = need_of_argument(checked, node, number, argument, &window);
     windows[earlier] = hull(&windows[earlier], &needed);
 }
 

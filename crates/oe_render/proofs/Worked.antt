@@ -8,7 +8,7 @@ use Rattle.oe_dims.specs.Dimensions.{Dimensions}
 use Rattle.oe_dims.specs.Instant.{instant_text}
 use Rattle.oe_dims.specs.declared.kind.CellKind.TheVariants.{Numbers, Flags}
 use Rattle.oe_dims.specs.declared.kind.Kind.TheVariants.{Time, Bands, Y, X}
-use Rattle.oe_render.specs.CubeText.{labels_in, common_system, system_in, same_code, value_of, behind, after_y, kind_of}
+use Rattle.oe_render.specs.CubeText.{label_values, common_system, system_in, same_code, dimension_in, behind, after_y, kind_of}
 use Rattle.oe_render.specs.Text.{cube_text, listed_text, more_text}
 
 bare : Dimensions
@@ -47,16 +47,16 @@ abbrev y_value : List ℕ → Num → Data
 y_value axis system = object (member (codes "axis") (string axis) (member (codes "labels") (array no_items) (member (codes "name") (string (codes "y"))
     (member (codes "reference_system") (number system) (member (codes "type") (string (codes "spatial")) no_members)))))
 
-time_labels : labels_in Time time_value ≡ Some no_items
+time_labels : label_values Time time_value ≡ Some no_items
 time_labels = refl
 
-time_is_no_band : labels_in Bands time_value ≡ None
+time_is_no_band : label_values Bands time_value ≡ None
 time_is_no_band = refl
 
-y_labels : labels_in Y (y_value (codes "y") (unsigned 4326)) ≡ Some no_items
+y_labels : label_values Y (y_value (codes "y") (unsigned 4326)) ≡ Some no_items
 y_labels = refl
 
-another_axis : labels_in Y (y_value (codes "x") (unsigned 4326)) ≡ None
+another_axis : label_values Y (y_value (codes "x") (unsigned 4326)) ≡ None
 another_axis = refl
 
 a_system : common_system (Some (y_value (codes "y") (unsigned 4326))) None ≡ Some 4326
@@ -75,7 +75,7 @@ two_systems : same_code (Some 4326) (Some 3857) ≡ None
 two_systems = refl
 
 -- t before y, and y before t
-in_order : value_of Y (item time_value (item (y_value (codes "y") (unsigned 1)) no_items)) ≡ Some (y_value (codes "y") (unsigned 1))
+in_order : dimension_in Y (item time_value (item (y_value (codes "y") (unsigned 1)) no_items)) ≡ Some (y_value (codes "y") (unsigned 1))
 in_order = refl
 
 none_left : behind X (after_y (item time_value (item (y_value (codes "y") (unsigned 1)) no_items))) ≡ no_items

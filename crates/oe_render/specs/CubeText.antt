@@ -81,13 +81,13 @@ has_axis Y d = has_text (codes "axis") (codes "y") d
 has_axis X d = has_text (codes "axis") (codes "x") d
 
 -- the values of the labels, where the value is a dimension of the kind
-abbrev pub labels_in : Kind → Data → Option Items
-labels_in kind d =
+abbrev pub label_values : Kind → Data → Option Items
+label_values kind d =
     if has_text (codes "type") (kind_type kind) d && has_axis kind d then list_in (codes "labels") d else None
 
 -- the value is a dimension of the kind, and these are its labels
 abbrev pub IsDimension : {A : Type 0} → Kind → (Data → A → Type 0) → Data → List A → Type 0
-IsDimension kind Spells d labels = (values : Items) × (labels_in kind d ≡ Some values) × Each Spells values labels
+IsDimension kind Spells d labels = (values : Items) × (label_values kind d ≡ Some values) × Each Spells values labels
 
 -- a dimension that is there has these labels; one that is not has none
 abbrev pub Along : {A : Type 0} → Kind → (Data → A → Type 0) → Option Data → Option (List A) → Type 0
@@ -132,19 +132,19 @@ after_bands ds = behind Bands (after_t ds)
 abbrev pub after_y : Items → Items
 after_y ds = behind Y (after_bands ds)
 
-abbrev pub value_of : Kind → Items → Option Data
-value_of Time ds = first_of Time ds
-value_of Bands ds = first_of Bands (after_t ds)
-value_of Y ds = first_of Y (after_bands ds)
-value_of X ds = first_of X (after_y ds)
+abbrev pub dimension_in : Kind → Items → Option Data
+dimension_in Time ds = first_of Time ds
+dimension_in Bands ds = first_of Bands (after_t ds)
+dimension_in Y ds = first_of Y (after_bands ds)
+dimension_in X ds = first_of X (after_y ds)
 
 -- the values are the dimensions of the shape in the order t, bands, y, x, and nothing else
 pub record AreDimensions (values : Items) (shape : Dimensions) : Type 0 where
-  pub t : Along Time SpellsTime (value_of Time values) shape.t
-  pub bands : Along Bands SpellsName (value_of Bands values) shape.bands
-  pub y : Along Y SpellsCoordinate (value_of Y values) shape.y
-  pub x : Along X SpellsCoordinate (value_of X values) shape.x
-  pub system : common_system (value_of Y values) (value_of X values) ≡ Some shape.epsg
+  pub t : Along Time SpellsTime (dimension_in Time values) shape.t
+  pub bands : Along Bands SpellsName (dimension_in Bands values) shape.bands
+  pub y : Along Y SpellsCoordinate (dimension_in Y values) shape.y
+  pub x : Along X SpellsCoordinate (dimension_in X values) shape.x
+  pub system : common_system (dimension_in Y values) (dimension_in X values) ≡ Some shape.epsg
   pub last : behind X (after_y values) ≡ no_items
 
 -- ---- cells

@@ -5,16 +5,16 @@ use Rattle.serde_json.specs.Data.{Data, Items, no_items}
 use Rattle.serde_json.specs.View.{view}
 use Rattle.serde_json.specs.declared.value.Value.{Value}
 use Rattle.oe_dims.specs.declared.kind.Kind.TheVariants.{Time, Bands, Y, X}
-use Rattle.oe_render.specs.CubeText.{value_of, behind, after_y}
+use Rattle.oe_render.specs.CubeText.{dimension_in, behind, after_y}
 
 -- the data of a value that was found
-abbrev pub seen : Option (Bor Value) → Option Data
-seen value = option_map (λ v. view v.now) value
+abbrev pub found_data : Option (Bor Value) → Option Data
+found_data value = option_map (λ v. view v.now) value
 
 -- these are the values of the four dimensions, and no other stands behind them
 pub record HasValues (values : Items) (t bands y x : Option Data) : Type 0 where
-  pub t_is : t ≡ value_of Time values
-  pub bands_is : bands ≡ value_of Bands values
-  pub y_is : y ≡ value_of Y values
-  pub x_is : x ≡ value_of X values
+  pub t_is : t ≡ dimension_in Time values
+  pub bands_is : bands ≡ dimension_in Bands values
+  pub y_is : y ≡ dimension_in Y values
+  pub x_is : x ≡ dimension_in X values
   pub last : behind X (after_y values) ≡ no_items

@@ -6,7 +6,7 @@ ghost use Rattle.oe_dims.specs.Dimensions.{Dimensions, IsShape};
 ghost use Rattle.oe_dims.specs.Lists.{items_of};
 ghost use Rattle.oe_dims.specs.declared.kind.Kind.TheVariants.{Time, Bands, X};
 ghost use Rattle.oe_render.specs.CubeText.{after_y, Along, AreDimensions, Each, SpellsCoordinate, SpellsName, SpellsTime};
-ghost use Rattle.oe_render.specs.Seen.{HasValues, seen};
+ghost use Rattle.oe_render.specs.Seen.{HasValues, found_data};
 ghost use Rattle.oe_render.specs.CubeText as spec;
 
 use crate::members::{has_text, list_in};
@@ -58,8 +58,8 @@ pub fn read_shape(alloc: Global, values: &[Value]) -> Result<Option<Shape>, OutO
 /// The values of the four dimensions, none where others stand there too.
 fn find_values(values: &[Value]) -> Option<Values<'_>>
     ensures { MatchOption result (spec.behind X (after_y (items_view values.now)) ≢ no_items)
-        (λ found. HasValues (items_view values.now) (seen found.t) (seen found.bands)
-        (seen found.y) (seen found.x)) }
+        (λ found. HasValues (items_view values.now) (found_data found.t) (found_data found.bands)
+        (found_data found.y) (found_data found.x)) }
 {
     let (t, rest) = take(values, Kind::Time);
     let (bands, rest) = take(rest, Kind::Bands);
@@ -74,7 +74,7 @@ fn find_values(values: &[Value]) -> Option<Values<'_>>
 
 /// The first value, where it has the name of the kind, and those behind it.
 fn take(values: &[Value], kind: Kind) -> (Option<&Value>, &[Value])
-    ensures first { seen result.0 ≡ spec.first_of kind (items_view values.now) }
+    ensures first { found_data result.0 ≡ spec.first_of kind (items_view values.now) }
     ensures behind { items_view result.1.now ≡ spec.behind kind (items_view values.now) }
 {
     match values {
@@ -111,9 +111,9 @@ fn type_of(kind: Kind) -> &'static str
 }
 
 /// The values of the labels, where the value is a dimension of the kind.
-fn labels_in(value: &Value, kind: Kind) -> Option<&[Value]>
+fn label_values(value: &Value, kind: Kind) -> Option<&[Value]>
     ensures { option_map (λ list. items_view list.now) result
-        ≡ spec.labels_in kind (view value.now) }
+        ≡ spec.label_values kind (view value.now) }
 {
     if has_text(value, "type", type_of(kind)) && has_axis(value, kind) {
         list_in(value, "labels")
@@ -134,7 +134,7 @@ fn has_axis(value: &Value, kind: Kind) -> bool
 
 /// The EPSG code of `y` and `x`, 0 where both are missing, and none where they have no code or differ.
 fn common_system(y: Option<&Value>, x: Option<&Value>) -> Option<u32>
-    ensures { result ≡ spec.common_system (seen y.entry) (seen x.entry) }
+    ensures { result ≡ spec.common_system (found_data y.entry) (found_data x.entry) }
 {
     match (y, x) {
         (None, None) => Some(0),
@@ -165,14 +165,14 @@ fn system_in(value: &Value) -> Option<u32>
 fn read_time(alloc: Global, value: Option<&Value>) -> Result<Option<Option<Vec<i64>>>, OutOfMemory>
     ensures { IfOk result (λ read. MatchOption read
         ((labels : Option (List ℤ)) →
-        ¬ Along Time SpellsTime (seen value.entry) labels)
-        (λ labels. Along Time SpellsTime (seen value.entry)
+        ¬ Along Time SpellsTime (found_data value.entry) labels)
+        (λ labels. Along Time SpellsTime (found_data value.entry)
         (option_map items_of labels))) }
 {
     let Some(value) = value else {
         return Ok(Some(None));
     };
-    let Some(labels) = labels_in(value, Kind::Time) else {
+    let Some(labels) = label_values(value, Kind::Time) else {
         return Ok(None);
     };
     match read_instants(alloc, labels)? {
@@ -188,14 +188,14 @@ fn read_bands(
 ) -> Result<Option<Option<Vec<Text>>>, OutOfMemory>
     ensures { IfOk result (λ read. MatchOption read
         ((labels : Option (List (List ℕ))) →
-        ¬ Along Bands SpellsName (seen value.entry) labels)
-        (λ labels. Along Bands SpellsName (seen value.entry)
+        ¬ Along Bands SpellsName (found_data value.entry) labels)
+        (λ labels. Along Bands SpellsName (found_data value.entry)
         (option_map items_of labels))) }
 {
     let Some(value) = value else {
         return Ok(Some(None));
     };
-    let Some(labels) = labels_in(value, Kind::Bands) else {
+    let Some(labels) = label_values(value, Kind::Bands) else {
         return Ok(None);
     };
     match read_names(alloc, labels)? {
@@ -212,14 +212,14 @@ fn read_axis(
 ) -> Result<Option<Option<Vec<i64>>>, OutOfMemory>
     ensures { IfOk result (λ read. MatchOption read
         ((labels : Option (List ℤ)) →
-        ¬ Along kind SpellsCoordinate (seen value.entry) labels)
-        (λ labels. Along kind SpellsCoordinate (seen value.entry)
+        ¬ Along kind SpellsCoordinate (found_data value.entry) labels)
+        (λ labels. Along kind SpellsCoordinate (found_data value.entry)
         (option_map items_of labels))) }
 {
     let Some(value) = value else {
         return Ok(Some(None));
     };
-    let Some(labels) = labels_in(value, kind) else {
+    let Some(labels) = label_values(value, kind) else {
         return Ok(None);
     };
     match read_coordinates(alloc, labels)? {

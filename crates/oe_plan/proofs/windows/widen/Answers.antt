@@ -21,8 +21,8 @@ step_of_argument-earlier-requires-clause-has c =
     contains_of (arguments_of_node c.args.checked.now (slice_index (steps_of c.args.checked.now) c.args.step)) c.args.number c.argument_of-argument.result
     (subst (λ (n : ℕ). slice_get (arguments_of_node c.args.checked.now n) c.args.number ≡ Some c.argument_of-argument.result) same c.argument_of-argument.ensures.value)
 
-pub needed-needed-requires-clause-node : goal.needed-needed-requires-clause-node
-needed-needed-requires-clause-node c =
+pub need_of_argument-needed-requires-clause-node : goal.need_of_argument-needed-requires-clause-node
+need_of_argument-needed-requires-clause-node c =
     let same = node_read c.args.checked.now c.args.order.now c.steps.result.now c.args.step c.requires.order c.steps.ensures in
     subst (λ (n : ℕ). n < node_count c.args.checked.now.nodes) (sym same)
     (step_below c.args.checked.now c.requires.faultless (listing_of c.args.checked.now c.args.order.now c.requires.order) c.args.step c.requires.step)
@@ -33,7 +33,7 @@ returns c =
     let before = c.step_of_argument-earlier.ensures.earlier in
     let inside = c.requires.step in
     let each = c.requires.each in
-    widened_by c.args.checked.now c.args.step c.args.number c.step_of_argument-earlier.result c.args.windows.now c.needed-needed.result c.hull.result
+    widened_by c.args.checked.now c.args.step c.args.number c.step_of_argument-earlier.result c.args.windows.now c.need_of_argument-needed.result c.hull.result
     (record {
       within = c.requires.step;
       earlier = before;
@@ -43,7 +43,7 @@ returns c =
           ∙ ap Some (sym c.step_of_argument-earlier.ensures.value);
     })
     (omega arith)
-    (subst (λ (n : ℕ). IsNeed (NeedsOfNode c.args.checked.now n c.args.number) (window_at c.args.windows.now c.args.step) c.needed-needed.result) same c.needed-needed.ensures)
+    (subst (λ (n : ℕ). IsNeed (NeedsOfNode c.args.checked.now n c.args.number) (window_at c.args.windows.now c.args.step) c.need_of_argument-needed.result) same c.need_of_argument-needed.ensures)
     (record {
       first_empty = c.hull.ensures.first_empty;
       holds_first = c.hull.ensures.holds_first;

@@ -5,7 +5,7 @@ use Rattle.oe_window.specs.Windows.{IsIn, whole_window}
 use Rattle.oe_plan.specs.Steps.{argument_shapes}
 use Rattle.oe_plan.proofs.NodeLemmas.{argument_shape_is}
 use Rattle.oe_plan.proofs.WidenLemmas.{kernel_shape, need_of_node, node_shape}
-use Rattle.oe_plan.proofs.windows.needed.Goals as goal
+use Rattle.oe_plan.proofs.windows.need_of_argument.Goals as goal
 
 pub need-requires-clause-within : goal.need-requires-clause-within
 need-requires-clause-within c = λ p h.
