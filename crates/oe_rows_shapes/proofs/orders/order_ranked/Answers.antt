@@ -1,5 +1,5 @@
 use Rattle.std.proofs.Common.{refl}
-use Rattle.oe_rows.proofs.order.order_ranked.Goals as goal
+use Rattle.oe_rows_shapes.proofs.orders.order_ranked.Goals as goal
 
 pub leads_back-requires-clause-named : goal.leads_back-requires-clause-named
 leads_back-requires-clause-named c = c.if-not-is_ranked.ensures.named refl
