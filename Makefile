@@ -29,7 +29,8 @@ examples: program
 bench: program
 	@bench/year.py $(PROGRAM)
 
-# The gate: every proof, every edit that must be refused, every test, and the program twice.
+# The gate: every proof, every edit that must be refused, every test, and the program twice. What it passed before on this
+# machine, with the same checksums, it does not prove again; `rt ci --anew` does.
 test:
 	@rt ci
 
