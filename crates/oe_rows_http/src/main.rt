@@ -8,6 +8,7 @@
 //! | `# WORDS` | is printed as it is |
 //! | `links PIECES` | says how the links of the lines behind it give their bytes: sizes with commas between them, one link for each, which gives at most so many bytes in a read |
 //! | `links PIECES CALLS` | and which of their reads and writes fail: numbers with commas between them, counted from 0 |
+//! | `texts all` | prints the text of each refusal of a request, then of each refusal of a response, one a line |
 //! | `request BYTES` | reads a request from links that give these bytes and end |
 //! | `response BYTES` | reads a response from them |
 //! | `reply STATUS TYPE LOCATION IDENTIFIER BODY` | writes a reply; TYPE is `json` or `-` |
@@ -32,7 +33,7 @@ mod writing;
 
 use fault::Fault;
 use link::{Links, links_of};
-use reading::{answer_request, answer_response};
+use reading::{answer_request, answer_response, answer_texts};
 use std::alloc::Global;
 use std::io::{Read, Write};
 use std::process::ExitCode;
@@ -85,6 +86,7 @@ fn answer_line(
 ) -> Result<(), Fault> {
     match word {
         "#" => print_heading(rest, answers),
+        "texts" => answer_texts(alloc, answers),
         "request" => answer_request(alloc, links, rest, answers),
         "response" => answer_response(alloc, links, rest, answers),
         "reply" => answer_reply(alloc, links, rest, answers),

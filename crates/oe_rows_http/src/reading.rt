@@ -109,3 +109,37 @@ fn response_refusal(refusal: ResponseRefusal) -> &'static str {
         ResponseRefusal::OutOfMemory => "OutOfMemory",
     }
 }
+
+/// Appends the text of each refusal of a request, then of each refusal of a response, one a line.
+pub(crate) fn answer_texts(alloc: Global, answers: &mut Vec<u8>) -> Result<(), Fault> {
+    request_texts(alloc, answers)?;
+    response_texts(alloc, answers)
+}
+
+fn request_texts(alloc: Global, answers: &mut Vec<u8>) -> Result<(), Fault> {
+    for refusal in [
+        RequestRefusal::Malformed,
+        RequestRefusal::HeadTooLong,
+        RequestRefusal::BodyTooLong,
+        RequestRefusal::CodingUnsupported,
+        RequestRefusal::Truncated,
+        RequestRefusal::LinkFailed,
+        RequestRefusal::OutOfMemory,
+    ] {
+        answers.extend_from_slice(format!(in alloc; "{refusal}\n")?.as_bytes())?;
+    }
+    Ok(())
+}
+
+fn response_texts(alloc: Global, answers: &mut Vec<u8>) -> Result<(), Fault> {
+    for refusal in [
+        ResponseRefusal::Malformed,
+        ResponseRefusal::TooLong,
+        ResponseRefusal::Truncated,
+        ResponseRefusal::LinkFailed,
+        ResponseRefusal::OutOfMemory,
+    ] {
+        answers.extend_from_slice(format!(in alloc; "{refusal}\n")?.as_bytes())?;
+    }
+    Ok(())
+}
