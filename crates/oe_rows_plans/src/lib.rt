@@ -11,4 +11,6 @@ mod figures;
 #[cfg(test)]
 mod plans;
 #[cfg(test)]
+mod threads;
+#[cfg(test)]
 mod windows;
