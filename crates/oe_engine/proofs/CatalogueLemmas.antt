@@ -22,11 +22,11 @@ use Rattle.oe_expr.specs.Nodes.{down_from, id_at}
 use Rattle.oe_graph.specs.Tree.{PlainNode}
 use Rattle.oe_shape.specs.Checked.{CheckedGraph}
 use Rattle.oe_shape.specs.Graphs as graph
-use Rattle.oe_shape.specs.Graphs.{Collections, NamedCollection, collection_named, datacube_of, inputs_of, no_datacube}
+use Rattle.oe_shape.specs.Graphs.{Collections, NamedCollection, collection_named, datacube_of, request_inputs, no_datacube}
 use Rattle.oe_shape.specs.Laws.{AreCollectionsOf, meaning_of_node}
 use Rattle.oe_shape.specs.Meaning.{Datacube, operated, outline}
 use Rattle.oe_shape.specs.Operations.{Operation, operation_of}
-use Rattle.oe_shape.specs.Requests.{Request, request_at}
+use Rattle.oe_shape.specs.Requests.{CubeRequest, cube_request_at}
 use Rattle.oe_sources.specs.Catalogue.{Row, collections_shown, row_index, row_of, source_at}
 use Rattle.oe_sources.specs.CatalogueDims.{AreDimsOf, dims_of, dims_row}
 use Rattle.oe_sources.specs.Source.{Contents, Source, collection_of, collection_with}
@@ -130,7 +130,7 @@ is_collection rows row valid = by (collection_at rows row.id) valid.collection
 
 -- the shape and the kind of a collection are those of its row
 outline_kept : (row : DimsRow) (shape : Dimensions) (kind : CellKind) (contents : Option Contents) → shape ≡ row.shape → kind ≡ row.kind
-    → graph.row_of (row.id, unwrap_or (option_map (collection_with shape kind) contents) (null_collection row)) ≡ row
+    → graph.collection_row (row.id, unwrap_or (option_map (collection_with shape kind) contents) (null_collection row)) ≡ row
 outline_kept row shape kind None shape_is kind_is = refl
 outline_kept row shape kind (Some contents) shape_is kind_is = rw (shape_is, kind_is) refl
 
@@ -149,20 +149,20 @@ module _ (rows : List Row) (are : AreDimsOf rows (dims_of rows)) where
           (r, e, same_Some (dims_row r) row same)
 
   row_kept : (row : DimsRow) → find (λ (d : DimsRow). same_name d.id row.id) (dims_of rows) ≡ Some row
-      → graph.row_of (collection_named_by rows row) ≡ row
+      → graph.collection_row (collection_named_by rows row) ≡ row
   row_kept row found =
       let m = mounted_row row found in
       let here : collection_at rows row.id ≡ collection_of m.0.source = ap (option_and_then (λ (r : Row). collection_of r.source)) m.1 in
-      ap (λ (o : Option Collection). graph.row_of (row.id, unwrap_or o (null_collection row))) here
+      ap (λ (o : Option Collection). graph.collection_row (row.id, unwrap_or o (null_collection row))) here
       ∙ outline_kept row m.0.source.shape m.0.source.kind m.0.source.contents
       (ap (λ (d : DimsRow). d.shape) m.2) (ap (λ (d : DimsRow). d.kind) m.2)
 
-rows_kept : (rows : List Row) (dims : List DimsRow) → All (λ (row : DimsRow). graph.row_of (collection_named_by rows row) ≡ row) dims
-    → map graph.row_of (map (collection_named_by rows) dims) ≡ dims
+rows_kept : (rows : List Row) (dims : List DimsRow) → All (λ (row : DimsRow). graph.collection_row (collection_named_by rows row) ≡ row) dims
+    → map graph.collection_row (map (collection_named_by rows) dims) ≡ dims
 rows_kept rows [] each = refl
 rows_kept rows (row ∷ dims) each =
-    let first : graph.row_of (collection_named_by rows row) ≡ row = each 0 row (omega arith) in
-    ap (λ (d : DimsRow). d ∷ map graph.row_of (map (collection_named_by rows) dims)) first
+    let first : graph.collection_row (collection_named_by rows row) ≡ row = each 0 row (omega arith) in
+    ap (λ (d : DimsRow). d ∷ map graph.collection_row (map (collection_named_by rows) dims)) first
     ∙ ap (λ (rest : List DimsRow). row ∷ rest) (rows_kept rows dims (λ k d h. each (suc k) d (omega arith)))
 
 -- ---- what is found by an id
@@ -252,8 +252,8 @@ same_named rows visible are id =
 -- what a graph means depends on collections only by their ids
 unfoldable meaning_by : (List ℕ → Datacube) → CheckedGraph → ℕ → Datacube
 meaning_by named c node =
-    down_from no_datacube (λ at (n : PlainNode). option_map_or (λ (r : Request). option_map_or (λ (operation : Operation). operated operation (inputs_of named at r))
-    (operation_of r (map outline (inputs_of named at r))) no_datacube) (request_at n) no_datacube) c.nodes (id_at node c.nodes)
+    down_from no_datacube (λ at (n : PlainNode). option_map_or (λ (r : CubeRequest). option_map_or (λ (operation : Operation). operated operation (request_inputs named at r))
+    (operation_of r (map outline (request_inputs named at r))) no_datacube) (cube_request_at n) no_datacube) c.nodes (id_at node c.nodes)
 
 pub same_meaning : (rows : List Row) → AreVisible rows → AreDimsOf rows (dims_of rows) → (c : CheckedGraph) (node : ℕ)
     → meaning_of_node (collections_of rows) c node ≡ meaning_of_node (collections_shown rows) c node

@@ -18,7 +18,7 @@ use Rattle.oe_window.specs.Windows.{Holds, IsIn, number_in, position_count, whol
 use Rattle.oe_window.specs.declared.window.Window.{Window}
 use Rattle.oe_window.proofs.CellLemmas.{cells_on-get, length-cells_on}
 use Rattle.oe_window.proofs.WholeLemmas.{in_whole, number_in_below}
-use Rattle.oe_engine.specs.Benches.{BenchOf, IsDone, KeepsState, cells_at, chunk_of, node_at}
+use Rattle.oe_engine.specs.Benches.{BenchOf, IsDone, KeepsState, buffer_cells_at, chunk_of, node_at}
 use Rattle.oe_engine.specs.Chunks.{AreResultOf, HasOnChunk, IsAtDone}
 use Rattle.oe_engine.specs.Inputs.{IsInput}
 use Rattle.oe_engine.specs.Runs.{result_cube, result_shape}
@@ -89,14 +89,14 @@ module _ (p : PlanOf) (is : IsPlan p) where
       pub cells_counted : (cells : List Cell) → AreResultOf p b cells → length cells ≡ position_count (chunk_of p k)
       cells_counted cells are = (input cells are).counted ∙ ap position_count window_is
 
-      own_cells : AreResultOf p b (cells_at p b.windows b.buffers (result_step.0))
+      own_cells : AreResultOf p b (buffer_cells_at p b.windows b.buffers (result_step.0))
       own_cells step within result =
           let s = result_step in
-          ap (cells_at p b.windows b.buffers) (only_step p.order.steps is.listing.once s.0 step s.1 within (s.2 ∙ sym result))
+          ap (buffer_cells_at p b.windows b.buffers) (only_step p.order.steps is.listing.once s.0 step s.1 within (s.2 ∙ sym result))
 
       -- some cube has them there
       pub given_on : (cube : Cube Cell) × HasOnChunk p cube k b
       given_on =
-          let cells = cells_at p b.windows b.buffers (result_step.0) in
+          let cells = buffer_cells_at p b.windows b.buffers (result_step.0) in
           let given = given_cube (result_shape p) (chunk_of p k) (chunk_within k) cells (cells_counted cells own_cells) in
           (given.0, on_chunk cells own_cells given.0 given.1 given.2)

@@ -8,7 +8,7 @@ use Rattle.oe_dims.specs.Cube.{Cube, IsCube}
 use Rattle.oe_dims.specs.Dimensions.{Dimensions}
 use Rattle.oe_dims.specs.declared.kind.CellKind.{CellKind}
 use Rattle.oe_ops.specs.Needs.{HoldsNeed, Needs}
-use Rattle.oe_ops.specs.Nodes.{FitsKind, HasRoom, TakesInputs}
+use Rattle.oe_ops.specs.Nodes.{FitsFirstKind, HasScratch, TakesInputs}
 use Rattle.oe_plan.specs.Figures.{scratch_of, shape_of_node}
 use Rattle.oe_plan.specs.Plans.{IsPlan, PlanOf}
 use Rattle.oe_plan.specs.Steps.{NeedsOfNode, Takes, arguments_of_node}
@@ -17,12 +17,12 @@ use Rattle.oe_shape.specs.Checked.{operation_of_node}
 use Rattle.oe_shape.specs.Graphs.{Collections}
 use Rattle.oe_shape.specs.Laws.{AreCollectionsOf, meaning_of_node}
 use Rattle.oe_shape.specs.Meaning.{cube_of}
-use Rattle.oe_shape.specs.Operations.{Operation, Outline, kind_of, shape_of}
+use Rattle.oe_shape.specs.Operations.{Operation, Outline, operation_kind, shape_of}
 use Rattle.oe_shape.proofs.CheckedLemmas.{give_cubes}
 use Rattle.oe_window.specs.Cells.{cells_on}
 use Rattle.oe_window.specs.Windows.{Holds, whole_window}
 use Rattle.oe_window.specs.declared.window.Window.{Window}
-use Rattle.oe_engine.specs.Benches.{AreArguments, is_load_at, kind_at, node_at, node_cells}
+use Rattle.oe_engine.specs.Benches.{AreArguments, is_load_at, cell_kind_at, node_at, node_cells}
 use Rattle.oe_engine.proofs.FigureLemmas.{has_room}
 use Rattle.oe_engine.proofs.InputLemmas.{fits_kind, takes_inputs}
 use Rattle.oe_engine.proofs.NodeLemmas.{WorksOn, cube_count, works_on}
@@ -36,10 +36,10 @@ module _ (p : PlanOf) (is : IsPlan p) where
   -- ---- of any step
 
   -- there is room for its shape
-  pub room_at : (step : ℕ) (d : Dimensions) → step < length p.order.steps → d ≡ shape_at step → HasRoom d (scratch_of p.graph)
+  pub room_at : (step : ℕ) (d : Dimensions) → step < length p.order.steps → d ≡ shape_at step → HasScratch d (scratch_of p.graph)
   room_at step d within same =
-      subst (λ s. HasRoom s (scratch_of p.graph)) (sym same)
-      (subst (λ (steps : List ℕ). step < length steps → HasRoom (shape_of_node p.graph (get_or steps step 0)) (scratch_of p.graph)) (sym is.steps_are)
+      subst (λ s. HasScratch s (scratch_of p.graph)) (sym same)
+      (subst (λ (steps : List ℕ). step < length steps → HasScratch (shape_of_node p.graph (get_or steps step 0)) (scratch_of p.graph)) (sym is.steps_are)
       (has_room p.graph step) within)
 
   -- its window lies in its shape
@@ -82,18 +82,18 @@ module _ (p : PlanOf) (is : IsPlan p) where
         let is_shape = both_shape p.graph (node_at p step) (node_at p first) (node_at p second) operation operates w both in
         rw (one, two) (here ∙ is_shape)
 
-    pub takes_goal : (e : Dimensions) (one two : List Cell) → e ≡ shape_at first → All (IsOfKind (kind_at p first)) one
-        → All (IsOfKind (kind_at p second)) two → TakesInputs operation e one two
+    pub takes_goal : (e : Dimensions) (one two : List Cell) → e ≡ shape_at first → All (IsOfKind (cell_kind_at p first)) one
+        → All (IsOfKind (cell_kind_at p second)) two → TakesInputs operation e one two
     takes_goal e one two same h k =
         let sound = both_sound p.graph (node_at p step) (node_at p first) (node_at p second) operation operates w both in
-        rw same (takes_inputs operation (shape_at first) (shape_at second) (kind_at p first) (kind_at p second) one two sound h k)
+        rw same (takes_inputs operation (shape_at first) (shape_at second) (cell_kind_at p first) (cell_kind_at p second) one two sound h k)
 
-    pub fits_goal : (two : List Cell) → All (IsOfKind (kind_at p second)) two → FitsKind operation (kind_at p first) two
+    pub fits_goal : (two : List Cell) → All (IsOfKind (cell_kind_at p second)) two → FitsFirstKind operation (cell_kind_at p first) two
     fits_goal two k =
         let sound = both_sound p.graph (node_at p step) (node_at p first) (node_at p second) operation operates w both in
-        fits_kind operation (shape_at first) (shape_at second) (kind_at p first) (kind_at p second) two sound k
+        fits_kind operation (shape_at first) (shape_at second) (cell_kind_at p first) (cell_kind_at p second) two sound k
 
-    pub kinds_goal : (out : List Cell) → All (IsOfKind (kind_of operation (kind_at p first ∷ []))) out → All (IsOfKind (kind_at p step)) out
+    pub kinds_goal : (out : List Cell) → All (IsOfKind (operation_kind operation (cell_kind_at p first ∷ []))) out → All (IsOfKind (cell_kind_at p step)) out
     kinds_goal out h =
         subst (λ (kind : CellKind). All (IsOfKind kind) out)
         (sym (both_kind p.graph (node_at p step) (node_at p first) (node_at p second) operation operates w both)) h

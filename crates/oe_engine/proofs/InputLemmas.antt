@@ -11,9 +11,9 @@ use Rattle.oe_dims.specs.declared.kind.CellKind.{CellKind}
 use Rattle.oe_expr.specs.Callback.{Callback, KeepsKind, callback_kind}
 use Rattle.oe_shape.specs.CellKinds.{IsSoundOn, ResolvesTo}
 use Rattle.oe_shape.specs.Meaning.{cube_of}
-use Rattle.oe_shape.specs.Operations.{Operation, keep, each_cell, convolve, reduce, aggregate, merge, cover, give_back, Outline, kind_of, shape_of}
+use Rattle.oe_shape.specs.Operations.{Operation, keep, each_cell, convolve, reduce, aggregate, merge, cover, give_back, Outline, operation_kind, shape_of}
 use Rattle.oe_ops.specs.Needs.{Needs}
-use Rattle.oe_ops.specs.Nodes.{TakesInputs, FitsKind}
+use Rattle.oe_ops.specs.Nodes.{TakesInputs, FitsFirstKind}
 use Rattle.oe_ops.specs.Slices.{TakesPairs}
 use Rattle.oe_engine.proofs.NodeLemmas.{cube_count}
 
@@ -54,7 +54,7 @@ cube_twice give_back a one = refl
 
 -- the kind of its cells is found by the first cube alone
 pub kind_first : (operation : Operation) (kind : CellKind) (others : List CellKind)
-    → kind_of operation (kind ∷ others) ≡ kind_of operation (kind ∷ [])
+    → operation_kind operation (kind ∷ others) ≡ operation_kind operation (kind ∷ [])
 kind_first (keep r) kind others = refl
 kind_first (each_cell c) kind others = refl
 kind_first (convolve kernel factor border replace) kind others = refl
@@ -121,7 +121,7 @@ resolves_kind d kind (Some c) s = s.1
 
 pub fits_kind : (operation : Operation) (d e : Dimensions) (kind other : CellKind) (two : List Cell)
     → IsSoundOn operation (cube_outline d kind ∷ cube_outline e other ∷ [])
-    → All (IsOfKind other) two → FitsKind operation kind two
+    → All (IsOfKind other) two → FitsFirstKind operation kind two
 fits_kind (keep r) d e kind other two s k = tt
 fits_kind (each_cell c) d e kind other two s k = tt
 fits_kind (convolve kernel factor border replace) d e kind other two s k = tt

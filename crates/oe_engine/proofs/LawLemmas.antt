@@ -16,7 +16,7 @@ use Rattle.oe_spool.specs.Spooled.{IsInSome}
 use Rattle.oe_spool.proofs.LeastLemmas.{least_of_windows}
 use Rattle.oe_engine.specs.Collections.{AreRead, without_counts}
 use Rattle.oe_engine.specs.Laws.{AreMounted, AreShown, BeginAndEnd, StayAfterReads}
-use Rattle.oe_engine.specs.Runs.{HasDone, HasRecords, RunOf, chunk_total, chunks_from, result_cube, result_shape}
+use Rattle.oe_engine.specs.Runs.{HasDone, HasRunRecords, RunOf, chunk_total, chunks_from, result_cube, result_shape}
 use Rattle.oe_engine.proofs.CatalogueLemmas.{same_meaning, visible_at}
 use Rattle.oe_engine.proofs.GridLemmas.{all_inside, chunks_inside}
 use Rattle.oe_engine.proofs.MountLemmas.{has_collections}

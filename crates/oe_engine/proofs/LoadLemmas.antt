@@ -14,11 +14,11 @@ use Rattle.oe_plan.specs.Steps.{arguments_of_node}
 use Rattle.oe_plan.proofs.RunLemmas.{only_step}
 use Rattle.oe_shape.specs.Checked.{AreFaultless, CheckedGraph, collection_of_node, operation_of_node, outline_of_node}
 use Rattle.oe_shape.specs.Extents.{Restriction}
-use Rattle.oe_shape.specs.Graphs.{inputs_of, operation_at, outline_at, outline_named, request_outline}
-use Rattle.oe_shape.specs.Links.{collection_of, index_referred, links_of, loaded_by}
+use Rattle.oe_shape.specs.Graphs.{request_inputs, operation_at, outline_at, outline_named, request_outline}
+use Rattle.oe_shape.specs.Links.{loaded_collection, index_referred, links_of, loaded_by}
 use Rattle.oe_shape.specs.Operations.{keep, no_outline, operation_of, outline_of}
 use Rattle.oe_shape.specs.Requests as request
-use Rattle.oe_shape.specs.Requests.{Request, cube_ids, request_at}
+use Rattle.oe_shape.specs.Requests.{CubeRequest, cube_ids, cube_request_at}
 use Rattle.oe_shape.proofs.CheckedLemmas.{refer}
 use Rattle.oe_shape.proofs.GraphLemmas.{unfold_at_nodes}
 use Rattle.oe_shape.proofs.LinkLemmas.{links_arguments, named_at, object}
@@ -39,7 +39,7 @@ module _ (c : CheckedGraph) (f : AreFaultless c) (index : ℕ) (below : index < 
   there : SomeNode c.nodes index
   there = node_below c.nodes index below
 
-  outline_by : (r : Request) → request_at there.node ≡ Some r
+  outline_by : (r : CubeRequest) → cube_request_at there.node ≡ Some r
       → outline_of_node c index ≡ request_outline c.rows (outline_at c.rows c.nodes) r
   outline_by r asks =
       let at = outline_at c.rows c.nodes in
@@ -48,18 +48,18 @@ module _ (c : CheckedGraph) (f : AreFaultless c) (index : ℕ) (below : index < 
       (named_at c.nodes f.resolved index there.node there.is_there)
       ∙ ap (λ o. option_map_or (request_outline c.rows at) o no_outline) asks)
 
-  operation_by : (r : Request) → request_at there.node ≡ Some r
-      → operation_of_node c index ≡ operation_of r (inputs_of (outline_named c.rows) (outline_at c.rows c.nodes) r)
+  operation_by : (r : CubeRequest) → cube_request_at there.node ≡ Some r
+      → operation_of_node c index ≡ operation_of r (request_inputs (outline_named c.rows) (outline_at c.rows c.nodes) r)
   operation_by r asks =
       ap (option_and_then (operation_at c.rows c.nodes)) there.is_there
-      ∙ ap (option_and_then (λ r. operation_of r (inputs_of (outline_named c.rows) (outline_at c.rows c.nodes) r))) asks
+      ∙ ap (option_and_then (λ r. operation_of r (request_inputs (outline_named c.rows) (outline_at c.rows c.nodes) r))) asks
 
-  arguments_by : (r : Request) → request_at there.node ≡ Some r → arguments_of_node c index ≡ map (index_referred c.nodes) (cube_ids r)
+  arguments_by : (r : CubeRequest) → cube_request_at there.node ≡ Some r → arguments_of_node c index ≡ map (index_referred c.nodes) (cube_ids r)
   arguments_by r asks =
       links_arguments c.nodes index there.node there.is_there
       ∙ ap (map (index_referred c.nodes)) (refer c.nodes f.resolved there.node (contains_node c.nodes index there.node there.is_there) r asks)
 
-  by : (r : Request) → request_at there.node ≡ Some r → loaded_by r ≡ Some id → LoadsBy c index id
+  by : (r : CubeRequest) → cube_request_at there.node ≡ Some r → loaded_by r ≡ Some id → LoadsBy c index id
   by (request.load_collection name box time bands) asks loads =
       let same : name ≡ id = cc in
       record {
@@ -82,8 +82,8 @@ module _ (c : CheckedGraph) (f : AreFaultless c) (index : ℕ) (below : index < 
 
   pub loads_by : LoadsBy c index id
   loads_by =
-      let at = sym (ap (option_and_then collection_of) there.is_there) ∙ is in
-      let r = found loaded_by (request_at there.node) id at in
+      let at = sym (ap (option_and_then loaded_collection) there.is_there) ∙ is in
+      let r = found loaded_by (cube_request_at there.node) id at in
       by r.0 r.1 r.2
 
 -- ---- loads are live until all are loaded

@@ -13,10 +13,10 @@ use Rattle.oe_expr.specs.Rows.{first_row}
 use Rattle.oe_expr.proofs.NodeLemmas.{contains_node}
 use Rattle.oe_shape.specs.Checked.{AreFaultless, CheckedGraph, collection_of_node}
 use Rattle.oe_shape.specs.Graphs.{outline_at, outline_named, row_outline}
-use Rattle.oe_shape.specs.Links.{collection_of, loaded_by}
+use Rattle.oe_shape.specs.Links.{loaded_collection, loaded_by}
 use Rattle.oe_shape.specs.Operations.{Outline, no_outline}
 use Rattle.oe_shape.specs.Requests as request
-use Rattle.oe_shape.specs.Requests.{Request, request_at}
+use Rattle.oe_shape.specs.Requests.{CubeRequest, cube_request_at}
 use Rattle.oe_shape.specs.Stands.{HasNoFault, IsSound, cubes_of, early, early_rows, sound}
 use Rattle.oe_shape.proofs.LinkLemmas.{one_node}
 use Rattle.oe_shape.proofs.RequestLemmas.{found}
@@ -84,7 +84,7 @@ module _ (c : CheckedGraph) (f : AreFaultless c) (index : ℕ) (below : index < 
   there : SomeNode c.nodes index
   there = node_below c.nodes index below
 
-  missing : (r : Request) → request_at there.node ≡ Some r → loaded_by r ≡ Some id
+  missing : (r : CubeRequest) → cube_request_at there.node ≡ Some r → loaded_by r ≡ Some id
       → find (λ (row : DimsRow). same_name row.id id) c.rows ≡ None → IsSound c.rows c.nodes there.node.id → ⊥
   missing (request.load_collection name box time bands) asks loads none (sound {n = m} named refs clean) =
       let at = outline_at c.rows c.nodes in
@@ -95,7 +95,7 @@ module _ (c : CheckedGraph) (f : AreFaultless c) (index : ℕ) (below : index < 
       ap (λ n. is_none (find (λ (row : DimsRow). same_name row.id n) c.rows)) is_id ∙ ap is_none none in
       let first : first_row (early_rows c.rows r (cubes_of c.rows at r)) ≡ Some CollectionNotFound =
       ap (λ b. if b then Some CollectionNotFound else first_row (drop 1 (early_rows c.rows r (cubes_of c.rows at r)))) lacks in
-      clean CollectionNotFound m.id (early (ap request_at (sym same) ∙ asks) first)
+      clean CollectionNotFound m.id (early (ap cube_request_at (sym same) ∙ asks) first)
   missing (request.filter_bbox data_id box) asks loads none s = absurd cc
   missing (request.filter_temporal data_id time name) asks loads none s = absurd cc
   missing (request.filter_bands data_id bands) asks loads none s = absurd cc
@@ -113,7 +113,7 @@ module _ (c : CheckedGraph) (f : AreFaultless c) (index : ℕ) (below : index < 
       by : (o : Option DimsRow) → find (λ (row : DimsRow). same_name row.id id) c.rows ≡ o
           → (seen : DimsRow) × (find (λ (row : DimsRow). same_name row.id id) c.rows ≡ Some seen)
       by None e =
-          let r = found loaded_by (request_at there.node) id (sym (ap (option_and_then collection_of) there.is_there) ∙ is) in
+          let r = found loaded_by (cube_request_at there.node) id (sym (ap (option_and_then loaded_collection) there.is_there) ∙ is) in
           absurd (missing r.0 r.1 r.2 e (f.sound there.node (contains_node c.nodes index there.node there.is_there)))
       by (Some row) e = (row, e)
 

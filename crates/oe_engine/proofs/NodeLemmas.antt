@@ -11,12 +11,12 @@ use Rattle.oe_expr.specs.Nodes.{node_named, id_at}
 use Rattle.oe_expr.proofs.NodeLemmas.{id_at_is, contains_node}
 use Rattle.oe_shape.specs.CellKinds.{IsSoundOn}
 use Rattle.oe_shape.specs.Checked.{CheckedGraph, AreFaultless, operation_of_node, collection_of_node, outline_of_node}
-use Rattle.oe_shape.specs.Graphs.{inputs_of, outline_named, outline_at, request_outline, operation_at}
-use Rattle.oe_shape.specs.Links.{index_referred, loaded_by, collection_of}
+use Rattle.oe_shape.specs.Graphs.{request_inputs, outline_named, outline_at, request_outline, operation_at}
+use Rattle.oe_shape.specs.Links.{index_referred, loaded_by, loaded_collection}
 use Rattle.oe_shape.specs.Operations.{Operation, keep, each_cell, convolve, reduce, aggregate, merge, cover, give_back, Outline, callback_under, dimension_named, first_or, no_outline, operation_of, outline_of, reduction_scope}
 use Rattle.oe_shape.specs.Requests as request
-use Rattle.oe_shape.specs.Requests.{Request, cube_ids, request_at}
-use Rattle.oe_shape.specs.SoundNodes.{IsAcyclic, IsSoundNode, sound_node, IsSoundOperation, input_outlines}
+use Rattle.oe_shape.specs.Requests.{CubeRequest, cube_ids, cube_request_at}
+use Rattle.oe_shape.specs.SoundNodes.{AreAcyclic, IsSoundNode, sound_node, IsSoundOperation, input_outlines}
 use Rattle.oe_shape.proofs.CheckedLemmas.{refer}
 use Rattle.oe_shape.proofs.GraphLemmas.{unfold_at_nodes}
 use Rattle.oe_shape.proofs.RequestLemmas.{found}
@@ -49,7 +49,7 @@ map_twice f g h (name ∷ names) same =
     rw (first, rest) refl
 
 -- a request that loads no collection works on the cubes that it names
-no_load : (collection at : List ℕ → Outline) (r : Request) → loaded_by r ≡ None → inputs_of collection at r ≡ map at (cube_ids r)
+no_load : (collection at : List ℕ → Outline) (r : CubeRequest) → loaded_by r ≡ None → request_inputs collection at r ≡ map at (cube_ids r)
 no_load collection at (request.load_collection id box time bands) none = absurd cc
 no_load collection at (request.filter_bbox data_id box) none = refl
 no_load collection at (request.filter_temporal data_id time name) none = refl
@@ -71,7 +71,7 @@ reduction_count f None operation e = absurd cc
 reduction_count f (Some kind) operation e = same_count (reduce kind (f kind)) operation e
 
 -- of which there are as many as its operation works on
-count_of : (r : Request) (cubes : List Outline) (operation : Operation) → loaded_by r ≡ None
+count_of : (r : CubeRequest) (cubes : List Outline) (operation : Operation) → loaded_by r ≡ None
     → operation_of r cubes ≡ Some operation → length (cube_ids r) ≡ cube_count operation
 count_of (request.load_collection id box time bands) cubes operation none e = absurd cc
 count_of (request.filter_bbox data_id box) cubes operation none e = same_count _ operation e
@@ -93,7 +93,7 @@ module _ (c : CheckedGraph) (f : AreFaultless c) (index : ℕ) (below : index < 
   named : node_named there.node.id c.nodes ≡ Some there.node
   named = named_at c.nodes f.resolved index there.node there.is_there
 
-  acyclic_here : IsAcyclic c.nodes
+  acyclic_here : AreAcyclic c.nodes
   acyclic_here = (object c.nodes f.resolved).acyclic
 
   -- the outline of a node that is referred to, by its index
@@ -107,19 +107,19 @@ module _ (c : CheckedGraph) (f : AreFaultless c) (index : ℕ) (below : index < 
 
   module _ (operation : Operation) (is : operation_of_node c index ≡ Some operation) (none : collection_of_node c index ≡ None) where
     record IsAsked : Type 0 where
-      pub r : Request
-      pub asks : request_at there.node ≡ Some r
+      pub r : CubeRequest
+      pub asks : cube_request_at there.node ≡ Some r
       pub operates : operation_of r (input_outlines c.rows c.nodes r) ≡ Some operation
 
     asked : IsAsked
     asked =
         let at = sym (ap (option_and_then (operation_at c.rows c.nodes)) there.is_there) ∙ is in
-        let r = found _ (request_at there.node) operation at in
+        let r = found _ (cube_request_at there.node) operation at in
         record { r = r.0; asks = r.1; operates = r.2 }
 
     loads_none : loaded_by asked.r ≡ None
     loads_none =
-        sym (ap (option_and_then collection_of) there.is_there ∙ ap (option_and_then loaded_by) asked.asks) ∙ none
+        sym (ap (option_and_then loaded_collection) there.is_there ∙ ap (option_and_then loaded_by) asked.asks) ∙ none
 
     references : references_named there.node.arguments ≡ cube_ids asked.r
     references = refer c.nodes f.resolved there.node (contains_node c.nodes index there.node there.is_there) asked.r asked.asks
@@ -138,7 +138,7 @@ module _ (c : CheckedGraph) (f : AreFaultless c) (index : ℕ) (below : index < 
         → IsSoundOperation operation (input_outlines c.rows c.nodes asked.r)
     sound_by name is_named (sound_node {n = m} given lower operates) =
         let same : m ≡ there.node = cc in
-        operates asked.r operation (ap request_at same ∙ asked.asks) asked.operates
+        operates asked.r operation (ap cube_request_at same ∙ asked.asks) asked.operates
 
     outline_here : outline_of_node c index ≡ outline_of operation (input_outlines c.rows c.nodes asked.r)
     outline_here =

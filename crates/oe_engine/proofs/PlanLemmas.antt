@@ -12,7 +12,7 @@ use Rattle.oe_order.specs.Live.{is_live}
 use Rattle.oe_order.specs.Order.{contains}
 use Rattle.oe_order.proofs.Lists.{Apart, contains-to, length-apart}
 use Rattle.oe_order.proofs.Reach.{IsInRun-within}
-use Rattle.oe_plan.specs.Figures.{largest_window, most_cells}
+use Rattle.oe_plan.specs.Figures.{largest_window, most_held_cells}
 use Rattle.oe_plan.specs.Plans.{IsPlan, PlanOf}
 use Rattle.oe_plan.specs.Steps.{Takes, arguments_of_node}
 use Rattle.oe_plan.specs.Windows.{AreWindows, window_at}
@@ -25,7 +25,7 @@ use Rattle.oe_shape.proofs.LinkLemmas.{each_count, few as few_nodes, refers_with
 use Rattle.oe_shape.proofs.LoadLemmas.{loads_where}
 use Rattle.oe_window.specs.Windows.{position_count}
 use Rattle.oe_window.specs.declared.window.Window.{Window}
-use Rattle.oe_engine.specs.Benches.{AreArguments, AreOfKind, HaveRoomFor, cells_at, is_load_at, kind_at, node_at}
+use Rattle.oe_engine.specs.Benches.{AreArguments, AreOfKind, HaveRoomFor, buffer_cells_at, is_load_at, cell_kind_at, node_at}
 use Rattle.oe_engine.specs.Buffers.{buffer_at}
 use Rattle.oe_engine.specs.Inputs.{IsInput}
 use Rattle.oe_engine.proofs.NodeLemmas.{WorksOn, cube_count}
@@ -94,7 +94,7 @@ module _ (p : PlanOf) (is : IsPlan p) where
       let same = is.steps_are in
       are.few step (subst (λ n. step < n) (ap length same ∙ sym are.each) h)
 
-  pub few_cells : largest_window p.graph p.size ≤ most_cells
+  pub few_cells : largest_window p.graph p.size ≤ most_held_cells
   few_cells = (fit_memory.each p is).largest
 
   pub few_positions : (chunk : Window) (windows : List Window) → AreWindows p.graph p.size chunk windows
@@ -115,14 +115,14 @@ module _ (p : PlanOf) (is : IsPlan p) where
 
   pub is_input : (chunk : Window) (windows : List Window) → AreWindows p.graph p.size chunk windows → (buffers : List (List Cell))
       → HaveRoomFor p buffers → (step : ℕ) → step < length p.order.steps → (cells : List Cell)
-      → cells ≡ cells_at p windows buffers step → AreOfKind p windows buffers step → IsInput p windows step cells
+      → cells ≡ buffer_cells_at p windows buffers step → AreOfKind p windows buffers step → IsInput p windows step cells
   is_input chunk windows are buffers room step within cells same kinds =
       let some = few chunk windows are step within in
       let long = room.each (get_or p.order.slots step 0) (slot_below step within) in
       record {
         within = within;
         counted = ap length same ∙ length-take-le (position_count (window_at windows step)) (buffer_at buffers (get_or p.order.slots step 0)) (omega arith);
-        of_kind = subst (All (IsOfKind (kind_at p step))) (sym same) kinds;
+        of_kind = subst (All (IsOfKind (cell_kind_at p step))) (sym same) kinds;
       }
 
   -- ---- what a step takes

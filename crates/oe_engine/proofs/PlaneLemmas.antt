@@ -21,7 +21,7 @@ use Rattle.oe_shape.specs.Checked.{collection_of_node}
 use Rattle.oe_shape.specs.Extents.{kept_shape, Restriction}
 use Rattle.oe_shape.specs.Graphs.{Collections, collection_named, datacube_of}
 use Rattle.oe_shape.specs.Laws.{AreCollectionsOf}
-use Rattle.oe_shape.specs.Meaning.{Datacube, kept, operated}
+use Rattle.oe_shape.specs.Meaning.{Datacube, restricted_cube, operated}
 use Rattle.oe_shape.specs.Operations.{Outline, keep}
 use Rattle.oe_shape.proofs.CheckedLemmas.{give_cubes}
 use Rattle.oe_sources.specs.Catalogue.{ReadsRow, Row, row_index, source_at}
@@ -33,7 +33,7 @@ use Rattle.oe_window.specs.Cells.{cells_on}
 use Rattle.oe_window.specs.Windows.{Holds, IsEmpty, position_count, whole_window}
 use Rattle.oe_window.specs.declared.window.Window.{Window}
 use Rattle.oe_window.proofs.WholeLemmas.{in_whole, position_in}
-use Rattle.oe_engine.specs.Benches.{is_load_at, kind_at, node_at, node_cells}
+use Rattle.oe_engine.specs.Benches.{is_load_at, cell_kind_at, node_at, node_cells}
 use Rattle.oe_engine.specs.Collections.{HasCollections, IsLoadedBy, IsMountedAt, LoadRose, Shows}
 use Rattle.oe_engine.specs.Loads.{AreLoaded, HasRead, ReadsBox, refusal_for}
 use Rattle.oe_engine.specs.Rounds.{IsOfSource, RefusalSays}
@@ -120,11 +120,11 @@ module _ (p : PlanOf) (is : IsPlan p) (rows : List Row) (step : ℕ) (within : s
   shape_is : kept_shape keeps.r (source_at rows place).shape ≡ shape_of_node p.graph (node_at p step)
   shape_is = ap (kept_shape keeps.r) at.shape_is ∙ sym (ap (λ (o : Outline). o.shape) keeps.outline_is)
 
-  kind_is : kind_at p step ≡ (source_at rows place).kind
+  kind_is : cell_kind_at p step ≡ (source_at rows place).kind
   kind_is = ap (λ (o : Outline). o.kind) keeps.outline_is ∙ sym at.kind_is
 
-  pub of_kind : (cells : List Cell) → list_all (is_null_or_of (source_at rows place).kind) cells ≡ true → All (IsOfKind (kind_at p step)) cells
-  of_kind cells h = cells_of_kind (kind_at p step) cells (subst (λ (k : CellKind). list_all (is_null_or_of k) cells ≡ true) (sym kind_is) h)
+  pub of_kind : (cells : List Cell) → list_all (is_null_or_of (source_at rows place).kind) cells ≡ true → All (IsOfKind (cell_kind_at p step)) cells
+  of_kind cells h = cells_of_kind (cell_kind_at p step) cells (subst (λ (k : CellKind). list_all (is_null_or_of k) cells ≡ true) (sym kind_is) h)
 
   module _ (plane box : Window)
       (gives : (r : Restriction) → kept_shape r (source_at rows place).shape ≡ shape_of_node p.graph (node_at p step)
@@ -165,7 +165,7 @@ module _ (p : PlanOf) (is : IsPlan p) (rows : List Row) (step : ℕ) (within : s
           c.counted ∙ sym (length-tuples (source_at rows place).shape)
 
       means : (contents : Contents) → (source_at rows place).contents ≡ Some contents
-          → node_cells collections p.graph (node_at p step) plane ≡ cells_on Empty (kept keeps.r (cube contents)) plane
+          → node_cells collections p.graph (node_at p step) plane ≡ cells_on Empty (restricted_cube keeps.r (cube contents)) plane
       means contents e =
           ap (λ (d : Datacube). cells_on Empty d.cube plane)
           (give_cubes.loaded p.graph is.faultless collections has (node_at p step) (node_within p is step within) (keep keeps.r) keeps.operates id.0 id.1
@@ -197,7 +197,7 @@ module _ (p : PlanOf) (is : IsPlan p) (rows : List Row) (step : ℕ) (within : s
           → AreLoaded p.graph rows (node_at p step) plane cells
       nulls_loaded cells empty are = record {
         values = λ collections has shows. are ∙ null_cells sound collections has shows empty;
-        kinds = subst (All (IsOfKind (kind_at p step))) (sym are) (nulls_of_kind (kind_at p step) (position_count plane));
+        kinds = subst (All (IsOfKind (cell_kind_at p step))) (sym are) (nulls_of_kind (cell_kind_at p step) (position_count plane));
       }
 
       loaded_by_answer : (cells : List Cell) (after : List Row) (answer : Result (Unit {0}) SourceFail) (node : ℕ) → ¬ IsEmpty box

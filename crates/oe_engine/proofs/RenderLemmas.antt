@@ -25,7 +25,7 @@ use Rattle.oe_shape.specs.Operations.{Outline}
 use Rattle.oe_shape.proofs.CheckedLemmas.{give_cubes}
 use Rattle.oe_spool.specs.Spooled.{HoldsRecord, IsInSome}
 use Rattle.oe_spool.proofs.CubeRecords.{cells_counted, cube_from_positions, cube_from_windows}
-use Rattle.oe_engine.specs.Runs.{HasDone, HasRecords, HasSome, IsHiddenDamage, RunOf, ShowsDone, chunk_total, chunks_from, result_cube, result_shape}
+use Rattle.oe_engine.specs.Runs.{HasDone, HasRunRecords, HasSome, IsHiddenDamage, RunOf, ShowsDone, chunk_total, chunks_from, result_cube, result_shape}
 use Rattle.oe_engine.proofs.GridLemmas.{all_inside}
 
 -- ---- lists of cells
@@ -75,7 +75,7 @@ module _ (p : PlanOf) (is : IsPlan p) (r : RunOf) (plan_is : r.plan ≡ p) (comp
       subst (λ plan. IsInSome (chunks_from plan 0 r.done) q) (sym plan_is)
       (subst (λ n. IsInSome (chunks_from p 0 n) q) (sym complete) (all_inside p is q h))
 
-  stored_cell : (store : Option (List ℕ)) → r.over ≡ None → HasRecords r store → (k : ℕ) → k < cell_count (result_shape p)
+  stored_cell : (store : Option (List ℕ)) → r.over ≡ None → HasRunRecords r store → (k : ℕ) → k < cell_count (result_shape p)
       → (c : Cell) × IsStoredCell store r.base k c
   stored_cell store numbers records k h =
       let found = position_there (result_shape p) k h in
@@ -89,7 +89,7 @@ module _ (p : PlanOf) (is : IsPlan p) (r : RunOf) (plan_is : r.plan ≡ p) (comp
         },
       )
 
-  stored : (store : Option (List ℕ)) → r.over ≡ None → HasRecords r store
+  stored : (store : Option (List ℕ)) → r.over ≡ None → HasRunRecords r store
       → (cells : List Cell) × AreStored store r.base (cell_count (result_shape p)) cells
   stored store numbers records =
       let d = result_shape p in
@@ -110,7 +110,7 @@ module _ (p : PlanOf) (is : IsPlan p) (r : RunOf) (plan_is : r.plan ≡ p) (comp
         },
       )
 
-  pub has_cells : (store : Option (List ℕ)) → r.over ≡ None → HasRecords r store → HasCells store r.base (cell_count (result_shape p))
+  pub has_cells : (store : Option (List ℕ)) → r.over ≡ None → HasRunRecords r store → HasCells store r.base (cell_count (result_shape p))
   has_cells store numbers records =
       if_some ((cells : List Cell) × AreStored store r.base (cell_count (result_shape p)) cells) store (stored store numbers records)
 

@@ -13,7 +13,7 @@ use Rattle.oe_plan.specs.Steps.{Takes}
 use Rattle.oe_shape.specs.Graphs.{Collections}
 use Rattle.oe_shape.specs.Links.{links_of}
 use Rattle.oe_window.specs.declared.window.Window.{Window}
-use Rattle.oe_engine.specs.Benches.{AreCells, AreOfKind, EachLive, EachLoad, OfResult, cells_at, is_load_at, kind_at, node_at}
+use Rattle.oe_engine.specs.Benches.{AreCells, AreOfKind, EachLive, EachLoad, OfResult, buffer_cells_at, is_load_at, cell_kind_at, node_at}
 use Rattle.oe_engine.specs.Buffers.{buffer_at}
 use Rattle.oe_engine.proofs.LiveLemmas.{live_after}
 use Rattle.oe_engine.proofs.PlanLemmas.{taken_live}
@@ -38,7 +38,7 @@ module _ (p : PlanOf) (is : IsPlan p) where
   module _ (windows : List Window) (old new : List (List Cell)) (step : ℕ) (within : step < length p.order.steps)
       (others : (slot : ℕ) → slot ≢ get_or p.order.slots step 0 → buffer_at new slot ≡ buffer_at old slot) where
     same_cells : (i : ℕ) → get_or p.order.slots i 0 ≢ get_or p.order.slots step 0
-        → cells_at p windows new i ≡ cells_at p windows old i
+        → buffer_cells_at p windows new i ≡ buffer_cells_at p windows old i
     same_cells i apart = ap (take _) (others (get_or p.order.slots i 0) apart)
 
     pub kinds_after : EachLive p step (AreOfKind p windows old) → AreOfKind p windows new step
@@ -46,7 +46,7 @@ module _ (p : PlanOf) (is : IsPlan p) where
     kinds_after before own =
         live_after (links_of p.graph.nodes) p.graph.result p.order is.evaluation is.slotted
         (AreOfKind p windows old) (AreOfKind p windows new) step within
-        (λ i apart kinds. subst (All (IsOfKind (kind_at p i))) (sym (same_cells i apart)) kinds) own before
+        (λ i apart kinds. subst (All (IsOfKind (cell_kind_at p i))) (sym (same_cells i apart)) kinds) own before
 
     pub cells_after : (collections : Collections) → EachLive p step (AreCells collections p windows old)
         → AreCells collections p windows new step → EachLive p (step + 1) (AreCells collections p windows new)

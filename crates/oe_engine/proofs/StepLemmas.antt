@@ -9,7 +9,7 @@ use Rattle.oe_shape.specs.Checked.{CheckedGraph, operation_of_node, outline_of_n
 use Rattle.oe_shape.specs.Graphs.{Collections}
 use Rattle.oe_shape.specs.Laws.{meaning_of_node}
 use Rattle.oe_shape.specs.Meaning.{Datacube, cube_of, operated}
-use Rattle.oe_shape.specs.Operations.{Operation, Outline, keep, each_cell, convolve, reduce, aggregate, merge, cover, give_back, kind_of, outline_of, shape_of}
+use Rattle.oe_shape.specs.Operations.{Operation, Outline, keep, each_cell, convolve, reduce, aggregate, merge, cover, give_back, operation_kind, outline_of, shape_of}
 use Rattle.oe_engine.proofs.InputLemmas.{cube_twice, kind_first, needs_second, needs_twice, shape_twice, sound_twice}
 use Rattle.oe_engine.proofs.NodeLemmas.{WorksOn, cube_count}
 
@@ -76,7 +76,7 @@ module _ (c : CheckedGraph) (node a b : ℕ) (operation : Operation) (is : opera
         rw same (alone ∙ shape_twice operation (shape_of_node c a) one.2)
   ]
 
-  pub both_kind : (outline_of_node c node).kind ≡ kind_of operation ((outline_of_node c a).kind ∷ [])
+  pub both_kind : (outline_of_node c node).kind ≡ operation_kind operation ((outline_of_node c a).kind ∷ [])
   both_kind = elim args [
     | inl two ↦
         ap (λ (o : Outline). o.kind) (w.outline_is ∙ ap (λ xs. outline_of operation (map (outline_of_node c) xs)) two)

@@ -4,7 +4,7 @@ use Rattle.std.proofs.Math.Nat.{mul-le-mul_right, suc-mul}
 use Rattle.std.proofs.lemmas.List.Elements.{All-append, All-cons}
 use Rattle.std.proofs.lemmas.List.Sums.{sum_by-append, sum_by-cons}
 use Rattle.std.specs.List.{All}
-use Rattle.oe_plan.specs.Figures.{bound_of, most_cells}
+use Rattle.oe_plan.specs.Figures.{bound_of, most_held_cells}
 use Rattle.oe_plan.specs.Fits.{bench_cells}
 use Rattle.oe_plan.specs.Plans.{IsPlan, PlanOf}
 use Rattle.oe_plan.proofs.FitLemmas.{fit_memory}
@@ -40,7 +40,7 @@ one_more p benches b count cells s is held =
     by n m = omega arith
 
 -- one more than some of all has not too many cells
-pub room : (p : PlanOf) → IsPlan p → (count : ℕ) → count + 1 ≤ 2 * p.workers → count * bench_cells p + bench_cells p ≤ most_cells
+pub room : (p : PlanOf) → IsPlan p → (count : ℕ) → count + 1 ≤ 2 * p.workers → count * bench_cells p + bench_cells p ≤ most_held_cells
 room p is count le =
     let all = mul-le-mul_right (bench_cells p) le in
     let most = (fit_memory.each p is).most in

@@ -20,7 +20,7 @@ use Rattle.oe_spool.proofs.LeastLemmas.{least_of_lists}
 use Rattle.oe_window.specs.Cells.{cell_at, cells_on}
 use Rattle.oe_engine.specs.Benches.{BenchOf, IsDone, chunk_of}
 use Rattle.oe_engine.specs.Chunks.{EachBench, HasNoOver, HasOnChunk, HasRecordsOf, HasValidCells, IsAtDone, IsLeastOf}
-use Rattle.oe_engine.specs.Runs.{HasDone, HasRecords, HasSome, RunOf, chunks_from, result_cube, result_shape}
+use Rattle.oe_engine.specs.Runs.{HasDone, HasRunRecords, HasSome, RunOf, chunks_from, result_cube, result_shape}
 use Rattle.oe_engine.proofs.DoneLemmas.{cell_of_window, given_on, on_result}
 use Rattle.oe_engine.proofs.GridLemmas.{IsInOne, chunks_apart, chunks_both, chunks_inside, in_one}
 
@@ -36,7 +36,7 @@ none_done p base evaluations store cube = record {
   least = λ q h. absurd h;
 }
 
-pub none_recorded : (p : PlanOf) (base evaluations : ℕ) (store : Option (List ℕ)) → HasRecords (run p base 0 evaluations None) store
+pub none_recorded : (p : PlanOf) (base evaluations : ℕ) (store : Option (List ℕ)) → HasRunRecords (run p base 0 evaluations None) store
 none_recorded p base evaluations store q h = absurd h
 
 pub none_first : (a b : Option ℕ) → lesser_of a b ≡ None → a ≡ None
@@ -106,7 +106,7 @@ module _ (p : PlanOf) (is : IsPlan p) (base done before after count : ℕ) (over
   done_stays cube of_shape h = record { records = records_left cube of_shape h.records; valid = h.valid; least = h.least }
 
   -- the records of some cells
-  pub records_stay : HasRecords (run p base done before over) old → HasRecords (run p base done after over) new
+  pub records_stay : HasRunRecords (run p base done before over) old → HasRunRecords (run p base done after over) new
   records_stay records q h = some_left over q (λ e. e) done h (records q h)
 
   -- ---- the records of one round more
@@ -182,8 +182,8 @@ module _ (p : PlanOf) (is : IsPlan p) (base done before after count : ℕ) (over
               (b.holds.2 (none_second over least e) cells given.1.cells);
         }
 
-    pub records_more : EachBench done (IsAtDone p) benches → HasRecords (run p base done before over) old
-        → HasRecords (run p base (done + count) after (lesser_of over least)) new
+    pub records_more : EachBench done (IsAtDone p) benches → HasRunRecords (run p base done before over) old
+        → HasRunRecords (run p base (done + count) after (lesser_of over least)) new
     records_more each records q among =
         elim (in_either (chunks_from p 0 done) (chunks_from p done count) q (subst (λ ws. IsInSome ws q) all_chunks among)) [
           | inl earlier ↦ some_left (lesser_of over least) q (none_first over least) (done + count) earlier (records q earlier)

@@ -58,17 +58,17 @@ abbrev pub is_load_at : PlanOf → ℕ → Bool
 is_load_at p step = order.is_load (links_of p.graph.nodes) (node_at p step)
 
 -- the kind of its cells
-abbrev pub kind_at : PlanOf → ℕ → CellKind
-kind_at p step = (outline_of_node p.graph (node_at p step)).kind
+abbrev pub cell_kind_at : PlanOf → ℕ → CellKind
+cell_kind_at p step = (outline_of_node p.graph (node_at p step)).kind
 
 -- what a bench holds of it: the front of the buffer of its slot, one cell for each position of its window
-abbrev pub cells_at : PlanOf → List Window → List (List Cell) → ℕ → List Cell
-cells_at p windows buffers step =
+abbrev pub buffer_cells_at : PlanOf → List Window → List (List Cell) → ℕ → List Cell
+buffer_cells_at p windows buffers step =
     take (position_count (window_at windows step)) (buffer_at buffers (slice_index p.order.slots step))
 
 -- each of these is null, Over or of the node's kind
 abbrev pub AreOfKind : PlanOf → List Window → List (List Cell) → ℕ → Type 0
-AreOfKind p windows buffers step = All (IsOfKind (kind_at p step)) (cells_at p windows buffers step)
+AreOfKind p windows buffers step = All (IsOfKind (cell_kind_at p step)) (buffer_cells_at p windows buffers step)
 
 -- the cells of a node's cube on a window, over collections
 abbrev pub node_cells : Collections → CheckedGraph → ℕ → Window → List Cell
@@ -77,7 +77,7 @@ node_cells collections c node window = cells_on Empty (meaning_of_node collectio
 -- what a bench holds of a step are the cells of its node on its window
 abbrev pub AreCells : Collections → PlanOf → List Window → List (List Cell) → ℕ → Type 0
 AreCells collections p windows buffers step =
-    cells_at p windows buffers step ≡ node_cells collections p.graph (node_at p step) (window_at windows step)
+    buffer_cells_at p windows buffers step ≡ node_cells collections p.graph (node_at p step) (window_at windows step)
 
 -- ---- states
 
@@ -122,7 +122,7 @@ pub record IsLoaded (p : PlanOf) (collections : Collections) (k : ℕ) (b : Benc
 -- it is done for a chunk over these collections: it has the cells of the result on the chunk
 pub record IsDone (p : PlanOf) (collections : Collections) (k : ℕ) (b : BenchOf) : Type 0 where
   pub state : b.state ≡ Done k
-  pub cells : OfResult p (λ step. cells_at p b.windows b.buffers step
+  pub cells : OfResult p (λ step. buffer_cells_at p b.windows b.buffers step
       ≡ node_cells collections p.graph p.graph.result (chunk_of p k))
 
 -- ---- between two steps

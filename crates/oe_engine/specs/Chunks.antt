@@ -10,7 +10,7 @@ use Rattle.oe_plan.specs.Plans.{PlanOf}
 use Rattle.oe_spool.specs.Least.{IsLeastOver}
 use Rattle.oe_spool.specs.Spooled.{HoldsWindow, IsInSome}
 use Rattle.oe_window.specs.Cells.{cells_on}
-use Rattle.oe_engine.specs.Benches.{BenchOf, IsBenchFor, OfResult, cells_at, chunk_of}
+use Rattle.oe_engine.specs.Benches.{BenchOf, IsBenchFor, OfResult, buffer_cells_at, chunk_of}
 use Rattle.oe_engine.specs.Runs.{chunks_from}
 use Rattle.oe_engine.specs.declared.bench.State.TheVariants.{Loaded, Done}
 
@@ -29,7 +29,7 @@ pub record IsAtDone (p : PlanOf) (k : ℕ) (b : BenchOf) : Type 0 where
 
 -- the cells of the result that a bench holds once it is done
 abbrev pub AreResultOf : PlanOf → BenchOf → List Cell → Type 0
-AreResultOf p b cells = OfResult p (λ step. cells ≡ cells_at p b.windows b.buffers step)
+AreResultOf p b cells = OfResult p (λ step. cells ≡ buffer_cells_at p b.windows b.buffers step)
 
 -- a cube of the shape of the result has these cells on the chunk
 pub record HasOnChunk (p : PlanOf) (cube : Cube Cell) (k : ℕ) (b : BenchOf) : Type 0 where

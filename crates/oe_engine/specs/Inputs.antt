@@ -8,15 +8,15 @@ use Rattle.oe_window.specs.Windows.{position_count}
 use Rattle.oe_window.specs.declared.window.Window.{Window}
 use Rattle.oe_plan.specs.Plans.{PlanOf}
 use Rattle.oe_plan.specs.Windows.{window_at}
-use Rattle.oe_engine.specs.Benches.{kind_at, node_at, node_cells}
+use Rattle.oe_engine.specs.Benches.{cell_kind_at, node_at, node_cells}
 
 -- one cell for each position of the window of a step, each of the kind of its node
 pub record IsInput (p : PlanOf) (windows : List Window) (step : ℕ) (cells : List Cell) : Type 0 where
   pub within : step < length p.order.steps
   pub counted : length cells ≡ position_count (window_at windows step)
-  pub of_kind : All (IsOfKind (kind_at p step)) cells
+  pub of_kind : All (IsOfKind (cell_kind_at p step)) cells
 
 -- they are those of the node's cube over collections
-abbrev pub AreCellsOf : Collections → PlanOf → List Window → ℕ → List Cell → Type 0
-AreCellsOf collections p windows step cells =
+abbrev pub AreNodeCells : Collections → PlanOf → List Window → ℕ → List Cell → Type 0
+AreNodeCells collections p windows step cells =
     cells ≡ node_cells collections p.graph (node_at p step) (window_at windows step)

@@ -17,7 +17,7 @@ use Rattle.oe_sources.specs.Source.{collection_of}
 use Rattle.oe_spool.specs.Least.{least_over_of}
 use Rattle.oe_engine.specs.Collections.{AreRead, HasCollections, IsLoadedBy, IsMountedAt, LoadRose, Shows}
 use Rattle.oe_engine.specs.Rounds.{RefusalSays}
-use Rattle.oe_engine.specs.Runs.{HasDone, HasRecords, RunOf, chunk_total, result_cube}
+use Rattle.oe_engine.specs.Runs.{HasDone, HasRunRecords, RunOf, chunk_total, result_cube}
 use Rattle.oe_engine.specs.declared.rounds.RunFail.{RunFail}
 
 -- ---- the collections of a catalogue
@@ -65,15 +65,15 @@ pub record GivesCollections (rows : List Row) : Type 0 where
 abbrev pub AreMounted : Type 0
 AreMounted = (p : PlanOf) (rows : List Row) → IsPlan p → AreDimsOf rows p.graph.rows → HasCollections p.graph rows
 
--- Where all collections of a catalogue are visible, those that a graph loads are, and what it means over them is what it
--- means over the collections that the catalogue shows.
+-- Where all collections of a catalogue are visible, those that a graph loads are, and what it means over them is what
+-- it means over the collections that the catalogue shows.
 pub record AreShown : Type 0 where
   pub loads : (rows : List Row) → AreVisible rows → (c : CheckedGraph) → LoadsVisible c rows
   pub meaning : (rows : List Row) → AreVisible rows → AreDimsOf rows (dims_of rows) → (c : CheckedGraph) (node : ℕ)
       → meaning_of_node (collections_of rows) c node ≡ meaning_of_node (collections_shown rows) c node
 
--- Reading leaves what is mounted and what is visible as it was. What is said of reads one after the other is said of all
--- of them together.
+-- Reading leaves what is mounted and what is visible as it was. What is said of reads one after the other is said of
+-- all of them together.
 pub record StayAfterReads : Type 0 where
   pub none : (rows : List Row) → AreRead rows rows
   pub both : (first second third : List Row) → AreRead first second → AreRead second third → AreRead first third
@@ -89,12 +89,12 @@ pub record StayAfterReads : Type 0 where
   pub says : (c : CheckedGraph) (before after : List Row) → AreRead before after → (refusal : RunFail)
       → RefusalSays c after refusal → RefusalSays c before refusal
 
--- Of a run none of whose chunks is done, whatever a store holds is what it has done. Of one all of whose chunks are done,
--- the number that it has found is the least of a cell of the result that is Over, and it found none exactly where no cell
--- is.
+-- Of a run none of whose chunks is done, whatever a store holds is what it has done. Of one all of whose chunks are
+-- done, the number that it has found is the least of a cell of the result that is Over, and it found none exactly where
+-- no cell is.
 pub record BeginAndEnd : Type 0 where
   pub begun : (r : RunOf) → r.done ≡ 0 → r.over ≡ None → (store : Option (List ℕ))
-      → HasRecords r store × ((cube : Cube Cell) → HasDone r store cube)
+      → HasRunRecords r store × ((cube : Cube Cell) → HasDone r store cube)
   pub over : (r : RunOf) (store : Option (List ℕ)) (collections : Collections) → IsPlan r.plan
       → AreCollectionsOf r.plan.graph collections → r.done ≡ chunk_total r.plan
       → HasDone r store (result_cube collections r.plan)

@@ -12,7 +12,7 @@ use Rattle.oe_sources.specs.Catalogue.{ReadsRow, Row, cells_asked}
 use Rattle.oe_sources.specs.declared.source.SourceFail.{SourceFail}
 use Rattle.oe_sources.specs.declared.source.SourceFail.TheVariants.{Failed, Damaged}
 use Rattle.oe_window.specs.declared.window.Window.{Window}
-use Rattle.oe_engine.specs.Benches.{BenchOf, IsBenchFor, IsLoaded, cells_at, node_at, node_cells}
+use Rattle.oe_engine.specs.Benches.{BenchOf, IsBenchFor, IsLoaded, buffer_cells_at, node_at, node_cells}
 use Rattle.oe_engine.specs.declared.bench.State.TheVariants.{Loaded}
 use Rattle.oe_engine.specs.Collections.{AreRead, LoadRose, Shows}
 use Rattle.oe_engine.specs.Rounds.{IsOfSource, RefusalSays}
@@ -33,14 +33,16 @@ pub record ReadsBox (before : List Row) (node index : ℕ) (box : Window) (cells
   pub refusal : result ≡ refusal_for node answer
 
 -- reading asked for so many cells at most, changed nothing but counters, and was refused for a cause
-pub record HasRead (c : CheckedGraph) (most : ℕ) (before after : List Row) (result : Result (Unit {0}) RunFail) : Type 0 where
+pub record HasRead (c : CheckedGraph) (most : ℕ) (before after : List Row)
+    (result : Result (Unit {0}) RunFail) : Type 0 where
   pub read : AreRead before after
   pub asked : cells_asked after ≤ cells_asked before + most
   pub cause : IsErrOf result SourceFailed → LoadRose c before after
   pub says : IfErr result (λ refusal. IsOfSource refusal × RefusalSays c before refusal)
 
 -- these are the cells of a node on a window, over the collections that are visible, and each is null or of its kind
-pub record AreLoaded (c : CheckedGraph) (rows : List Row) (node : ℕ) (window : Window) (cells : List Cell) : Type 0 where
+pub record AreLoaded (c : CheckedGraph) (rows : List Row) (node : ℕ) (window : Window)
+    (cells : List Cell) : Type 0 where
   pub values : (collections : Collections) → AreCollectionsOf c collections → Shows c rows collections
       → cells ≡ node_cells collections c node window
   pub kinds : All (IsOfKind (outline_of_node c node).kind) cells
@@ -48,7 +50,7 @@ pub record AreLoaded (c : CheckedGraph) (rows : List Row) (node : ℕ) (window :
 -- the same of a step, at the front of the buffer of its slot
 abbrev pub IsLoadedAt : PlanOf → List Row → List Window → List (List Cell) → ℕ → Type 0
 IsLoadedAt p rows windows buffers step =
-    AreLoaded p.graph rows (node_at p step) (window_at windows step) (cells_at p windows buffers step)
+    AreLoaded p.graph rows (node_at p step) (window_at windows step) (buffer_cells_at p windows buffers step)
 
 -- a bench is loaded for a chunk, over whatever collections are visible
 pub record LoadsBench (p : PlanOf) (rows : List Row) (k : ℕ) (bench : BenchOf) : Type 0 where

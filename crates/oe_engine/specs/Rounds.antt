@@ -10,14 +10,14 @@ use Rattle.oe_shape.specs.Laws.{AreCollectionsOf}
 use Rattle.oe_sources.specs.Catalogue.{Row, cells_asked, source_at}
 use Rattle.oe_spool.specs.Spooled.{ChangesOnly, IsInSome}
 use Rattle.oe_engine.specs.Collections.{AreRead, IsLoadedBy, IsMountedAt, LoadRose, Shows}
-use Rattle.oe_engine.specs.Runs.{HasDone, HasRecords, RunOf, chunk_total, chunks_from, chunks_in_round, evaluated_after, load_count, result_cube}
+use Rattle.oe_engine.specs.Runs.{HasDone, HasRunRecords, RunOf, chunk_total, chunks_from, chunks_in_round, evaluated_after, load_count, result_cube}
 use Rattle.oe_engine.specs.declared.rounds.Progress.{Progress}
 use Rattle.oe_engine.specs.declared.rounds.Progress.TheVariants.{Complete}
 use Rattle.oe_engine.specs.declared.rounds.RunFail.{RunFail}
 use Rattle.oe_engine.specs.declared.rounds.RunFail.TheVariants.{SourceFailed, SourceDamaged, SpoolFailed, Overflow}
 
--- a node of the run loads a collection of which the position of a number is damaged, where that is visible, and keeps the
--- labels of this position
+-- a node of the run loads a collection of which the position of a number is damaged, where that is visible, and keeps
+-- the labels of this position
 pub record KeepsDamage (c : CheckedGraph) (rows : List Row) (node number : ℕ) : Type 0 where
   pub step : ℕ
   pub id : List ℕ
@@ -61,8 +61,9 @@ pub record Advances (before after : RunOf) (result : Result Progress RunFail) : 
   pub least : before.evaluations ≤ after.evaluations
 
 -- what it writes: whatever it answers, all records that stood stay, and no byte outside those of its chunks is changed
-pub record WritesChunks (before : RunOf) (rows : List Row) (store : Option (List ℕ)) (after : RunOf) (store_after : Option (List ℕ)) : Type 0 where
-  pub records : HasRecords before store → HasRecords after store_after
+pub record WritesChunks (before : RunOf) (rows : List Row) (store : Option (List ℕ)) (after : RunOf)
+    (store_after : Option (List ℕ)) : Type 0 where
+  pub records : HasRunRecords before store → HasRunRecords after store_after
   pub values : (collections : Collections) → AreCollectionsOf before.plan.graph collections
       → Shows before.plan.graph rows collections → HasDone before store (result_cube collections before.plan)
       → HasDone after store_after (result_cube collections before.plan)
@@ -73,10 +74,12 @@ pub record WritesChunks (before : RunOf) (rows : List Row) (store : Option (List
 pub record ReadsChunks (before : RunOf) (rows after : List Row) : Type 0 where
   pub read : AreRead rows after
   pub asked : cells_asked after
-      ≤ cells_asked rows + chunks_in_round before * (load_count before.plan * largest_window before.plan.graph before.plan.size)
+      ≤ cells_asked rows + chunks_in_round before * (load_count before.plan * largest_window before.plan.graph
+      before.plan.size)
 
 -- why it is refused
-pub record HasCauses (before : RunOf) (rows after : List Row) (faults faults_after : ℕ) (result : Result Progress RunFail) : Type 0 where
+pub record HasCauses (before : RunOf) (rows after : List Row) (faults faults_after : ℕ)
+    (result : Result Progress RunFail) : Type 0 where
   pub read_cause : IsErrOf result SourceFailed → LoadRose before.plan.graph rows after
   pub says : IfErr result (RefusalSays before.plan.graph rows)
   pub spool_cause : HasCauseOf SpoolFailed faults faults_after result

@@ -22,8 +22,8 @@ use Rattle.oe_engine.specs.declared.rounds.RunFail.TheVariants.{Overflow}
 use Rattle.oe_render.specs.declared.rendering.RenderFail.{RenderFail}
 use Rattle.oe_render.specs.declared.rendering.RenderFail.TheVariants.{SpoolFailed, SpoolDamaged, SinkFailed}
 
--- what contracts see of a run: the plan, where its records begin, how many chunks are done, how many were evaluated, and
--- the least number of a cell that is Over among those that are done
+-- what contracts see of a run: the plan, where its records begin, how many chunks are done, how many were evaluated,
+-- and the least number of a cell that is Over among those that are done
 pub record RunOf : Type 0 where
   pub plan : PlanOf
   pub base : ℕ
@@ -51,8 +51,8 @@ result_shape p = shape_of_node p.graph p.graph.result
 abbrev pub result_cube : Collections → PlanOf → Cube Cell
 result_cube collections p = (meaning_of_node collections p.graph p.graph.result).cube
 
--- what is done of a run are the records of a cube, all cells of which are valid there, and the least number at which it is
--- Over there
+-- what is done of a run are the records of a cube, all cells of which are valid there, and the least number at which it
+-- is Over there
 pub record HasDone (r : RunOf) (store : Option (List ℕ)) (cube : Cube Cell) : Type 0 where
   pub records : HoldsRecords store r.base cube (IsInSome (chunks_from r.plan 0 r.done))
   pub valid : (p : Position) → IsInSome (chunks_from r.plan 0 r.done) p → IsCell (cell_at Empty cube p)
@@ -70,8 +70,8 @@ pub record HasSome (r : RunOf) (store : Option (List ℕ)) (p : Position) : Type
   pub held : HoldsRecord store r.base (number_of (result_shape r.plan) p) cell
   pub numbered : r.over ≡ None → cell ≢ Over
 
-abbrev pub HasRecords : RunOf → Option (List ℕ) → Type 0
-HasRecords r store = (p : Position) → IsInSome (chunks_from r.plan 0 r.done) p → HasSome r store p
+abbrev pub HasRunRecords : RunOf → Option (List ℕ) → Type 0
+HasRunRecords r store = (p : Position) → IsInSome (chunks_from r.plan 0 r.done) p → HasSome r store p
 
 -- how many nodes of the run load a collection
 abbrev pub load_count : PlanOf → ℕ

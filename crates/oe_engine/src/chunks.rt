@@ -51,8 +51,8 @@ pub(crate) fn load_chunks(
     Ok(())
 }
 
-/// Evaluates benches that are loaded for the chunks from a first one on, each once behind the gate. Answers the number of
-/// evaluations, before which there were so many.
+/// Evaluates benches that are loaded for the chunks from a first one on, each once behind the gate. Answers the number
+/// of evaluations, before which there were so many.
 pub(crate) fn evaluate_chunks<G: Gate>(
     plan: &Plan,
     benches: &mut [Bench],

@@ -82,7 +82,7 @@ impl Run {
     ghost use Rattle.oe_sources.specs.CatalogueRows.{rows_of};
     ghost use Rattle.oe_engine.specs.Collections.{HasCollections};
     ghost use Rattle.oe_engine.specs.Rounds.{Advances, HasCauses, ReadsChunks, WritesChunks};
-    ghost use Rattle.oe_engine.specs.Runs.{HasRecords, IsHiddenDamage, ShowsDone, chunk_total, overflow_of, result_cube};
+    ghost use Rattle.oe_engine.specs.Runs.{HasRunRecords, IsHiddenDamage, ShowsDone, chunk_total, overflow_of, result_cube};
     ghost use Rattle.oe_engine.specs.Workspaces.{AreBenchesFor};
 
     /// A run of a plan at its first chunk, whose records are to stand in a spool from byte `base` on.
@@ -164,7 +164,7 @@ impl Run {
     ) -> Result<(), RenderFail>
         requires complete { self.old.done ≡ chunk_total self.old.plan }
         requires numbers { self.old.over ≡ None }
-        requires records { HasRecords self.old (P.bytes spool.old) }
+        requires records { HasRunRecords self.old (P.bytes spool.old) }
         ensures text { OnOk result ((collections : Collections)
             → AreCollectionsOf self.old.plan.graph collections
             → ShowsDone self.old (P.bytes spool.old) (result_cube collections self.old.plan)

@@ -9,9 +9,9 @@ ghost use Rattle.oe_window.specs.Windows.{position_count};
 ghost use Rattle.oe_plan.specs.Figures.{largest_window, scratch_of, shape_of_node};
 ghost use Rattle.oe_plan.specs.Steps.{Takes};
 ghost use Rattle.oe_plan.specs.Windows.{window_at};
-ghost use Rattle.oe_engine.specs.Benches.{AreArguments, AreCells, AreOfChunk, AreOfKind, HaveRoomFor, cells_at, is_load_at, kind_at, node_at};
+ghost use Rattle.oe_engine.specs.Benches.{AreArguments, AreCells, AreOfChunk, AreOfKind, HaveRoomFor, buffer_cells_at, is_load_at, cell_kind_at, node_at};
 ghost use Rattle.oe_engine.specs.Buffers.{buffer_at, buffer_beside, lists_of};
-ghost use Rattle.oe_engine.specs.Inputs.{AreCellsOf, IsInput};
+ghost use Rattle.oe_engine.specs.Inputs.{AreNodeCells, IsInput};
 
 use oe_cell::Cell;
 use oe_dims::{Kind, Shape};
@@ -29,7 +29,7 @@ pub(crate) fn front<'a>(
     requires step { step < length plan.now.order.steps }
     requires windows { AreOfChunk plan.now windows.now }
     requires room { HaveRoomFor plan.now (lists_of buffers.now) }
-    ensures { result.now ≡ cells_at plan.now windows.now (lists_of buffers.now) step }
+    ensures { result.now ≡ buffer_cells_at plan.now windows.now (lists_of buffers.now) step }
 {
     let slot = plan.slot(step) as usize;
     let count = size(&windows[step as usize]) as usize;
@@ -116,11 +116,11 @@ fn evaluate_from(
     requires second { IsInput plan.now windows.now arguments.1 second.now }
     requires out { length out.old ≡ position_count (window_at windows.now step) }
     requires scratch { length scratch.old ≡ scratch_of plan.now.graph }
-    ensures kinds { All (IsOfKind (kind_at plan.now step)) out.new }
+    ensures kinds { All (IsOfKind (cell_kind_at plan.now step)) out.new }
     ensures value { (collections : Collections) → AreCollectionsOf plan.now.graph collections
-        → AreCellsOf collections plan.now windows.now arguments.0 first.now
-        → AreCellsOf collections plan.now windows.now arguments.1 second.now
-        → AreCellsOf collections plan.now windows.now step out.new }
+        → AreNodeCells collections plan.now windows.now arguments.0 first.now
+        → AreNodeCells collections plan.now windows.now arguments.1 second.now
+        → AreNodeCells collections plan.now windows.now step out.new }
 {
     let one = Input {
         shape: shape_of(plan, arguments.0),
@@ -170,12 +170,12 @@ fn evaluate_into(
     requires room { position_count (window_at windows.now step) ≤ length buffer.old }
     requires within { step < length windows.now }
     requires scratch { length scratch.old ≡ scratch_of plan.now.graph }
-    ensures kinds { All (IsOfKind (kind_at plan.now step))
+    ensures kinds { All (IsOfKind (cell_kind_at plan.now step))
         (take (position_count (window_at windows.now step)) buffer.new) }
     ensures value { (collections : Collections) → AreCollectionsOf plan.now.graph collections
-        → AreCellsOf collections plan.now windows.now arguments.0 first.now
-        → AreCellsOf collections plan.now windows.now arguments.1 second.now
-        → AreCellsOf collections plan.now windows.now step
+        → AreNodeCells collections plan.now windows.now arguments.0 first.now
+        → AreNodeCells collections plan.now windows.now arguments.1 second.now
+        → AreNodeCells collections plan.now windows.now step
         (take (position_count (window_at windows.now step)) buffer.new) }
 {
     let count = size(&windows[step as usize]) as usize;

@@ -43,8 +43,8 @@ pub(crate) fn load_taken(
     load_chunks(plan, &mut benches[..count], catalogue, first)
 }
 
-/// Evaluates the first so many benches, each once behind the gate. Answers the number of evaluations, before which there
-/// were so many.
+/// Evaluates the first so many benches, each once behind the gate. Answers the number of evaluations, before which
+/// there were so many.
 pub(crate) fn evaluate_taken<G: Gate>(
     plan: &Plan,
     benches: &mut [Bench],

@@ -14,13 +14,13 @@ use Rattle.oe_graph.specs.declared.fault.Fault.{Fault}
 use Rattle.oe_graph.specs.declared.tree.Arg.TheFolds.{fold_out-Graph}
 use Rattle.oe_graph.specs.declared.tree.Graph.{Graph, out-Graph}
 use Rattle.oe_graph.proofs.ResolvedLemmas.{resolved_object, node_below}
-use Rattle.oe_expr.specs.Callback.{IsFaultless, StandsIn, callback_of, callback_kind}
+use Rattle.oe_expr.specs.Callback.{IsFaultlessCallback, StandsInCallbackAt, callback_of, callback_kind}
 use Rattle.oe_expr.specs.Compiled.{IsCompiled, IsProgramOf}
 use Rattle.oe_expr.specs.Folds.{single_reducer}
 use Rattle.oe_expr.specs.NodeKinds.{graph_kind, kind_at}
 use Rattle.oe_expr.specs.Nodes.{id_at, node_named}
-use Rattle.oe_expr.specs.Scope.{PlainScope, parameter_names}
-use Rattle.oe_expr.specs.Stands.{IsSound, sound, StandsAt, Stands, own_fault}
+use Rattle.oe_expr.specs.Scope.{PlainScope, scope_parameters}
+use Rattle.oe_expr.specs.Stands.{IsSound, sound, StandsAt, StandsOnPath, own_fault}
 use Rattle.oe_expr.specs.States.{kept_kind}
 use Rattle.oe_expr.specs.Walked.{AreResolved, AreSound, state_at}
 use Rattle.oe_expr.specs.declared.program.Program.{Program}
@@ -35,22 +35,22 @@ use Rattle.oe_expr.proofs.NodeLemmas.{node_is, index_of_node, id_at_is}
 pub graph_parts : (g : Graph) → plain_graph g ≡ record { nodes = plain_nodes (out-Graph g).nodes.items; result = (out-Graph g).result }
 graph_parts g = fold_out-Graph Argument PlainGraph PlainNode arg_step graph_step node_step g
 
-pub resolved_parts : (scope : PlainScope) (g : Graph) → IsResolvedUnder true (parameter_names scope) (plain_graph g)
-    → IsResolvedUnder true (parameter_names scope) (record { nodes = plain_nodes (out-Graph g).nodes.items; result = (out-Graph g).result })
-resolved_parts scope g is = subst (IsResolvedUnder true (parameter_names scope)) (graph_parts g) is
+pub resolved_parts : (scope : PlainScope) (g : Graph) → IsResolvedUnder true (scope_parameters scope) (plain_graph g)
+    → IsResolvedUnder true (scope_parameters scope) (record { nodes = plain_nodes (out-Graph g).nodes.items; result = (out-Graph g).result })
+resolved_parts scope g is = subst (IsResolvedUnder true (scope_parameters scope)) (graph_parts g) is
 
-pub are_resolved : (scope : PlainScope) (g : Graph) → IsResolvedUnder true (parameter_names scope) (plain_graph g) → AreResolved scope (out-Graph g).nodes.items
+pub are_resolved : (scope : PlainScope) (g : Graph) → IsResolvedUnder true (scope_parameters scope) (plain_graph g) → AreResolved scope (out-Graph g).nodes.items
 are_resolved scope g is = record {
   result = (out-Graph g).result;
-  resolved = resolved_object true (parameter_names scope) (record { nodes = plain_nodes (out-Graph g).nodes.items; result = (out-Graph g).result }) (resolved_parts scope g is);
+  resolved = resolved_object true (scope_parameters scope) (record { nodes = plain_nodes (out-Graph g).nodes.items; result = (out-Graph g).result }) (resolved_parts scope g is);
 }
 
 -- ---- where a fault stands
 
 pub least_in : (scope : PlainScope) (context : Cell) (g : Graph) (path : List ℕ) (fault : Fault)
-    → IsLeast (Stands scope context (plain_nodes (out-Graph g).nodes.items) path) fault → IsLeast (StandsIn (callback_of (plain_graph g) scope context) path) fault
+    → IsLeast (StandsOnPath scope context (plain_nodes (out-Graph g).nodes.items) path) fault → IsLeast (StandsInCallbackAt (callback_of (plain_graph g) scope context) path) fault
 least_in scope context g path fault least =
-    subst (λ (p : PlainGraph). IsLeast (StandsIn (callback_of p scope context) path) fault) (sym (graph_parts g)) least
+    subst (λ (p : PlainGraph). IsLeast (StandsInCallbackAt (callback_of p scope context) path) fault) (sym (graph_parts g)) least
 
 -- ---- where none stands
 
@@ -64,9 +64,9 @@ not_both scope context nodes name code (sound {n = m} is_named below own) s =
     absurd cc
 
 module _ (scope : PlainScope) (context : Cell) (g : Graph) (states : List State) (order : List Judged)
-    (resolved : IsResolvedUnder true (parameter_names scope) (plain_graph g))
+    (resolved : IsResolvedUnder true (scope_parameters scope) (plain_graph g))
     (are : AreSound scope context (out-Graph g).nodes.items states order) where
-  nodes_faultless : (path : List ℕ) (code : Code) (name : List ℕ) → Stands scope context (plain_nodes (out-Graph g).nodes.items) path code name → ⊥
+  nodes_faultless : (path : List ℕ) (code : Code) (name : List ℕ) → StandsOnPath scope context (plain_nodes (out-Graph g).nodes.items) path code name → ⊥
   nodes_faultless path code name s =
       let there = node_is (plain_nodes (out-Graph g).nodes.items) s.id s.at.node s.at.is_node in
       let index = index_of_node (plain_nodes (out-Graph g).nodes.items) s.at.node there.0 in
@@ -74,11 +74,11 @@ module _ (scope : PlainScope) (context : Cell) (g : Graph) (states : List State)
       not_both scope context (plain_nodes (out-Graph g).nodes.items) s.id code
       (subst (IsSound scope context (plain_nodes (out-Graph g).nodes.items)) there.1 one.2.sound) s.at
 
-  pub faultless : IsFaultless (callback_of (plain_graph g) scope context)
-  faultless = subst (λ (p : PlainGraph). IsFaultless (callback_of p scope context)) (sym (graph_parts g)) nodes_faultless
+  pub faultless : IsFaultlessCallback (callback_of (plain_graph g) scope context)
+  faultless = subst (λ (p : PlainGraph). IsFaultlessCallback (callback_of p scope context)) (sym (graph_parts g)) nodes_faultless
 
-  result_is : IsResolvedObject true (parameter_names scope) (plain_nodes (out-Graph g).nodes.items) (out-Graph g).result
-  result_is = resolved_object true (parameter_names scope) (record { nodes = plain_nodes (out-Graph g).nodes.items; result = (out-Graph g).result }) (resolved_parts scope g resolved)
+  result_is : IsResolvedObject true (scope_parameters scope) (plain_nodes (out-Graph g).nodes.items) (out-Graph g).result
+  result_is = resolved_object true (scope_parameters scope) (record { nodes = plain_nodes (out-Graph g).nodes.items; result = (out-Graph g).result }) (resolved_parts scope g resolved)
 
   pub result_within : (out-Graph g).result < length states
   result_within =

@@ -20,9 +20,9 @@ use Rattle.oe_cube.specs.Kinds.{IsOfKind}
 use Rattle.oe_expr.specs.Kinds.{FitsKind, literal_kind, is_numbers, is_flags, are_mixed, kind_among}
 use Rattle.oe_expr.specs.NodeKinds.{x_kind, y_kind, data_kind, scalar_kind, items_kinds, request_kind}
 use Rattle.oe_expr.specs.Operations.{unary_of, binary_of, unary_gives, binary_gives, reducer_takes, reducer_gives}
-use Rattle.oe_expr.specs.Requests.{Scalar, literal, of_node, of_x, of_y, of_context, Items, the_data, written, Request, unary, binary, choice, reduction, element}
-use Rattle.oe_expr.specs.Rows.{cell_kind_invalid}
-use Rattle.oe_expr.specs.Scope.{PlainScope, apply, reduce, merge, parameter_names, Environment, IsEnvironmentOf}
+use Rattle.oe_expr.specs.Requests.{Scalar, literal, of_node, of_x, of_y, of_context, Items, the_data, written, CellRequest, unary, binary, choice, reduction, element}
+use Rattle.oe_expr.specs.Rows.{callback_cell_kind_invalid}
+use Rattle.oe_expr.specs.Scope.{PlainScope, apply, reduce, merge, scope_parameters, Environment, IsEnvironmentOf}
 use Rattle.oe_expr.specs.Value.{scalar_value, items_value, request_value, element_of}
 use Rattle.oe_expr.specs.declared.operation.Unary.{Unary}
 use Rattle.oe_expr.specs.declared.operation.Unary.TheVariants.{Absolute, Sgn, Floor, Ceil, Int, Not}
@@ -123,7 +123,7 @@ literal_fits (Number q) = tt
 literal_fits Over = (tt, tt)
 
 abbrev pub Sees : PlainScope → List ℕ → Type 0
-Sees scope name = list_any (same_name name) (parameter_names scope) ≡ true
+Sees scope name = list_any (same_name name) (scope_parameters scope) ≡ true
 
 x_fits : (scope : PlainScope) (e : Environment) → IsEnvironmentOf scope e → Sees scope (codes "x") → FitsKind (x_kind scope) e.x
 x_fits (apply kind) e fits seen = fits
@@ -240,7 +240,7 @@ module _ (scope : PlainScope) (context : Cell) (e : Environment) (fits : IsEnvir
       (fits_empty all) (fits_over all) (fits_all all _ _ first (scalar_fits accept ha)) (fits_all all _ _ second (scalar_fits reject hr))
 
   -- where no row of kinds holds at a request, its value is of its kind
-  pub request_fits : (r : Request) → OfRequest NodeFits (Sees scope) r → cell_kind_invalid scope context kinds r ≡ false
+  pub request_fits : (r : CellRequest) → OfRequest NodeFits (Sees scope) r → callback_cell_kind_invalid scope context kinds r ≡ false
       → FitsKind (request_kind scope context kinds r) (request_value e values r)
   request_fits (unary f x) h m = unary_fits f (scalar_value e values x)
   request_fits (binary f x y) h m = binary_fits f (scalar_value e values x) (scalar_value e values y)

@@ -9,7 +9,7 @@ use Rattle.oe_expr.specs.Kinds.{are_mixed, kind_among}
 use Rattle.oe_expr.specs.NodeKinds.{scalar_kind, items_kinds}
 use Rattle.oe_expr.specs.Operations.{binary_takes, binary_gives}
 use Rattle.oe_expr.specs.Requests.{Scalar, Items, binary, choice, element}
-use Rattle.oe_expr.specs.Rows.{lacks, listings}
+use Rattle.oe_expr.specs.Rows.{has_no_element, listings}
 use Rattle.oe_expr.specs.Scope.{PlainScope, Label}
 use Rattle.oe_expr.specs.States.{fault_or_kind, judged_request, kind_unless}
 use Rattle.oe_expr.specs.declared.operation.Binary.{Binary}
@@ -32,7 +32,7 @@ module _ (scope : PlainScope) (context : Cell) (at : List ℕ → Option CellKin
   -- an element that is asked for in one way alone
   one_way : (items : Items) (index : Option ℕ) (label : Option Label) (return_nodata : Bool)
       → (is_none index && is_none label) ≡ false → (is_some index && is_some label) ≡ false
-      → (return_nodata ≡ true ⊎ list_any (lacks index label) (listings scope items) ≡ false)
+      → (return_nodata ≡ true ⊎ list_any (has_no_element index label) (listings scope items) ≡ false)
       → kind_unless (are_mixed (items_kinds scope context at items)) (kind_among (items_kinds scope context at items))
       ≡ judged_request scope context at (element items index label return_nodata)
   one_way items None None return_nodata missing both there = absurd (true≢false missing)
@@ -46,7 +46,7 @@ module _ (scope : PlainScope) (context : Cell) (at : List ℕ → Option CellKin
 
   pub judged_element : (items : Items) (index : Option ℕ) (label : Option Label) (return_nodata : Bool)
       → (is_none index && is_none label) ≡ false → (is_some index && is_some label) ≡ false
-      → (return_nodata ≡ false → list_any (lacks index label) (listings scope items) ≡ false)
+      → (return_nodata ≡ false → list_any (has_no_element index label) (listings scope items) ≡ false)
       → kind_unless (are_mixed (items_kinds scope context at items)) (kind_among (items_kinds scope context at items))
       ≡ judged_request scope context at (element items index label return_nodata)
   judged_element items index label true missing both there = one_way items index label true missing both (inl refl)

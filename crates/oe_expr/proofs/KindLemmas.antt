@@ -14,11 +14,11 @@ use Rattle.oe_graph.specs.Resolved.{IsResolvedObject, IsResolvedUnder}
 use Rattle.oe_graph.specs.Tree.{Nodes, PlainNode}
 use Rattle.oe_graph.specs.declared.code.Code.{Code}
 use Rattle.oe_graph.proofs.ResolvedLemmas.{Chain-end, references_end, resolved_object, result_node}
-use Rattle.oe_expr.specs.Callback.{Callback, IsFaultless, KeepsKind, environment}
+use Rattle.oe_expr.specs.Callback.{Callback, IsFaultlessCallback, KeepsKind, environment}
 use Rattle.oe_expr.specs.Kinds.{FitsKind}
 use Rattle.oe_expr.specs.NodeKinds.{graph_kind}
 use Rattle.oe_expr.specs.Nodes.{node_named, result_id}
-use Rattle.oe_expr.specs.Scope.{PlainScope, parameter_names}
+use Rattle.oe_expr.specs.Scope.{PlainScope, scope_parameters}
 use Rattle.oe_expr.specs.Stands.{IsSound, sound, StandsAt, own_fault}
 use Rattle.oe_expr.proofs.NodeLemmas.{node_is, node_there, id_at_is, id_within}
 use Rattle.oe_expr.proofs.SoundLemmas.{sound_fits}
@@ -26,7 +26,7 @@ use Rattle.oe_expr.proofs.SoundLemmas.{sound_fits}
 -- ---- where no fault stands each node is sound
 
 module _ (scope : PlainScope) (context : Cell) (nodes : Nodes) (result : ℕ)
-    (is : IsResolvedObject true (parameter_names scope) nodes result)
+    (is : IsResolvedObject true (scope_parameters scope) nodes result)
     (none_stands : (code : Code) (name : List ℕ) → StandsAt scope context nodes name code → ⊥) where
   -- a node is sound where those are that it refers to
   from_below : (name : List ℕ) → Contains (ids_of nodes) name
@@ -79,9 +79,9 @@ fits_of (Some kind) c fits = fits
 fits_of None c fits = fits.0
 
 -- a resolved callback without faults keeps its kind
-pub keeps_kind : (c : Callback) → IsResolvedUnder true (parameter_names c.scope) c.graph → IsFaultless c → KeepsKind c
+pub keeps_kind : (c : Callback) → IsResolvedUnder true (scope_parameters c.scope) c.graph → IsFaultlessCallback c → KeepsKind c
 keeps_kind c resolved valid = λ x y cells list of_scope.
-    let is = resolved_object true (parameter_names c.scope) c.graph resolved in
+    let is = resolved_object true (scope_parameters c.scope) c.graph resolved in
     let nodes = c.graph.nodes in
     let none_stands = λ (code : Code) (name : List ℕ) (s : StandsAt c.scope c.context nodes name code).
     valid [] code name (record { id = name; at = s; is_named = refl }) in
@@ -91,5 +91,5 @@ keeps_kind c resolved valid = λ x y cells list of_scope.
     subst (Contains (ids_of nodes)) (sym named) (id_within nodes c.graph.result there.node there.is_there) in
     fits_of (graph_kind c.scope c.context c.graph) _
     (sound_fits c.scope c.context nodes is.acyclic (environment c x y cells list) of_scope.cells_fit refl
-    (λ n has_n name has_name. let seen = (is.each n has_n).names_parameters name has_name in sees_of (parameter_names c.scope) name seen.0 seen.1 seen.2)
+    (λ n has_n name has_name. let seen = (is.each n has_n).names_parameters name has_name in sees_of (scope_parameters c.scope) name seen.0 seen.1 seen.2)
     (result_id c.graph) (each_sound c.scope c.context nodes c.graph.result is none_stands (result_id c.graph) has))

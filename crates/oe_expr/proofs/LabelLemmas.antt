@@ -14,7 +14,7 @@ use Rattle.oe_dims.specs.Names.{same_name}
 use Rattle.oe_dims.specs.Plain.{PlainLabels, plain_instants, plain_names, plain_coordinates}
 use Rattle.oe_dims.proofs.IndexLemmas.{index_where_found, index_where_none, index_where_passes, index_where_within, same_number_is}
 use Rattle.oe_dims.proofs.OrderLemmas.{same_name_is}
-use Rattle.oe_expr.specs.Scope.{Label, text, whole, label_index, label_count, labels_in, read_or_none, AreDistinct, LiesWithin}
+use Rattle.oe_expr.specs.Scope.{Label, text, whole, label_index, count_labels, labels_in, read_or_none, AreDistinct, LiesWithin}
 use Rattle.oe_expr.specs.Value.{element_of}
 use Rattle.oe_expr.specs.declared.scope.ListPart.{ListPart}
 
@@ -24,7 +24,7 @@ within_read : (labels : List ℤ) (read : Option ℤ) (k : ℕ) → option_and_t
 within_read labels None k e = absurd cc
 within_read labels (Some seconds) k e = index_where_within (same_number seconds) labels k e
 
-pub label_within : (labels : PlainLabels) (label : Label) (k : ℕ) → label_index labels label ≡ Some k → k < label_count labels
+pub label_within : (labels : PlainLabels) (label : Label) (k : ℕ) → label_index labels label ≡ Some k → k < count_labels labels
 label_within (plain_instants labels) (text spelling) k e = within_read labels (read_or_none (instant_read spelling)) k e
 label_within (plain_names labels) (text name) k e = index_where_within (same_name name) labels k e
 label_within (plain_coordinates labels) (whole z) k e = index_where_within (same_number z) labels k e
@@ -149,7 +149,7 @@ module _ (part : ListPart) (cells : List Cell) (as_many : length cells ≡ part.
   read_element labels distinct lies None = refl
   read_element labels distinct lies (Some z) = number_element z labels distinct lies
 
-  pub label_element : (labels : PlainLabels) (label : Label) → AreDistinct labels → LiesWithin (label_count labels) part
+  pub label_element : (labels : PlainLabels) (label : Label) → AreDistinct labels → LiesWithin (count_labels labels) part
       → element_of cells (label_index (labels_in labels part) label) ≡ found_element cells part.from (label_index labels label)
   label_element (plain_instants labels) (text spelling) distinct lies = read_element labels distinct lies (read_or_none (instant_read spelling))
   label_element (plain_names labels) (text name) distinct lies =
@@ -159,7 +159,7 @@ module _ (part : ListPart) (cells : List Cell) (as_many : length cells ≡ part.
   label_element (plain_names labels) (whole z) distinct lies = refl
   label_element (plain_coordinates labels) (text spelling) distinct lies = refl
 
-pub count_in : (labels : PlainLabels) (part : ListPart) → LiesWithin (label_count labels) part → label_count (labels_in labels part) ≡ part.to - part.from
+pub count_in : (labels : PlainLabels) (part : ListPart) → LiesWithin (count_labels labels) part → count_labels (labels_in labels part) ≡ part.to - part.from
 count_in (plain_instants labels) part lies = let long : length (drop part.from labels) ≡ length labels - part.from = length-drop part.from labels in let rises = lies.rises in let ends = lies.ends in length-take-le (part.to - part.from) (drop part.from labels) (omega arith)
 count_in (plain_names labels) part lies = let long : length (drop part.from labels) ≡ length labels - part.from = length-drop part.from labels in let rises = lies.rises in let ends = lies.ends in length-take-le (part.to - part.from) (drop part.from labels) (omega arith)
 count_in (plain_coordinates labels) part lies = let long : length (drop part.from labels) ≡ length labels - part.from = length-drop part.from labels in let rises = lies.rises in let ends = lies.ends in length-take-le (part.to - part.from) (drop part.from labels) (omega arith)

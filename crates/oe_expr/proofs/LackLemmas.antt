@@ -13,8 +13,8 @@ use Rattle.oe_dims.specs.Names.{same_name}
 use Rattle.oe_dims.specs.Plain.{PlainLabels, plain_instants, plain_names, plain_coordinates}
 use Rattle.oe_dims.proofs.IndexLemmas.{index_where_passes, same_number_is}
 use Rattle.oe_dims.proofs.OrderLemmas.{same_name_is}
-use Rattle.oe_expr.specs.Rows.{Listing, labelled, lacks}
-use Rattle.oe_expr.specs.Scope.{Label, text, whole, read_or_none, label_count, label_index, labels_in, LiesWithin, AreDistinct, AreLists}
+use Rattle.oe_expr.specs.Rows.{Listing, listing_of_labels, has_no_element}
+use Rattle.oe_expr.specs.Scope.{Label, text, whole, read_or_none, count_labels, label_index, labels_in, LiesWithin, AreDistinct, AreLists}
 use Rattle.oe_expr.specs.declared.scope.ListPart.{ListPart}
 
 -- the element of an index among all labels is in no list from one index to before another
@@ -128,8 +128,8 @@ only_name : (label a : List ℕ) → same_name label a ≡ true → a ≡ label
 only_name label a e = same_name_is label a e
 
 -- a list lacks a label that is not among its own
-pub lacks_label : (labels : PlainLabels) (label : Label) (part : ListPart) → AreDistinct labels → LiesWithin (label_count labels) part
-    → lacks None (Some label) (labelled (labels_in labels part)) ≡ is_outside (label_index labels label) part.from part.to
+pub lacks_label : (labels : PlainLabels) (label : Label) (part : ListPart) → AreDistinct labels → LiesWithin (count_labels labels) part
+    → has_no_element None (Some label) (listing_of_labels (labels_in labels part)) ≡ is_outside (label_index labels label) part.from part.to
 lacks_label (plain_instants labels) (text spelling) part distinct within = by (read_or_none (instant_read spelling))
   where
     by : (o : Option ℤ)
@@ -155,8 +155,8 @@ past n m k e = by (nat_lt k n) refl
     by false t = grind (arith, nat_tests)
 
 -- a list lacks an index past its end
-pub lacks_index : (labels : PlainLabels) (k : ℕ) (label : Option Label) (part : ListPart) → LiesWithin (label_count labels) part
-    → lacks (Some k) label (labelled (labels_in labels part)) ≡ nat_le (part.to - part.from) k
+pub lacks_index : (labels : PlainLabels) (k : ℕ) (label : Option Label) (part : ListPart) → LiesWithin (count_labels labels) part
+    → has_no_element (Some k) label (listing_of_labels (labels_in labels part)) ≡ nat_le (part.to - part.from) k
 lacks_index (plain_instants labels) k label part within = past _ _ k (slice_length (λ l. true) labels part.from part.to within.rises within.ends)
 lacks_index (plain_names labels) k label part within = past _ _ k (slice_length (λ l. true) labels part.from part.to within.rises within.ends)
 lacks_index (plain_coordinates labels) k label part within = past _ _ k (slice_length (λ l. true) labels part.from part.to within.rises within.ends)
@@ -170,37 +170,37 @@ any_of p q f (part ∷ parts) each = rw (each.0, any_of p q f parts each.1) refl
 
 module _ (labels : PlainLabels) (lists : List ListPart) (are : AreLists labels lists) where
   abbrev Part : ListPart → Type 0
-  Part part = LiesWithin (label_count labels) part
+  Part part = LiesWithin (count_labels labels) part
 
   each_part : (p : Listing → Bool) (q : ListPart → Bool)
-      → ((part : ListPart) → LiesWithin (label_count labels) part → p (labelled (labels_in labels part)) ≡ q part)
-      → list_any p (map (λ part. labelled (labels_in labels part)) lists) ≡ list_any q lists
+      → ((part : ListPart) → LiesWithin (count_labels labels) part → p (listing_of_labels (labels_in labels part)) ≡ q part)
+      → list_any p (map (λ part. listing_of_labels (labels_in labels part)) lists) ≡ list_any q lists
   each_part p q is =
-      any_of p q (λ part. labelled (labels_in labels part)) lists
-      (recursion_from_All (λ part. p (labelled (labels_in labels part)) ≡ q part) lists
-      (All-weaker (LiesWithin (label_count labels)) (λ part. p (labelled (labels_in labels part)) ≡ q part) is lists are.within))
+      any_of p q (λ part. listing_of_labels (labels_in labels part)) lists
+      (recursion_from_All (λ part. p (listing_of_labels (labels_in labels part)) ≡ q part) lists
+      (All-weaker (LiesWithin (count_labels labels)) (λ part. p (listing_of_labels (labels_in labels part)) ≡ q part) is lists are.within))
 
   pub any_lacks_index : (k : ℕ) (label : Option Label)
-      → list_any (lacks (Some k) label) (map (λ part. labelled (labels_in labels part)) lists)
+      → list_any (has_no_element (Some k) label) (map (λ part. listing_of_labels (labels_in labels part)) lists)
       ≡ list_any (λ (part : ListPart). nat_le (part.to - part.from) k) lists
-  any_lacks_index k label = each_part (lacks (Some k) label) (λ part. nat_le (part.to - part.from) k) (λ part within. lacks_index labels k label part within)
+  any_lacks_index k label = each_part (has_no_element (Some k) label) (λ part. nat_le (part.to - part.from) k) (λ part within. lacks_index labels k label part within)
 
   pub any_lacks_label : (label : Label)
-      → list_any (lacks None (Some label)) (map (λ part. labelled (labels_in labels part)) lists)
+      → list_any (has_no_element None (Some label)) (map (λ part. listing_of_labels (labels_in labels part)) lists)
       ≡ list_any (λ (part : ListPart). is_outside (label_index labels label) part.from part.to) lists
   any_lacks_label label =
-      each_part (lacks None (Some label)) (λ part. is_outside (label_index labels label) part.from part.to)
+      each_part (has_no_element None (Some label)) (λ part. is_outside (label_index labels label) part.from part.to)
       (λ part within. lacks_label labels label part are.distinct within)
 
   pub any_lacks_both :
-      list_any (lacks None None) (map (λ part. labelled (labels_in labels part)) lists) ≡ list_any (λ (part : ListPart). true) lists
-  any_lacks_both = each_part (lacks None None) (λ part. true) (λ part within. refl)
+      list_any (has_no_element None None) (map (λ part. listing_of_labels (labels_in labels part)) lists) ≡ list_any (λ (part : ListPart). true) lists
+  any_lacks_both = each_part (has_no_element None None) (λ part. true) (λ part within. refl)
 
 pub any_true : (lists : List ListPart) → list_any (λ (part : ListPart). true) lists ≡ not (nat_eq (length lists) 0)
 any_true [] = refl
 any_true (part ∷ lists) = let no : nat_eq (suc (length lists)) 0 ≡ false = grind (arith, nat_tests) in rw no refl
 
 pub each_list : (labels : PlainLabels) (lists : List ListPart)
-    → map labelled (map (labels_in labels) lists) ≡ map (λ part. labelled (labels_in labels part)) lists
+    → map listing_of_labels (map (labels_in labels) lists) ≡ map (λ part. listing_of_labels (labels_in labels part)) lists
 each_list labels [] = refl
-each_list labels (part ∷ lists) = ap (λ (rest : List Listing). labelled (labels_in labels part) ∷ rest) (each_list labels lists)
+each_list labels (part ∷ lists) = ap (λ (rest : List Listing). listing_of_labels (labels_in labels part) ∷ rest) (each_list labels lists)

@@ -26,10 +26,10 @@ use Rattle.oe_expr.specs.Operations.{operation_named}
 use Rattle.oe_expr.specs.Orders.{IsWalkOrder}
 use Rattle.oe_expr.specs.Placed.{IsNeeded, AreMarked, IsCompiling}
 use Rattle.oe_expr.specs.Places.{null, scalar_names, items_names, request_names, addition_of, no_step, IsStarted, Follows, IsPlace}
-use Rattle.oe_expr.specs.PlainRequests.{plain_request}
-use Rattle.oe_expr.specs.Requests.{Scalar, literal, of_node, of_x, of_y, of_context, Items, the_data, written, Request, unary, binary, choice, reduction, element, scalar_in, scalars_in, items_in, written_list, read, two_cells, binary_request, request_of, request_at, has_plain_equality, flag_in, passes, is_scalar_literal, counter_in, index_in, label_in}
-use Rattle.oe_expr.specs.Scope.{PlainScope, Environment, IsScope, parameter_names}
-use Rattle.oe_expr.specs.Value.{value_at, node_value, request_value}
+use Rattle.oe_expr.specs.PlainRequests.{plain_cell_request}
+use Rattle.oe_expr.specs.Requests.{Scalar, literal, of_node, of_x, of_y, of_context, Items, the_data, written, CellRequest, unary, binary, choice, reduction, element, scalar_in, scalars_in, items_in, written_list, read, two_cells, binary_request, cell_request_of, cell_request_at, has_plain_equality, flag_in, passes, is_scalar_literal, counter_in, list_index_in, label_in}
+use Rattle.oe_expr.specs.Scope.{PlainScope, Environment, IsScope, scope_parameters}
+use Rattle.oe_expr.specs.Value.{node_value_at, node_value, request_value}
 use Rattle.oe_expr.specs.Walked.{AreResolved, IsNodeAt}
 use Rattle.oe_expr.specs.declared.operation.Binary.{Binary}
 use Rattle.oe_expr.specs.declared.operation.Binary.TheVariants.{Add, Subtract, Multiply, Divide, Modulo, Equal, NotEqual, Greater, GreaterOrEqual, Less, LessOrEqual, And, Or, Xor}
@@ -76,10 +76,10 @@ items_few (tree.callback ns result) items e = absurd cc
 read_few : (name : List ℕ) (given : Named) (items : Items) → read items_in name given ≡ Some items → HasFew items
 read_few name given items e = let found = found_there items_in (argument_named name given) items e in items_few found.0 items found.2
 
-two_few : (given : Named) (f : Binary) (r : Request) → two_cells f given ≡ Some r → AsksFew r
+two_few : (given : Named) (f : Binary) (r : CellRequest) → two_cells f given ≡ Some r → AsksFew r
 two_few given f r e = let parts = both_there (binary f) (read scalar_in (codes "x") given) (read scalar_in (codes "y") given) r e in subst AsksFew parts.4 tt
 
-binary_few : (given : Named) (f : Binary) (r : Request) → binary_request f given ≡ Some r → AsksFew r
+binary_few : (given : Named) (f : Binary) (r : CellRequest) → binary_request f given ≡ Some r → AsksFew r
 binary_few given Equal r e = two_few given Equal r (passed_there (has_plain_equality given) (two_cells Equal given) r e)
 binary_few given NotEqual r e = two_few given NotEqual r (passed_there (has_plain_equality given) (two_cells NotEqual given) r e)
 binary_few given Add r e = two_few given Add r e
@@ -95,7 +95,7 @@ binary_few given And r e = two_few given And r e
 binary_few given Or r e = two_few given Or r e
 binary_few given Xor r e = two_few given Xor r e
 
-request_few : (given : Named) (operation : Operation) (r : Request) → request_of operation given ≡ Some r → AsksFew r
+request_few : (given : Named) (operation : Operation) (r : CellRequest) → cell_request_of operation given ≡ Some r → AsksFew r
 request_few given (OfOne f) r e = let found = mapped_there (unary f) (read scalar_in (codes "x") given) r e in subst AsksFew found.2 tt
 request_few given (OfTwo f) r e = binary_few given f r e
 request_few given Choice r e =
@@ -111,11 +111,11 @@ request_few given Counting r e =
     subst AsksFew parts.4 (read_few (codes "data") given parts.1 parts.3)
 request_few given Element r e =
     let first = found_there _ (read items_in (codes "data") given) r e in
-    let second = found_there _ (read index_in (codes "index") given) r first.2 in
+    let second = found_there _ (read list_index_in (codes "index") given) r first.2 in
     let parts = both_there (element first.0 second.0) (read label_in (codes "label") given) (read flag_in (codes "return_nodata") given) r second.2 in
     subst AsksFew parts.4 (read_few (codes "data") given first.0 first.1)
 
-pub asks_few : (n : PlainNode) (r : Request) → request_at n ≡ Some r → AsksFew r
+pub asks_few : (n : PlainNode) (r : CellRequest) → cell_request_at n ≡ Some r → AsksFew r
 asks_few n r e = let found = found_there _ (operation_named n.process_id) r e in request_few n.arguments found.0 r found.2
 
 -- ---- what holds of the names of a request
@@ -143,7 +143,7 @@ module _ (P Q : List ℕ → Type 0) where
   items_by the_data q p = q
   items_by (written ss) q p = scalars_by ss q p
 
-  pub request_by : (r : Request) → OfRequest (λ (name : List ℕ). ⊤) Q r → ((name : List ℕ) → Contains (request_names r) name → P name) → OfRequest P Q r
+  pub request_by : (r : CellRequest) → OfRequest (λ (name : List ℕ). ⊤) Q r → ((name : List ℕ) → Contains (request_names r) name → P name) → OfRequest P Q r
   request_by (unary f x) q p = scalar_by x q p
   request_by (binary f x y) q p = (
     scalar_by x q.0 (λ name there. p name (Contains-append_left (scalar_names x) (scalar_names y) name there)),
@@ -159,7 +159,7 @@ module _ (P Q : List ℕ → Type 0) where
 
 -- ---- one entry more
 
-one_at_most : (scope : PlainScope) (context : Cell) (nodes : List Node) (places : List Operand) (number from : ℕ) (r : Request) → length (addition_of scope context nodes places number from r).steps ≤ 1
+one_at_most : (scope : PlainScope) (context : Cell) (nodes : List Node) (places : List Operand) (number from : ℕ) (r : CellRequest) → length (addition_of scope context nodes places number from r).steps ≤ 1
 one_at_most scope context nodes places number from (unary f x) = omega arith
 one_at_most scope context nodes places number from (binary f x y) = omega arith
 one_at_most scope context nodes places number from (choice value accept reject) = omega arith
@@ -178,20 +178,20 @@ module _ (scope : PlainScope) (context : Cell) (nodes : List Node) (is : AreReso
   seen n k at name there =
       let has : Contains (each_node (plain_nodes nodes)) n = (k, slice_get_within (each_node (plain_nodes nodes)) k n at, get_or_from_slice_get (each_node (plain_nodes nodes)) k n n at) in
       let in_scope = (is.resolved.each n has).names_parameters name there in
-      sees_of (parameter_names scope) name in_scope.0 in_scope.1 in_scope.2
+      sees_of (scope_parameters scope) name in_scope.0 in_scope.1 in_scope.2
 
-  node_is : (e : Environment) (n : PlainNode) (k : ℕ) → IsNodeAt nodes k n → (r : Request) → request_at n ≡ Some r
-      → request_value e (value_at e (plain_nodes nodes)) r ≡ value_at e (plain_nodes nodes) n.id
+  node_is : (e : Environment) (n : PlainNode) (k : ℕ) → IsNodeAt nodes k n → (r : CellRequest) → cell_request_at n ≡ Some r
+      → request_value e (node_value_at e (plain_nodes nodes)) r ≡ node_value_at e (plain_nodes nodes) n.id
   node_is e n k at r asks =
-      ap (λ (o : Option Request). option_map_or (request_value e (value_at e (plain_nodes nodes))) o Empty) (sym asks)
+      ap (λ (o : Option CellRequest). option_map_or (request_value e (node_value_at e (plain_nodes nodes))) o Empty) (sym asks)
       ∙ sym (unfolds (plain_nodes nodes) Empty (node_value e) (value_looks_down e) is.resolved.acyclic n.id n (named_at scope nodes is k n at))
 
   module _ (needed : List Bool) (long : length needed ≡ length nodes) (marked : AreMarked nodes order needed 0) (places : List Operand) (p : Program) (k : ℕ) (entry : Judged) (at : slice_get order k ≡ Some entry)
       (h : IsCompiling (callback_of (record { nodes = plain_nodes nodes; result = index }) scope context) nodes order needed places p k) where
-    abbrev Asked : Request
-    Asked = plain_request entry.request
+    abbrev Asked : CellRequest
+    Asked = plain_cell_request entry.request
 
-    has_places : IsNeeded needed entry.node → (name : List ℕ) → Contains (request_names (plain_request entry.request)) name → HasPlace D p nodes places name
+    has_places : IsNeeded needed entry.node → (name : List ℕ) → Contains (request_names (plain_cell_request entry.request)) name → HasPlace D p nodes places name
     has_places is_needed name there =
         let b = named_before scope nodes is order walk k entry at name there in
         let found = index_before scope nodes is order walk k name b in
@@ -200,26 +200,26 @@ module _ (scope : PlainScope) (context : Cell) (nodes : List Node) (is : AreReso
         record {
           index = b.entry.node;
           is_index = found;
-          is_place = subst (λ (id : List ℕ). IsPlace D p (λ (e : Environment). value_at e (plain_nodes nodes) id) (slice_index_or places b.entry.node null)) b.is_named place;
+          is_place = subst (λ (id : List ℕ). IsPlace D p (λ (e : Environment). node_value_at e (plain_nodes nodes) id) (slice_index_or places b.entry.node null)) b.is_named place;
         }
 
-    grown : IsNeeded needed entry.node → (q : Program) → Follows p q (addition_of scope context nodes places (length p.steps.items) (length p.elements.items) (plain_request entry.request))
-        → HasGrown D q (λ (e : Environment). request_value e (λ (name : List ℕ). value_at e (plain_nodes nodes) name) (plain_request entry.request))
-        (addition_of scope context nodes places (length p.steps.items) (length p.elements.items) (plain_request entry.request)).place
+    grown : IsNeeded needed entry.node → (q : Program) → Follows p q (addition_of scope context nodes places (length p.steps.items) (length p.elements.items) (plain_cell_request entry.request))
+        → HasGrown D q (λ (e : Environment). request_value e (λ (name : List ℕ). node_value_at e (plain_nodes nodes) name) (plain_cell_request entry.request))
+        (addition_of scope context nodes places (length p.steps.items) (length p.elements.items) (plain_cell_request entry.request)).place
     grown is_needed q follows =
         let e = walk.entry k entry at in
-        let asked = of_node_request (λ (name : List ℕ). ⊤) (Sees scope) e.node (plain_request entry.request) e.is_entry.asks (λ name there. tt) (seen e.node entry.node e.is_entry.stands) in
-        request_grown G scope context p q nodes places h.started is_scope (plain_request entry.request)
-        (request_by (HasPlace D p nodes places) (Sees scope) (plain_request entry.request) asked (has_places is_needed))
-        (asks_few e.node (plain_request entry.request) e.is_entry.asks) follows
+        let asked = of_node_request (λ (name : List ℕ). ⊤) (Sees scope) e.node (plain_cell_request entry.request) e.is_entry.asks (λ name there. tt) (seen e.node entry.node e.is_entry.stands) in
+        request_grown G scope context p q nodes places h.started is_scope (plain_cell_request entry.request)
+        (request_by (HasPlace D p nodes places) (Sees scope) (plain_cell_request entry.request) asked (has_places is_needed))
+        (asks_few e.node (plain_cell_request entry.request) e.is_entry.asks) follows
 
-    pub compile_step : IsNeeded needed entry.node → (q : Program) → Follows p q (addition_of scope context nodes places (length p.steps.items) (length p.elements.items) (plain_request entry.request))
-        → (o : Operand) → o ≡ (addition_of scope context nodes places (length p.steps.items) (length p.elements.items) (plain_request entry.request)).place
+    pub compile_step : IsNeeded needed entry.node → (q : Program) → Follows p q (addition_of scope context nodes places (length p.steps.items) (length p.elements.items) (plain_cell_request entry.request))
+        → (o : Operand) → o ≡ (addition_of scope context nodes places (length p.steps.items) (length p.elements.items) (plain_cell_request entry.request)).place
         → IsCompiling (callback_of (record { nodes = plain_nodes nodes; result = index }) scope context) nodes order needed (slice_set places entry.node o) q (k + 1)
     compile_step is_needed q follows o same =
-        let a = addition_of scope context nodes places (length p.steps.items) (length p.elements.items) (plain_request entry.request) in
+        let a = addition_of scope context nodes places (length p.steps.items) (length p.elements.items) (plain_cell_request entry.request) in
         let more = grown is_needed q follows in
-        let some = one_at_most scope context nodes places (length p.steps.items) (length p.elements.items) (plain_request entry.request) in
+        let some = one_at_most scope context nodes places (length p.steps.items) (length p.elements.items) (plain_cell_request entry.request) in
         let count : length q.steps.items ≡ length p.steps.items + length a.steps = ap length follows.steps ∙ length-append p.steps.items a.steps in
         let few = h.few in
         let wide = h.long in
@@ -236,20 +236,20 @@ module _ (scope : PlainScope) (context : Cell) (nodes : List Node) (is : AreReso
                 let w = walk.entry k entry at in
                 let both : Some n ≡ Some w.node = sym stands ∙ ap (λ (x : Judged). slice_get (each_node (plain_nodes nodes)) x.node) one ∙ w.is_entry.stands in
                 let same_node : n ≡ w.node = cc in
-                let value : IsPlace D q (λ (e : Environment). value_at e (plain_nodes nodes) w.node.id) a.place = record {
+                let value : IsPlace D q (λ (e : Environment). node_value_at e (plain_nodes nodes) w.node.id) a.place = record {
                   is_operand = more.place.is_operand;
                   has_value = λ x y cells list given. more.place.has_value x y cells list given
-                      ∙ node_is (environment D x y cells list) w.node entry.node w.is_entry.stands (plain_request entry.request) w.is_entry.asks;
+                      ∙ node_is (environment D x y cells list) w.node entry.node w.is_entry.stands (plain_cell_request entry.request) w.is_entry.asks;
                 } in
                 let read : slice_index_or (slice_set places entry.node o) other.node null ≡ a.place =
                 ap (λ (x : Judged). slice_index_or (slice_set places entry.node o) x.node null) one ∙ get_or-set_same places entry.node o null within ∙ same in
-                subst (λ (m : PlainNode). IsPlace D q (λ (e : Environment). value_at e (plain_nodes nodes) m.id) (slice_index_or (slice_set places entry.node o) other.node null)) (sym same_node)
-                (subst (λ (v : Operand). IsPlace D q (λ (e : Environment). value_at e (plain_nodes nodes) w.node.id) v) (sym read) value)
+                subst (λ (m : PlainNode). IsPlace D q (λ (e : Environment). node_value_at e (plain_nodes nodes) m.id) (slice_index_or (slice_set places entry.node o) other.node null)) (sym same_node)
+                (subst (λ (v : Operand). IsPlace D q (λ (e : Environment). node_value_at e (plain_nodes nodes) w.node.id) v) (sym read) value)
             | inr e ↦
                 let before : j < k = grind (arith, nat_tests) in
                 let apart : other.node ≢ entry.node = entries_differ scope nodes is order walk j k other entry before at_j at in
-                subst (λ (v : Operand). IsPlace D q (λ (e : Environment). value_at e (plain_nodes nodes) n.id) v) (sym (get_or-set_other places entry.node other.node o null apart))
-                (place_kept D p q a follows h.started (λ (e : Environment). value_at e (plain_nodes nodes) n.id) (slice_index_or places other.node null) (h.placed j other n before at_j stands other_needed))
+                subst (λ (v : Operand). IsPlace D q (λ (e : Environment). node_value_at e (plain_nodes nodes) n.id) v) (sym (get_or-set_other places entry.node other.node o null apart))
+                (place_kept D p q a follows h.started (λ (e : Environment). node_value_at e (plain_nodes nodes) n.id) (slice_index_or places other.node null) (h.placed j other n before at_j stands other_needed))
           ];
         }
 
@@ -298,15 +298,15 @@ module _ (scope : PlainScope) (context : Cell) (nodes : List Node) (is : AreReso
       let placed = h.placed own.index own.entry w.node inside own.at w.is_entry.stands needs in
       let o : Operand = slice_index_or places own.entry.node null in
       let follows : Follows p q (no_step o) = record { steps = steps ∙ sym (append_none p.steps.items); elements = elements ∙ sym (append_none p.elements.items); starts = starts } in
-      let more = none_more G scope context p q nodes places h.started is_scope (λ (e : Environment). value_at e (plain_nodes nodes) w.node.id) o follows placed in
+      let more = none_more G scope context p q nodes places h.started is_scope (λ (e : Environment). node_value_at e (plain_nodes nodes) w.node.id) o follows placed in
       let same : q.result ≡ o = result ∙ ap (λ (n : ℕ). slice_index_or places n null) (sym own.is_node) in
       let few = few_entries scope nodes is order walk in
       let count : length q.steps.items ≡ length p.steps.items = ap length steps in
       let less = h.few in
       let id : w.node.id ≡ id_at index (plain_nodes nodes) = id_is (plain_nodes nodes) own.entry.node w.node w.is_entry.stands ∙ ap (λ (n : ℕ). id_at n (plain_nodes nodes)) own.is_node in
-      let placed_last : IsPlace D q (λ (e : Environment). value_at e (plain_nodes nodes) w.node.id) q.result =
-      subst (λ (v : Operand). IsPlace D q (λ (e : Environment). value_at e (plain_nodes nodes) w.node.id) v) (sym same) more.place in
+      let placed_last : IsPlace D q (λ (e : Environment). node_value_at e (plain_nodes nodes) w.node.id) q.result =
+      subst (λ (v : Operand). IsPlace D q (λ (e : Environment). node_value_at e (plain_nodes nodes) w.node.id) v) (sym same) more.place in
       record {
         is_program = record { few = omega arith; steps = more.started.steps; result = placed_last.is_operand };
-        computes = λ x y cells list given. placed_last.has_value x y cells list given ∙ ap (value_at (environment D x y cells list) (plain_nodes nodes)) id;
+        computes = λ x y cells list given. placed_last.has_value x y cells list given ∙ ap (node_value_at (environment D x y cells list) (plain_nodes nodes)) id;
       }

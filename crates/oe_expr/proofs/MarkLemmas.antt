@@ -22,8 +22,8 @@ use Rattle.oe_graph.specs.declared.tree.Node.{Node}
 use Rattle.oe_expr.specs.Orders.{StandsBefore, IsWalkOrder}
 use Rattle.oe_expr.specs.Placed.{IsNeeded, AreMarked}
 use Rattle.oe_expr.specs.Places.{scalar_names, items_names, request_names, mark_name, mark_names}
-use Rattle.oe_expr.specs.PlainRequests.{plain_request}
-use Rattle.oe_expr.specs.Requests.{Scalar, literal, of_node, of_x, of_y, of_context, Items, the_data, written, Request, unary, binary, choice, reduction, element, request_at}
+use Rattle.oe_expr.specs.PlainRequests.{plain_cell_request}
+use Rattle.oe_expr.specs.Requests.{Scalar, literal, of_node, of_x, of_y, of_context, Items, the_data, written, CellRequest, unary, binary, choice, reduction, element, cell_request_at}
 use Rattle.oe_expr.specs.Scope.{PlainScope}
 use Rattle.oe_expr.specs.States.{index_named}
 use Rattle.oe_expr.specs.Walked.{AreResolved}
@@ -54,7 +54,7 @@ module _ (P Q : List ℕ → Type 0) where
   items_each the_data h name (k, within, is) = absurd (omega arith)
   items_each (written ss) h name there = scalars_each ss h name there
 
-  pub request_each : (r : Request) → OfRequest P Q r → (name : List ℕ) → Contains (request_names r) name → P name
+  pub request_each : (r : CellRequest) → OfRequest P Q r → (name : List ℕ) → Contains (request_names r) name → P name
   request_each (unary f x) h name there = scalar_each x h name there
   request_each (binary f x y) h name there = elim (Contains-append_cases (scalar_names x) (scalar_names y) name there) [
     | inl one ↦ scalar_each x h.0 name one
@@ -71,7 +71,7 @@ module _ (P Q : List ℕ → Type 0) where
   request_each (element items index label return_nodata) h name there = items_each items h name there
 
 -- a node refers to each node that its request names
-pub names_refer : (n : PlainNode) (r : Request) → request_at n ≡ Some r → (name : List ℕ) → Contains (request_names r) name → Contains (references_named n.arguments) name
+pub names_refer : (n : PlainNode) (r : CellRequest) → cell_request_at n ≡ Some r → (name : List ℕ) → Contains (request_names r) name → Contains (references_named n.arguments) name
 names_refer n r asks = request_each (Contains (references_named n.arguments)) (λ (name : List ℕ). ⊤) r (of_node_request (Contains (references_named n.arguments)) (λ (name : List ℕ). ⊤) n r asks (λ name there. there) (λ name there. tt))
 
 -- ---- marks
@@ -159,11 +159,11 @@ module _ (scope : PlainScope) (nodes : List Node) (is : AreResolved scope nodes)
   entry_within k entry at = let e = walk.entry k entry at in node_within nodes entry.node e.node e.is_entry.stands
 
   -- a node that another's request names has an entry before that other's
-  pub named_before : (k : ℕ) (entry : Judged) → slice_get order k ≡ Some entry → (name : List ℕ) → Contains (request_names (plain_request entry.request)) name
+  pub named_before : (k : ℕ) (entry : Judged) → slice_get order k ≡ Some entry → (name : List ℕ) → Contains (request_names (plain_cell_request entry.request)) name
       → StandsBefore (plain_nodes nodes) order k name
   named_before k entry at name there =
       let e = walk.entry k entry at in
-      walk.behind k entry e.node name at e.is_entry (names_refer e.node (plain_request entry.request) e.is_entry.asks name there)
+      walk.behind k entry e.node name at e.is_entry (names_refer e.node (plain_cell_request entry.request) e.is_entry.asks name there)
 
   pub index_before : (k : ℕ) (name : List ℕ) (b : StandsBefore (plain_nodes nodes) order k name) → index_named nodes name ≡ Some b.entry.node
   index_before k name b = ap (index_named nodes) (sym b.is_named) ∙ index_of scope nodes is b.entry.node b.node b.is_entry.stands
@@ -177,19 +177,19 @@ module _ (scope : PlainScope) (nodes : List Node) (is : AreResolved scope nodes)
 
   -- the entry before is marked, where its node is needed
   pub marked_step : (needed : List Bool) (k : ℕ) (entry : Judged) → length needed ≡ length nodes → slice_get order k ≡ Some entry → IsNeeded needed entry.node
-      → AreMarked nodes order needed (k + 1) → AreMarked nodes order (mark_names nodes needed (request_names (plain_request entry.request))) k
+      → AreMarked nodes order needed (k + 1) → AreMarked nodes order (mark_names nodes needed (request_names (plain_cell_request entry.request))) k
   marked_step needed k entry long at there marked j other h at_j needed_j name named index found =
-      elim (names_only nodes (request_names (plain_request entry.request)) needed other.node needed_j) [
+      elim (names_only nodes (request_names (plain_cell_request entry.request)) needed other.node needed_j) [
         | inl before ↦ elim (cases_Bool (eqb j k)) [
           | inl e ↦
               let same : j ≡ k = (Decides-eqb j k).0 e in
               let twice : Some other ≡ Some entry = sym at_j ∙ ap (slice_get order) same ∙ at in
               let one : other ≡ entry = cc in
               let within : index < length needed = subst (λ (n : ℕ). index < n) (sym long) (index_where_within (λ (n : Node). same_name n.id name) nodes index found) in
-              names_marked nodes (request_names (plain_request entry.request)) needed name (subst (λ (x : Judged). Contains (request_names (plain_request x.request)) name) one named) index found within
+              names_marked nodes (request_names (plain_cell_request entry.request)) needed name (subst (λ (x : Judged). Contains (request_names (plain_cell_request x.request)) name) one named) index found within
           | inr e ↦
               let past : k + 1 ≤ j = grind (arith, nat_tests) in
-              names_kept nodes (request_names (plain_request entry.request)) needed index (marked j other past at_j before name named index found)
+              names_kept nodes (request_names (plain_cell_request entry.request)) needed index (marked j other past at_j before name named index found)
         ]
         | inr by_name ↦
             let b = named_before k entry at by_name.0 by_name.1 in

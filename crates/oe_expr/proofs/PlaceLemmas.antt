@@ -22,11 +22,11 @@ use Rattle.oe_expr.specs.Callback.{Callback, callback_of, IsEnvironment, environ
 use Rattle.oe_expr.specs.Operations.{unary_of, binary_of}
 use Rattle.oe_expr.specs.PlainRequests.{plain_scalar, plain_scalars}
 use Rattle.oe_expr.specs.Places.{null, operand_of, indexed_place, element_place, written_place, items_place, Addition, one_step, no_step, reduction_addition, addition_of, starts_in, IsStarted, Follows, IsPlace}
-use Rattle.oe_expr.specs.Programs.{Inputs, inputs_of, operand_value, step_value, register_of, start_of, HasX, HasY, HasList, IsOperand, IsStep, AreSteps}
-use Rattle.oe_expr.specs.Requests.{Scalar as PlainScalar, literal, of_node, of_x, of_y, of_context, Items, the_data, written, Request, unary, binary, choice, reduction, element}
-use Rattle.oe_expr.specs.Scope.{PlainScope, apply, reduce, merge, Environment, IsScope, AreLists, LiesWithin, Label, text, whole, label_index, label_count, labels_in, no_labels}
+use Rattle.oe_expr.specs.Programs.{Inputs, inputs_of, operand_value, step_value, register_of, start_of, HasX, HasY, HasList, IsOperand, IsProgramStep, AreSteps}
+use Rattle.oe_expr.specs.Requests.{Scalar as PlainScalar, literal, of_node, of_x, of_y, of_context, Items, the_data, written, CellRequest, unary, binary, choice, reduction, element}
+use Rattle.oe_expr.specs.Scope.{PlainScope, apply, reduce, merge, Environment, IsScope, AreLists, LiesWithin, Label, text, whole, label_index, count_labels, labels_in, no_labels}
 use Rattle.oe_expr.specs.States.{index_named}
-use Rattle.oe_expr.specs.Value.{scalar_value, items_value, items_labels, request_value, element_of, element_index, value_at}
+use Rattle.oe_expr.specs.Value.{scalar_value, items_value, items_labels, request_value, element_of, element_index, node_value_at}
 use Rattle.oe_expr.specs.declared.program.Operand.{Operand}
 use Rattle.oe_expr.specs.declared.program.Operand.TheVariants.{Constant, X, Y, At, Labelled, Register}
 use Rattle.oe_expr.specs.declared.program.Program.{Program}
@@ -66,7 +66,7 @@ operand_higher scope m n h (At k) is = is
 operand_higher scope m n h (Labelled k) is = is
 operand_higher scope m n h (Register r) is = omega arith
 
-step_wider : (scope : PlainScope) (elements more : List Operand) (n : ℕ) (s : Step) → IsStep scope elements n s → IsStep scope (elements ++ more) n s
+step_wider : (scope : PlainScope) (elements more : List Operand) (n : ℕ) (s : Step) → IsProgramStep scope elements n s → IsProgramStep scope (elements ++ more) n s
 step_wider scope elements more n (step.Unary f x) h = h
 step_wider scope elements more n (step.Binary f x y) h = h
 step_wider scope elements more n (step.Choice value accept reject) h = h
@@ -101,19 +101,19 @@ module _ (c : Callback) (p q : Program) (a : Addition) (follows : Follows p q a)
 
 -- one step more
 module _ (c : Callback) (p q : Program) (more : List Operand) (s : Step) (follows : Follows p q (one_step (length p.steps.items) more s)) (started : IsStarted c.scope p)
-    (safe : IsStep c.scope (p.elements.items ++ more) (length p.steps.items) s) where
+    (safe : IsProgramStep c.scope (p.elements.items ++ more) (length p.steps.items) s) where
   steps_after : AreSteps c.scope (p.elements.items ++ more) (p.steps.items ++ s ∷ [])
   steps_after k d h = elim (cases_Bool (ltb k (length p.steps.items))) [
     | inl e ↦
         let before : k < length p.steps.items = (Decides-ltb k (length p.steps.items)).0 e in
-        subst (λ (t : Step). IsStep c.scope (p.elements.items ++ more) k t) (sym (get_or-append p.steps.items (s ∷ []) d k before))
+        subst (λ (t : Step). IsProgramStep c.scope (p.elements.items ++ more) k t) (sym (get_or-append p.steps.items (s ∷ []) d k before))
         (step_wider c.scope p.elements.items more k (get_or p.steps.items k d) (started.steps k d before))
     | inr e ↦
         let long = length-append p.steps.items (s ∷ []) in
         let past : length p.steps.items ≤ k = grind (arith, nat_tests) in
         let here : length p.steps.items ≡ k = omega arith in
-        subst (λ (n : ℕ). IsStep c.scope (p.elements.items ++ more) n (get_or (p.steps.items ++ s ∷ []) n d)) here
-        (subst (λ (t : Step). IsStep c.scope (p.elements.items ++ more) (length p.steps.items) t) (sym (get_or-append_seam p.steps.items s [] d)) safe)
+        subst (λ (n : ℕ). IsProgramStep c.scope (p.elements.items ++ more) n (get_or (p.steps.items ++ s ∷ []) n d)) here
+        (subst (λ (t : Step). IsProgramStep c.scope (p.elements.items ++ more) (length p.steps.items) t) (sym (get_or-append_seam p.steps.items s [] d)) safe)
   ]
 
   pub started_after : IsStarted c.scope q
@@ -155,7 +155,7 @@ module _ (c : Callback) (p q : Program) (more : List Operand) (s : Step) (follow
 pub record HasPlace (c : Callback) (p : Program) (nodes : List Node) (places : List Operand) (name : List ℕ) : Type 0 where
   pub index : ℕ
   pub is_index : index_named nodes name ≡ Some index
-  pub is_place : IsPlace c p (λ (e : Environment). value_at e c.graph.nodes name) (get_or places index null)
+  pub is_place : IsPlace c p (λ (e : Environment). node_value_at e c.graph.nodes name) (get_or places index null)
 
 sees_x : (scope : PlainScope) → Sees scope (codes "x") → HasX scope
 sees_x (apply kind) seen = tt
@@ -174,12 +174,12 @@ sees_data (merge kind) seen = absurd (true≢false (sym seen))
 
 module _ (c : Callback) (p : Program) (nodes : List Node) (places : List Operand) where
   abbrev Values : Environment → List ℕ → Cell
-  Values e name = value_at e c.graph.nodes name
+  Values e name = node_value_at e c.graph.nodes name
 
   pub scalar_place : (s : PlainScalar) → OfScalar (HasPlace c p nodes places) (Sees c.scope) s → IsPlace c p (λ (e : Environment). scalar_value e (Values e) s) (operand_of c.context nodes places s)
   scalar_place (literal v) h = record { is_operand = tt; has_value = λ x y cells list is. refl }
   scalar_place (of_node id) h =
-      subst (λ (found : Option ℕ). IsPlace c p (λ (e : Environment). value_at e c.graph.nodes id) (option_map_or (λ (k : ℕ). slice_index_or places k null) found null)) (sym h.is_index) h.is_place
+      subst (λ (found : Option ℕ). IsPlace c p (λ (e : Environment). node_value_at e c.graph.nodes id) (option_map_or (λ (k : ℕ). slice_index_or places k null) found null)) (sym h.is_index) h.is_place
   scalar_place of_x h = record { is_operand = sees_x c.scope h; has_value = λ x y cells list is. refl }
   scalar_place of_y h = record { is_operand = sees_y c.scope h; has_value = λ x y cells list is. refl }
   scalar_place of_context h = record { is_operand = tt; has_value = λ x y cells list is. refl }
@@ -236,14 +236,14 @@ module _ (g : PlainGraph) (kind : CellKind) (labels : PlainLabels) (lists : List
     abbrev Part : ListPart
     Part = get_or lists list (record { from = 0; to = 0 })
 
-    part_lies : LiesWithin (label_count labels) Part
+    part_lies : LiesWithin (count_labels labels) Part
     part_lies = scope.within list (record { from = 0; to = 0 }) is.list_is
 
     labels_are : slice_index_or (map (labels_in labels) lists) list no_labels ≡ labels_in labels Part
     labels_are = get_or-map (labels_in labels) lists list (record { from = 0; to = 0 }) no_labels is.list_is
 
     cells_are : length cells ≡ Part.to - Part.from
-    cells_are = is.cells_fit.as_many ∙ ap label_count labels_are ∙ count_in labels Part part_lies
+    cells_are = is.cells_fit.as_many ∙ ap count_labels labels_are ∙ count_in labels Part part_lies
 
     start_is : start_of p list ≡ Part.from
     start_is = ap (λ (s : List ℕ). slice_index_or s list 0) starts ∙ get_or-map (λ (part : ListPart). part.from) lists list (record { from = 0; to = 0 }) 0 is.list_is
@@ -295,7 +295,7 @@ abbrev pub HasFew : Items → Type 0
 HasFew the_data = ⊤
 HasFew (written ss) = length ss ≤ 64
 
-abbrev pub AsksFew : Request → Type 0
+abbrev pub AsksFew : CellRequest → Type 0
 AsksFew (unary f x) = ⊤
 AsksFew (binary f x y) = ⊤
 AsksFew (choice value accept reject) = ⊤
@@ -321,12 +321,12 @@ module _ (g : PlainGraph) (scope : PlainScope) (context : Cell) (p q : Program) 
   D = callback_of g scope context
 
   abbrev V : Environment → List ℕ → Cell
-  V e name = value_at e g.nodes name
+  V e name = node_value_at e g.nodes name
 
-  abbrev Asked : Request → Type 0
+  abbrev Asked : CellRequest → Type 0
   Asked r = OfRequest (HasPlace (callback_of g scope context) p nodes places) (Sees scope) r
 
-  one_more : (value : Environment → Cell) (more : List Operand) (s : Step) → Follows p q (one_step (length p.steps.items) more s) → IsStep scope (p.elements.items ++ more) (length p.steps.items) s
+  one_more : (value : Environment → Cell) (more : List Operand) (s : Step) → Follows p q (one_step (length p.steps.items) more s) → IsProgramStep scope (p.elements.items ++ more) (length p.steps.items) s
       → ((x y : Cell) (cells : List Cell) (list : ℕ) → IsEnvironment (callback_of g scope context) x y cells list
       → step_value (p.elements.items ++ more) (inputs_of (environment (callback_of g scope context) x y cells list) (start_of p list))
       (register_of p.elements.items (inputs_of (environment (callback_of g scope context) x y cells list) (start_of p list)) p.steps.items) s ≡ value (environment (callback_of g scope context) x y cells list))
@@ -389,9 +389,9 @@ module _ (g : PlainGraph) (scope : PlainScope) (context : Cell) (p q : Program) 
       (null_place D p nodes places (λ (e : Environment). element_of (map (scalar_value e (V e)) ss) (element_index no_labels None label))
       (λ e. ap (element_of (map (scalar_value e (V e)) ss)) (sym (no_label label))))
 
-  pub request_grown : (r : Request) → OfRequest (HasPlace (callback_of g scope context) p nodes places) (Sees scope) r → AsksFew r
+  pub request_grown : (r : CellRequest) → OfRequest (HasPlace (callback_of g scope context) p nodes places) (Sees scope) r → AsksFew r
       → Follows p q (addition_of scope context nodes places (length p.steps.items) (length p.elements.items) r)
-      → HasGrown (callback_of g scope context) q (λ (e : Environment). request_value e (λ (name : List ℕ). value_at e g.nodes name) r)
+      → HasGrown (callback_of g scope context) q (λ (e : Environment). request_value e (λ (name : List ℕ). node_value_at e g.nodes name) r)
       (addition_of scope context nodes places (length p.steps.items) (length p.elements.items) r).place
   request_grown (unary f x) h few follows =
       let px = scalar_place D p nodes places x h in

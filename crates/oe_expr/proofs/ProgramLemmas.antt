@@ -8,7 +8,7 @@ use Rattle.std.proofs.lemmas.List.Sums.{fold-append}
 use Rattle.oe_cell.specs.declared.cell.Cell.{Cell}
 use Rattle.oe_cell.specs.declared.cell.Cell.TheVariants.{Empty}
 use Rattle.oe_fold.specs.Value.{reduction_of}
-use Rattle.oe_expr.specs.Programs.{Inputs, operand_value, step_value, registers_with, registers_of, register_of, IsOperand, IsStep, AreSteps}
+use Rattle.oe_expr.specs.Programs.{Inputs, operand_value, step_value, registers_with, registers_of, register_of, IsOperand, IsProgramStep, AreSteps}
 use Rattle.oe_expr.specs.Scope.{PlainScope}
 use Rattle.oe_expr.specs.declared.program.Operand.{Operand}
 use Rattle.oe_expr.specs.declared.program.Operand.TheVariants.{Constant, X, Y, At, Labelled, Register}
@@ -33,7 +33,7 @@ module _ (scope : PlainScope) (i : Inputs) (n : ℕ) (f g : ℕ → Cell) (agree
       let rest : map (operand_value i f) os ≡ map (operand_value i g) os = operands_agree os (λ k d below. h (suc k) d (omega arith)) in
       cc
 
-  pub step_agrees : (elements : List Operand) (s : Step) → IsStep scope elements n s → step_value elements i f s ≡ step_value elements i g s
+  pub step_agrees : (elements : List Operand) (s : Step) → IsProgramStep scope elements n s → step_value elements i f s ≡ step_value elements i g s
   step_agrees elements (Unary u x) h = rw (operand_agrees x h) refl
   step_agrees elements (Binary b x y) h = rw (operand_agrees x h.0, operand_agrees y h.1) refl
   step_agrees elements (Choice value accept reject) h =
@@ -50,7 +50,7 @@ slice_front xs ys from to rises ends =
     let within : to - from ≤ length (drop from xs) = omega arith in
     ap (take (to - from)) (drop-append-le from xs ys from_front) ∙ take-append-le (to - from) (drop from xs) ys within
 
-pub step_more : (scope : PlainScope) (elements more : List Operand) (i : Inputs) (n : ℕ) (at : ℕ → Cell) (s : Step) → IsStep scope elements n s
+pub step_more : (scope : PlainScope) (elements more : List Operand) (i : Inputs) (n : ℕ) (at : ℕ → Cell) (s : Step) → IsProgramStep scope elements n s
     → step_value (elements ++ more) i at s ≡ step_value elements i at s
 step_more scope elements more i n at (Unary u x) h = refl
 step_more scope elements more i n at (Binary b x y) h = refl
@@ -81,7 +81,7 @@ module _ (elements : List Operand) (i : Inputs) where
 
   -- a register is what its step gives of the registers before it
   is_after : (scope : PlainScope) (registers : List Cell) (steps : List Step)
-      → ((k : ℕ) (d : Step) → k < length steps → IsStep scope elements (length registers + k) (get_or steps k d))
+      → ((k : ℕ) (d : Step) → k < length steps → IsProgramStep scope elements (length registers + k) (get_or steps k d))
       → (k : ℕ) (d : Step) → k < length steps
       → get_or (after elements i registers steps) (length registers + k) Empty
       ≡ step_value elements i (λ r. get_or (after elements i registers steps) r Empty) (get_or steps k d)
@@ -90,7 +90,7 @@ module _ (elements : List Operand) (i : Inputs) where
       let v : Cell = step_value elements i (λ r. get_or registers r Empty) s in
       let one = length-append registers (v ∷ []) in
       let here : length registers + 0 ≡ length registers = omega arith in
-      let safe : IsStep scope elements (length registers) s = subst (λ n. IsStep scope elements n s) here (are 0 d h) in
+      let safe : IsProgramStep scope elements (length registers) s = subst (λ n. IsProgramStep scope elements n s) here (are 0 d h) in
       ap (λ n. get_or (after elements i registers (s ∷ steps)) n Empty) here
       ∙ keeps_after (registers ++ v ∷ []) steps (length registers) (omega arith)
       ∙ get_or-append_seam registers v [] Empty
@@ -102,7 +102,7 @@ module _ (elements : List Operand) (i : Inputs) where
       let same : (j : ℕ) → length (registers ++ v ∷ []) + j ≡ length registers + suc j = λ j. omega arith in
       ap (λ n. get_or (after elements i registers (s ∷ steps)) n Empty) (sym (same k))
       ∙ is_after scope (registers ++ v ∷ []) steps
-      (λ j e below. subst (λ n. IsStep scope elements n (get_or steps j e)) (sym (same j)) (are (suc j) e (omega arith))) k d (omega arith)
+      (λ j e below. subst (λ n. IsProgramStep scope elements n (get_or steps j e)) (sym (same j)) (are (suc j) e (omega arith))) k d (omega arith)
 
   pub register_is : (scope : PlainScope) (steps : List Step) → AreSteps scope elements steps → (k : ℕ) (d : Step) → k < length steps
       → register_of elements i steps k ≡ step_value elements i (register_of elements i steps) (get_or steps k d)
@@ -110,13 +110,13 @@ module _ (elements : List Operand) (i : Inputs) where
   register_is scope steps are k d h =
       let same : (j : ℕ) → 0 + j ≡ j = λ j. omega arith in
       ap (λ n. get_or (after elements i [] steps) n Empty) (sym (same k))
-      ∙ is_after scope [] steps (λ j e below. subst (λ n. IsStep scope elements n (get_or steps j e)) (sym (same j)) (are j e below)) k d h
+      ∙ is_after scope [] steps (λ j e below. subst (λ n. IsProgramStep scope elements n (get_or steps j e)) (sym (same j)) (are j e below)) k d h
 
 -- ---- more steps and elements
 
 module _ (scope : PlainScope) (elements more : List Operand) (i : Inputs) where
   same_after : (registers : List Cell) (steps : List Step)
-      → ((k : ℕ) (d : Step) → k < length steps → IsStep scope elements (length registers + k) (get_or steps k d))
+      → ((k : ℕ) (d : Step) → k < length steps → IsProgramStep scope elements (length registers + k) (get_or steps k d))
       → after (elements ++ more) i registers steps ≡ after elements i registers steps
   same_after registers [] are = refl
   same_after registers (s ∷ steps) are =
@@ -126,7 +126,7 @@ module _ (scope : PlainScope) (elements more : List Operand) (i : Inputs) where
       ap (λ (w : Cell). after (elements ++ more) i (registers ++ w ∷ []) steps)
       (step_more scope elements more i (length registers + 0) (λ r. get_or registers r Empty) s (are 0 s (omega arith)))
       ∙ same_after (registers ++ v ∷ []) steps
-      (λ j e below. subst (λ n. IsStep scope elements n (get_or steps j e)) (same j) (are (suc j) e (omega arith)))
+      (λ j e below. subst (λ n. IsProgramStep scope elements n (get_or steps j e)) (same j) (are (suc j) e (omega arith)))
 
   -- steps and elements that follow change no register
   pub registers_kept : (steps later : List Step) → AreSteps scope elements steps → (r : ℕ) → r < length steps
@@ -138,14 +138,14 @@ module _ (scope : PlainScope) (elements more : List Operand) (i : Inputs) where
       ap (λ (registers : List Cell). get_or registers r Empty) (fold-append (registers_with (elements ++ more) i) [] steps later)
       ∙ keeps_after (elements ++ more) i (after (elements ++ more) i [] steps) later r (omega arith)
       ∙ ap (λ (registers : List Cell). get_or registers r Empty)
-      (same_after [] steps (λ j e below. subst (λ n. IsStep scope elements n (get_or steps j e)) (same j) (are j e below)))
+      (same_after [] steps (λ j e below. subst (λ n. IsProgramStep scope elements n (get_or steps j e)) (same j) (are j e below)))
 
 -- where the registers before a step are there, what it gives is the next
 pub register_after : (scope : PlainScope) (elements : List Operand) (i : Inputs) (steps : List Step) → AreSteps scope elements steps → (k : ℕ) (s : Step) → k < length steps → s ≡ get_or steps k s
     → (at : ℕ → Cell) → ((r : ℕ) → r < k → at r ≡ register_of elements i steps r)
     → step_value elements i at s ≡ register_of elements i steps k
 register_after scope elements i steps are k s h is at agree =
-    let safe : IsStep scope elements k s = subst (λ (t : Step). IsStep scope elements k t) (sym is) (are k s h) in
+    let safe : IsProgramStep scope elements k s = subst (λ (t : Step). IsProgramStep scope elements k t) (sym is) (are k s h) in
     step_agrees scope i k at (register_of elements i steps) agree elements s safe
     ∙ ap (λ (t : Step). step_value elements i (register_of elements i steps) t) is
     ∙ sym (register_is elements i scope steps are k s h)

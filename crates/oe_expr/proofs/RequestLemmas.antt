@@ -17,8 +17,8 @@ use Rattle.oe_graph.specs.Tree.{Argument, ListValues, Named, PlainNode}
 use Rattle.oe_expr.specs.NodeKinds.{scalar_kind, items_kinds, request_kind, node_kind}
 use Rattle.oe_expr.specs.Nodes.{LooksDown}
 use Rattle.oe_expr.specs.Operations.{operation_named}
-use Rattle.oe_expr.specs.Requests.{Scalar, whole_cell, literal, of_node, of_x, of_y, of_context, Items, the_data, written, Request, unary, binary, choice, reduction, element, scalar_in, scalar_parameter, scalars_in, items_in, written_list, with_both, read, two_cells, binary_request, choice_request, reduction_request, counting_request, element_request, request_of, request_at, where_passed, has_plain_equality, flag_in, passes, is_scalar_literal, counter_in, index_in, label_in}
-use Rattle.oe_expr.specs.Rows.{first_row, parameter_missing, parameter_conflict, element_not_available, cell_kind_invalid, request_fault, node_fault}
+use Rattle.oe_expr.specs.Requests.{Scalar, whole_cell, literal, of_node, of_x, of_y, of_context, Items, the_data, written, CellRequest, unary, binary, choice, reduction, element, scalar_in, scalar_parameter, scalars_in, items_in, written_list, with_both, read, two_cells, binary_request, choice_request, reduction_request, counting_request, element_request, cell_request_of, cell_request_at, where_passed, has_plain_equality, flag_in, passes, is_scalar_literal, counter_in, list_index_in, label_in}
+use Rattle.oe_expr.specs.Rows.{first_row, parameter_missing, parameter_conflict, element_not_available, callback_cell_kind_invalid, request_fault, node_fault}
 use Rattle.oe_expr.specs.Scope.{PlainScope, Environment}
 use Rattle.oe_expr.specs.declared.operation.Binary.{Binary}
 use Rattle.oe_expr.specs.declared.operation.Binary.TheVariants.{Add, Subtract, Multiply, Divide, Modulo, Equal, NotEqual, Greater, GreaterOrEqual, Less, LessOrEqual, And, Or, Xor}
@@ -46,7 +46,7 @@ module _ (P Q : List ℕ → Type 0) where
   OfItems the_data = Q (codes "data")
   OfItems (written scalars) = OfScalars scalars
 
-  abbrev pub OfRequest : Request → Type 0
+  abbrev pub OfRequest : CellRequest → Type 0
   OfRequest (unary f x) = OfScalar x
   OfRequest (binary f x y) = OfScalar x × OfScalar y
   OfRequest (choice value accept reject) = OfScalar value × OfScalar accept × OfScalar reject
@@ -74,7 +74,7 @@ module _ (e : Environment) (f g : List ℕ → Cell) where
   same_items the_data h = refl
   same_items (written ss) h = same_scalars ss h
 
-  pub same_value : (r : Request) → OfRequest (λ name. f name ≡ g name) AnyName r → request_value e f r ≡ request_value e g r
+  pub same_value : (r : CellRequest) → OfRequest (λ name. f name ≡ g name) AnyName r → request_value e f r ≡ request_value e g r
   same_value (unary o x) h = rw (same_scalar x h) refl
   same_value (binary o x y) h = rw (same_scalar x h.0, same_scalar y h.1) refl
   same_value (choice value accept reject) h = rw (same_scalar value h.0, same_scalar accept h.1, same_scalar reject h.2) refl
@@ -97,21 +97,21 @@ module _ (scope : PlainScope) (context : Cell) (f g : List ℕ → Option CellKi
   same_item_kinds the_data h = refl
   same_item_kinds (written ss) h = same_scalar_kinds ss h
 
-  pub same_kind : (r : Request) → OfRequest (λ name. f name ≡ g name) AnyName r → request_kind scope context f r ≡ request_kind scope context g r
+  pub same_kind : (r : CellRequest) → OfRequest (λ name. f name ≡ g name) AnyName r → request_kind scope context f r ≡ request_kind scope context g r
   same_kind (unary o x) h = refl
   same_kind (binary o x y) h = refl
   same_kind (choice value accept reject) h = rw (same_scalar_kind accept h.1, same_scalar_kind reject h.2) refl
   same_kind (reduction reducer ignore items) h = rw (same_item_kinds items h) refl
   same_kind (element items index label return_nodata) h = rw (same_item_kinds items h) refl
 
-  same_invalid : (r : Request) → OfRequest (λ name. f name ≡ g name) AnyName r → cell_kind_invalid scope context f r ≡ cell_kind_invalid scope context g r
+  same_invalid : (r : CellRequest) → OfRequest (λ name. f name ≡ g name) AnyName r → callback_cell_kind_invalid scope context f r ≡ callback_cell_kind_invalid scope context g r
   same_invalid (unary o x) h = rw (same_scalar_kind x h) refl
   same_invalid (binary o x y) h = rw (same_scalar_kind x h.0, same_scalar_kind y h.1) refl
   same_invalid (choice value accept reject) h = rw (same_scalar_kind value h.0, same_scalar_kind accept h.1, same_scalar_kind reject h.2) refl
   same_invalid (reduction reducer ignore items) h = rw (same_item_kinds items h) refl
   same_invalid (element items index label return_nodata) h = rw (same_item_kinds items h) refl
 
-  pub same_fault : (r : Request) → OfRequest (λ name. f name ≡ g name) AnyName r → request_fault scope context f r ≡ request_fault scope context g r
+  pub same_fault : (r : CellRequest) → OfRequest (λ name. f name ≡ g name) AnyName r → request_fault scope context f r ≡ request_fault scope context g r
   same_fault r h =
       ap (λ invalid. first_row (
       (ArrayElementParameterMissing, parameter_missing r)
@@ -256,12 +256,12 @@ module _ (P Q : List ℕ → Type 0) where
       of_items found.0 items found.2 (of_argument name given found.0 found.1 h) (of_argument_parameters name given found.0 found.1 q)
 
   module _ (given : Named) (h : OfAll P (references_named given)) (q : OfAll Q (parameters_named given)) where
-    of_two : (f : Binary) (r : Request) → two_cells f given ≡ Some r → OfRequest P Q r
+    of_two : (f : Binary) (r : CellRequest) → two_cells f given ≡ Some r → OfRequest P Q r
     of_two f r e =
         let parts = both_there (binary f) (read scalar_in (codes "x") given) (read scalar_in (codes "y") given) r e in
         subst (OfRequest P Q) parts.4 (of_read (codes "x") given parts.0 parts.2 h q, of_read (codes "y") given parts.1 parts.3 h q)
 
-    of_binary : (f : Binary) (r : Request) → binary_request f given ≡ Some r → OfRequest P Q r
+    of_binary : (f : Binary) (r : CellRequest) → binary_request f given ≡ Some r → OfRequest P Q r
     of_binary Equal r e = of_two Equal r (passed_there (has_plain_equality given) (two_cells Equal given) r e)
     of_binary NotEqual r e = of_two NotEqual r (passed_there (has_plain_equality given) (two_cells NotEqual given) r e)
     of_binary Add r e = of_two Add r e
@@ -277,32 +277,32 @@ module _ (P Q : List ℕ → Type 0) where
     of_binary Or r e = of_two Or r e
     of_binary Xor r e = of_two Xor r e
 
-    of_choice : (r : Request) → choice_request given ≡ Some r → OfRequest P Q r
+    of_choice : (r : CellRequest) → choice_request given ≡ Some r → OfRequest P Q r
     of_choice r e =
         let first = found_there _ (read scalar_in (codes "value") given) r e in
         let parts = both_there (choice first.0) (read scalar_in (codes "accept") given) (read scalar_in (codes "reject") given) r first.2 in
         subst (OfRequest P Q) parts.4
         (of_read (codes "value") given first.0 first.1 h q, of_read (codes "accept") given parts.0 parts.2 h q, of_read (codes "reject") given parts.1 parts.3 h q)
 
-    of_reduction : (reducer : Reducer) (r : Request) → reduction_request reducer given ≡ Some r → OfRequest P Q r
+    of_reduction : (reducer : Reducer) (r : CellRequest) → reduction_request reducer given ≡ Some r → OfRequest P Q r
     of_reduction reducer r e =
         let parts = both_there (reduction reducer) (read flag_in (codes "ignore_nodata") given) (read items_in (codes "data") given) r e in
         subst (OfRequest P Q) parts.4 (of_read_items (codes "data") given parts.1 parts.3 h q)
 
-    of_counting : (r : Request) → counting_request given ≡ Some r → OfRequest P Q r
+    of_counting : (r : CellRequest) → counting_request given ≡ Some r → OfRequest P Q r
     of_counting r e =
         let passed = passed_there (passes is_scalar_literal (codes "context") given) _ r e in
         let parts = both_there (λ counter items. reduction counter true items) (read counter_in (codes "condition") given) (read items_in (codes "data") given) r passed in
         subst (OfRequest P Q) parts.4 (of_read_items (codes "data") given parts.1 parts.3 h q)
 
-    of_element : (r : Request) → element_request given ≡ Some r → OfRequest P Q r
+    of_element : (r : CellRequest) → element_request given ≡ Some r → OfRequest P Q r
     of_element r e =
         let first = found_there _ (read items_in (codes "data") given) r e in
-        let second = found_there _ (read index_in (codes "index") given) r first.2 in
+        let second = found_there _ (read list_index_in (codes "index") given) r first.2 in
         let parts = both_there (element first.0 second.0) (read label_in (codes "label") given) (read flag_in (codes "return_nodata") given) r second.2 in
         subst (OfRequest P Q) parts.4 (of_read_items (codes "data") given first.0 first.1 h q)
 
-    of_request : (operation : Operation) (r : Request) → request_of operation given ≡ Some r → OfRequest P Q r
+    of_request : (operation : Operation) (r : CellRequest) → cell_request_of operation given ≡ Some r → OfRequest P Q r
     of_request (OfOne f) r e =
         let found = mapped_there (unary f) (read scalar_in (codes "x") given) r e in
         subst (OfRequest P Q) found.2 (of_read (codes "x") given found.0 found.1 h q)
@@ -313,7 +313,7 @@ module _ (P Q : List ℕ → Type 0) where
     of_request Element r e = of_element r e
 
   -- what holds of the nodes that a node refers to holds of those that its request names
-  pub of_node_request : (n : PlainNode) (r : Request) → request_at n ≡ Some r → OfAll P (references_named n.arguments) → OfAll Q (parameters_named n.arguments) → OfRequest P Q r
+  pub of_node_request : (n : PlainNode) (r : CellRequest) → cell_request_at n ≡ Some r → OfAll P (references_named n.arguments) → OfAll Q (parameters_named n.arguments) → OfRequest P Q r
   of_node_request n r e h q =
       let found = found_there _ (operation_named n.process_id) r e in
       of_request n.arguments h q found.0 r found.2
@@ -321,17 +321,17 @@ module _ (P Q : List ℕ → Type 0) where
 -- ---- the steps of the recursions look down alone
 
 pub value_looks_down : (e : Environment) → LooksDown (node_value e)
-value_looks_down e n f g h = by (request_at n) refl
+value_looks_down e n f g h = by (cell_request_at n) refl
   where
-    by : (o : Option Request) → request_at n ≡ o
+    by : (o : Option CellRequest) → cell_request_at n ≡ o
         → option_map_or (request_value e f) o Empty ≡ option_map_or (request_value e g) o Empty
     by None is = refl
     by (Some r) is = same_value e f g r (of_node_request (λ name. f name ≡ g name) AnyName n r is h (λ name c. tt))
 
 pub kind_looks_down : (scope : PlainScope) (context : Cell) → LooksDown (node_kind scope context)
-kind_looks_down scope context n f g h = by (request_at n) refl
+kind_looks_down scope context n f g h = by (cell_request_at n) refl
   where
-    by : (o : Option Request) → request_at n ≡ o
+    by : (o : Option CellRequest) → cell_request_at n ≡ o
         → option_and_then (request_kind scope context f) o ≡ option_and_then (request_kind scope context g) o
     by None is = refl
     by (Some r) is = same_kind scope context f g r (of_node_request (λ name. f name ≡ g name) AnyName n r is h (λ name c. tt))
@@ -340,9 +340,9 @@ kind_looks_down scope context n f g h = by (request_at n) refl
 pub fault_looks_down : (scope : PlainScope) (context : Cell) (n : PlainNode) (f g : List ℕ → Option CellKind)
     → ((name : List ℕ) → Contains (references_named n.arguments) name → f name ≡ g name)
     → node_fault scope context f n ≡ node_fault scope context g n
-fault_looks_down scope context n f g h = by (request_at n) refl
+fault_looks_down scope context n f g h = by (cell_request_at n) refl
   where
-    by : (o : Option Request) → request_at n ≡ o
+    by : (o : Option CellRequest) → cell_request_at n ≡ o
         → option_map_or (request_fault scope context f) o (Some ProcessParameterInvalid)
         ≡ option_map_or (request_fault scope context g) o (Some ProcessParameterInvalid)
     by None is = refl

@@ -6,8 +6,8 @@ use Rattle.std.proofs.lemmas.Bool.Decides.{Decides-ltb, nat_tests}
 use Rattle.std.proofs.lemmas.List.{get_or-take}
 use Rattle.oe_cell.specs.declared.cell.Cell.{Cell}
 use Rattle.oe_cell.specs.declared.cell.Cell.TheVariants.{Empty}
-use Rattle.oe_expr.specs.EnvRows.{HasCells}
-use Rattle.oe_expr.specs.Programs.{Inputs, operand_value, step_value, register_of, IsOperand, IsStep, AreSteps}
+use Rattle.oe_expr.specs.EnvRows.{HasRowCells}
+use Rattle.oe_expr.specs.Programs.{Inputs, operand_value, step_value, register_of, IsOperand, IsProgramStep, AreSteps}
 use Rattle.oe_expr.specs.Scope.{PlainScope}
 use Rattle.oe_expr.specs.Strips.{HasOperand, HasStep, is_last_register, register_at}
 use Rattle.oe_expr.specs.declared.program.Operand.{Operand}
@@ -44,9 +44,9 @@ module _ (scope : PlainScope) (elements : List Operand) (steps : List Step) (are
   AreFilled registers number = (r : ℕ) → r < number → r + 1 < length steps → (j : ℕ) → j < n → register_at registers n j r ≡ register_of elements (inputs j) steps r
 
   module _ (number : ℕ) (in_steps : number < length steps) (s : Step) (is : s ≡ get_or steps number s) where
-    pub step_stands : (row : EnvRow) (from m : ℕ) → HasCells scope row (from + n) → number * n ≤ m → HasStep row from n m elements s
+    pub step_stands : (row : EnvRow) (from m : ℕ) → HasRowCells scope row (from + n) → number * n ≤ m → HasStep row from n m elements s
     step_stands row from m has room =
-        let safe : IsStep scope elements number s = subst (λ (t : Step). IsStep scope elements number t) (sym is) (are number s in_steps) in
+        let safe : IsProgramStep scope elements number s = subst (λ (t : Step). IsProgramStep scope elements number t) (sym is) (are number s in_steps) in
         has_step scope row from n m number has room elements s safe
 
     pub next_cell : (registers : List Cell) → AreFilled registers number → (j : ℕ) → j < n → (v : Cell)
@@ -78,7 +78,7 @@ module _ (scope : PlainScope) (elements : List Operand) (steps : List Step) (are
 
   -- the operand of the result, where it is not what the last step gives
   module _ (o : Operand) (placed : IsOperand scope (length steps) o) (not : is_last_register (length steps) o ≡ false) where
-    pub operand_stands : (row : EnvRow) (from m : ℕ) → HasCells scope row (from + n) → (length steps - 1) * n ≤ m → HasOperand row from n m o
+    pub operand_stands : (row : EnvRow) (from m : ℕ) → HasRowCells scope row (from + n) → (length steps - 1) * n ≤ m → HasOperand row from n m o
     operand_stands row from m has room = has_operand scope row from n m (length steps - 1) has room o (not_last scope (length steps) o placed not)
 
     pub operand_is : (registers : List Cell) → AreFilled registers (length steps) → (j : ℕ) → j < n

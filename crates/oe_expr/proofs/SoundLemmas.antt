@@ -10,11 +10,11 @@ use Rattle.oe_graph.specs.declared.code.Code.TheVariants.{ProcessParameterInvali
 use Rattle.oe_expr.specs.Kinds.{FitsKind}
 use Rattle.oe_expr.specs.NodeKinds.{kind_at, node_kind, request_kind}
 use Rattle.oe_expr.specs.Nodes.{node_named}
-use Rattle.oe_expr.specs.Requests.{Request, request_at}
-use Rattle.oe_expr.specs.Rows.{first_row, request_fault, cell_kind_invalid, parameter_missing, parameter_conflict, element_not_available}
+use Rattle.oe_expr.specs.Requests.{CellRequest, cell_request_at}
+use Rattle.oe_expr.specs.Rows.{first_row, request_fault, callback_cell_kind_invalid, parameter_missing, parameter_conflict, element_not_available}
 use Rattle.oe_expr.specs.Scope.{PlainScope, Environment, IsEnvironmentOf}
 use Rattle.oe_expr.specs.Stands.{IsSound, sound}
-use Rattle.oe_expr.specs.Value.{value_at, node_value, request_value}
+use Rattle.oe_expr.specs.Value.{node_value_at, node_value, request_value}
 use Rattle.oe_expr.proofs.FitLemmas.{Sees, request_fits}
 use Rattle.oe_expr.proofs.NodeLemmas.{node_is, unfolds}
 use Rattle.oe_expr.proofs.RequestLemmas.{of_node_request, value_looks_down, kind_looks_down}
@@ -35,22 +35,22 @@ module _ (scope : PlainScope) (context : Cell) (nodes : Nodes) (acyclic : (id : 
 
   module _ (e : Environment) where
     pub value_unfolds : (name : List ℕ) (n : PlainNode) → node_named name nodes ≡ Some n
-        → value_at e nodes name ≡ node_value e (value_at e nodes) n
+        → node_value_at e nodes name ≡ node_value e (node_value_at e nodes) n
     value_unfolds name n is = unfolds nodes Empty (node_value e) (value_looks_down e) acyclic name n is
 
     module _ (fits : IsEnvironmentOf scope e) (same_context : e.context ≡ context)
         (sees : (n : PlainNode) → Contains (each_node nodes) n → (name : List ℕ) → Contains (parameters_named n.arguments) name → Sees scope name) where
-      pub sound_fits : (name : List ℕ) → IsSound scope context nodes name → FitsKind (kind_at scope context nodes name) (value_at e nodes name)
+      pub sound_fits : (name : List ℕ) → IsSound scope context nodes name → FitsKind (kind_at scope context nodes name) (node_value_at e nodes name)
       sound_fits name (sound {n = n} is below none) =
-          rw (kind_unfolds name n is, value_unfolds name n is) (by (request_at n) refl none (λ other h. sound_fits other (below other h)))
+          rw (kind_unfolds name n is, value_unfolds name n is) (by (cell_request_at n) refl none (λ other h. sound_fits other (below other h)))
         where
-          by : (o : Option Request) → request_at n ≡ o
+          by : (o : Option CellRequest) → cell_request_at n ≡ o
               → option_map_or (request_fault scope context (kind_at scope context nodes)) o (Some ProcessParameterInvalid) ≡ None
-              → ((other : List ℕ) → Contains (references_named n.arguments) other → FitsKind (kind_at scope context nodes other) (value_at e nodes other))
-              → FitsKind (option_and_then (request_kind scope context (kind_at scope context nodes)) o) (option_map_or (request_value e (value_at e nodes)) o Empty)
+              → ((other : List ℕ) → Contains (references_named n.arguments) other → FitsKind (kind_at scope context nodes other) (node_value_at e nodes other))
+              → FitsKind (option_and_then (request_kind scope context (kind_at scope context nodes)) o) (option_map_or (request_value e (node_value_at e nodes)) o Empty)
           by None r none each = absurd cc
           by (Some request) r none each =
-              request_fits scope context e fits same_context (kind_at scope context nodes) (value_at e nodes) request
-              (of_node_request (λ id. FitsKind (kind_at scope context nodes id) (value_at e nodes id)) (Sees scope) n request r each (sees n (node_is nodes name n is).0))
+              request_fits scope context e fits same_context (kind_at scope context nodes) (node_value_at e nodes) request
+              (of_node_request (λ id. FitsKind (kind_at scope context nodes id) (node_value_at e nodes id)) (Sees scope) n request r each (sees n (node_is nodes name n is).0))
               (last_row ArrayElementParameterMissing ArrayElementParameterConflict ArrayElementNotAvailable CellKindInvalid (parameter_missing request) (parameter_conflict request)
-              (element_not_available scope request) (cell_kind_invalid scope context (kind_at scope context nodes) request) none)
+              (element_not_available scope request) (callback_cell_kind_invalid scope context (kind_at scope context nodes) request) none)

@@ -9,8 +9,8 @@ use Rattle.std.proofs.lemmas.List.FromFn.{get_or-map-range_with_len, length-map-
 use Rattle.oe_cell.specs.declared.cell.Cell.{Cell}
 use Rattle.oe_cell.specs.declared.cell.Cell.TheVariants.{Empty}
 use Rattle.oe_fold.specs.Columns.{column}
-use Rattle.oe_expr.specs.EnvRows.{HasCells}
-use Rattle.oe_expr.specs.Programs.{IsOperand, IsStep}
+use Rattle.oe_expr.specs.EnvRows.{HasRowCells}
+use Rattle.oe_expr.specs.Programs.{IsOperand, IsProgramStep}
 use Rattle.oe_expr.specs.Scope.{PlainScope, apply, reduce, merge}
 use Rattle.oe_expr.specs.Strips.{HasOperand, HasStep}
 use Rattle.oe_expr.specs.declared.program.Operand.{Operand}
@@ -78,12 +78,12 @@ column-rest cells stride count from m k e =
 
 -- ---- what a program takes stands in a row
 
-pub has_fewer : (scope : PlainScope) (row : EnvRow) (m n : ℕ) → m ≤ n → HasCells scope row n → HasCells scope row m
+pub has_fewer : (scope : PlainScope) (row : EnvRow) (m n : ℕ) → m ≤ n → HasRowCells scope row n → HasRowCells scope row m
 has_fewer (apply kind) row m n h has = omega arith
 has_fewer (reduce kind labels lists) row m n h has = (has.0, omega arith)
 has_fewer (merge kind) row m n h has = (omega arith, omega arith)
 
-module _ (scope : PlainScope) (row : EnvRow) (from n m number : ℕ) (has : HasCells scope row (from + n)) (room : number * n ≤ m) where
+module _ (scope : PlainScope) (row : EnvRow) (from n m number : ℕ) (has : HasRowCells scope row (from + n)) (room : number * n ≤ m) where
   pub has_operand : (o : Operand) → IsOperand scope number o → HasOperand row from n m o
   has_operand o h = of scope o has h
     where
@@ -93,7 +93,7 @@ module _ (scope : PlainScope) (row : EnvRow) (from n m number : ℕ) (has : HasC
           let next : (r + 1) * n ≡ r * n + n = omega arith in
           omega arith
 
-      of : (s : PlainScope) (o : Operand) → HasCells s row (from + n) → IsOperand s number o → HasOperand row from n m o
+      of : (s : PlainScope) (o : Operand) → HasRowCells s row (from + n) → IsOperand s number o → HasOperand row from n m o
       of s (Constant c) has h = tt
       of (apply kind) X has h = has
       of (reduce kind labels lists) X has h = absurd h
@@ -109,7 +109,7 @@ module _ (scope : PlainScope) (row : EnvRow) (from n m number : ℕ) (has : HasC
       of (merge kind) (Labelled k) has h = absurd h
       of s (Register r) has h = register r h
 
-  pub has_step : (elements : List Operand) (s : Step) → IsStep scope elements number s → HasStep row from n m elements s
+  pub has_step : (elements : List Operand) (s : Step) → IsProgramStep scope elements number s → HasStep row from n m elements s
   has_step elements (Unary f x) h = has_operand x h
   has_step elements (Binary f x y) h = (has_operand x h.0, has_operand y h.1)
   has_step elements (Choice value accept reject) h = (has_operand value h.0, has_operand accept h.1, has_operand reject h.2)

@@ -11,8 +11,8 @@ use Rattle.oe_graph.specs.declared.code.Code.TheVariants.{ProcessParameterInvali
 use Rattle.oe_graph.specs.declared.tree.Node.{Node}
 use Rattle.oe_expr.specs.Below.{below_names}
 use Rattle.oe_expr.specs.NodeKinds.{request_kind}
-use Rattle.oe_expr.specs.PlainRequests.{plain_request}
-use Rattle.oe_expr.specs.Requests.{request_at}
+use Rattle.oe_expr.specs.PlainRequests.{plain_cell_request}
+use Rattle.oe_expr.specs.Requests.{cell_request_at}
 use Rattle.oe_expr.specs.Rows.{request_fault}
 use Rattle.oe_expr.specs.Scope.{PlainScope}
 use Rattle.oe_expr.specs.States.{kind_named, fault_or_kind, judged_request}
@@ -39,10 +39,10 @@ module _ (scope : PlainScope) (context : Cell) (nodes : List Node) (states : Lis
       ap (λ (n : PlainNode). below_names nodes states (references_named n.arguments)) (plain_parts node) ∙ (sym is ∙ same)
 
   module _ (b : Below) (is_below : b ≡ below_names nodes states (references_named (plain_named node.arguments.items))) (is_sound : b ≡ below.Sound)
-      (asked : Option Request) (request : Request) (read : option_map plain_request asked ≡ request_at (plain_node node)) (some : asked ≡ Some request)
-      (answer : Result (Option CellKind) Code) (judged : answer ≡ judged_request scope context (kind_named nodes states) (plain_request request)) where
-    asks : request_at (plain_node node) ≡ Some (plain_request request)
-    asks = sym read ∙ ap (option_map plain_request) some
+      (asked : Option Request) (request : Request) (read : option_map plain_cell_request asked ≡ cell_request_at (plain_node node)) (some : asked ≡ Some request)
+      (answer : Result (Option CellKind) Code) (judged : answer ≡ judged_request scope context (kind_named nodes states) (plain_cell_request request)) where
+    asks : cell_request_at (plain_node node) ≡ Some (plain_cell_request request)
+    asks = sym read ∙ ap (option_map plain_cell_request) some
 
     pub judged_sound : (kind : Option CellKind) → answer ≡ Ok kind → IsJudgedSound scope context nodes states (plain_node node) kind request
     judged_sound kind ok =

@@ -23,7 +23,7 @@ use Rattle.oe_expr.specs.Nodes.{node_named}
 use Rattle.oe_expr.specs.Orders.{IsEntry, IsEntryOf, StandsBefore, HasEntry}
 use Rattle.oe_expr.specs.Rows.{node_fault}
 use Rattle.oe_expr.specs.Scope.{PlainScope}
-use Rattle.oe_expr.specs.Stands.{IsSound, sound, StandsAt, Stands, own_fault}
+use Rattle.oe_expr.specs.Stands.{IsSound, sound, StandsAt, StandsOnPath, own_fault}
 use Rattle.oe_expr.specs.States.{state_named, kind_named, kept_kind}
 use Rattle.oe_expr.specs.Walked.{AreResolved, IsNodeAt, state_at, IsJudged, IsJudgedSound, ArePartOrder, LeadsDown, IsSoundOf, IsState, AreDeep, StandsSeen, IsLeastSeen, IsWalked, IsChecked, Waits, IsStep}
 use Rattle.oe_expr.specs.declared.references.Below.TheVariants as below
@@ -533,7 +533,7 @@ module _ (scope : PlainScope) (context : Cell) (nodes : List Node) (path : List 
     least = λ other stands. w.least.1 other (seen_at other stands);
   }
     where
-      seen_at : (other : Fault) → Stands scope context (plain_nodes nodes) path other.code other.node → StandsSeen scope context nodes path states other
+      seen_at : (other : Fault) → StandsOnPath scope context (plain_nodes nodes) path other.code other.node → StandsSeen scope context nodes path states other
       seen_at other stands =
           let there = node_is (plain_nodes nodes) stands.id stands.at.node stands.at.is_node in
           let found_at = index_of_node (plain_nodes nodes) stands.at.node there.0 in

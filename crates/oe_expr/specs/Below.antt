@@ -22,4 +22,5 @@ below_state (Sound kind) = below.Sound
 -- of the nodes of these names, all together
 abbrev pub below_names : List Node → List State → List (List ℕ) → Below
 below_names nodes states [] = below.Sound
-below_names nodes states (name ∷ names) = worse_of (below_state (state_named nodes states name)) (below_names nodes states names)
+below_names nodes states (name ∷ names) =
+    worse_of (below_state (state_named nodes states name)) (below_names nodes states names)

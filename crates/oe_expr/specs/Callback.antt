@@ -7,7 +7,7 @@ use Rattle.oe_graph.specs.Tree.{PlainGraph}
 use Rattle.oe_cube.specs.Kinds.{IsOfKind}
 use Rattle.oe_expr.specs.NodeKinds.{graph_kind}
 use Rattle.oe_expr.specs.Scope.{PlainScope, Environment, IsEnvironmentOf, IsListNumber, no_labels, list_labels}
-use Rattle.oe_expr.specs.Stands.{Stands}
+use Rattle.oe_expr.specs.Stands.{StandsOnPath}
 use Rattle.oe_expr.specs.Value.{graph_value}
 use Rattle.oe_graph.specs.declared.code.Code.{Code}
 
@@ -49,9 +49,9 @@ KeepsKind c =
     → IsOfKind (callback_kind c) (callback_value c (environment c x y cells list))
 
 -- a fault stands in the callback at a name, where the callback itself has the name `path`
-abbrev pub StandsIn : Callback → List ℕ → Code → List ℕ → Type 0
-StandsIn c path code name = Stands c.scope c.context c.graph.nodes path code name
+abbrev pub StandsInCallbackAt : Callback → List ℕ → Code → List ℕ → Type 0
+StandsInCallbackAt c path code name = StandsOnPath c.scope c.context c.graph.nodes path code name
 
 -- no fault stands in the callback
-abbrev pub IsFaultless : Callback → Type 0
-IsFaultless c = (path : List ℕ) (code : Code) (name : List ℕ) → ¬ StandsIn c path code name
+abbrev pub IsFaultlessCallback : Callback → Type 0
+IsFaultlessCallback c = (path : List ℕ) (code : Code) (name : List ℕ) → ¬ StandsInCallbackAt c path code name

@@ -1,4 +1,5 @@
--- A code of the nodes of a graph, by which proofs tell them apart: the marks of a tree in prefix order, read from the end.
+-- A code of the nodes of a graph, by which proofs tell them apart: the marks of a tree in prefix order, read from the
+-- end.
 use Rattle.std.specs.Prelude.{◌≡◌, ℕ, ℤ, Bool, List, [], ◌∷◌, Option, refl}
 use Rattle.std.specs.Coded.{Coded, code_by}
 use Rattle.std.proofs.Common.{ap, ◌∙◌}
@@ -42,9 +43,11 @@ piece_with (node_name_mark id) pieces = an_argument (from_node id) ∷ pieces
 piece_with (parameter_mark name) pieces = an_argument (from_parameter name) ∷ pieces
 piece_with (callback_mark result) (some_nodes nodes ∷ pieces) = an_argument (callback nodes result) ∷ pieces
 piece_with no_arguments_mark pieces = some_arguments no_arguments ∷ pieces
-piece_with argument_mark (an_argument first ∷ some_arguments rest ∷ pieces) = some_arguments (argument first rest) ∷ pieces
+piece_with argument_mark (an_argument first ∷ some_arguments rest ∷ pieces) =
+    some_arguments (argument first rest) ∷ pieces
 piece_with no_named_mark pieces = some_named no_named ∷ pieces
-piece_with (named_mark name) (an_argument first ∷ some_named rest ∷ pieces) = some_named (named name first rest) ∷ pieces
+piece_with (named_mark name) (an_argument first ∷ some_named rest ∷ pieces) =
+    some_named (named name first rest) ∷ pieces
 piece_with no_nodes_mark pieces = some_nodes no_nodes ∷ pieces
 piece_with (node_mark id process_id namespace) (some_named arguments ∷ some_nodes rest ∷ pieces) =
     some_nodes (node id process_id namespace arguments rest) ∷ pieces
@@ -83,7 +86,8 @@ abbrev mutual
 
 -- the parts that marks give are the trees
 mutual
-  argument_back : (a : Argument) (marks : List Mark) → pieces_of (argument_marks a marks) ≡ an_argument a ∷ pieces_of marks
+  argument_back : (a : Argument) (marks : List Mark) → pieces_of (argument_marks a marks)
+      ≡ an_argument a ∷ pieces_of marks
   argument_back null marks = refl
   argument_back (flag b) marks = refl
   argument_back (whole z) marks = refl
@@ -95,20 +99,24 @@ mutual
   argument_back (from_parameter name) marks = refl
   argument_back (callback nodes result) marks = ap (piece_with (callback_mark result)) (nodes_back nodes marks)
 
-  arguments_back : (items : ListValues) (marks : List Mark) → pieces_of (arguments_marks items marks) ≡ some_arguments items ∷ pieces_of marks
+  arguments_back : (items : ListValues) (marks : List Mark) → pieces_of (arguments_marks items marks)
+      ≡ some_arguments items ∷ pieces_of marks
   arguments_back no_arguments marks = refl
   arguments_back (argument first rest) marks =
-      ap (piece_with argument_mark) (argument_back first (arguments_marks rest marks) ∙ ap (λ (pieces : List Piece). an_argument first ∷ pieces) (arguments_back rest marks))
+      ap (piece_with argument_mark) (argument_back first (arguments_marks rest marks) ∙ ap
+      (λ (pieces : List Piece). an_argument first ∷ pieces) (arguments_back rest marks))
 
   named_back : (ms : Named) (marks : List Mark) → pieces_of (named_marks ms marks) ≡ some_named ms ∷ pieces_of marks
   named_back no_named marks = refl
   named_back (named name first rest) marks =
-      ap (piece_with (named_mark name)) (argument_back first (named_marks rest marks) ∙ ap (λ (pieces : List Piece). an_argument first ∷ pieces) (named_back rest marks))
+      ap (piece_with (named_mark name)) (argument_back first (named_marks rest marks) ∙ ap
+      (λ (pieces : List Piece). an_argument first ∷ pieces) (named_back rest marks))
 
   pub nodes_back : (ns : Nodes) (marks : List Mark) → pieces_of (nodes_marks ns marks) ≡ some_nodes ns ∷ pieces_of marks
   nodes_back no_nodes marks = refl
   nodes_back (node id process_id namespace arguments rest) marks =
-      ap (piece_with (node_mark id process_id namespace)) (named_back arguments (nodes_marks rest marks) ∙ ap (λ (pieces : List Piece). some_named arguments ∷ pieces) (nodes_back rest marks))
+      ap (piece_with (node_mark id process_id namespace)) (named_back arguments (nodes_marks rest marks) ∙ ap
+      (λ (pieces : List Piece). some_named arguments ∷ pieces) (nodes_back rest marks))
 
 abbrev pub first_nodes : List Piece → Nodes
 first_nodes (some_nodes nodes ∷ pieces) = nodes

@@ -22,12 +22,13 @@ abbrev pub environment_at : Callback → EnvRow → ℕ → Environment
 environment_at c row k = environment c (x_at row k) (y_at row k) (list_at row k) row.list
 
 -- there are cells for so many environments, where the scope has them
-abbrev pub HasCells : PlainScope → EnvRow → ℕ → Type 0
-HasCells (apply kind) row n = n ≤ length row.x.now
-HasCells (reduce kind labels lists) row n = (0 < row.stride) × (row.count * row.stride + n ≤ length row.cells.now + row.stride)
-HasCells (merge kind) row n = (n ≤ length row.x.now) × (n ≤ length row.y.now)
+abbrev pub HasRowCells : PlainScope → EnvRow → ℕ → Type 0
+HasRowCells (apply kind) row n = n ≤ length row.x.now
+HasRowCells (reduce kind labels lists) row n =
+    (0 < row.stride) × (row.count * row.stride + n ≤ length row.cells.now + row.stride)
+HasRowCells (merge kind) row n = (n ≤ length row.x.now) × (n ≤ length row.y.now)
 
 -- so many environments of the scope stand in a row
 pub record AreEnvironments (c : Callback) (row : EnvRow) (n : ℕ) : Type 0 where
-  pub has_cells : HasCells c.scope row n
+  pub has_cells : HasRowCells c.scope row n
   pub each : (k : ℕ) → k < n → IsEnvironment c (x_at row k) (y_at row k) (list_at row k) row.list

@@ -6,7 +6,7 @@ use Rattle.oe_graph.specs.Tree.{Nodes, PlainGraph, PlainNode}
 use Rattle.oe_expr.specs.Kinds.{literal_kind, kind_among}
 use Rattle.oe_expr.specs.Nodes.{down_from, result_id}
 use Rattle.oe_expr.specs.Operations.{unary_gives, binary_gives, reducer_gives}
-use Rattle.oe_expr.specs.Requests.{Scalar, literal, of_node, of_x, of_y, of_context, Items, the_data, written, Request, unary, binary, choice, reduction, element, request_at}
+use Rattle.oe_expr.specs.Requests.{Scalar, literal, of_node, of_x, of_y, of_context, Items, the_data, written, CellRequest, unary, binary, choice, reduction, element, cell_request_at}
 use Rattle.oe_expr.specs.Scope.{PlainScope, apply, reduce, merge}
 
 -- of `x`, of `y` and of the cells of `data`, where the scope has them
@@ -40,7 +40,7 @@ module _ (scope : PlainScope) (context : Cell) (at : List ℕ → Option CellKin
   items_kinds (written scalars) = map scalar_kind scalars
 
   -- of what a node asks for: that which the operation gives, or that of the cells among which it chooses
-  abbrev pub request_kind : Request → Option CellKind
+  abbrev pub request_kind : CellRequest → Option CellKind
   request_kind (unary f x) = Some (unary_gives f)
   request_kind (binary f x y) = Some (binary_gives f)
   request_kind (choice value accept reject) = kind_among (scalar_kind accept ∷ scalar_kind reject ∷ [])
@@ -49,7 +49,7 @@ module _ (scope : PlainScope) (context : Cell) (at : List ℕ → Option CellKin
 
 -- of a node
 abbrev pub node_kind : PlainScope → Cell → (List ℕ → Option CellKind) → PlainNode → Option CellKind
-node_kind scope context at n = option_and_then (request_kind scope context at) (request_at n)
+node_kind scope context at n = option_and_then (request_kind scope context at) (cell_request_at n)
 
 -- of the node of a name
 abbrev pub kind_at : PlainScope → Cell → Nodes → List ℕ → Option CellKind

@@ -43,4 +43,5 @@ LooksDown {A} step =
 -- the recursion unfolds at one node
 abbrev pub UnfoldsAt : {A : Type 0} → A → ((List ℕ → A) → PlainNode → A) → Nodes → List ℕ → Type 0
 UnfoldsAt other step nodes name =
-    (n : PlainNode) → node_named name nodes ≡ Some n → down_from other step nodes name ≡ step (down_from other step nodes) n
+    (n : PlainNode) → node_named name nodes ≡ Some n → down_from other step nodes name
+    ≡ step (down_from other step nodes) n

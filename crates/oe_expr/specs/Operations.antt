@@ -1,6 +1,6 @@
 -- The processes that stand in callbacks (openEO Processes): what each does with cells, which kind of cells it takes and
--- which it gives. In this profile `divide` and `mod` by 0 give null, `if` chooses among cells of one kind, and `eq` of a
--- flag and a number is refused.
+-- which it gives. In this profile `divide` and `mod` by 0 give null, `if` chooses among cells of one kind, and `eq` of
+-- a flag and a number is refused.
 use Rattle.std.specs.Prelude.{ℕ, List, [], ◌∷◌, Option, Some, None, codes, if◌then◌else◌}
 use Rattle.oe_cell.specs.Operations.{add_of, subtract_of, multiply_of, divide_of, modulo_of, eq_of, neq_of, gt_of, gte_of, lt_of, lte_of, and_of, or_of, xor_of, not_of, floor_of, ceil_of, int_of, absolute_of, sgn_of}
 use Rattle.oe_cell.specs.declared.cell.Cell.{Cell}

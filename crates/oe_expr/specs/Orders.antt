@@ -1,7 +1,7 @@
 -- What the walk gives of a callback without faults: its nodes in an order of evaluation, each with what it asks for.
 use Rattle.std.specs.Prelude.{◌≡◌, ◌≢◌, ◌<◌, ℕ, List, Some, slice_get, Contains, AllPairs}
-use Rattle.oe_expr.specs.PlainRequests.{plain_request}
-use Rattle.oe_expr.specs.Requests.{request_at}
+use Rattle.oe_expr.specs.PlainRequests.{plain_cell_request}
+use Rattle.oe_expr.specs.Requests.{cell_request_at}
 use Rattle.oe_expr.specs.declared.walk.Judged.{Judged}
 use Rattle.oe_graph.specs.Printed.{node_count}
 use Rattle.oe_graph.specs.References.{each_node, references_named}
@@ -10,7 +10,7 @@ use Rattle.oe_graph.specs.Tree.{Nodes, PlainNode}
 -- the entry is that of this node, and has what the node's arguments ask for
 pub record IsEntryOf (nodes : Nodes) (n : PlainNode) (entry : Judged) : Type 0 where
   pub stands : slice_get (each_node nodes) entry.node ≡ Some n
-  pub asks : request_at n ≡ Some (plain_request entry.request)
+  pub asks : cell_request_at n ≡ Some (plain_cell_request entry.request)
 
 -- an entry is that of some node
 pub record IsEntry (nodes : Nodes) (entry : Judged) : Type 0 where

@@ -4,10 +4,10 @@ use Rattle.std.specs.List.{slice_get, slice_index_or}
 use Rattle.oe_graph.specs.Tree.{PlainNode}
 use Rattle.oe_graph.specs.declared.tree.Node.{Node}
 use Rattle.oe_expr.specs.Callback.{Callback}
-use Rattle.oe_expr.specs.PlainRequests.{plain_request}
+use Rattle.oe_expr.specs.PlainRequests.{plain_cell_request}
 use Rattle.oe_expr.specs.Places.{IsPlace, IsStarted, null, request_names}
 use Rattle.oe_expr.specs.States.{index_named}
-use Rattle.oe_expr.specs.Value.{value_at}
+use Rattle.oe_expr.specs.Value.{node_value_at}
 use Rattle.oe_expr.specs.Walked.{IsNodeAt}
 use Rattle.oe_expr.specs.declared.program.Operand.{Operand}
 use Rattle.oe_expr.specs.declared.program.Program.{Program}
@@ -20,7 +20,7 @@ IsNeeded needed node = slice_index_or needed node false ≡ true
 abbrev pub AreMarked : List Node → List Judged → List Bool → ℕ → Type 0
 AreMarked nodes order needed from =
     (j : ℕ) (entry : Judged) → from ≤ j → slice_get order j ≡ Some entry → IsNeeded needed entry.node
-    → (name : List ℕ) → Contains (request_names (plain_request entry.request)) name
+    → (name : List ℕ) → Contains (request_names (plain_cell_request entry.request)) name
     → (index : ℕ) → index_named nodes name ≡ Some index → IsNeeded needed index
 
 -- the needed nodes among the entries before one have places with their values
@@ -28,9 +28,10 @@ abbrev pub AreNodesPlaced : Callback → List Node → List Judged → List Bool
 AreNodesPlaced c nodes order needed places p end =
     (j : ℕ) (entry : Judged) (n : PlainNode) → j < end → slice_get order j ≡ Some entry → IsNodeAt nodes entry.node n
     → IsNeeded needed entry.node
-    → IsPlace c p (λ e. value_at e c.graph.nodes n.id) (slice_index_or places entry.node null)
+    → IsPlace c p (λ e. node_value_at e c.graph.nodes n.id) (slice_index_or places entry.node null)
 
-pub record IsCompiling (c : Callback) (nodes : List Node) (order : List Judged) (needed : List Bool) (places : List Operand) (p : Program) (end : ℕ) : Type 0 where
+pub record IsCompiling (c : Callback) (nodes : List Node) (order : List Judged) (needed : List Bool)
+    (places : List Operand) (p : Program) (end : ℕ) : Type 0 where
   pub started : IsStarted c.scope p
   pub few : length p.steps.items ≤ end
   pub long : length places ≡ length nodes

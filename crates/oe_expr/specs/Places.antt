@@ -8,7 +8,7 @@ use Rattle.oe_fold.specs.declared.reducer.Reducer.{Reducer}
 use Rattle.oe_graph.specs.declared.tree.Node.{Node}
 use Rattle.oe_expr.specs.Callback.{Callback, IsEnvironment, environment}
 use Rattle.oe_expr.specs.Programs.{inputs_of, operand_value, register_of, start_of, IsOperand, AreSteps}
-use Rattle.oe_expr.specs.Requests.{Scalar, literal, of_node, of_x, of_y, of_context, Items, the_data, written, Request, unary, binary, choice, reduction, element}
+use Rattle.oe_expr.specs.Requests.{Scalar, literal, of_node, of_x, of_y, of_context, Items, the_data, written, CellRequest, unary, binary, choice, reduction, element}
 use Rattle.oe_expr.specs.Scope.{PlainScope, apply, reduce, merge, Environment, Label, label_index}
 use Rattle.oe_expr.specs.States.{index_named}
 use Rattle.oe_expr.specs.declared.program.Operand.{Operand}
@@ -31,7 +31,7 @@ abbrev pub items_names : Items → List (List ℕ)
 items_names the_data = []
 items_names (written scalars) = flat_map scalar_names scalars
 
-abbrev pub request_names : Request → List (List ℕ)
+abbrev pub request_names : CellRequest → List (List ℕ)
 request_names (unary f x) = scalar_names x
 request_names (binary f x y) = scalar_names x ++ scalar_names y
 request_names (choice value accept reject) = scalar_names value ++ scalar_names accept ++ scalar_names reject
@@ -53,7 +53,8 @@ null = Constant Empty
 -- where a scalar is taken from, where `places` has the places of nodes
 abbrev pub operand_of : Cell → List Node → List Operand → Scalar → Operand
 operand_of context nodes places (literal c) = Constant c
-operand_of context nodes places (of_node id) = option_map_or (λ k. slice_index_or places k null) (index_named nodes id) null
+operand_of context nodes places (of_node id) =
+    option_map_or (λ k. slice_index_or places k null) (index_named nodes id) null
 operand_of context nodes places of_x = X
 operand_of context nodes places of_y = Y
 operand_of context nodes places of_context = Constant context
@@ -92,21 +93,26 @@ no_step place = record { place = place; steps = []; elements = [] }
 
 -- of a request, after so many steps and elements
 abbrev pub reduction_addition : Cell → List Node → List Operand → ℕ → ℕ → Reducer → Bool → Items → Addition
-reduction_addition context nodes places number from reducer ignore the_data = one_step number [] (step.Reduction reducer ignore)
+reduction_addition context nodes places number from reducer ignore the_data =
+    one_step number [] (step.Reduction reducer ignore)
 reduction_addition context nodes places number from reducer ignore (written scalars) =
-    one_step number (map (operand_of context nodes places) scalars) (step.Written reducer ignore from (from + length scalars))
+    one_step number (map (operand_of context nodes places) scalars)
+    (step.Written reducer ignore from (from + length scalars))
 
 abbrev pub items_place : PlainScope → Cell → List Node → List Operand → Items → Option ℕ → Option Label → Operand
 items_place scope context nodes places the_data index label = element_place scope index label
-items_place scope context nodes places (written scalars) index label = written_place (map (operand_of context nodes places) scalars) index
+items_place scope context nodes places (written scalars) index label =
+    written_place (map (operand_of context nodes places) scalars) index
 
-abbrev pub addition_of : PlainScope → Cell → List Node → List Operand → ℕ → ℕ → Request → Addition
-addition_of scope context nodes places number from (unary f x) = one_step number [] (step.Unary f (operand_of context nodes places x))
+abbrev pub addition_of : PlainScope → Cell → List Node → List Operand → ℕ → ℕ → CellRequest → Addition
+addition_of scope context nodes places number from (unary f x) =
+    one_step number [] (step.Unary f (operand_of context nodes places x))
 addition_of scope context nodes places number from (binary f x y) =
     one_step number [] (step.Binary f (operand_of context nodes places x) (operand_of context nodes places y))
 addition_of scope context nodes places number from (choice value accept reject) =
     one_step number []
-    (step.Choice (operand_of context nodes places value) (operand_of context nodes places accept) (operand_of context nodes places reject))
+    (step.Choice (operand_of context nodes places value) (operand_of context nodes places accept)
+    (operand_of context nodes places reject))
 addition_of scope context nodes places number from (reduction reducer ignore items) =
     reduction_addition context nodes places number from reducer ignore items
 addition_of scope context nodes places number from (element items index label return_nodata) =

@@ -40,9 +40,11 @@ abbrev pub plain_label : Label → scope.Label
 plain_label (Text s) = scope.text s.now
 plain_label (Whole z) = scope.whole z
 
-abbrev pub plain_request : Request → spec.Request
-plain_request (Unary f x) = spec.unary f (plain_scalar x)
-plain_request (Binary f x y) = spec.binary f (plain_scalar x) (plain_scalar y)
-plain_request (Choice value accept reject) = spec.choice (plain_scalar value) (plain_scalar accept) (plain_scalar reject)
-plain_request (Reduction reducer ignore items) = spec.reduction reducer ignore (plain_items items)
-plain_request (Element items index label return_nodata) = spec.element (plain_items items) index (option_map plain_label label) return_nodata
+abbrev pub plain_cell_request : Request → spec.CellRequest
+plain_cell_request (Unary f x) = spec.unary f (plain_scalar x)
+plain_cell_request (Binary f x y) = spec.binary f (plain_scalar x) (plain_scalar y)
+plain_cell_request (Choice value accept reject) =
+    spec.choice (plain_scalar value) (plain_scalar accept) (plain_scalar reject)
+plain_cell_request (Reduction reducer ignore items) = spec.reduction reducer ignore (plain_items items)
+plain_cell_request (Element items index label return_nodata) =
+    spec.element (plain_items items) index (option_map plain_label label) return_nodata

@@ -111,16 +111,18 @@ pub record AreOperands (scope : PlainScope) (elements : List Operand) (n from to
   pub each : All (IsOperand scope n) (slice_range elements from to)
 
 -- the operands of a step are such
-abbrev pub IsStep : PlainScope → List Operand → ℕ → Step → Type 0
-IsStep scope elements n (Unary f x) = IsOperand scope n x
-IsStep scope elements n (Binary f x y) = IsOperand scope n x × IsOperand scope n y
-IsStep scope elements n (Choice value accept reject) = IsOperand scope n value × IsOperand scope n accept × IsOperand scope n reject
-IsStep scope elements n (Reduction reducer ignore) = HasList scope
-IsStep scope elements n (Written reducer ignore from to) = AreOperands scope elements n from to
+abbrev pub IsProgramStep : PlainScope → List Operand → ℕ → Step → Type 0
+IsProgramStep scope elements n (Unary f x) = IsOperand scope n x
+IsProgramStep scope elements n (Binary f x y) = IsOperand scope n x × IsOperand scope n y
+IsProgramStep scope elements n (Choice value accept reject) =
+    IsOperand scope n value × IsOperand scope n accept × IsOperand scope n reject
+IsProgramStep scope elements n (Reduction reducer ignore) = HasList scope
+IsProgramStep scope elements n (Written reducer ignore from to) = AreOperands scope elements n from to
 
 -- each step takes what the scope has and what steps before it gave
 abbrev pub AreSteps : PlainScope → List Operand → List Step → Type 0
-AreSteps scope elements steps = (k : ℕ) (d : Step) → k < length steps → IsStep scope elements k (slice_index_or steps k d)
+AreSteps scope elements steps =
+    (k : ℕ) (d : Step) → k < length steps → IsProgramStep scope elements k (slice_index_or steps k d)
 
 pub record IsProgram (scope : PlainScope) (p : Program) : Type 0 where
   pub few : length p.steps.items ≤ 64

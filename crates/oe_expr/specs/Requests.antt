@@ -1,5 +1,6 @@
--- What the arguments of a node ask for, where each is what its parameter may hold. A scalar is null, a flag, a whole number,
--- the result of a node, or the parameter `x`, `y` or `context`; a list is `data`, or is written with at most 64 scalars.
+-- What the arguments of a node ask for, where each is what its parameter may hold. A scalar is null, a flag, a whole
+-- number, the result of a node, or the parameter `x`, `y` or `context`; a list is `data`, or is written with at most 64
+-- scalars.
 use Rattle.std.specs.Prelude.{ℕ, ◌&&◌, Bool, true, false, nat_le, List, [], ◌∷◌, length, Option, Some, None, is_some, codes, option_map, option_and_then, if◌then◌else◌, ℤ, pos}
 use Rattle.oe_cell.specs.Rational.{whole_of}
 use Rattle.oe_cell.specs.declared.cell.Cell.{Cell}
@@ -33,15 +34,15 @@ pub data Items : Type 0 where
   written : List Scalar → Items
 
 -- a node, by its operation and arguments; those without effect are left out
-pub data Request : Type 0 where
-  unary : Unary → Scalar → Request
-  binary : Binary → Scalar → Scalar → Request
+pub data CellRequest : Type 0 where
+  unary : Unary → Scalar → CellRequest
+  binary : Binary → Scalar → Scalar → CellRequest
   -- value, accept, reject
-  choice : Scalar → Scalar → Scalar → Request
+  choice : Scalar → Scalar → Scalar → CellRequest
   -- whether nulls are ignored
-  reduction : Reducer → Bool → Items → Request
+  reduction : Reducer → Bool → Items → CellRequest
   -- an index, a label, and whether a missing element is null
-  element : Items → Option ℕ → Option Label → Bool → Request
+  element : Items → Option ℕ → Option Label → Bool → CellRequest
 
 -- ---- what a parameter may hold: none where the argument is something else
 
@@ -124,10 +125,10 @@ counter_in (tree.flag true) = Some CountAll
 counter_in _ = None
 
 -- null, or a whole number not below 0
-abbrev pub index_in : Argument → Option (Option ℕ)
-index_in tree.null = Some None
-index_in (tree.whole (pos n)) = Some (Some n)
-index_in _ = None
+abbrev pub list_index_in : Argument → Option (Option ℕ)
+list_index_in tree.null = Some None
+list_index_in (tree.whole (pos n)) = Some (Some n)
+list_index_in _ = None
 
 -- null, a text or a whole number
 abbrev pub whole_label : ℤ → Option (Option Label)
@@ -153,47 +154,53 @@ passes test name arguments = is_some (read (λ a. if test a then Some a else Non
 abbrev pub where_passed : {A : Type 0} → Bool → Option A → Option A
 where_passed passed a = if passed then a else None
 
-abbrev pub two_cells : Binary → Named → Option Request
-two_cells f arguments = with_both (binary f) (read scalar_in (codes "x") arguments) (read scalar_in (codes "y") arguments)
+abbrev pub two_cells : Binary → Named → Option CellRequest
+two_cells f arguments =
+    with_both (binary f) (read scalar_in (codes "x") arguments) (read scalar_in (codes "y") arguments)
 
 -- `eq` and `neq` have `delta`, which is null, and `case_sensitive`, a flag; neither has an effect on cells
 abbrev pub has_plain_equality : Named → Bool
 has_plain_equality arguments =
     passes is_null (codes "delta") arguments && is_some (read flag_in (codes "case_sensitive") arguments)
 
-abbrev pub binary_request : Binary → Named → Option Request
+abbrev pub binary_request : Binary → Named → Option CellRequest
 binary_request Equal arguments = where_passed (has_plain_equality arguments) (two_cells Equal arguments)
 binary_request NotEqual arguments = where_passed (has_plain_equality arguments) (two_cells NotEqual arguments)
 binary_request f arguments = two_cells f arguments
 
-abbrev pub choice_request : Named → Option Request
+abbrev pub choice_request : Named → Option CellRequest
 choice_request arguments =
-    option_and_then (λ value. with_both (choice value) (read scalar_in (codes "accept") arguments) (read scalar_in (codes "reject") arguments))
+    option_and_then (λ value. with_both (choice value) (read scalar_in (codes "accept") arguments)
+    (read scalar_in (codes "reject") arguments))
     (read scalar_in (codes "value") arguments)
 
-abbrev pub reduction_request : Reducer → Named → Option Request
+abbrev pub reduction_request : Reducer → Named → Option CellRequest
 reduction_request reducer arguments =
-    with_both (reduction reducer) (read flag_in (codes "ignore_nodata") arguments) (read items_in (codes "data") arguments)
+    with_both (reduction reducer) (read flag_in (codes "ignore_nodata") arguments)
+    (read items_in (codes "data") arguments)
 
 -- `count` has `context`, which has no effect
-abbrev pub counting_request : Named → Option Request
+abbrev pub counting_request : Named → Option CellRequest
 counting_request arguments =
     where_passed (passes is_scalar_literal (codes "context") arguments)
-    (with_both (λ counter items. reduction counter true items) (read counter_in (codes "condition") arguments) (read items_in (codes "data") arguments))
+    (with_both (λ counter items. reduction counter true items) (read counter_in (codes "condition") arguments)
+    (read items_in (codes "data") arguments))
 
-abbrev pub element_request : Named → Option Request
+abbrev pub element_request : Named → Option CellRequest
 element_request arguments =
-    option_and_then (λ items. option_and_then (λ index. with_both (element items index) (read label_in (codes "label") arguments)
-    (read flag_in (codes "return_nodata") arguments)) (read index_in (codes "index") arguments)) (read items_in (codes "data") arguments)
+    option_and_then (λ items. option_and_then (λ index. with_both (element items index)
+    (read label_in (codes "label") arguments)
+    (read flag_in (codes "return_nodata") arguments)) (read list_index_in (codes "index") arguments))
+    (read items_in (codes "data") arguments)
 
-abbrev pub request_of : Operation → Named → Option Request
-request_of (OfOne f) arguments = option_map (unary f) (read scalar_in (codes "x") arguments)
-request_of (OfTwo f) arguments = binary_request f arguments
-request_of Choice arguments = choice_request arguments
-request_of (Reduction reducer) arguments = reduction_request reducer arguments
-request_of Counting arguments = counting_request arguments
-request_of Element arguments = element_request arguments
+abbrev pub cell_request_of : Operation → Named → Option CellRequest
+cell_request_of (OfOne f) arguments = option_map (unary f) (read scalar_in (codes "x") arguments)
+cell_request_of (OfTwo f) arguments = binary_request f arguments
+cell_request_of Choice arguments = choice_request arguments
+cell_request_of (Reduction reducer) arguments = reduction_request reducer arguments
+cell_request_of Counting arguments = counting_request arguments
+cell_request_of Element arguments = element_request arguments
 
 -- what a node asks for
-abbrev pub request_at : PlainNode → Option Request
-request_at n = option_and_then (λ operation. request_of operation n.arguments) (operation_named n.process_id)
+abbrev pub cell_request_at : PlainNode → Option CellRequest
+cell_request_at n = option_and_then (λ operation. cell_request_of operation n.arguments) (operation_named n.process_id)

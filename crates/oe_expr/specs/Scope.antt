@@ -14,8 +14,8 @@ use Rattle.oe_expr.specs.declared.scope.ListPart.{ListPart}
 use Rattle.oe_expr.specs.declared.scope.Scope.{Scope}
 use Rattle.oe_expr.specs.declared.scope.Scope.TheVariants.{Apply, Reduce, Merge}
 
--- The kind of the cells, and for a reduction the labels of its dimension and the lists that it is evaluated on: one with all
--- labels for `reduce_dimension`, one per interval for `aggregate_temporal`.
+-- The kind of the cells, and for a reduction the labels of its dimension and the lists that it is evaluated on: one
+-- with all labels for `reduce_dimension`, one per interval for `aggregate_temporal`.
 pub data PlainScope : Type 0 where
   apply : CellKind → PlainScope
   reduce : CellKind → PlainLabels → List ListPart → PlainScope
@@ -27,17 +27,17 @@ plain_scope (Reduce kind labels lists) = reduce kind (plain_labels labels) lists
 plain_scope (Merge kind) = merge kind
 
 -- the parameters that a callback sees of its parent
-abbrev pub parameter_names : PlainScope → List (List ℕ)
-parameter_names (apply kind) = codes "x" ∷ codes "context" ∷ []
-parameter_names (reduce kind labels lists) = codes "data" ∷ codes "context" ∷ []
-parameter_names (merge kind) = codes "x" ∷ codes "y" ∷ codes "context" ∷ []
+abbrev pub scope_parameters : PlainScope → List (List ℕ)
+scope_parameters (apply kind) = codes "x" ∷ codes "context" ∷ []
+scope_parameters (reduce kind labels lists) = codes "data" ∷ codes "context" ∷ []
+scope_parameters (merge kind) = codes "x" ∷ codes "y" ∷ codes "context" ∷ []
 
 -- ---- labels
 
-abbrev pub label_count : PlainLabels → ℕ
-label_count (plain_instants labels) = length labels
-label_count (plain_names labels) = length labels
-label_count (plain_coordinates labels) = length labels
+abbrev pub count_labels : PlainLabels → ℕ
+count_labels (plain_instants labels) = length labels
+count_labels (plain_names labels) = length labels
+count_labels (plain_coordinates labels) = length labels
 
 -- a list that is written in a callback has no labels
 abbrev pub no_labels : PlainLabels
@@ -64,8 +64,8 @@ abbrev pub read_or_none : Result ℤ InstantFault → Option ℤ
 read_or_none (Ok seconds) = Some seconds
 read_or_none (Err fault) = None
 
--- The index of a label among those of a list: an instant by either of its spellings, a band by its name, a coordinate by its
--- number. A label of another type is no label of the list.
+-- The index of a label among those of a list: an instant by either of its spellings, a band by its name, a coordinate
+-- by its number. A label of another type is no label of the list.
 abbrev pub label_index : PlainLabels → Label → Option ℕ
 label_index (plain_instants labels) (text spelling) =
     option_and_then (λ seconds. index_where (same_number seconds) labels) (read_or_none (instant_read spelling))
@@ -90,9 +90,9 @@ pub record LiesWithin (count : ℕ) (part : ListPart) : Type 0 where
 
 -- the labels are those of a dimension, and each list lies within them
 pub record AreLists (labels : PlainLabels) (lists : List ListPart) : Type 0 where
-  pub within : All (LiesWithin (label_count labels)) lists
+  pub within : All (LiesWithin (count_labels labels)) lists
   pub distinct : AreDistinct labels
-  pub few_labels : label_count labels < 2 ^ 32
+  pub few_labels : count_labels labels < 2 ^ 32
   pub few_lists : length lists < 2 ^ 32
 
 abbrev pub IsScope : PlainScope → Type 0
@@ -119,7 +119,7 @@ pub record Environment : Type 0 where
 -- the list is one of these, with as many cells as labels, each of the kind
 pub record IsListOf (kind : CellKind) (lists : List PlainLabels) (e : Environment) : Type 0 where
   pub among : Contains lists e.labels
-  pub as_many : length e.cells ≡ label_count e.labels
+  pub as_many : length e.cells ≡ count_labels e.labels
   pub of_kind : All (IsOfKind kind) e.cells
 
 -- what the scope promises of an environment; what it lacks may be anything

@@ -24,8 +24,8 @@ module _ (scope : PlainScope) (context : Cell) (nodes : Nodes) where
         → own_fault n ≡ None
         → IsSound name
 
-  -- A fault stands at the node of a name: the nodes that it refers to have none at or below them, and of the rows that hold
-  -- at it this is the first.
+  -- A fault stands at the node of a name: the nodes that it refers to have none at or below them, and of the rows that
+  -- hold at it this is the first.
   pub record StandsAt (name : List ℕ) (code : Code) : Type 0 where
     pub node : PlainNode
     pub is_node : node_named name nodes ≡ Some node
@@ -33,7 +33,7 @@ module _ (scope : PlainScope) (context : Cell) (nodes : Nodes) where
     pub first : own_fault node ≡ Some code
 
   -- A fault stands in the callback of a path: its node `n` has the name `path/n`.
-  pub record Stands (path : List ℕ) (code : Code) (name : List ℕ) : Type 0 where
+  pub record StandsOnPath (path : List ℕ) (code : Code) (name : List ℕ) : Type 0 where
     pub id : List ℕ
     pub at : StandsAt id code
     pub is_named : name ≡ form.node_name path id

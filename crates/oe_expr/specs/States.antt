@@ -10,7 +10,7 @@ use Rattle.oe_graph.specs.declared.code.Code.{Code}
 use Rattle.oe_graph.specs.declared.code.Code.TheVariants.{CellKindInvalid}
 use Rattle.oe_graph.specs.declared.tree.Node.{Node}
 use Rattle.oe_expr.specs.NodeKinds.{request_kind}
-use Rattle.oe_expr.specs.Requests.{Request}
+use Rattle.oe_expr.specs.Requests.{CellRequest}
 use Rattle.oe_expr.specs.Rows.{request_fault}
 use Rattle.oe_expr.specs.Scope.{PlainScope}
 use Rattle.oe_expr.specs.declared.state.State.{State}
@@ -35,7 +35,7 @@ abbrev pub fault_or_kind : Option Code → Option CellKind → Result (Option Ce
 fault_or_kind None kind = Ok kind
 fault_or_kind (Some code) kind = Err code
 
-abbrev pub judged_request : PlainScope → Cell → (List ℕ → Option CellKind) → Request → Result (Option CellKind) Code
+abbrev pub judged_request : PlainScope → Cell → (List ℕ → Option CellKind) → CellRequest → Result (Option CellKind) Code
 judged_request scope context at request =
     fault_or_kind (request_fault scope context at request) (request_kind scope context at request)
 

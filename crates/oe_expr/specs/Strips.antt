@@ -1,10 +1,10 @@
--- A strip of a row of environments, whose registers stand one behind the other: the register r of the environment j of `n`
--- is the cell r n + j.
+-- A strip of a row of environments, whose registers stand one behind the other: the register r of the environment j of
+-- `n` is the cell r n + j.
 use Rattle.std.specs.Prelude.{ℕ, ◌+◌, ◌*◌, ◌==◌, ◌<◌, ◌≤◌, ⊤, Bool, false, List, length, slice_range}
 use Rattle.std.specs.List.{All, slice_index_or}
 use Rattle.oe_cell.specs.declared.cell.Cell.{Cell}
 use Rattle.oe_cell.specs.declared.cell.Cell.TheVariants.{Empty}
-use Rattle.oe_expr.specs.EnvRows.{HasCells, x_at, y_at, list_at}
+use Rattle.oe_expr.specs.EnvRows.{HasRowCells, x_at, y_at, list_at}
 use Rattle.oe_expr.specs.Programs.{Inputs, IsProgram}
 use Rattle.oe_expr.specs.Scope.{PlainScope}
 use Rattle.oe_expr.specs.declared.program.Operand.{Operand}
@@ -18,9 +18,9 @@ use Rattle.oe_expr.specs.declared.row.Source.TheVariants.{All as AllCells, Each}
 
 -- ---- sources
 
-abbrev pub source_at : Source → ℕ → Cell
-source_at (AllCells c) j = c
-source_at (Each cells) j = slice_index_or cells.now j Empty
+abbrev pub strip_cell_at : Source → ℕ → Cell
+strip_cell_at (AllCells c) j = c
+strip_cell_at (Each cells) j = slice_index_or cells.now j Empty
 
 -- a source has so many cells
 abbrev pub IsAsLong : Source → ℕ → Type 0
@@ -80,4 +80,4 @@ is_last_register count (Labelled k) = false
 pub record CanRun (p : Program) (row : EnvRow) (end : ℕ) : Type 0 where
   pub scope : PlainScope
   pub is_program : IsProgram scope p
-  pub has_cells : HasCells scope row end
+  pub has_cells : HasRowCells scope row end

@@ -9,7 +9,7 @@ use Rattle.oe_fold.specs.Value.{reduction_of}
 use Rattle.oe_graph.specs.Tree.{Nodes, PlainGraph, PlainNode}
 use Rattle.oe_expr.specs.Nodes.{down_from, result_id}
 use Rattle.oe_expr.specs.Operations.{unary_of, binary_of}
-use Rattle.oe_expr.specs.Requests.{Scalar, literal, of_node, of_x, of_y, of_context, Items, the_data, written, Request, unary, binary, choice, reduction, element, request_at}
+use Rattle.oe_expr.specs.Requests.{Scalar, literal, of_node, of_x, of_y, of_context, Items, the_data, written, CellRequest, unary, binary, choice, reduction, element, cell_request_at}
 use Rattle.oe_expr.specs.Scope.{Environment, Label, no_labels, label_index}
 
 module _ (e : Environment) (at : List ℕ → Cell) where
@@ -42,7 +42,7 @@ abbrev pub element_of : List Cell → Option ℕ → Cell
 element_of cells index = option_map_or (λ k. slice_index_or cells k Empty) index Empty
 
 -- of what a node asks for
-abbrev pub request_value : Environment → (List ℕ → Cell) → Request → Cell
+abbrev pub request_value : Environment → (List ℕ → Cell) → CellRequest → Cell
 request_value e at (unary f x) = unary_of f (scalar_value e at x)
 request_value e at (binary f x y) = binary_of f (scalar_value e at x) (scalar_value e at y)
 request_value e at (choice value accept reject) =
@@ -53,12 +53,12 @@ request_value e at (element items index label return_nodata) =
 
 -- of a node; one whose arguments are not what they may be has none
 abbrev pub node_value : Environment → (List ℕ → Cell) → PlainNode → Cell
-node_value e at n = option_map_or (request_value e at) (request_at n) Empty
+node_value e at n = option_map_or (request_value e at) (cell_request_at n) Empty
 
 -- of the node of a name
-abbrev pub value_at : Environment → Nodes → List ℕ → Cell
-value_at e nodes name = down_from Empty (node_value e) nodes name
+abbrev pub node_value_at : Environment → Nodes → List ℕ → Cell
+node_value_at e nodes name = down_from Empty (node_value e) nodes name
 
 -- of the callback: that of its result node
 abbrev pub graph_value : PlainGraph → Environment → Cell
-graph_value g e = value_at e g.nodes (result_id g)
+graph_value g e = node_value_at e g.nodes (result_id g)

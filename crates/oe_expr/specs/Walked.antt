@@ -14,11 +14,11 @@ use Rattle.oe_graph.specs.declared.tree.Node.{Node}
 use Rattle.oe_expr.specs.Below.{below_names}
 use Rattle.oe_expr.specs.NodeKinds.{kind_at, node_kind}
 use Rattle.oe_expr.specs.Orders.{IsEntry, IsEntryOf, StandsBefore, HasEntry, IsWalkOrder}
-use Rattle.oe_expr.specs.PlainRequests.{plain_request}
-use Rattle.oe_expr.specs.Requests.{request_at}
+use Rattle.oe_expr.specs.PlainRequests.{plain_cell_request}
+use Rattle.oe_expr.specs.Requests.{cell_request_at}
 use Rattle.oe_expr.specs.Rows.{node_fault}
-use Rattle.oe_expr.specs.Scope.{PlainScope, parameter_names}
-use Rattle.oe_expr.specs.Stands.{IsSound, StandsAt, Stands}
+use Rattle.oe_expr.specs.Scope.{PlainScope, scope_parameters}
+use Rattle.oe_expr.specs.Stands.{IsSound, StandsAt, StandsOnPath}
 use Rattle.oe_expr.specs.States.{state_named, kind_named}
 use Rattle.oe_expr.specs.declared.references.Below.TheVariants as below
 use Rattle.oe_expr.specs.declared.request.Request.{Request}
@@ -31,7 +31,7 @@ use Rattle.oe_expr.specs.declared.walk.Verdict.TheVariants as verdict
 -- the nodes are those of a resolved callback
 pub record AreResolved (scope : PlainScope) (nodes : List Node) : Type 0 where
   pub result : ℕ
-  pub resolved : IsResolvedObject true (parameter_names scope) (plain_nodes nodes) result
+  pub resolved : IsResolvedObject true (scope_parameters scope) (plain_nodes nodes) result
 
 -- the node at an index
 abbrev pub IsNodeAt : List Node → ℕ → PlainNode → Type 0
@@ -52,7 +52,7 @@ pub record IsJudged (scope : PlainScope) (context : Cell) (nodes : List Node) (s
 pub record IsJudgedSound (scope : PlainScope) (context : Cell) (nodes : List Node) (states : List State) (n : PlainNode)
     (kind : Option CellKind) (request : Request) : Type 0 where
   pub judged : IsJudged scope context nodes states n None
-  pub asks : request_at n ≡ Some (plain_request request)
+  pub asks : cell_request_at n ≡ Some (plain_cell_request request)
   pub kind_is : node_kind scope context (kind_named nodes states) n ≡ kind
 
 abbrev pub IsVerdict : PlainScope → Cell → List Node → List State → PlainNode → Verdict → Type 0
@@ -133,7 +133,7 @@ module _ (scope : PlainScope) (context : Cell) (nodes : List Node) where
     -- the least fault where one stands
     abbrev pub IsChecked : List State → List Judged → Option Fault → Type 0
     IsChecked states order None = AreSound states order
-    IsChecked states order (Some fault) = IsLeast (Stands scope context (plain_nodes nodes) path) fault
+    IsChecked states order (Some fault) = IsLeast (StandsOnPath scope context (plain_nodes nodes) path) fault
 
 -- ---- one step
 

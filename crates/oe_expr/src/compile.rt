@@ -5,13 +5,13 @@ ghost use Rattle.oe_graph.specs.Resolved.{IsResolvedUnder};
 ghost use Rattle.oe_expr.specs.Callback.{callback_of};
 ghost use Rattle.oe_expr.specs.Compiled.{IsProgramOf};
 ghost use Rattle.oe_expr.specs.Orders.{IsWalkOrder};
-ghost use Rattle.oe_expr.specs.PlainRequests.{plain_items, plain_label, plain_request, plain_scalar, plain_scalars};
+ghost use Rattle.oe_expr.specs.PlainRequests.{plain_items, plain_label, plain_cell_request, plain_scalar, plain_scalars};
 ghost use Rattle.oe_expr.specs.Places as spec;
 ghost use Rattle.oe_expr.specs.Placed.{AreMarked, IsCompiling, IsNeeded};
 ghost use Rattle.oe_expr.specs.Places.{IsStarted};
 ghost use Rattle.oe_expr.specs.Walked.{AreResolved};
 ghost use Rattle.oe_expr.specs.Requests as requests;
-ghost use Rattle.oe_expr.specs.Scope.{IsScope, PlainScope, parameter_names, plain_scope};
+ghost use Rattle.oe_expr.specs.Scope.{IsScope, PlainScope, scope_parameters, plain_scope};
 ghost use Rattle.std.specs.Option.{option_map};
 
 use crate::labels::label_index;
@@ -38,7 +38,7 @@ pub(crate) fn compile(
     order: &Vec<Judged<'_>>,
     last: usize,
 ) -> Result<Program, OutOfMemory>
-    requires resolved { IsResolvedUnder true (parameter_names (plain_scope scope.now))
+    requires resolved { IsResolvedUnder true (scope_parameters (plain_scope scope.now))
         (record { nodes = plain_nodes nodes.now.items; result = last }) }
     requires scope { IsScope (plain_scope scope.now) }
     requires order { IsWalkOrder (plain_nodes nodes.now.items) order.now.items }
@@ -153,7 +153,7 @@ fn only(alloc: Global, count: usize, index: usize) -> Result<Vec<bool>, OutOfMem
 /// Marks the nodes that a request names.
 fn mark_request(nodes: &Vec<Node>, request: &Request<'_>, needed: &mut Vec<bool>)
     ensures { needed.new.items ≡ spec.mark_names nodes.now.items needed.old.items
-        (spec.request_names (plain_request request.now)) }
+        (spec.request_names (plain_cell_request request.now)) }
 {
     match request {
         Request::Unary(_, x) => mark(nodes, *x, needed),
@@ -285,11 +285,11 @@ fn place_of(
     requires scope { IsScope (plain_scope scope.now) }
     ensures place { IfOk result (λ place. place ≡ (spec.addition_of (plain_scope scope.now)
         context.now nodes.now.items places.now.items (length program.old.steps.items)
-        (length program.old.elements.items) (plain_request request.now)).place) }
+        (length program.old.elements.items) (plain_cell_request request.now)).place) }
     ensures follows { OnOk result (spec.Follows program.old program.new
         (spec.addition_of (plain_scope scope.now) context.now
         nodes.now.items places.now.items (length program.old.steps.items)
-        (length program.old.elements.items) (plain_request request.now))) }
+        (length program.old.elements.items) (plain_cell_request request.now))) }
 {
     match request {
         Request::Unary(f, x) => {

@@ -101,7 +101,7 @@ fn step_value(
     rest: &mut [Cell],
 ) -> Cell
     requires step { (scope : PlainScope) × (number : ℕ)
-        × spec.IsStep scope program.now.elements.items number step }
+        × spec.IsProgramStep scope program.now.elements.items number step }
     requires room { 128 + length env.now.cells.now ≤ length rest.old }
     ensures { result ≡ spec.step_value program.now.elements.items (spec.env_inputs env.now start)
         (λ r. slice_index_or registers.now r Empty) step }

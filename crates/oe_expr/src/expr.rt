@@ -4,8 +4,8 @@ ghost use Rattle.oe_cell.specs.Kinds.{is_over};
 ghost use Rattle.oe_graph.specs.Plain.{plain_graph};
 ghost use Rattle.oe_graph.specs.Read.{IsFault};
 ghost use Rattle.oe_graph.specs.Resolved.{IsResolvedUnder};
-ghost use Rattle.oe_expr.specs.Callback.{IsFaultless, KeepsKind, StandsIn, callback_of};
-ghost use Rattle.oe_expr.specs.Scope.{IsScope, parameter_names, plain_scope};
+ghost use Rattle.oe_expr.specs.Callback.{IsFaultlessCallback, KeepsKind, StandsInCallbackAt, callback_of};
+ghost use Rattle.oe_expr.specs.Scope.{IsScope, scope_parameters, plain_scope};
 ghost use Rattle.oe_expr.specs.States.{kept_kind};
 ghost use Rattle.oe_expr.specs.Walked.{AreSound};
 ghost use Rattle.oe_dims.specs.declared.kind.CellKind.TheVariants.{Numbers};
@@ -104,18 +104,18 @@ pub fn build(
     context: Cell,
     path: &str,
 ) -> Result<Expr, Refusal>
-    requires resolved { IsResolvedUnder true (parameter_names (plain_scope scope.now))
+    requires resolved { IsResolvedUnder true (scope_parameters (plain_scope scope.now))
         (plain_graph graph.now) }
     requires scope { IsScope (plain_scope scope.now) }
     requires context { is_over context ≡ false }
     // the callback, in which no fault stands, and which gives cells of its kind alone
     ensures built { IfOk result
         (λ expr. expr ≡ callback_of (plain_graph graph.now) (plain_scope scope.now) context) }
-    ensures valid { IfOk result IsFaultless }
+    ensures valid { IfOk result IsFaultlessCallback }
     ensures keeps_kind { IfOk result KeepsKind }
     // or the least of those that stand
     ensures refused { IfErr result (IsFault
-        (StandsIn (callback_of (plain_graph graph.now) (plain_scope scope.now) context) path.now)) }
+        (StandsInCallbackAt (callback_of (plain_graph graph.now) (plain_scope scope.now) context) path.now)) }
 {
     let walk = walk_nodes(alloc, scope, &context, &graph.nodes, path)?;
     let Walk {
@@ -138,7 +138,7 @@ fn sound_expr(
     states: &Vec<State>,
     order: &Vec<Judged<'_>>,
 ) -> Result<Expr, OutOfMemory>
-    requires resolved { IsResolvedUnder true (parameter_names (plain_scope scope.now))
+    requires resolved { IsResolvedUnder true (scope_parameters (plain_scope scope.now))
         (plain_graph graph.now) }
     requires scope { IsScope (plain_scope scope.now) }
     requires sound { AreSound (plain_scope scope.now) context.now (out-Graph graph.now).nodes.items

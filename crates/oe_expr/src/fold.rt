@@ -3,8 +3,8 @@ ghost use Rattle.std.specs.Prelude.{◌≡◌, IfOk};
 ghost use Rattle.std.specs.Option.{option_and_then};
 ghost use Rattle.oe_graph.specs.Plain.{plain_node, plain_nodes};
 ghost use Rattle.oe_expr.specs.Folds as spec;
-ghost use Rattle.oe_expr.specs.PlainRequests.{plain_request};
-ghost use Rattle.oe_expr.specs.Requests.{request_at};
+ghost use Rattle.oe_expr.specs.PlainRequests.{plain_cell_request};
+ghost use Rattle.oe_expr.specs.Requests.{cell_request_at};
 
 use crate::request::{Items, Request, request_at};
 use oe_fold::Reducer;
@@ -24,7 +24,7 @@ fn is_median(reducer: Reducer) -> bool
 
 /// The reducer of a request that reduces the list of the scope cell by cell, and whether it ignores nulls.
 fn cell_by_cell(request: &Request<'_>) -> Option<(Reducer, bool)>
-    ensures { result ≡ spec.cell_by_cell (plain_request request.now) }
+    ensures { result ≡ spec.cell_by_cell (plain_cell_request request.now) }
 {
     match request {
         Request::Reduction(reducer, ignore, Items::Data) => {
@@ -41,7 +41,7 @@ fn cell_by_cell(request: &Request<'_>) -> Option<(Reducer, bool)>
 /// The reducer of a node that reduces the list of the scope cell by cell, and whether it ignores nulls.
 fn node_reducer(alloc: Global, node: &Node) -> Result<Option<(Reducer, bool)>, OutOfMemory>
     ensures { IfOk result (λ found. found
-        ≡ option_and_then spec.cell_by_cell (request_at (plain_node node.now))) }
+        ≡ option_and_then spec.cell_by_cell (cell_request_at (plain_node node.now))) }
 {
     match request_at(alloc, node)? {
         Some(request) => Ok(cell_by_cell(&request)),

@@ -6,7 +6,7 @@ ghost use Rattle.oe_expr.specs.Kinds as spec_kinds;
 ghost use Rattle.oe_expr.specs.Kinds.{are_mixed, kind_among};
 ghost use Rattle.oe_expr.specs.NodeKinds as spec;
 ghost use Rattle.oe_expr.specs.Operations as spec_of;
-ghost use Rattle.oe_expr.specs.PlainRequests.{literal_cell, plain_scalar, plain_items, plain_label, plain_request};
+ghost use Rattle.oe_expr.specs.PlainRequests.{literal_cell, plain_scalar, plain_items, plain_label, plain_cell_request};
 ghost use Rattle.oe_expr.specs.Scope.{IsScope, plain_scope};
 ghost use Rattle.oe_expr.specs.States.{kind_named, judged_request, kind_unless};
 
@@ -122,7 +122,7 @@ pub(crate) fn judge(
     requires scope { IsScope (plain_scope scope.now) }
     requires states { length states.now ≡ length nodes.now }
     ensures { result ≡ judged_request (plain_scope scope.now) context.now
-        (kind_named nodes.now states.now) (plain_request request.now) }
+        (kind_named nodes.now states.now) (plain_cell_request request.now) }
 {
     match request {
         Request::Unary(f, x) => {

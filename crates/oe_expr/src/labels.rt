@@ -5,7 +5,7 @@ ghost use Rattle.oe_dims.specs.Indices.{same_number, index_where};
 ghost use Rattle.oe_dims.specs.Names.{same_name};
 ghost use Rattle.oe_dims.specs.Plain.{plain_labels, plain_instants};
 ghost use Rattle.oe_expr.specs.PlainRequests.{plain_items, plain_label};
-ghost use Rattle.oe_expr.specs.Rows.{lacks, listings, labelled};
+ghost use Rattle.oe_expr.specs.Rows.{has_no_element, listings, listing_of_labels};
 ghost use Rattle.oe_expr.specs.Scope as spec;
 ghost use Rattle.oe_expr.specs.declared.scope.ListPart.{ListPart};
 
@@ -73,7 +73,7 @@ pub(crate) fn lacks_element(
     label: Option<Label<'_>>,
 ) -> bool
     requires { spec.IsScope (spec.plain_scope scope.now) }
-    ensures { result ≡ list_any (lacks index (option_map plain_label label.entry))
+    ensures { result ≡ list_any (has_no_element index (option_map plain_label label.entry))
         (listings (spec.plain_scope scope.now) (plain_items items.now)) }
 {
     match items {
@@ -96,8 +96,8 @@ fn lists_lack(
     label: Option<Label<'_>>,
 ) -> bool
     requires { spec.AreLists (plain_labels labels.now) lists.now }
-    ensures { result ≡ list_any (lacks index (option_map plain_label label.entry))
-        (map (λ part. labelled (spec.labels_in (plain_labels labels.now) part)) lists.now) }
+    ensures { result ≡ list_any (has_no_element index (option_map plain_label label.entry))
+        (map (λ part. listing_of_labels (spec.labels_in (plain_labels labels.now) part)) lists.now) }
 {
     match index {
         Some(index) => any_list_ends_before(lists, index),

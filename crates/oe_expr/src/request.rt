@@ -4,7 +4,7 @@ ghost use Rattle.oe_graph.specs.Plain.{plain_arg, plain_args, plain_named, plain
 ghost use Rattle.oe_graph.specs.References.{argument_named};
 ghost use Rattle.oe_graph.specs.Tree as tree;
 ghost use Rattle.oe_expr.specs.Requests as spec;
-ghost use Rattle.oe_expr.specs.PlainRequests.{literal_cell, plain_scalar, plain_scalars, plain_items, plain_label, plain_request};
+ghost use Rattle.oe_expr.specs.PlainRequests.{literal_cell, plain_scalar, plain_scalars, plain_items, plain_label, plain_cell_request};
 
 use crate::operation::{Binary, Operation, Unary, operation_of};
 use oe_cell::{Cell, whole_cell};
@@ -56,7 +56,7 @@ pub(crate) const MOST_ELEMENTS: usize = 64;
 /// What a node asks for, where its arguments are what they may be.
 pub(crate) fn request_at(alloc: Global, node: &Node) -> Result<Option<Request<'_>>, OutOfMemory>
     ensures { IfOk result
-        (λ r. option_map plain_request r ≡ spec.request_at (plain_node node.now)) }
+        (λ r. option_map plain_cell_request r ≡ spec.cell_request_at (plain_node node.now)) }
 {
     match operation_of(node.process_id.as_str()) {
         Some(operation) => request_of(alloc, operation, &node.arguments),
@@ -70,8 +70,8 @@ fn request_of(
     operation: Operation,
     arguments: &Vec<(Text, Arg)>,
 ) -> Result<Option<Request<'_>>, OutOfMemory>
-    ensures { IfOk result (λ r. option_map plain_request r
-        ≡ spec.request_of operation (plain_named arguments.now.items)) }
+    ensures { IfOk result (λ r. option_map plain_cell_request r
+        ≡ spec.cell_request_of operation (plain_named arguments.now.items)) }
 {
     match operation {
         Operation::OfOne(f) => Ok(unary_request(f, arguments)),
@@ -84,15 +84,15 @@ fn request_of(
 }
 
 fn unary_request(f: Unary, arguments: &Vec<(Text, Arg)>) -> Option<Request<'_>>
-    ensures { option_map plain_request result
-        ≡ spec.request_of (Operation.OfOne f) (plain_named arguments.now.items) }
+    ensures { option_map plain_cell_request result
+        ≡ spec.cell_request_of (Operation.OfOne f) (plain_named arguments.now.items) }
 {
     let x = scalar_at(arguments, "x")?;
     Some(Request::Unary(f, x))
 }
 
 fn binary_request(f: Binary, arguments: &Vec<(Text, Arg)>) -> Option<Request<'_>>
-    ensures { option_map plain_request result
+    ensures { option_map plain_cell_request result
         ≡ spec.binary_request f (plain_named arguments.now.items) }
 {
     match f {
@@ -107,7 +107,7 @@ fn binary_request(f: Binary, arguments: &Vec<(Text, Arg)>) -> Option<Request<'_>
 }
 
 fn two_cells(f: Binary, arguments: &Vec<(Text, Arg)>) -> Option<Request<'_>>
-    ensures { option_map plain_request result
+    ensures { option_map plain_cell_request result
         ≡ spec.two_cells f (plain_named arguments.now.items) }
 {
     let x = scalar_at(arguments, "x")?;
@@ -131,7 +131,7 @@ fn has_plain_equality(arguments: &Vec<(Text, Arg)>) -> bool
 }
 
 fn choice_request(arguments: &Vec<(Text, Arg)>) -> Option<Request<'_>>
-    ensures { option_map plain_request result
+    ensures { option_map plain_cell_request result
         ≡ spec.choice_request (plain_named arguments.now.items) }
 {
     let value = scalar_at(arguments, "value")?;
@@ -145,7 +145,7 @@ fn reduction_request(
     reducer: Reducer,
     arguments: &Vec<(Text, Arg)>,
 ) -> Result<Option<Request<'_>>, OutOfMemory>
-    ensures { IfOk result (λ r. option_map plain_request r
+    ensures { IfOk result (λ r. option_map plain_cell_request r
         ≡ spec.reduction_request reducer (plain_named arguments.now.items)) }
 {
     let Some(ignore) = flag_at(arguments, "ignore_nodata") else {
@@ -161,7 +161,7 @@ fn counting_request(
     alloc: Global,
     arguments: &Vec<(Text, Arg)>,
 ) -> Result<Option<Request<'_>>, OutOfMemory>
-    ensures { IfOk result (λ r. option_map plain_request r
+    ensures { IfOk result (λ r. option_map plain_cell_request r
         ≡ spec.counting_request (plain_named arguments.now.items)) }
 {
     if !has_literal(arguments, "context") {
@@ -180,7 +180,7 @@ fn element_request(
     alloc: Global,
     arguments: &Vec<(Text, Arg)>,
 ) -> Result<Option<Request<'_>>, OutOfMemory>
-    ensures { IfOk result (λ r. option_map plain_request r
+    ensures { IfOk result (λ r. option_map plain_cell_request r
         ≡ spec.element_request (plain_named arguments.now.items)) }
 {
     let Some(items) = items_at(alloc, arguments)? else {
@@ -362,7 +362,7 @@ fn counter_at(arguments: &Vec<(Text, Arg)>) -> Option<Reducer>
 
 /// Null, or a whole number not below 0.
 fn index_at(arguments: &Vec<(Text, Arg)>) -> Option<Option<u64>>
-    ensures { result ≡ spec.read spec.index_in (codes "index") (plain_named arguments.now.items) }
+    ensures { result ≡ spec.read spec.list_index_in (codes "index") (plain_named arguments.now.items) }
 {
     match argument(arguments, "index")? {
         Arg::Null => Some(None),

@@ -7,7 +7,7 @@ ghost use Rattle.oe_cube.specs.Kinds.{IsOfKind};
 ghost use Rattle.oe_expr.specs.EnvRows.{AreEnvironments, environment_at, list_at};
 ghost use Rattle.oe_expr.specs.Operations.{unary_of, binary_of};
 ghost use Rattle.oe_expr.specs.Programs.{operand_value, step_value, result_value, register_of};
-ghost use Rattle.oe_expr.specs.Strips.{CanRun, HasLists, HasOperand, HasStep, IsAsLong, is_last_register, register_at, row_inputs, source_at};
+ghost use Rattle.oe_expr.specs.Strips.{CanRun, HasLists, HasOperand, HasStep, IsAsLong, is_last_register, register_at, row_inputs, strip_cell_at};
 ghost use Rattle.oe_cell.specs.Operations.{choose_of};
 ghost use Rattle.oe_fold.specs.Value.{reduction_of};
 
@@ -99,11 +99,11 @@ enum Source<'a> {
 
 impl Source<'_> {
     ghost use Rattle.std.specs.Prelude.{◌≡◌};
-    ghost use Rattle.oe_expr.specs.Strips.{source_at};
+    ghost use Rattle.oe_expr.specs.Strips.{strip_cell_at};
 
     #[inline(always)]
     fn at(&self, k: usize) -> Cell
-        ensures { result ≡ source_at self.now k }
+        ensures { result ≡ strip_cell_at self.now k }
     {
         match self {
             Source::All(cell) => *cell,
@@ -192,7 +192,7 @@ fn cells_of<'a>(
 ) -> Source<'a>
     requires { HasOperand row.now from n (length registers.now) operand }
     ensures each { IsAsLong result n }
-    ensures value { (j : ℕ) → j < n → source_at result j
+    ensures value { (j : ℕ) → j < n → strip_cell_at result j
         ≡ operand_value (row_inputs row.now start (from + j)) (register_at registers.now n j) operand }
 {
     match operand {
@@ -215,7 +215,7 @@ fn cells_of<'a>(
 fn register_row(registers: &[Cell], register: usize, n: usize) -> Source<'_>
     requires { register * n + n ≤ length registers.now }
     ensures each { IsAsLong result n }
-    ensures value { (j : ℕ) → j < n → source_at result j ≡ register_at registers.now n j register }
+    ensures value { (j : ℕ) → j < n → strip_cell_at result j ≡ register_at registers.now n j register }
 {
     let first = register * n;
     Source::Each(&registers[first..first + n])
@@ -225,7 +225,7 @@ fn register_row(registers: &[Cell], register: usize, n: usize) -> Source<'_>
 fn element_row<'a>(row: &'a EnvRow<'_>, index: usize, from: usize, n: usize) -> Source<'a>
     requires { HasLists row.now (from + n) }
     ensures each { IsAsLong result n }
-    ensures value { (j : ℕ) → j < n → source_at result j
+    ensures value { (j : ℕ) → j < n → strip_cell_at result j
         ≡ slice_index_or (list_at row.now (from + j)) index Empty }
 {
     if index < row.count {
@@ -240,7 +240,7 @@ fn element_row<'a>(row: &'a EnvRow<'_>, index: usize, from: usize, n: usize) -> 
 fn copy_row(cells: &Source<'_>, out: &mut [Cell])
     requires { IsAsLong cells.now (length out.old) }
     ensures { (j : ℕ) → j < length out.old
-        → slice_index_or out.new j Empty ≡ source_at cells.now j }
+        → slice_index_or out.new j Empty ≡ strip_cell_at cells.now j }
 {
     match cells {
         Source::All(cell) => fill(cell, out),
@@ -402,7 +402,7 @@ fn choice_row(value: &Source<'_>, accept: &Source<'_>, reject: &Source<'_>, out:
     requires accept { IsAsLong accept.now (length out.old) }
     requires reject { IsAsLong reject.now (length out.old) }
     ensures { (j : ℕ) → j < length out.old → slice_index_or out.new j Empty
-        ≡ choose_of (source_at value.now j) (source_at accept.now j) (source_at reject.now j) }
+        ≡ choose_of (strip_cell_at value.now j) (strip_cell_at accept.now j) (strip_cell_at reject.now j) }
 {
     match value {
         Source::All(value) => choice_by_one(value, accept, reject, out),
@@ -421,7 +421,7 @@ fn choice_by_one(value: &Cell, accept: &Source<'_>, reject: &Source<'_>, out: &m
     requires accept { IsAsLong accept.now (length out.old) }
     requires reject { IsAsLong reject.now (length out.old) }
     ensures { (j : ℕ) → j < length out.old → slice_index_or out.new j Empty
-        ≡ choose_of value.now (source_at accept.now j) (source_at reject.now j) }
+        ≡ choose_of value.now (strip_cell_at accept.now j) (strip_cell_at reject.now j) }
 {
     match value {
         Cell::Over => fill(&Cell::Over, out),
@@ -460,7 +460,7 @@ fn accept_each(values: &[Cell], accepts: &[Cell], out: &mut [Cell])
 fn unary_row(f: Unary, x: &Source<'_>, out: &mut [Cell])
     requires { IsAsLong x.now (length out.old) }
     ensures { (j : ℕ) → j < length out.old
-        → slice_index_or out.new j Empty ≡ unary_of f (source_at x.now j) }
+        → slice_index_or out.new j Empty ≡ unary_of f (strip_cell_at x.now j) }
 {
     match x {
         Source::All(x) => fill(&on_one(f, *x), out),
@@ -500,7 +500,7 @@ fn binary_row(f: Binary, x: &Source<'_>, y: &Source<'_>, out: &mut [Cell])
     requires x { IsAsLong x.now (length out.old) }
     requires y { IsAsLong y.now (length out.old) }
     ensures { (j : ℕ) → j < length out.old → slice_index_or out.new j Empty
-        ≡ binary_of f (source_at x.now j) (source_at y.now j) }
+        ≡ binary_of f (strip_cell_at x.now j) (strip_cell_at y.now j) }
 {
     match f {
         Binary::Add => binary_each(Binary::Add, x, y, out),
@@ -526,7 +526,7 @@ fn binary_each(f: Binary, x: &Source<'_>, y: &Source<'_>, out: &mut [Cell])
     requires x { IsAsLong x.now (length out.old) }
     requires y { IsAsLong y.now (length out.old) }
     ensures { (j : ℕ) → j < length out.old → slice_index_or out.new j Empty
-        ≡ binary_of f (source_at x.now j) (source_at y.now j) }
+        ≡ binary_of f (strip_cell_at x.now j) (strip_cell_at y.now j) }
 {
     match x {
         Source::All(x) => one_with(f, x, y, out),
@@ -538,7 +538,7 @@ fn binary_each(f: Binary, x: &Source<'_>, y: &Source<'_>, out: &mut [Cell])
 fn one_with(f: Binary, x: &Cell, y: &Source<'_>, out: &mut [Cell])
     requires { IsAsLong y.now (length out.old) }
     ensures { (j : ℕ) → j < length out.old → slice_index_or out.new j Empty
-        ≡ binary_of f x.now (source_at y.now j) }
+        ≡ binary_of f x.now (strip_cell_at y.now j) }
 {
     match y {
         Source::All(y) => fill(&on_two(f, *x, *y), out),
@@ -551,7 +551,7 @@ fn each_with(f: Binary, xs: &[Cell], y: &Source<'_>, out: &mut [Cell])
     requires x { length out.old ≤ length xs.now }
     requires y { IsAsLong y.now (length out.old) }
     ensures { (j : ℕ) → j < length out.old → slice_index_or out.new j Empty
-        ≡ binary_of f (slice_index_or xs.now j Empty) (source_at y.now j) }
+        ≡ binary_of f (slice_index_or xs.now j Empty) (strip_cell_at y.now j) }
 {
     match y {
         Source::All(y) => each_with_one(f, xs, y, out),

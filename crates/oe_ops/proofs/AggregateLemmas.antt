@@ -18,7 +18,7 @@ use Rattle.oe_dims.specs.declared.kind.Kind.TheVariants.{Time}
 use Rattle.oe_dims.proofs.IndexLemmas.{same_number_refl}
 use Rattle.oe_dims.proofs.ShapeLemmas.{numbers_within, t_rises}
 use Rattle.oe_expr.specs.Callback.{Callback, callback_value}
-use Rattle.oe_expr.specs.Scope.{label_count, labels_in, list_labels, no_labels}
+use Rattle.oe_expr.specs.Scope.{count_labels, labels_in, list_labels, no_labels}
 use Rattle.oe_window.specs.Cells.{cells_on}
 use Rattle.oe_window.specs.Windows.{Holds, IsIn, position_count, positions, whole_window}
 use Rattle.oe_window.specs.declared.window.Window.{Window}
@@ -26,7 +26,7 @@ use Rattle.oe_window.proofs.CellLemmas.{cells_on-tabulate}
 use Rattle.oe_window.proofs.WholeLemmas.{position_in}
 use Rattle.oe_window.proofs.WindowLemmas.{IsFilled, within_from_holds}
 use Rattle.oe_shape.specs.Extents.{has_not_ended, labels_in_time, part_in_time}
-use Rattle.oe_shape.specs.Labels.{in_order, is_below, put_in_order}
+use Rattle.oe_shape.specs.Labels.{sorted_labels, is_below, insert_label}
 use Rattle.oe_shape.specs.Meaning.{aggregated, cell, cells_at, extent_labelled, instants_inside, value_on_list}
 use Rattle.oe_shape.specs.Operations.{aggregated_shape}
 use Rattle.oe_shape.specs.declared.extent.Interval.{Interval}
@@ -46,7 +46,7 @@ use Rattle.oe_ops.proofs.ReduceLemmas.{inside, label_there, listed}
 abbrev StandsIn : ℤ → List ℤ → Type 0
 StandsIn label labels = (j : ℕ) × (slice_get labels j ≡ Some label)
 
-put_there : (label x : ℤ) (ys : List ℤ) (k : ℕ) → slice_get (put_in_order is_below x ys) k ≡ Some label → (label ≡ x) ⊎ StandsIn label ys
+put_there : (label x : ℤ) (ys : List ℤ) (k : ℕ) → slice_get (insert_label is_below x ys) k ≡ Some label → (label ≡ x) ⊎ StandsIn label ys
 put_there label x [] zero e = inl cc
 put_there label x [] (suc k) e = cc
 put_there label x (y ∷ ys) k e = by (is_below x y) k e (put_there label x ys)
@@ -55,32 +55,32 @@ put_there label x (y ∷ ys) k e = by (is_below x y) k e (put_there label x ys)
     later (inl same) = inl same
     later (inr there) = inr (suc there.0, there.1)
 
-    by : (b : Bool) (k : ℕ) → slice_get (if b then x ∷ y ∷ ys else y ∷ put_in_order is_below x ys) k ≡ Some label
-        → ((n : ℕ) → slice_get (put_in_order is_below x ys) n ≡ Some label → (label ≡ x) ⊎ StandsIn label ys) → (label ≡ x) ⊎ StandsIn label (y ∷ ys)
+    by : (b : Bool) (k : ℕ) → slice_get (if b then x ∷ y ∷ ys else y ∷ insert_label is_below x ys) k ≡ Some label
+        → ((n : ℕ) → slice_get (insert_label is_below x ys) n ≡ Some label → (label ≡ x) ⊎ StandsIn label ys) → (label ≡ x) ⊎ StandsIn label (y ∷ ys)
     by true zero e rest = inl cc
     by true (suc k) e rest = inr (k, e)
     by false zero e rest = inr (0, e)
     by false (suc k) e rest = later (rest k e)
 
-order_there : (label : ℤ) (ys : List ℤ) (k : ℕ) → slice_get (in_order is_below ys) k ≡ Some label → StandsIn label ys
+order_there : (label : ℤ) (ys : List ℤ) (k : ℕ) → slice_get (sorted_labels is_below ys) k ≡ Some label → StandsIn label ys
 order_there label [] k e = cc
-order_there label (y ∷ ys) k e = by (put_there label y (in_order is_below ys) k e) (order_there label ys)
+order_there label (y ∷ ys) k e = by (put_there label y (sorted_labels is_below ys) k e) (order_there label ys)
   where
-    by : (label ≡ y) ⊎ StandsIn label (in_order is_below ys) → ((n : ℕ) → slice_get (in_order is_below ys) n ≡ Some label → StandsIn label ys) → StandsIn label (y ∷ ys)
+    by : (label ≡ y) ⊎ StandsIn label (sorted_labels is_below ys) → ((n : ℕ) → slice_get (sorted_labels is_below ys) n ≡ Some label → StandsIn label ys) → StandsIn label (y ∷ ys)
     by (inl same) rest = (0, ap Some (sym same))
     by (inr there) rest = let found = rest there.0 there.1 in (suc found.0, found.1)
 
-length-put : (x : ℤ) (ys : List ℤ) → length (put_in_order is_below x ys) ≡ suc (length ys)
+length-put : (x : ℤ) (ys : List ℤ) → length (insert_label is_below x ys) ≡ suc (length ys)
 length-put x [] = refl
 length-put x (y ∷ ys) = by (is_below x y) (length-put x ys)
   where
-    by : (b : Bool) → length (put_in_order is_below x ys) ≡ suc (length ys) → length (if b then x ∷ y ∷ ys else y ∷ put_in_order is_below x ys) ≡ suc (suc (length ys))
+    by : (b : Bool) → length (insert_label is_below x ys) ≡ suc (length ys) → length (if b then x ∷ y ∷ ys else y ∷ insert_label is_below x ys) ≡ suc (suc (length ys))
     by true rest = refl
     by false rest = ap suc rest
 
-length-order : (ys : List ℤ) → length (in_order is_below ys) ≡ length ys
+length-order : (ys : List ℤ) → length (sorted_labels is_below ys) ≡ length ys
 length-order [] = refl
-length-order (y ∷ ys) = length-put y (in_order is_below ys) ∙ ap suc (length-order ys)
+length-order (y ∷ ys) = length-put y (sorted_labels is_below ys) ∙ ap suc (length-order ys)
 
 -- ---- the interval of a label
 
@@ -126,7 +126,7 @@ pub record IsLabelledAt (intervals : List Interval) (label : ℤ) (number : ℕ)
 -- each label of the result is that of an interval
 labelled_at : (intervals : List Interval) (d shape : Dimensions) (label : ℤ) (t number : ℕ) → shape ≡ aggregated_shape intervals d → slice_get (number_labels shape Time) t ≡ Some label → slice_get intervals number ≡ interval_labelled intervals label → IsLabelledAt intervals label number
 labelled_at intervals d shape label t number is e found =
-    let at_t : slice_get (in_order is_below (map label_of_interval intervals)) t ≡ Some label = subst (λ (s : Dimensions). slice_get (number_labels s Time) t ≡ Some label) is e in
+    let at_t : slice_get (sorted_labels is_below (map label_of_interval intervals)) t ≡ Some label = subst (λ (s : Dimensions). slice_get (number_labels s Time) t ≡ Some label) is e in
     let there = order_there label (map label_of_interval intervals) t at_t in
     let first = found_labelled intervals label there.0 there.1 in
     record { interval = first.0; there = found ∙ first.1; first = first.1 }
@@ -138,7 +138,7 @@ labelled_by intervals d shape label t number is e fits found =
 -- there are few intervals
 pub few_intervals : (intervals : List Interval) (d shape : Dimensions) → shape ≡ aggregated_shape intervals d → IsShape shape → length intervals ≤ most_labels
 few_intervals intervals d shape is valid =
-    let few : length (in_order is_below (map label_of_interval intervals)) ≤ most_labels = numbers_within (aggregated_shape intervals d) Time (subst IsShape is valid) in
+    let few : length (sorted_labels is_below (map label_of_interval intervals)) ≤ most_labels = numbers_within (aggregated_shape intervals d) Time (subst IsShape is valid) in
     let ordered = length-order (map label_of_interval intervals) in
     let mapped = length-map intervals label_of_interval in
     omega (arith, few, ordered, mapped)
@@ -154,7 +154,7 @@ first_label intervals d shape window is holds more =
     let filled : IsFilled window = record { t = omega arith; bands = omega arith; y = omega arith; x = omega arith } in
     let here : Holds (whole_window (aggregated_shape intervals d)) window = subst (λ (s : Dimensions). Holds (whole_window s) window) is holds in
     let within = within_from_holds window (whole_window (aggregated_shape intervals d)) filled here in
-    let ends : window.t.to ≤ length (in_order is_below (map label_of_interval intervals)) = within.t.to in
+    let ends : window.t.to ≤ length (sorted_labels is_below (map label_of_interval intervals)) = within.t.to in
     subst (λ (s : Dimensions). window.t.from < length (number_labels s Time)) (sym is) (omega (arith, ends, filled.t))
 
 -- ---- the list of an interval
@@ -206,7 +206,7 @@ takes_interval c intervals d cells k i e takes = record {
   lists = map (λ (j : Interval). part_in_time j.extent (number_labels d Time)) intervals;
   scope_is = takes.scope_is;
   list_is = subst (λ n. k < n) (sym (length-map intervals (λ (j : Interval). part_in_time j.extent (number_labels d Time)))) (slice_get_within intervals k i e);
-  as_many = ap label_count (labels_of_list (number_labels d Time) intervals k i e) ∙ length-part i.extent d;
+  as_many = ap count_labels (labels_of_list (number_labels d Time) intervals k i e) ∙ length-part i.extent d;
   of_kind = takes.of_kind;
 }
 
@@ -287,7 +287,7 @@ label_at_one intervals d window label one e p h =
     let begun = t.begun in
     let before = t.before in
     let same : p.t ≡ window.t.from = omega arith in
-    ap (slice_get (in_order is_below (map label_of_interval intervals))) same ∙ e
+    ap (slice_get (sorted_labels is_below (map label_of_interval intervals))) same ∙ e
 
 pub aggregated_is : (intervals : List Interval) (c : Callback) (cube : Cube Cell) (slice : Slice) (window : Window) (shape argument : Dimensions) (k : ℕ) (label : ℤ) (found : IsLabelledAt intervals label k) → cube.shape ≡ argument → shape ≡ aggregated_shape intervals argument → IsShape argument → IsCube cube → IsOn cube slice → TakesIntervals c intervals argument slice.cells.now → Holds (whole_window shape) window → HoldsNeed (HasLabelsBeside Time shape argument) window slice.window → window.t.to ≡ window.t.from + 1 → slice_get (number_labels shape Time) window.t.from ≡ Some label
     → map (λ p. value_of_list c k (list_from slice Time (from_of found.interval.extent argument) (count_of found.interval.extent argument) p)) (positions window) ≡ cells_on Empty (aggregated intervals c cube) window

@@ -12,7 +12,7 @@ use Rattle.oe_window.specs.Windows.{Holds, positions, whole_window}
 use Rattle.oe_window.specs.declared.window.Window.{Window}
 use Rattle.oe_window.proofs.CellLemmas.{cells_on-tabulate}
 use Rattle.oe_expr.specs.Callback.{Callback, callback_kind, callback_value, environment, IsEnvironment, KeepsKind}
-use Rattle.oe_expr.specs.EnvRows.{AreEnvironments, HasCells, environment_at, x_at, y_at, list_at}
+use Rattle.oe_expr.specs.EnvRows.{AreEnvironments, HasRowCells, environment_at, x_at, y_at, list_at}
 use Rattle.oe_expr.specs.Scope.{PlainScope, IsEnvironmentOf, IsListNumber, list_labels, no_labels}
 use Rattle.oe_expr.specs.declared.row.EnvRow.{EnvRow}
 use Rattle.oe_shape.specs.Meaning.{cell, applied, value_on_cells}
@@ -28,7 +28,7 @@ pub are_environments : (c : Callback) (row : EnvRow) (n : ℕ) → 0 < n → n �
 are_environments c row n some long takes =
     let first = takes 0 some in
     record {
-      has_cells = subst (λ s. HasCells s row n) (sym first.scope_is) long;
+      has_cells = subst (λ s. HasRowCells s row n) (sym first.scope_is) long;
       each = λ k lt.
           let taken = takes k lt in
           record {

@@ -17,7 +17,7 @@ use Rattle.oe_dims.specs.declared.kind.CellKind.{CellKind}
 use Rattle.oe_dims.specs.declared.kind.Kind.{Kind}
 use Rattle.oe_dims.specs.declared.kind.Kind.TheVariants.{Time, Bands, Y, X}
 use Rattle.oe_expr.specs.Callback.{Callback, KeepsKind, callback_kind, callback_value, environment}
-use Rattle.oe_expr.specs.EnvRows.{AreEnvironments, HasCells, list_at, x_at, y_at}
+use Rattle.oe_expr.specs.EnvRows.{AreEnvironments, HasRowCells, list_at, x_at, y_at}
 use Rattle.oe_expr.specs.Scope.{IsEnvironmentOf, IsListNumber, labels_in, list_labels, no_labels}
 use Rattle.oe_expr.specs.declared.row.EnvRow.{EnvRow}
 use Rattle.oe_fold.specs.Columns.{column}
@@ -194,7 +194,7 @@ are_lists c row n cells first is takes some ends =
     let as_many : length its ≡ length takes.lists = length-map takes.lists (labels_in takes.labels) in
     let there : Contains its (slice_index_or its row.list no_labels) = Contains-get_or its row.list no_labels (subst (λ m. row.list < m) (sym as_many) takes.list_is) in
     record {
-      has_cells = subst (λ s. HasCells s row n) (sym takes.scope_is) (some, subst (λ (l : List Cell). row.count * row.stride + n ≤ length l + row.stride) (sym is) ends);
+      has_cells = subst (λ s. HasRowCells s row n) (sym takes.scope_is) (some, subst (λ (l : List Cell). row.count * row.stride + n ≤ length l + row.stride) (sym is) ends);
       each = λ k lt. record {
         list_is = subst (λ s. IsListNumber s row.list) (sym takes.scope_is) takes.list_is;
         cells_fit = subst (λ s. IsEnvironmentOf s (record { x = x_at row k; y = y_at row k; context = c.context; cells = list_at row k; labels = slice_index_or (list_labels s) row.list no_labels })) (sym takes.scope_is)

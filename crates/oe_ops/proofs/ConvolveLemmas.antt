@@ -25,7 +25,7 @@ use Rattle.oe_window.proofs.CellLemmas.{cell_at-at, cells_on-tabulate}
 use Rattle.oe_window.proofs.WholeLemmas.{position_in}
 use Rattle.oe_window.proofs.WindowLemmas.{filled_by, length-positions, position_number, within_from_holds}
 use Rattle.oe_shape.specs.Meaning as meaning
-use Rattle.oe_shape.specs.Meaning.{cell, convolution, plane_of}
+use Rattle.oe_shape.specs.Meaning.{cell, convolution, plane_of_tuple}
 use Rattle.oe_shape.specs.Operations.{convolve}
 use Rattle.oe_ops.specs.Needs.{HoldsNeed, IsWithinReach, Needs, plane_window}
 use Rattle.oe_ops.specs.Slices.{IsOn, at_indices}
@@ -125,7 +125,7 @@ module _ (kernel : KernelValues) (factor replace : Fraction) (d : Dimensions) (w
 plane_cell : (cube : Cube Cell) (p : Position) (row column : ℕ) → meaning.cell cube (record (tuple_of cube.shape p) { y = label_of cube.shape.y row; x = label_of cube.shape.x column }) ≡ cell cube (tuple_of cube.shape (at_indices p.t p.band row column))
 plane_cell cube p row column = refl
 
-convolved_at : (kernel : KernelValues) (factor : Fraction) (border : Border) (replace : Fraction) (cube : Cube Cell) (slice : Slice) (p : Position) → IsShape cube.shape → IsCube cube → IsOn cube slice → Holds (whole_window cube.shape) slice.window → IsIn slice.window p → CoversPixel kernel border slice.window (extent cube.shape.y) (extent cube.shape.x) p → convolved kernel factor border replace (plane_at slice (extent cube.shape.y) (extent cube.shape.x) p) p.y p.x ≡ convolved kernel factor border replace (plane_of cube (tuple_of cube.shape p)) p.y p.x
+convolved_at : (kernel : KernelValues) (factor : Fraction) (border : Border) (replace : Fraction) (cube : Cube Cell) (slice : Slice) (p : Position) → IsShape cube.shape → IsCube cube → IsOn cube slice → Holds (whole_window cube.shape) slice.window → IsIn slice.window p → CoversPixel kernel border slice.window (extent cube.shape.y) (extent cube.shape.x) p → convolved kernel factor border replace (plane_at slice (extent cube.shape.y) (extent cube.shape.x) p) p.y p.x ≡ convolved kernel factor border replace (plane_of_tuple cube (tuple_of cube.shape p)) p.y p.x
 convolved_at kernel factor border replace cube slice p valid whole on inside here covers =
     let w = slice.window in
     convolved-same kernel factor border replace (extent cube.shape.y) (extent cube.shape.x) _ _ p.y p.x w.y.from w.y.to w.x.from w.x.to covers.rows covers.columns
@@ -147,9 +147,9 @@ convolution_here kernel factor border replace cube slice window is valid whole o
     let here = position_in d p (holds p h) in
     let own = own_index d p valid here in
     convolved_at kernel factor border replace cube slice p valid whole on inside (own_pixel kernel factor replace d window slice.window p is here h border need) (covers_pixel kernel factor replace d window slice.window p is here h border need)
-    ∙ ap (λ y. convolved kernel factor border replace (plane_of cube (tuple_of d p)) y p.x) (sym own.0)
-    ∙ ap (convolved kernel factor border replace (plane_of cube (tuple_of d p)) (meaning.index_in d.y (label_of d.y p.y))) (sym own.1))
-    ∙ sym (cells_on-tabulate Empty d (λ tuple. convolved kernel factor border replace (plane_of cube tuple) (meaning.index_in d.y tuple.y) (meaning.index_in d.x tuple.x)) window holds)
+    ∙ ap (λ y. convolved kernel factor border replace (plane_of_tuple cube (tuple_of d p)) y p.x) (sym own.0)
+    ∙ ap (convolved kernel factor border replace (plane_of_tuple cube (tuple_of d p)) (meaning.index_in d.y (label_of d.y p.y))) (sym own.1))
+    ∙ sym (cells_on-tabulate Empty d (λ tuple. convolved kernel factor border replace (plane_of_tuple cube tuple) (meaning.index_in d.y tuple.y) (meaning.index_in d.x tuple.x)) window holds)
 
 pub convolution_is : (kernel : KernelValues) (factor : Fraction) (border : Border) (replace : Fraction) (cube : Cube Cell) (slice : Slice) (window : Window) (d : Dimensions) → cube.shape ≡ d → IsKernel kernel → IsShape d → IsCube cube → IsOn cube slice → Holds (whole_window d) slice.window → Holds (whole_window d) window → HoldsNeed (Needs (convolve kernel factor border replace) (d ∷ []) 0) window slice.window → map (λ p. convolved kernel factor border replace (plane_at slice (extent d.y) (extent d.x) p) p.y p.x) (positions window) ≡ cells_on Empty (convolution kernel factor border replace cube) window
 convolution_is kernel factor border replace cube slice window d same is valid whole on =

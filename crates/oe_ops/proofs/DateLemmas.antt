@@ -21,7 +21,7 @@ use Rattle.oe_window.specs.declared.window.Window.{Window}
 use Rattle.oe_window.proofs.CellLemmas.{cells_on-part}
 use Rattle.oe_window.proofs.PartLemmas.{part_from}
 use Rattle.oe_ops.specs.Lists.{stride_along}
-use Rattle.oe_ops.specs.Needs.{HoldsNeed, window_at}
+use Rattle.oe_ops.specs.Needs.{HoldsNeed, part_at_time}
 use Rattle.oe_ops.proofs.ColumnLemmas.{stride_some}
 use Rattle.oe_ops.proofs.NumberLemmas.{are_some}
 
@@ -39,15 +39,15 @@ steps_along s n p a = let at = at_one (s.from + n) p a in (omega arith, omega ar
 date_number : (n t b nb ny nx y x t1 : ℕ) → t ≡ n → t1 ≡ 0 → ((t * nb + b) * ny + y) * nx + x ≡ n * (nb * ny * nx) + (((t1 * nb + b) * ny + y) * nx + x)
 date_number n t b nb ny nx y x t1 et e1 = rw (et, e1) (omega arith)
 
-piece_at : (w : Window) (n : ℕ) → n < span_length w.t → IsPartFrom (n * stride_along Time w) w (window_at w (w.t.from + n))
+piece_at : (w : Window) (n : ℕ) → n < span_length w.t → IsPartFrom (n * stride_along Time w) w (part_at_time w (w.t.from + n))
 piece_at w n h =
-    part_from (n * stride_along Time w) w (window_at w (w.t.from + n))
+    part_from (n * stride_along Time w) w (part_at_time w (w.t.from + n))
     (λ p a. record { t = in_span w.t n p.t h a.t; bands = a.bands; y = a.y; x = a.x })
     (λ p a.
     let t = steps_along w.t n p.t a.t in
     date_number n (p.t - w.t.from) (p.band - w.bands.from) (span_length w.bands) (span_length w.y) (span_length w.x) (p.y - w.y.from) (p.x - w.x.from) (p.t - (w.t.from + n)) t.0 t.1)
 
-size_at : (w : Window) (t : ℕ) → position_count (window_at w t) ≡ stride_along Time w
+size_at : (w : Window) (t : ℕ) → position_count (part_at_time w t) ≡ stride_along Time w
 size_at w t = let one : t + 1 - t ≡ 1 = omega arith in rw one (omega arith)
 
 pub all_dates : (w : Window) → span_length w.t * stride_along Time w ≡ position_count w
@@ -59,7 +59,7 @@ pub record IsDate (w part : Window) (n area : ℕ) : Type 0 where
   pub one : part.t.to ≡ part.t.from + 1
   pub ends : n * area + area ≤ position_count w
 
-date_here : (w : Window) (n : ℕ) → n < span_length w.t → IsDate w (window_at w (w.t.from + n)) n (stride_along Time w)
+date_here : (w : Window) (n : ℕ) → n < span_length w.t → IsDate w (part_at_time w (w.t.from + n)) n (stride_along Time w)
 date_here w n h =
     let area = stride_along Time w in
     let upto = mul-le (n + 1) area (span_length w.t) area (omega arith) (omega arith) in
@@ -72,10 +72,10 @@ date_here w n h =
       ends = omega (arith, upto, next, all);
     }
 
-pub is_date : (w part : Window) (n t area : ℕ) → n < span_length w.t → area ≡ stride_along Time w → t ≡ w.t.from + n → part ≡ window_at w t → IsDate w part n area
+pub is_date : (w part : Window) (n t area : ℕ) → n < span_length w.t → area ≡ stride_along Time w → t ≡ w.t.from + n → part ≡ part_at_time w t → IsDate w part n area
 is_date w part n t area h area_is t_is is =
-    subst (λ (p : Window). IsDate w p n area) (sym (is ∙ ap (window_at w) t_is))
-    (subst (λ a. IsDate w (window_at w (w.t.from + n)) n a) (sym area_is) (date_here w n h))
+    subst (λ (p : Window). IsDate w p n area) (sym (is ∙ ap (part_at_time w) t_is))
+    (subst (λ a. IsDate w (part_at_time w (w.t.from + n)) n a) (sym area_is) (date_here w n h))
 
 -- a window that holds a window holds its parts, and so does one that holds what is needed
 pub date_within : (outer w part : Window) (n area : ℕ) → IsDate w part n area → Holds outer w → Holds outer part

@@ -19,7 +19,7 @@ use Rattle.oe_window.specs.Cells.{cell_at}
 use Rattle.oe_window.specs.Windows.{IsIn, number_in}
 use Rattle.oe_window.proofs.CellLemmas.{cell_at-at, cells_on-get}
 use Rattle.oe_shape.specs.Labels.{only_along, restrict}
-use Rattle.oe_ops.specs.Indices.{index_in, row_in, position_on, position_in, found_in, IsHeld}
+use Rattle.oe_ops.specs.Indices.{index_in_argument, row_in, position_on, position_in, found_in, IsHeld}
 use Rattle.oe_ops.specs.Needs.{HasLabelsOf}
 use Rattle.oe_ops.specs.Slices.{at_indices, cell_of, IsOn}
 use Rattle.oe_ops.specs.declared.slice.Slice.{Slice}
@@ -43,15 +43,15 @@ then_inside f (Some a) b h = (a, refl, h)
 -- the position that is found has the labels
 pub has_labels : (shape argument : Dimensions) (p q : Position) → position_in shape argument p ≡ Some q → HasLabelsOf shape argument p q
 has_labels shape argument p q h =
-    let outer = then_inside (λ row. option_map (position_on row) (index_in X shape argument p.x)) (row_in shape argument p) q h in
+    let outer = then_inside (λ row. option_map (position_on row) (index_in_argument X shape argument p.x)) (row_in shape argument p) q h in
     let row = outer.0 in
-    let along_x = value_inside (position_on row) (index_in X shape argument p.x) q outer.2 in
+    let along_x = value_inside (position_on row) (index_in_argument X shape argument p.x) q outer.2 in
     let x = along_x.0 in
-    let first = then_inside (λ t. option_and_then (λ band. option_map (λ y. record { t = t; band = band; y = y }) (index_in Y shape argument p.y)) (index_in Bands shape argument p.band)) (index_in Time shape argument p.t) row outer.1 in
+    let first = then_inside (λ t. option_and_then (λ band. option_map (λ y. record { t = t; band = band; y = y }) (index_in_argument Y shape argument p.y)) (index_in_argument Bands shape argument p.band)) (index_in_argument Time shape argument p.t) row outer.1 in
     let t = first.0 in
-    let second = then_inside (λ band. option_map (λ y. record { t = t; band = band; y = y }) (index_in Y shape argument p.y)) (index_in Bands shape argument p.band) row first.2 in
+    let second = then_inside (λ band. option_map (λ y. record { t = t; band = band; y = y }) (index_in_argument Y shape argument p.y)) (index_in_argument Bands shape argument p.band) row first.2 in
     let band = second.0 in
-    let third = value_inside (λ (y : ℕ). record { t = t; band = band; y = y }) (index_in Y shape argument p.y) row second.2 in
+    let third = value_inside (λ (y : ℕ). record { t = t; band = band; y = y }) (index_in_argument Y shape argument p.y) row second.2 in
     let y = third.0 in
     let at_t = found_label same_number same_number_is argument.t (label_of shape.t p.t) t first.1 in
     let at_band = found_label same_name same_name_is argument.bands (label_of shape.bands p.band) band second.1 in
@@ -64,9 +64,9 @@ has_labels shape argument p q h =
     })
 
 -- a position is found on the row that is found
-pub on_row : (shape argument : Dimensions) (p : Position) (row : RowIndices) (i : ℕ) → row_in shape argument p ≡ Some row → index_in X shape argument p.x ≡ Some i → position_in shape argument p ≡ Some (position_on row i)
+pub on_row : (shape argument : Dimensions) (p : Position) (row : RowIndices) (i : ℕ) → row_in shape argument p ≡ Some row → index_in_argument X shape argument p.x ≡ Some i → position_in shape argument p ≡ Some (position_on row i)
 on_row shape argument p row i h g =
-    ap (option_and_then (λ found. option_map (position_on found) (index_in X shape argument p.x))) h ∙ ap (option_map (position_on row)) g
+    ap (option_and_then (λ found. option_map (position_on found) (index_in_argument X shape argument p.x))) h ∙ ap (option_map (position_on row)) g
 
 -- ---- cells
 
@@ -87,7 +87,7 @@ at_found : (cube : Cube Cell) (shape : Dimensions) (p : Position) (o : Option Po
 at_found cube shape p None h valid whole =
     let d = cube.shape in
     ap (option_and_then (slice_get cube.cells)) (none_of_four (λ t b y x. ((t * extent d.bands + b) * extent d.y + y) * extent d.x + x)
-    (index_in Time shape d p.t) (index_in Bands shape d p.band) (index_in Y shape d p.y) (index_in X shape d p.x) h)
+    (index_in_argument Time shape d p.t) (index_in_argument Bands shape d p.band) (index_in_argument Y shape d p.y) (index_in_argument X shape d p.x) h)
 at_found cube shape p (Some q) h valid whole =
     let labels = has_labels shape cube.shape p q h in
     ap (at cube) (sym labels.labels)

@@ -13,7 +13,7 @@ use Rattle.oe_dims.proofs.IndexLemmas.{same_number_is}
 use Rattle.oe_dims.proofs.OrderLemmas.{same_name_is}
 use Rattle.oe_dims.proofs.ShapeLemmas.{extents_of_shape}
 use Rattle.oe_dims.proofs.ReaderLemmas.{IsIndexOf-band, IsIndexOf-number}
-use Rattle.oe_ops.specs.Indices.{index_in}
+use Rattle.oe_ops.specs.Indices.{index_in_argument}
 use Rattle.oe_ops.proofs.FoundLemmas.{found_label}
 
 -- there is a label inside
@@ -43,7 +43,7 @@ module _ (d : Dimensions) (valid : IsShape d) where
   x_found o j lt h = along_found same_number d.x o j lt h (λ l g. ((IsIndexOf-number d X l valid).there j).1 g)
 
 -- an index that is found is one of the argument, which has few
-pub found_below : (along : Kind) (shape argument : Dimensions) (i j : ℕ) → IsShape argument → index_in along shape argument i ≡ Some j → j + 1 < 2 ^ 32
+pub found_below : (along : Kind) (shape argument : Dimensions) (i j : ℕ) → IsShape argument → index_in_argument along shape argument i ≡ Some j → j + 1 < 2 ^ 32
 found_below Time shape argument i j valid h = let most = (extents_of_shape argument valid).t in let below = (found_label same_number same_number_is argument.t (label_of shape.t i) j h).1 in omega arith
 found_below Bands shape argument i j valid h = let most = (extents_of_shape argument valid).bands in let below = (found_label same_name same_name_is argument.bands (label_of shape.bands i) j h).1 in omega arith
 found_below Y shape argument i j valid h = let most = (extents_of_shape argument valid).y in let below = (found_label same_number same_number_is argument.y (label_of shape.y i) j h).1 in omega arith

@@ -12,7 +12,7 @@ use Rattle.oe_window.specs.declared.window.Window.{Window}
 use Rattle.oe_window.proofs.CellLemmas.{cells_on-tabulate}
 use Rattle.oe_shape.specs.Extents.{Restriction, kept_labels, kept_bands, kept_shape, is_in_time, is_up, is_across}
 use Rattle.oe_shape.specs.Labels.{only_along, restrict}
-use Rattle.oe_shape.specs.Meaning.{cell, kept}
+use Rattle.oe_shape.specs.Meaning.{cell, restricted_cube}
 use Rattle.oe_ops.specs.Indices.{found_in, IsHeld}
 use Rattle.oe_ops.specs.Needs.{HasLabelsOf, HoldsNeed}
 use Rattle.oe_ops.specs.Slices.{IsOn}
@@ -43,7 +43,7 @@ restrict_kept r d p =
 pub are_held : (shape argument : Dimensions) (slice : Slice) (window : Window) → HoldsNeed (HasLabelsOf shape argument) window slice.window → (p : Position) → IsIn window p → IsHeld shape argument slice p
 are_held shape argument slice window need p h = λ q e. need p q h (has_labels shape argument p q e)
 
-kept_here : (cube : Cube Cell) (r : Restriction) (slice : Slice) (window : Window) → IsShape cube.shape → IsCube cube → IsOn cube slice → Holds (whole_window (kept_shape r cube.shape)) window → HoldsNeed (HasLabelsOf (kept_shape r cube.shape) cube.shape) window slice.window → map (λ p. unwrap_or (found_in (kept_shape r cube.shape) cube.shape slice p) Empty) (positions window) ≡ cells_on Empty (kept r cube) window
+kept_here : (cube : Cube Cell) (r : Restriction) (slice : Slice) (window : Window) → IsShape cube.shape → IsCube cube → IsOn cube slice → Holds (whole_window (kept_shape r cube.shape)) window → HoldsNeed (HasLabelsOf (kept_shape r cube.shape) cube.shape) window slice.window → map (λ p. unwrap_or (found_in (kept_shape r cube.shape) cube.shape slice p) Empty) (positions window) ≡ cells_on Empty (restricted_cube r cube) window
 kept_here cube r slice window valid whole on holds need =
     let d = kept_shape r cube.shape in
     map-agree _ _ window (λ p h.
@@ -51,8 +51,8 @@ kept_here cube r slice window valid whole on holds need =
     ∙ ap (cell cube) (restrict_kept r cube.shape p))
     ∙ sym (cells_on-tabulate Empty d (cell cube) window holds)
 
-pub kept_is : (cube : Cube Cell) (r : Restriction) (slice : Slice) (window : Window) (shape argument : Dimensions) → cube.shape ≡ argument → kept_shape r argument ≡ shape → IsShape argument → IsCube cube → IsOn cube slice → Holds (whole_window shape) window → HoldsNeed (HasLabelsOf shape argument) window slice.window → map (λ p. unwrap_or (found_in shape argument slice p) Empty) (positions window) ≡ cells_on Empty (kept r cube) window
+pub kept_is : (cube : Cube Cell) (r : Restriction) (slice : Slice) (window : Window) (shape argument : Dimensions) → cube.shape ≡ argument → kept_shape r argument ≡ shape → IsShape argument → IsCube cube → IsOn cube slice → Holds (whole_window shape) window → HoldsNeed (HasLabelsOf shape argument) window slice.window → map (λ p. unwrap_or (found_in shape argument slice p) Empty) (positions window) ≡ cells_on Empty (restricted_cube r cube) window
 kept_is cube r slice window shape argument same is valid whole on =
-    subst (λ s. Holds (whole_window s) window → HoldsNeed (HasLabelsOf s argument) window slice.window → map (λ p. unwrap_or (found_in s argument slice p) Empty) (positions window) ≡ cells_on Empty (kept r cube) window) is
-    (subst (λ a. Holds (whole_window (kept_shape r a)) window → HoldsNeed (HasLabelsOf (kept_shape r a) a) window slice.window → map (λ p. unwrap_or (found_in (kept_shape r a) a slice p) Empty) (positions window) ≡ cells_on Empty (kept r cube) window) same
+    subst (λ s. Holds (whole_window s) window → HoldsNeed (HasLabelsOf s argument) window slice.window → map (λ p. unwrap_or (found_in s argument slice p) Empty) (positions window) ≡ cells_on Empty (restricted_cube r cube) window) is
+    (subst (λ a. Holds (whole_window (kept_shape r a)) window → HoldsNeed (HasLabelsOf (kept_shape r a) a) window slice.window → map (λ p. unwrap_or (found_in (kept_shape r a) a slice p) Empty) (positions window) ≡ cells_on Empty (restricted_cube r cube) window) same
     (kept_here cube r slice window (subst IsShape (sym same) valid) whole on))

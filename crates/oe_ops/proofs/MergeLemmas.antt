@@ -12,7 +12,7 @@ use Rattle.oe_dims.specs.Positions.{Position, tuple_of}
 use Rattle.oe_dims.specs.declared.kind.CellKind.{CellKind}
 use Rattle.oe_dims.specs.declared.kind.Kind.TheVariants.{X}
 use Rattle.oe_expr.specs.Callback.{Callback, IsEnvironment, KeepsKind, callback_kind, callback_value, environment}
-use Rattle.oe_expr.specs.EnvRows.{AreEnvironments, HasCells, environment_at, x_at, y_at, list_at}
+use Rattle.oe_expr.specs.EnvRows.{AreEnvironments, HasRowCells, environment_at, x_at, y_at, list_at}
 use Rattle.oe_expr.specs.Scope.{PlainScope, IsEnvironmentOf, IsListNumber, list_labels, merge, no_labels}
 use Rattle.oe_expr.specs.declared.row.EnvRow.{EnvRow}
 use Rattle.oe_shape.specs.Labels.{merged_shape, restrict}
@@ -21,7 +21,7 @@ use Rattle.oe_window.specs.Cells.{cells_on}
 use Rattle.oe_window.specs.Windows.{Holds, positions, whole_window}
 use Rattle.oe_window.specs.declared.window.Window.{Window}
 use Rattle.oe_window.proofs.CellLemmas.{cells_on-tabulate}
-use Rattle.oe_ops.specs.Indices.{found_in, index_in, position_in, position_on, row_in}
+use Rattle.oe_ops.specs.Indices.{found_in, index_in_argument, position_in, position_on, row_in}
 use Rattle.oe_ops.specs.Joins.{AreBothFound, where_found}
 use Rattle.oe_ops.specs.Needs.{HasLabelsOf, HoldsNeed}
 use Rattle.oe_ops.specs.Slices.{IsOn, TakesPairs, cell_of}
@@ -71,23 +71,23 @@ where_both (Some i) (Some j) a b both h = refl
 
 pub not_on_row : (shape argument : Dimensions) (slice : Slice) (p : Position) → row_in shape argument p ≡ None → found_in shape argument slice p ≡ None
 not_on_row shape argument slice p h =
-    ap (λ (o : Option RowIndices). option_map (cell_of slice) (option_and_then (λ row. option_map (position_on row) (index_in X shape argument p.x)) o)) h
+    ap (λ (o : Option RowIndices). option_map (cell_of slice) (option_and_then (λ row. option_map (position_on row) (index_in_argument X shape argument p.x)) o)) h
 
 fused : (slice : Slice) (row : RowIndices) (o : Option ℕ) → option_map (cell_of slice) (option_map (position_on row) o) ≡ option_map (λ i. cell_of slice (position_on row i)) o
 fused slice row None = refl
 fused slice row (Some i) = refl
 
-pub found_on_row : (shape argument : Dimensions) (slice : Slice) (p : Position) (row : RowIndices) → row_in shape argument p ≡ Some row → found_in shape argument slice p ≡ option_map (λ i. cell_of slice (position_on row i)) (index_in X shape argument p.x)
+pub found_on_row : (shape argument : Dimensions) (slice : Slice) (p : Position) (row : RowIndices) → row_in shape argument p ≡ Some row → found_in shape argument slice p ≡ option_map (λ i. cell_of slice (position_on row i)) (index_in_argument X shape argument p.x)
 found_on_row shape argument slice p row h =
-    ap (λ (o : Option RowIndices). option_map (cell_of slice) (option_and_then (λ r. option_map (position_on r) (index_in X shape argument p.x)) o)) h
-    ∙ fused slice row (index_in X shape argument p.x)
+    ap (λ (o : Option RowIndices). option_map (cell_of slice) (option_and_then (λ r. option_map (position_on r) (index_in_argument X shape argument p.x)) o)) h
+    ∙ fused slice row (index_in_argument X shape argument p.x)
 
 -- ---- the resolver
 
 -- cells of a kind are a row of environments
 pub are_pairs : (c : Callback) (row : EnvRow) (n : ℕ) → TakesPairs c row.x.now row.y.now → n ≤ length row.x.now → n ≤ length row.y.now → AreEnvironments c row n
 are_pairs c row n takes x_long y_long = record {
-  has_cells = subst (λ s. HasCells s row n) (sym takes.scope_is) (x_long, y_long);
+  has_cells = subst (λ s. HasRowCells s row n) (sym takes.scope_is) (x_long, y_long);
   each = λ k lt. record {
     list_is = subst (λ s. IsListNumber s row.list) (sym takes.scope_is) tt;
     cells_fit = subst (λ s. IsEnvironmentOf s (environment c (x_at row k) (y_at row k) (list_at row k) row.list)) (sym takes.scope_is)

@@ -11,13 +11,13 @@ use Rattle.oe_dims.specs.Positions.{Position}
 use Rattle.oe_dims.specs.declared.kind.Kind.{Kind}
 use Rattle.oe_dims.specs.declared.kind.Kind.TheVariants.{Time, Bands, Y, X}
 use Rattle.oe_expr.specs.Callback.{Callback, KeepsKind}
-use Rattle.oe_expr.specs.Scope.{label_count}
+use Rattle.oe_expr.specs.Scope.{count_labels}
 use Rattle.oe_kernel.specs.Kernels.{KernelValues}
 use Rattle.oe_kernel.specs.declared.border.Border.{Border}
 use Rattle.oe_shape.specs.Extents.{Restriction}
 use Rattle.oe_shape.specs.Meaning.{cube_of}
 use Rattle.oe_shape.specs.Operations.{Operation, keep, each_cell, convolve, reduce, aggregate, merge, cover, give_back, labels_along, shape_of}
-use Rattle.oe_shape.specs.Reach.{halo_of, is_whole}
+use Rattle.oe_shape.specs.Reach.{halo_of, needs_whole}
 use Rattle.oe_shape.specs.PlainRequests.{plain_operation, plain_restriction}
 use Rattle.oe_shape.specs.declared.extent.Interval.{Interval}
 use Rattle.oe_shape.specs.declared.operation.Operation as declared
@@ -27,7 +27,7 @@ use Rattle.oe_window.specs.Windows.{Holds, position_count, positions, span_lengt
 use Rattle.oe_window.specs.declared.window.Window.{Window}
 use Rattle.oe_window.proofs.WindowLemmas.{IsFilled, length-positions, within_from_holds}
 use Rattle.oe_ops.specs.Needs.{HasLabelsBeside, HasLabelsOf, HoldsNeed, IsInReach, IsNeed, Needs, argument_shape}
-use Rattle.oe_ops.specs.Nodes.{HasRoom, IsOnOne, TakesInputs}
+use Rattle.oe_ops.specs.Nodes.{HasScratch, IsOnOne, TakesInputs}
 use Rattle.oe_ops.specs.Slices.{TakesPairs}
 use Rattle.oe_ops.specs.declared.slice.Slice.{Slice}
 use Rattle.oe_ops.proofs.ListLemmas.{nothing_on}
@@ -45,13 +45,13 @@ same_need needs others window box to from h = record {
 -- a kernel reaches as far in any list of shapes
 pub reach_in : (kernel : KernelValues) (factor : Fraction) (border : Border) (replace : Fraction) (d : Dimensions) (shapes : List Dimensions) (number : ℕ) → d ≡ argument_shape shapes number → (p q : Position) → Needs (convolve kernel factor border replace) (d ∷ []) 0 p q → Needs (convolve kernel factor border replace) shapes number p q
 reach_in kernel factor border replace d shapes number is p q h =
-    subst (λ s. IsInReach (is_whole (convolve kernel factor border replace) shapes) (halo_of (convolve kernel factor border replace)) s p q) is
+    subst (λ s. IsInReach (needs_whole (convolve kernel factor border replace) shapes) (halo_of (convolve kernel factor border replace)) s p q) is
     (record { is_position = h.is_position; t = h.t; bands = h.bands; y = h.y; x = h.x })
 
 pub reach_from : (kernel : KernelValues) (factor : Fraction) (border : Border) (replace : Fraction) (d : Dimensions) (shapes : List Dimensions) (number : ℕ) → d ≡ argument_shape shapes number → (p q : Position) → Needs (convolve kernel factor border replace) shapes number p q → Needs (convolve kernel factor border replace) (d ∷ []) 0 p q
 reach_from kernel factor border replace d shapes number is p q h =
-    let own : IsInReach (is_whole (convolve kernel factor border replace) shapes) (halo_of (convolve kernel factor border replace)) d p q =
-    subst (λ s. IsInReach (is_whole (convolve kernel factor border replace) shapes) (halo_of (convolve kernel factor border replace)) s p q) (sym is) h in
+    let own : IsInReach (needs_whole (convolve kernel factor border replace) shapes) (halo_of (convolve kernel factor border replace)) d p q =
+    subst (λ s. IsInReach (needs_whole (convolve kernel factor border replace) shapes) (halo_of (convolve kernel factor border replace)) s p q) (sym is) h in
     record { is_position = own.is_position; t = own.t; bands = own.bands; y = own.y; x = own.x }
 
 module _ (shape argument : Dimensions) (shapes : List Dimensions) (number : ℕ) (window box : Window) (is : argument ≡ argument_shape shapes number) where
@@ -158,14 +158,14 @@ within_extent None n h = omega arith
 within_extent (Some labels) n h = h
 
 -- there is room for a list along any dimension
-pub list_room : (along : Kind) (d : Dimensions) (n : ℕ) → HasRoom d n → 192 + 2 * label_count (labels_along along d) ≤ n
+pub list_room : (along : Kind) (d : Dimensions) (n : ℕ) → HasScratch d n → 192 + 2 * count_labels (labels_along along d) ≤ n
 list_room Time d n h = within_extent d.t n (h Time)
 list_room Bands d n h = within_extent d.bands n (h Bands)
 list_room Y d n h = within_extent d.y n (h Y)
 list_room X d n h = within_extent d.x n (h X)
 
 -- and for two rows of a window
-pub row_room : (d : Dimensions) (window : Window) (n count : ℕ) → Holds (whole_window d) window → 0 < count → count ≡ position_count window → HasRoom d n → 2 * span_length window.x + 192 ≤ n
+pub row_room : (d : Dimensions) (window : Window) (n count : ℕ) → Holds (whole_window d) window → 0 < count → count ≡ position_count window → HasScratch d n → 2 * span_length window.x + 192 ≤ n
 row_room d window n count holds more counted h =
     let some = are_some window (omega arith) in
     let t = some.t in

@@ -18,8 +18,8 @@ use Rattle.oe_window.proofs.CellLemmas.{cell_at-tabulate, cells_on-at, cells_on-
 use Rattle.oe_window.proofs.WindowLemmas.{AreWithin, IsFilled, IsWithin, filled_by, filled_or_not, filled_unless_empty, first_in, first_position, length-positions, within_from_holds}
 use Rattle.oe_window.proofs.WholeLemmas.{position_in as inside_shape}
 use Rattle.oe_shape.specs.Extents.{Restriction, is_across, is_up, kept_labels, kept_shape}
-use Rattle.oe_shape.specs.Meaning.{cell, kept}
-use Rattle.oe_ops.specs.Indices.{index_in, position_in}
+use Rattle.oe_shape.specs.Meaning.{cell, restricted_cube}
+use Rattle.oe_ops.specs.Indices.{index_in_argument, position_in}
 use Rattle.oe_ops.specs.Loads.{GivesPlane}
 use Rattle.oe_ops.specs.Needs.{HasLabelsOf, HoldsNeed, IsNeed, plane_window, zero_window}
 use Rattle.oe_ops.specs.Spans.{product}
@@ -76,7 +76,7 @@ module _ (d : Dimensions) (r : Restriction) (valid : IsShape d) (window : Window
       }))
 
   module _ (first_y first_x : ℕ) (y_run : KeepsRun is_up r.box d.y first_y) (x_run : KeepsRun is_across r.box d.x first_x)
-      (from_t from_band : ℕ) (t_is : index_in Time shape d t ≡ Some from_t) (band_is : index_in Bands shape d band ≡ Some from_band) where
+      (from_t from_band : ℕ) (t_is : index_in_argument Time shape d t ≡ Some from_t) (band_is : index_in_argument Bands shape d band ≡ Some from_band) where
     -- the plane of the collection
     abbrev source : Window
     source = product (span_at from_t) (span_at from_band) (further first_y window.y) (further first_x window.x)
@@ -107,10 +107,10 @@ module _ (d : Dimensions) (r : Restriction) (valid : IsShape d) (window : Window
         let low_x = h.x.begun in
         let q_y : first_y + (q.y - first_y) ≡ q.y = omega arith in
         let q_x : first_x + (q.x - first_x) ≡ q.x = omega arith in
-        let at_t : index_in Time shape d t ≡ Some q.t = t_is ∙ ap Some q_t in
-        let at_band : index_in Bands shape d band ≡ Some q.band = band_is ∙ ap Some q_band in
-        let at_y : index_in Y shape d (q.y - first_y) ≡ Some q.y = y_run (q.y - first_y) on.y ∙ ap Some q_y in
-        let at_x : index_in X shape d (q.x - first_x) ≡ Some q.x = x_run (q.x - first_x) on.x ∙ ap Some q_x in
+        let at_t : index_in_argument Time shape d t ≡ Some q.t = t_is ∙ ap Some q_t in
+        let at_band : index_in_argument Bands shape d band ≡ Some q.band = band_is ∙ ap Some q_band in
+        let at_y : index_in_argument Y shape d (q.y - first_y) ≡ Some q.y = y_run (q.y - first_y) on.y ∙ ap Some q_y in
+        let at_x : index_in_argument X shape d (q.x - first_x) ≡ Some q.x = x_run (q.x - first_x) on.x ∙ ap Some q_x in
         rw (at_t, at_band, at_y, at_x) refl
 
     -- what the plane needs lies in it, and each of its positions is needed
@@ -120,8 +120,8 @@ module _ (d : Dimensions) (r : Restriction) (valid : IsShape d) (window : Window
         let each = labels_each shape d valid p q n in
         let p_t : p.t ≡ t = one_index t p.t h.t in
         let p_band : p.band ≡ band = one_index band p.band h.bands in
-        let q_t : q.t ≡ from_t = same_Some q.t from_t (sym each.t_needed ∙ ap (index_in Time shape d) p_t ∙ t_is) in
-        let q_band : q.band ≡ from_band = same_Some q.band from_band (sym each.bands_needed ∙ ap (index_in Bands shape d) p_band ∙ band_is) in
+        let q_t : q.t ≡ from_t = same_Some q.t from_t (sym each.t_needed ∙ ap (index_in_argument Time shape d) p_t ∙ t_is) in
+        let q_band : q.band ≡ from_band = same_Some q.band from_band (sym each.bands_needed ∙ ap (index_in_argument Bands shape d) p_band ∙ band_is) in
         let q_y : q.y ≡ first_y + p.y = same_Some q.y (first_y + p.y) (sym each.y_needed ∙ y_run p.y on.y) in
         let q_x : q.x ≡ first_x + p.x = same_Some q.x (first_x + p.x) (sym each.x_needed ∙ x_run p.x on.x) in
         let y_low = h.y.begun in
@@ -148,11 +148,11 @@ module _ (d : Dimensions) (r : Restriction) (valid : IsShape d) (window : Window
 
     -- the cells, one by one
     cell_back : (cube : Cube Cell) → IsCube cube → cube.shape ≡ d → (q : Position) → IsIn source q
-        → cell_at Empty (kept r cube) (back q) ≡ cell_at Empty cube q
+        → cell_at Empty (restricted_cube r cube) (back q) ≡ cell_at Empty cube q
     cell_back cube whole same q h =
         let p = back q in
         let on = on_shape p (back_in q h) in
-        let made : cell_at Empty (kept r cube) p ≡ cell cube (tuple_of (kept_shape r cube.shape) p) =
+        let made : cell_at Empty (restricted_cube r cube) p ≡ cell cube (tuple_of (kept_shape r cube.shape) p) =
         cell_at-tabulate Empty (kept_shape r cube.shape) (cell cube) p (subst (λ k. IsPosition (kept_shape r k) p) (sym same) on) in
         let found : position_in (kept_shape r cube.shape) cube.shape p ≡ Some q =
         subst (λ k. position_in (kept_shape r k) k p ≡ Some q) (sym same) (found_back q h) in
@@ -183,12 +183,12 @@ module _ (d : Dimensions) (r : Restriction) (valid : IsShape d) (window : Window
         let wide : (from_band + 1) - from_band ≡ (band + 1) - band = omega arith in
         rw (long_y, long_x, deep, wide) refl
 
-    cells_are : (cube : Cube Cell) → IsCube cube → cube.shape ≡ d → cells_on Empty cube source ≡ cells_on Empty (kept r cube) plane
+    cells_are : (cube : Cube Cell) → IsCube cube → cube.shape ≡ d → cells_on Empty cube source ≡ cells_on Empty (restricted_cube r cube) plane
     cells_are cube whole same =
-        sym (is_cells_on Empty cube source (cells_on Empty (kept r cube) plane)
-        (length-cells_on Empty (kept r cube) plane ∙ sym count_is)
-        (λ q h. ap (slice_get (cells_on Empty (kept r cube) plane)) (sym (number_back q h))
-        ∙ cells_on-at Empty (kept r cube) plane (back q) (back_in q h)
+        sym (is_cells_on Empty cube source (cells_on Empty (restricted_cube r cube) plane)
+        (length-cells_on Empty (restricted_cube r cube) plane ∙ sym count_is)
+        (λ q h. ap (slice_get (cells_on Empty (restricted_cube r cube) plane)) (sym (number_back q h))
+        ∙ cells_on-at Empty (restricted_cube r cube) plane (back q) (back_in q h)
         ∙ ap Some (cell_back cube whole same q h)))
 
 -- ---- nothing is needed
@@ -217,7 +217,7 @@ module _ (d : Dimensions) (r : Restriction) (valid : IsShape d) (plane box : Win
   all_null [] = refl
   all_null (p ∷ ps) = ap (λ (cs : List Cell). Empty ∷ cs) (all_null ps)
 
-  nulls_are : (cube : Cube Cell) → IsCube cube → cube.shape ≡ d → cells_on Empty (kept r cube) plane ≡ replicate (position_count plane) Empty
+  nulls_are : (cube : Cube Cell) → IsCube cube → cube.shape ≡ d → cells_on Empty (restricted_cube r cube) plane ≡ replicate (position_count plane) Empty
   nulls_are cube whole same =
       let held : Holds (whole_window (kept_shape r cube.shape)) plane = subst (λ k. Holds (whole_window (kept_shape r k)) plane) (sym same) inside in
       cells_on-tabulate Empty (kept_shape r cube.shape) (cell cube) plane held
@@ -246,20 +246,20 @@ module _ (d : Dimensions) (r : Restriction) (valid : IsShape d) (window : Window
   record IsFound : Type 0 where
     from_t : ℕ
     from_band : ℕ
-    t_is : index_in Time (kept_shape r d) d t ≡ Some from_t
-    band_is : index_in Bands (kept_shape r d) d band ≡ Some from_band
+    t_is : index_in_argument Time (kept_shape r d) d t ≡ Some from_t
+    band_is : index_in_argument Bands (kept_shape r d) d band ≡ Some from_band
 
   found : ¬ IsEmpty box → IsFound
-  found some = by (index_in Time (kept_shape r d) d t) (index_in Bands (kept_shape r d) d band) refl refl
+  found some = by (index_in_argument Time (kept_shape r d) d t) (index_in_argument Bands (kept_shape r d) d band) refl refl
     where
-      by : (a b : Option ℕ) → index_in Time (kept_shape r d) d t ≡ a → index_in Bands (kept_shape r d) d band ≡ b → IsFound
+      by : (a b : Option ℕ) → index_in_argument Time (kept_shape r d) d t ≡ a → index_in_argument Bands (kept_shape r d) d band ≡ b → IsFound
       by None b e f = absurd (some (nothing (λ p q h n.
           let p_t : p.t ≡ t = one_index t p.t h.t in
-          let there : Some q.t ≡ None = sym (labels_each (kept_shape r d) d valid p q n).t_needed ∙ ap (index_in Time (kept_shape r d) d) p_t ∙ e in
+          let there : Some q.t ≡ None = sym (labels_each (kept_shape r d) d valid p q n).t_needed ∙ ap (index_in_argument Time (kept_shape r d) d) p_t ∙ e in
           cc)))
       by (Some from_t) None e f = absurd (some (nothing (λ p q h n.
           let p_band : p.band ≡ band = one_index band p.band h.bands in
-          let there : Some q.band ≡ None = sym (labels_each (kept_shape r d) d valid p q n).bands_needed ∙ ap (index_in Bands (kept_shape r d) d) p_band ∙ f in
+          let there : Some q.band ≡ None = sym (labels_each (kept_shape r d) d valid p q n).bands_needed ∙ ap (index_in_argument Bands (kept_shape r d) d) p_band ∙ f in
           cc)))
       by (Some from_t) (Some from_band) e f = record { from_t = from_t; from_band = from_band; t_is = e; band_is = f }
 
@@ -267,7 +267,7 @@ module _ (d : Dimensions) (r : Restriction) (valid : IsShape d) (window : Window
   box_is f some = source_is d r valid window t band within t_in band_in y_run.0 x_run.0 y_run.1 x_run.1 f.from_t f.from_band f.t_is f.band_is box need some
 
   gives_cells : (cube : Cube Cell) → IsCube cube → cube.shape ≡ d → ¬ IsEmpty box
-      → cells_on Empty cube box ≡ cells_on Empty (kept r cube) (plane_window window t band)
+      → cells_on Empty cube box ≡ cells_on Empty (restricted_cube r cube) (plane_window window t band)
   gives_cells cube whole same some =
       let f = found some in
       ap (cells_on Empty cube) (box_is f some)
@@ -292,7 +292,7 @@ module _ (d : Dimensions) (r : Restriction) (valid : IsShape d) (window : Window
       )
 
   gives_nulls : (cube : Cube Cell) → IsCube cube → cube.shape ≡ d → IsEmpty box
-      → cells_on Empty (kept r cube) (plane_window window t band) ≡ replicate (position_count (plane_window window t band)) Empty
+      → cells_on Empty (restricted_cube r cube) (plane_window window t band) ≡ replicate (position_count (plane_window window t band)) Empty
   gives_nulls cube whole same empty =
       nulls_are d r valid (plane_window window t band) box (plane_holds (whole_window (kept_shape r d)) window t band within t_in band_in) need.holds empty cube whole same
 

@@ -20,17 +20,18 @@ use Rattle.oe_ops.specs.declared.source.RowIndices.{RowIndices}
 abbrev pub index_under : {L : Type 0} → (L → L → Bool) → Option (List L) → Option (List L) → ℕ → Option ℕ
 index_under same labels others index = index_along same others (only_along others (label_of labels index))
 
-abbrev pub index_in : Kind → Dimensions → Dimensions → ℕ → Option ℕ
-index_in Time shape argument index = index_under same_number shape.t argument.t index
-index_in Bands shape argument index = index_under same_name shape.bands argument.bands index
-index_in Y shape argument index = index_under same_number shape.y argument.y index
-index_in X shape argument index = index_under same_number shape.x argument.x index
+abbrev pub index_in_argument : Kind → Dimensions → Dimensions → ℕ → Option ℕ
+index_in_argument Time shape argument index = index_under same_number shape.t argument.t index
+index_in_argument Bands shape argument index = index_under same_name shape.bands argument.bands index
+index_in_argument Y shape argument index = index_under same_number shape.y argument.y index
+index_in_argument X shape argument index = index_under same_number shape.x argument.x index
 
 -- the row in the argument of the labels along t, bands and y; none where it lacks one of them
 abbrev pub row_in : Dimensions → Dimensions → Position → Option RowIndices
 row_in shape argument p =
     option_and_then (λ t. option_and_then (λ band. option_map (λ y. record { t = t; band = band; y = y })
-    (index_in Y shape argument p.y)) (index_in Bands shape argument p.band)) (index_in Time shape argument p.t)
+    (index_in_argument Y shape argument p.y)) (index_in_argument Bands shape argument p.band))
+    (index_in_argument Time shape argument p.t)
 
 -- the position at an index of a row
 abbrev pub position_on : RowIndices → ℕ → Position
@@ -39,7 +40,8 @@ position_on row x = at_indices row.t row.band row.y x
 -- the position in the argument of the labels at a position of the result; none where the argument has no such tuple
 abbrev pub position_in : Dimensions → Dimensions → Position → Option Position
 position_in shape argument p =
-    option_and_then (λ row. option_map (position_on row) (index_in X shape argument p.x)) (row_in shape argument p)
+    option_and_then (λ row. option_map (position_on row) (index_in_argument X shape argument p.x))
+    (row_in shape argument p)
 
 -- the cell that a slice of the argument lists there
 abbrev pub found_in : Dimensions → Dimensions → Slice → Position → Option Cell

@@ -12,7 +12,7 @@ use Rattle.oe_dims.specs.declared.kind.CellKind.{CellKind}
 use Rattle.oe_dims.specs.declared.kind.Kind.{Kind}
 use Rattle.oe_dims.specs.declared.kind.Kind.TheVariants.{Time, Bands, Y, X}
 use Rattle.oe_expr.specs.Callback.{Callback, callback_value, environment}
-use Rattle.oe_expr.specs.Scope.{label_count, labels_in, no_labels, reduce}
+use Rattle.oe_expr.specs.Scope.{count_labels, labels_in, no_labels, reduce}
 use Rattle.oe_expr.specs.declared.scope.ListPart.{ListPart}
 use Rattle.oe_shape.specs.Operations.{interval_scope, reduction_scope}
 use Rattle.oe_shape.specs.declared.extent.Interval.{Interval}
@@ -55,7 +55,7 @@ pub record TakesList (c : Callback) (list count : ℕ) (cells : List Cell) : Typ
   pub lists : List ListPart
   pub scope_is : c.scope ≡ reduce kind labels lists
   pub list_is : list < length lists
-  pub as_many : label_count (slice_index_or (map (labels_in labels) lists) list no_labels) ≡ count
+  pub as_many : count_labels (slice_index_or (map (labels_in labels) lists) list no_labels) ≡ count
   pub of_kind : All (IsOfKind kind) cells
 
 -- the callback is one on the lists of cells of a kind along a dimension of a cube, and all of these are of the kind

@@ -8,8 +8,8 @@ use Rattle.oe_dims.specs.declared.kind.Kind.TheVariants.{Time, Bands, Y, X}
 use Rattle.oe_window.specs.Windows.{IsIn, Holds, span_at, span_below}
 use Rattle.oe_window.specs.declared.window.Window.{Window}
 use Rattle.oe_shape.specs.Labels.{restrict}
-use Rattle.oe_shape.specs.Operations.{Operation, keep, each_cell, convolve, reduce, aggregate, merge, cover, give_back, no_dimensions, shape_of, without}
-use Rattle.oe_shape.specs.Reach.{is_whole, halo_of}
+use Rattle.oe_shape.specs.Operations.{Operation, keep, each_cell, convolve, reduce, aggregate, merge, cover, give_back, no_dimensions, shape_of, without_dimension}
+use Rattle.oe_shape.specs.Reach.{needs_whole, halo_of}
 
 -- ---- one position for another
 
@@ -21,7 +21,8 @@ pub record HasLabelsOf (result argument : Dimensions) (p q : Position) : Type 0 
 -- the same, but for the labels along one dimension
 pub record HasLabelsBeside (kind : Kind) (result argument : Dimensions) (p q : Position) : Type 0 where
   pub is_position : IsPosition argument q
-  pub labels : restrict (without kind argument) (tuple_of argument q) ≡ restrict (without kind argument) (tuple_of result p)
+  pub labels : restrict (without_dimension kind argument) (tuple_of argument q)
+      ≡ restrict (without_dimension kind argument) (tuple_of result p)
 
 -- along a side: any index where the whole side is needed, and else those at most so far away
 abbrev pub IsWithinReach : Bool → ℕ → ℕ → ℕ → Type 0
@@ -51,7 +52,8 @@ Needs (keep r) shapes argument p q = HasLabelsOf (shape_of (keep r) shapes) (arg
 Needs (each_cell c) shapes argument p q =
     HasLabelsOf (shape_of (each_cell c) shapes) (argument_shape shapes argument) p q
 Needs (convolve kernel factor border replace) shapes argument p q =
-    IsInReach (is_whole (convolve kernel factor border replace) shapes) (halo_of (convolve kernel factor border replace))
+    IsInReach (needs_whole (convolve kernel factor border replace) shapes)
+    (halo_of (convolve kernel factor border replace))
     (argument_shape shapes argument) p q
 Needs (reduce kind c) shapes argument p q =
     HasLabelsBeside kind (shape_of (reduce kind c) shapes) (argument_shape shapes argument) p q
@@ -74,8 +76,8 @@ abbrev pub plane_window : Window → ℕ → ℕ → Window
 plane_window window t band = record window { t = span_at t; bands = span_at band }
 
 -- the part of a window at an index of t
-abbrev pub window_at : Window → ℕ → Window
-window_at window t = record window { t = span_at t }
+abbrev pub part_at_time : Window → ℕ → Window
+part_at_time window t = record window { t = span_at t }
 
 -- The window without a position that stands where nothing is needed.
 abbrev pub zero_window : Window

@@ -25,19 +25,19 @@ TakesInputs (cover replacement) d one two = ⊤
 TakesInputs give_back d one two = ⊤
 
 -- beside cells of a kind of the first cube it works with cells of the kind alone
-abbrev pub FitsKind : Operation → CellKind → List Cell → Type 0
-FitsKind (keep r) kind two = ⊤
-FitsKind (each_cell c) kind two = ⊤
-FitsKind (convolve kernel factor border replace) kind two = ⊤
-FitsKind (reduce along c) kind two = ⊤
-FitsKind (aggregate intervals c) kind two = ⊤
-FitsKind (merge resolver) kind two = All (IsOfKind kind) two × IfSome resolver (λ c. callback_kind c ≡ kind)
-FitsKind (cover replacement) kind two = IsOfKind kind replacement
-FitsKind give_back kind two = ⊤
+abbrev pub FitsFirstKind : Operation → CellKind → List Cell → Type 0
+FitsFirstKind (keep r) kind two = ⊤
+FitsFirstKind (each_cell c) kind two = ⊤
+FitsFirstKind (convolve kernel factor border replace) kind two = ⊤
+FitsFirstKind (reduce along c) kind two = ⊤
+FitsFirstKind (aggregate intervals c) kind two = ⊤
+FitsFirstKind (merge resolver) kind two = All (IsOfKind kind) two × IfSome resolver (λ c. callback_kind c ≡ kind)
+FitsFirstKind (cover replacement) kind two = IsOfKind kind replacement
+FitsFirstKind give_back kind two = ⊤
 
 -- 192 cells, and two more for each label of any dimension
-abbrev pub HasRoom : Dimensions → ℕ → Type 0
-HasRoom d room = (along : Kind) → 192 + 2 * extent_along d along ≤ room
+abbrev pub HasScratch : Dimensions → ℕ → Type 0
+HasScratch d room = (along : Kind) → 192 + 2 * extent_along d along ≤ room
 
 -- the operation is that of a kernel
 abbrev pub IsConvolution : Operation → Type 0

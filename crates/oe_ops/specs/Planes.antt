@@ -16,5 +16,6 @@ pub record IsPlaneOf (slice : Slice) (side_y side_x t band : ℕ) (plane : Plane
   pub to_x : plane.to_x ≡ slice.window.x.to
   pub counted : length plane.cells.now ≡ span_length slice.window.y * span_length slice.window.x
   pub same : (row column : ℕ) → plane.from_y ≤ row → row < plane.to_y → plane.from_x ≤ column → column < plane.to_x
-      → slice_index_or plane.cells.now ((row - plane.from_y) * (plane.to_x - plane.from_x) + (column - plane.from_x)) Empty
+      → slice_index_or plane.cells.now ((row - plane.from_y) * (plane.to_x - plane.from_x) + (column - plane.from_x))
+      Empty
       ≡ cell_of slice (at_indices t band row column)

@@ -5,14 +5,14 @@ use Rattle.oe_dims.specs.declared.kind.Kind.{Kind}
 use Rattle.oe_window.specs.Windows.{IsAlong, extent_along}
 use Rattle.oe_window.specs.declared.window.Span.{Span}
 use Rattle.oe_window.specs.declared.window.Window.{Window}
-use Rattle.oe_ops.specs.Indices.{index_in}
+use Rattle.oe_ops.specs.Indices.{index_in_argument}
 use Rattle.oe_ops.specs.Needs.{IsWithinReach}
 
 -- ---- which index is needed for an index
 
 -- the one of the same label
 abbrev pub IsLabelAt : Kind → Dimensions → Dimensions → ℕ → ℕ → Type 0
-IsLabelAt along shape argument i j = index_in along shape argument i ≡ Some j
+IsLabelAt along shape argument i j = index_in_argument along shape argument i ≡ Some j
 
 -- any of a side
 abbrev pub IsAnyOf : ℕ → ℕ → ℕ → Type 0
@@ -21,7 +21,7 @@ IsAnyOf side i j = j < side
 -- any where all are needed, and else the one of the same label
 abbrev pub IsBeside : Bool → Kind → Dimensions → Dimensions → ℕ → ℕ → Type 0
 IsBeside true along shape argument i j = j < extent_along argument along
-IsBeside false along shape argument i j = index_in along shape argument i ≡ Some j
+IsBeside false along shape argument i j = index_in_argument along shape argument i ≡ Some j
 
 -- those of a side that are within reach
 pub record IsReached (whole : Bool) (reach side i j : ℕ) : Type 0 where

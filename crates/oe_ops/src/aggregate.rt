@@ -14,7 +14,7 @@ ghost use Rattle.oe_shape.specs.Operations.{aggregated_shape};
 ghost use Rattle.oe_window.specs.Cells.{cells_on};
 ghost use Rattle.oe_window.specs.Windows.{Holds, IsAlong, extent_along, position_count, whole_window};
 ghost use Rattle.oe_ops.specs.Lists.{TakesIntervals, interval_labelled};
-ghost use Rattle.oe_ops.specs.Needs.{HasLabelsBeside, HoldsNeed, window_at};
+ghost use Rattle.oe_ops.specs.Needs.{HasLabelsBeside, HoldsNeed, part_at_time};
 ghost use Rattle.oe_ops.specs.Slices.{IsCounted, IsOn};
 
 use crate::list::{ListRows, stride_along};
@@ -93,7 +93,7 @@ fn eval_interval(
 /// The part of a window at an index along `t`.
 fn window_at(window: &Window, t: u32) -> Window
     requires { IsAlong window.now.t t }
-    ensures { result ≡ window_at window.now t }
+    ensures { result ≡ part_at_time window.now t }
 {
     Window {
         t: span_at(window.t, t),

@@ -8,7 +8,7 @@ ghost use Rattle.oe_dims.specs.Cube.{Cube, IsCube};
 ghost use Rattle.oe_dims.specs.declared.kind.CellKind.{CellKind};
 ghost use Rattle.oe_dims.specs.Dimensions.{IsShape};
 ghost use Rattle.oe_shape.specs.Extents.{Restriction, kept_shape};
-ghost use Rattle.oe_shape.specs.Meaning.{kept};
+ghost use Rattle.oe_shape.specs.Meaning.{restricted_cube};
 ghost use Rattle.oe_window.specs.Cells.{cells_on};
 ghost use Rattle.oe_window.specs.Windows.{Holds, position_count, whole_window};
 ghost use Rattle.oe_ops.specs.Needs.{HasLabelsOf, HoldsNeed};
@@ -64,7 +64,7 @@ pub fn eval_keep(
     requires length { length out.old ≡ position_count window.now }
     ensures value { (cube : Cube Cell) (r : Restriction) → IsCube cube → cube.shape ≡ argument.now
         → kept_shape r argument.now ≡ shape.now → IsOn cube slice.entry
-        → out.new ≡ cells_on Empty (kept r cube) window.now }
+        → out.new ≡ cells_on Empty (restricted_cube r cube) window.now }
     ensures kinds { (kind : CellKind) → All (IsOfKind kind) slice.entry.cells.now
         → All (IsOfKind kind) out.new }
 {

@@ -14,7 +14,7 @@ ghost use Rattle.oe_shape.specs.Labels.{merged_shape};
 ghost use Rattle.oe_shape.specs.Meaning.{joined, merged};
 ghost use Rattle.oe_window.specs.Cells.{cells_on};
 ghost use Rattle.oe_window.specs.Windows.{Holds, IsIn, extent_along, position_count, span_length, whole_window};
-ghost use Rattle.oe_ops.specs.Indices.{index_in, position_on};
+ghost use Rattle.oe_ops.specs.Indices.{index_in_argument, position_on};
 ghost use Rattle.oe_ops.specs.Joins.{AreBothFound, where_found};
 ghost use Rattle.oe_ops.specs.Needs.{HasLabelsOf, HoldsNeed};
 ghost use Rattle.oe_ops.specs.Slices.{IsCounted, IsOn, TakesPairs, cell_of};
@@ -84,8 +84,8 @@ fn resolve_row(
 fn cell_where(one: &Source, two: &Source, x: u32, a: Cell, b: Cell, both: Cell) -> Cell
     requires { x < extent_along one.now.shape.now Kind.X }
     ensures { result ≡ where_found
-        (index_in Kind.X one.now.shape.now one.now.argument.now x)
-        (index_in Kind.X one.now.shape.now two.now.argument.now x) a b both }
+        (index_in_argument Kind.X one.now.shape.now one.now.argument.now x)
+        (index_in_argument Kind.X one.now.shape.now two.now.argument.now x) a b both }
 {
     let first = index_in(one.shape, one.argument, Kind::X, x);
     let second = index_in(one.shape, two.argument, Kind::X, x);
@@ -111,11 +111,11 @@ fn mend_row(
     requires ones_as_many { length ones.now ≡ length out.old }
     requires twos_as_many { length twos.now ≡ length out.old }
     requires all { IsTrue all → (k : ℕ) → k < length out.old
-        → AreBothFound (index_in Kind.X one.now.shape.now one.now.argument.now (x + k))
-        (index_in Kind.X one.now.shape.now two.now.argument.now (x + k)) }
+        → AreBothFound (index_in_argument Kind.X one.now.shape.now one.now.argument.now (x + k))
+        (index_in_argument Kind.X one.now.shape.now two.now.argument.now (x + k)) }
     ensures { (k : ℕ) → k < length out.old → slice_index_or out.new k Empty
-        ≡ where_found (index_in Kind.X one.now.shape.now one.now.argument.now (x + k))
-        (index_in Kind.X one.now.shape.now two.now.argument.now (x + k))
+        ≡ where_found (index_in_argument Kind.X one.now.shape.now one.now.argument.now (x + k))
+        (index_in_argument Kind.X one.now.shape.now two.now.argument.now (x + k))
         (slice_index_or ones.now k Empty) (slice_index_or twos.now k Empty)
         (slice_index_or out.old k Empty) }
 {
@@ -145,18 +145,18 @@ fn join_row(
     requires two_counted { IsCounted two.now.slice }
     requires inside { x + length out.old ≤ extent_along one.now.shape.now Kind.X }
     requires held { (k i : ℕ) → k < length out.old
-        → index_in Kind.X one.now.shape.now one.now.argument.now (x + k) ≡ Some i
+        → index_in_argument Kind.X one.now.shape.now one.now.argument.now (x + k) ≡ Some i
         → IsIn one.now.slice.window (position_on rows.0 i) }
     requires two_held { (k i : ℕ) → k < length out.old
-        → index_in Kind.X one.now.shape.now two.now.argument.now (x + k) ≡ Some i
+        → index_in_argument Kind.X one.now.shape.now two.now.argument.now (x + k) ≡ Some i
         → IsIn two.now.slice.window (position_on rows.1 i) }
     requires room { 2 * length out.old + 192 ≤ length scratch.old }
     ensures { (k : ℕ) → k < length out.old → slice_index_or out.new k Empty
         ≡ joined resolver.now
         (option_map (λ i. cell_of one.now.slice (position_on rows.0 i))
-        (index_in Kind.X one.now.shape.now one.now.argument.now (x + k)))
+        (index_in_argument Kind.X one.now.shape.now one.now.argument.now (x + k)))
         (option_map (λ i. cell_of two.now.slice (position_on rows.1 i))
-        (index_in Kind.X one.now.shape.now two.now.argument.now (x + k))) }
+        (index_in_argument Kind.X one.now.shape.now two.now.argument.now (x + k))) }
 {
     let two = Source {
         shape: one.shape,

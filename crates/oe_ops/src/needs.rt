@@ -7,7 +7,7 @@ ghost use Rattle.oe_shape.specs.Extents.{Restriction, kept_shape};
 ghost use Rattle.oe_shape.specs.Operations.{convolve};
 ghost use Rattle.oe_shape.specs.Reach.{is_wrap, same_kind};
 ghost use Rattle.oe_window.specs.Windows.{Holds, IsAlong, IsEmpty, extent_along, span_at, span_below, whole_window};
-ghost use Rattle.oe_ops.specs.Indices.{index_in};
+ghost use Rattle.oe_ops.specs.Indices.{index_in_argument};
 ghost use Rattle.oe_ops.specs.Loads.{GivesPlane};
 ghost use Rattle.oe_ops.specs.Needs.{HasLabelsBeside, HasLabelsOf, IsNeed, Needs, plane_window, zero_window};
 ghost use Rattle.oe_ops.specs.Spans.{IsAnyOf, IsBeside, IsLabelAt, IsReached, IsSpanOf, product, with_found, with_index};
@@ -78,7 +78,7 @@ pub(crate) fn extent(shape: &Shape, along: Kind) -> u32
 fn with_label(found: Span, shape: &Shape, argument: &Shape, along: Kind, index: u32) -> Span
     requires valid { IsShape argument.now }
     requires within { index < extent_along shape.now along }
-    ensures { result ≡ with_found (index_in along shape.now argument.now index) found }
+    ensures { result ≡ with_found (index_in_argument along shape.now argument.now index) found }
 {
     match index_in(shape, argument, along, index) {
         None => found,

@@ -8,12 +8,12 @@ ghost use Rattle.oe_dims.specs.Cube.{Cube, IsCube};
 ghost use Rattle.oe_dims.specs.Dimensions.{Dimensions, IsShape};
 ghost use Rattle.oe_dims.specs.declared.kind.CellKind.{CellKind};
 ghost use Rattle.oe_shape.specs.Meaning.{cube_of};
-ghost use Rattle.oe_shape.specs.Operations.{kind_of, shape_of};
+ghost use Rattle.oe_shape.specs.Operations.{operation_kind, shape_of};
 ghost use Rattle.oe_shape.specs.PlainRequests.{plain_operation};
 ghost use Rattle.oe_window.specs.Cells.{cells_on};
 ghost use Rattle.oe_window.specs.Windows.{Holds, position_count, whole_window};
 ghost use Rattle.oe_ops.specs.Needs.{HoldsNeed, IsNeed, Needs, argument_shape};
-ghost use Rattle.oe_ops.specs.Nodes.{FitsKind, HasRoom, IsConvolution, TakesInputs};
+ghost use Rattle.oe_ops.specs.Nodes.{FitsFirstKind, HasScratch, IsConvolution, TakesInputs};
 ghost use Rattle.oe_ops.specs.Slices.{IsCounted, IsOn};
 
 use crate::aggregate::eval_aggregate;
@@ -80,16 +80,16 @@ pub fn eval_node(
     requires two_need { HoldsNeed (Needs (plain_operation operation.now)
         (one.shape.now ∷ two.shape.now ∷ []) 1) window.now two.slice.window }
     requires length { length out.old ≡ position_count window.now }
-    requires room { HasRoom one.shape.now (length scratch.old) }
-    requires shape_room { HasRoom shape.now (length scratch.old) }
+    requires room { HasScratch one.shape.now (length scratch.old) }
+    requires shape_room { HasScratch shape.now (length scratch.old) }
     ensures value { (first second : Cube Cell) → IsCube first → first.shape ≡ one.entry.shape.now
         → IsOn first one.entry.slice → IsCube second → second.shape ≡ two.entry.shape.now
         → IsOn second two.entry.slice
         → out.new ≡ cells_on Empty
         (cube_of (plain_operation operation.now) (first ∷ second ∷ [])) window.now }
     ensures kinds { (kind : CellKind) → All (IsOfKind kind) one.entry.slice.cells.now
-        → FitsKind (plain_operation operation.now) kind two.entry.slice.cells.now
-        → All (IsOfKind (kind_of (plain_operation operation.now) (kind ∷ []))) out.new }
+        → FitsFirstKind (plain_operation operation.now) kind two.entry.slice.cells.now
+        → All (IsOfKind (operation_kind (plain_operation operation.now) (kind ∷ []))) out.new }
 {
     if out.is_empty() {
         return;

@@ -7,9 +7,9 @@ ghost use Rattle.oe_cube.specs.Kinds.{IsOfKind};
 ghost use Rattle.oe_dims.specs.Cube.{Cube, IsCube};
 ghost use Rattle.oe_dims.specs.Dimensions.{IsShape};
 ghost use Rattle.oe_expr.specs.Callback.{KeepsKind, callback_kind};
-ghost use Rattle.oe_expr.specs.Scope.{label_count};
+ghost use Rattle.oe_expr.specs.Scope.{count_labels};
 ghost use Rattle.oe_shape.specs.Meaning.{reduced};
-ghost use Rattle.oe_shape.specs.Operations.{labels_along, without};
+ghost use Rattle.oe_shape.specs.Operations.{labels_along, without_dimension};
 ghost use Rattle.oe_window.specs.Cells.{cells_on};
 ghost use Rattle.oe_window.specs.Windows.{Holds, extent_along, position_count, whole_window};
 ghost use Rattle.oe_ops.specs.Lists.{TakesLists};
@@ -26,7 +26,7 @@ use oe_window::Window;
 
 /// How many labels there are along a dimension.
 fn labels_count(shape: &Shape, along: Kind) -> u32
-    ensures { result ≡ label_count (labels_along along shape.now) }
+    ensures { result ≡ count_labels (labels_along along shape.now) }
 {
     match shape.count(along) {
         None => 0,
@@ -48,7 +48,7 @@ pub fn eval_reduce(
     scratch: &mut [Cell],
 )
     requires valid { IsShape argument.now }
-    requires without { shape.now ≡ without along argument.now }
+    requires without { shape.now ≡ without_dimension along argument.now }
     requires keeps { KeepsKind expr.now }
     requires takes { TakesLists expr.now along argument.now slice.cells.now }
     requires within { Holds (whole_window shape.now) window.now }
@@ -56,7 +56,7 @@ pub fn eval_reduce(
     requires need { HoldsNeed (HasLabelsBeside along shape.now argument.now) window.now
         slice.window }
     requires length { length out.old ≡ position_count window.now }
-    requires room { 192 + 2 * label_count (labels_along along argument.now) ≤ length scratch.old }
+    requires room { 192 + 2 * count_labels (labels_along along argument.now) ≤ length scratch.old }
     ensures value { (cube : Cube Cell) → IsCube cube → cube.shape ≡ argument.now
         → IsOn cube slice.entry
         → out.new ≡ cells_on Empty (reduced along expr.now cube) window.now }

@@ -3,7 +3,7 @@ ghost use Rattle.std.specs.Prelude.{◌≡◌, ◌↔◌, ℕ, ◌+◌, ◌<◌,
 ghost use Rattle.std.specs.List.{slice_range};
 ghost use Rattle.oe_dims.specs.declared.kind.Kind.{Kind};
 ghost use Rattle.oe_window.specs.Windows.{extent_along};
-ghost use Rattle.oe_ops.specs.Indices.{index_in};
+ghost use Rattle.oe_ops.specs.Indices.{index_in_argument};
 
 use crate::source::index_in;
 use oe_dims::{Kind, Shape};
@@ -23,7 +23,7 @@ pub(crate) fn run_from(shape: &Shape, argument: &Shape, x: u32, count: usize) ->
     requires some { 0 < count }
     requires inside { x + count ≤ extent_along shape.now Kind.X }
     ensures { IfSome result (λ first. (k : ℕ) → k < count
-        → index_in Kind.X shape.now argument.now (x + k) ≡ Some (first + k)) }
+        → index_in_argument Kind.X shape.now argument.now (x + k) ≡ Some (first + k)) }
 {
     let labels = shape.labels(Kind::X);
     let others = argument.labels(Kind::X);

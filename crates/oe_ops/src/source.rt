@@ -6,7 +6,7 @@ ghost use Rattle.oe_dims.specs.declared.kind.Kind.{Kind};
 ghost use Rattle.oe_dims.specs.Dimensions.{IsShape};
 ghost use Rattle.oe_dims.specs.Positions.{IsPosition};
 ghost use Rattle.oe_window.specs.Windows.{IsIn, extent_along};
-ghost use Rattle.oe_ops.specs.Indices.{IsHeld, found_in, index_in, position_on, row_in};
+ghost use Rattle.oe_ops.specs.Indices.{IsHeld, found_in, index_in_argument, position_on, row_in};
 ghost use Rattle.oe_ops.specs.Slices.{IsCounted, along_x, at_indices, cell_of};
 
 use crate::run::run_from;
@@ -25,7 +25,7 @@ pub(crate) struct RowIndices {
 /// The index in the argument of the label at an index of a result of this shape.
 pub(crate) fn index_in(shape: &Shape, argument: &Shape, kind: Kind, index: u32) -> Option<u32>
     requires { index < extent_along shape.now kind }
-    ensures value { result ≡ index_in kind shape.now argument.now index }
+    ensures value { result ≡ index_in_argument kind shape.now argument.now index }
     ensures valid { IsShape shape.now }
 {
     let count = shape.count(kind);
@@ -73,10 +73,10 @@ pub(crate) struct Source<'a> {
 fn found_at(source: &Source, row: RowIndices, x: u32) -> Cell
     requires counted { IsCounted source.now.slice }
     requires inside { x < extent_along source.now.shape.now Kind.X }
-    requires held { (i : ℕ) → index_in Kind.X source.now.shape.now source.now.argument.now x ≡ Some i
+    requires held { (i : ℕ) → index_in_argument Kind.X source.now.shape.now source.now.argument.now x ≡ Some i
         → IsIn source.now.slice.window (position_on row i) }
     ensures { result ≡ unwrap_or (option_map (λ i. cell_of source.now.slice (position_on row i))
-        (index_in Kind.X source.now.shape.now source.now.argument.now x)) Empty }
+        (index_in_argument Kind.X source.now.shape.now source.now.argument.now x)) Empty }
 {
     match index_in(source.shape, source.argument, Kind::X, x) {
         None => Cell::Empty,
@@ -90,11 +90,11 @@ fn found_each(source: &Source, row: RowIndices, x: u32, out: &mut [Cell])
     requires counted { IsCounted source.now.slice }
     requires inside { x + length out.old ≤ extent_along source.now.shape.now Kind.X }
     requires held { (k i : ℕ) → k < length out.old
-        → index_in Kind.X source.now.shape.now source.now.argument.now (x + k) ≡ Some i
+        → index_in_argument Kind.X source.now.shape.now source.now.argument.now (x + k) ≡ Some i
         → IsIn source.now.slice.window (position_on row i) }
     ensures { (k : ℕ) → k < length out.old → slice_index_or out.new k Empty
         ≡ unwrap_or (option_map (λ i. cell_of source.now.slice (position_on row i))
-        (index_in Kind.X source.now.shape.now source.now.argument.now (x + k))) Empty }
+        (index_in_argument Kind.X source.now.shape.now source.now.argument.now (x + k))) Empty }
 {
     for k in 0..out.len() {
         out[k] = found_at(source, row, x + k as u32);
@@ -109,13 +109,13 @@ pub(crate) fn found_on(source: &Source, row: RowIndices, x: u32, out: &mut [Cell
     requires counted { IsCounted source.now.slice }
     requires inside { x + length out.old ≤ extent_along source.now.shape.now Kind.X }
     requires held { (k i : ℕ) → k < length out.old
-        → index_in Kind.X source.now.shape.now source.now.argument.now (x + k) ≡ Some i
+        → index_in_argument Kind.X source.now.shape.now source.now.argument.now (x + k) ≡ Some i
         → IsIn source.now.slice.window (position_on row i) }
     ensures value { (k : ℕ) → k < length out.old → slice_index_or out.new k Empty
         ≡ unwrap_or (option_map (λ i. cell_of source.now.slice (position_on row i))
-        (index_in Kind.X source.now.shape.now source.now.argument.now (x + k))) Empty }
+        (index_in_argument Kind.X source.now.shape.now source.now.argument.now (x + k))) Empty }
     ensures all { IsTrue result → (k : ℕ) → k < length out.old
-        → is_some (index_in Kind.X source.now.shape.now source.now.argument.now (x + k)) ≡ true }
+        → is_some (index_in_argument Kind.X source.now.shape.now source.now.argument.now (x + k)) ≡ true }
 {
     if source.argument.count(Kind::X).is_none() {
         out.fill(cell_of(&source.slice, row.t, row.band, row.y, 0));

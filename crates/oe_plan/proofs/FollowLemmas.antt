@@ -14,8 +14,8 @@ use Rattle.oe_dims.proofs.ReaderLemmas.{IsUnrepeated, IsUnrepeated-numbers}
 use Rattle.oe_dims.proofs.ShapeLemmas.{t_rises, x_rises, y_falls}
 use Rattle.oe_shape.specs.Extents.{Restriction, has_begun, has_not_ended, is_across, is_in_time, is_up, kept_labels}
 use Rattle.oe_shape.specs.Labels.{differ_along, differ_in, is_above, is_below, merged_shape, only_along}
-use Rattle.oe_shape.specs.Operations.{Operation, keep, each_cell, convolve, reduce, aggregate, merge, cover, give_back, aggregated_shape, first_or, no_dimensions, second_or, shape_of, without}
-use Rattle.oe_shape.specs.Reach.{halo_of, is_whole, same_kind}
+use Rattle.oe_shape.specs.Operations.{Operation, keep, each_cell, convolve, reduce, aggregate, merge, cover, give_back, aggregated_shape, first_or, no_dimensions, second_or, shape_of, without_dimension}
+use Rattle.oe_shape.specs.Reach.{halo_of, needs_whole, same_kind}
 use Rattle.oe_shape.specs.declared.extent.BoundingBox.{BoundingBox}
 use Rattle.oe_shape.specs.declared.extent.Interval.{Interval}
 use Rattle.oe_shape.specs.declared.extent.TemporalExtent.{TemporalExtent}
@@ -164,7 +164,7 @@ keep_follows r Bands d h = tt
 keep_follows r Y d h = kept_follows is_above above_is_order is_up up_convex r.box d.y (stand Y d h)
 keep_follows r X d h = kept_follows is_below below_is_order is_across across_convex r.box d.x (stand X d h)
 
-without_same : (kind along : Kind) (d : Dimensions) → same_kind kind along ≡ false → labels_along along (without kind d) ≡ labels_along along d
+without_same : (kind along : Kind) (d : Dimensions) → same_kind kind along ≡ false → labels_along along (without_dimension kind d) ≡ labels_along along d
 without_same Time Time d h = absurd (true≢false h)
 without_same Time Bands d h = refl
 without_same Time Y d h = refl
@@ -211,12 +211,12 @@ abbrev pub AreValid : List Dimensions → Type 0
 AreValid shapes = (n : ℕ) → IsShape (argument_shape shapes n)
 
 pub follows : (operation : Operation) (shapes : List Dimensions) (number : ℕ) (along : Kind) → IsTaken operation shapes number → AreValid shapes
-    → is_whole operation shapes along ≡ false → FollowsAlong along (shape_of operation shapes) shapes number
+    → needs_whole operation shapes along ≡ false → FollowsAlong along (shape_of operation shapes) shapes number
 follows (keep r) shapes number along taken valid cut = at_first along _ shapes number taken (keep_follows r along (first_or no_dimensions shapes) (valid 0))
 follows (each_cell c) shapes number along taken valid cut = at_first along _ shapes number taken (follows_same _)
 follows (convolve kernel factor border replace) shapes number along taken valid cut = at_first along _ shapes number taken (follows_same _)
 follows (reduce kind c) shapes number along taken valid cut =
-    at_first along _ shapes number taken (same_follows along (without kind (first_or no_dimensions shapes)) (first_or no_dimensions shapes) (without_same kind along (first_or no_dimensions shapes) cut))
+    at_first along _ shapes number taken (same_follows along (without_dimension kind (first_or no_dimensions shapes)) (first_or no_dimensions shapes) (without_same kind along (first_or no_dimensions shapes) cut))
 follows (aggregate intervals c) shapes number along taken valid cut =
     at_first along _ shapes number taken (same_follows along (aggregated_shape intervals (first_or no_dimensions shapes)) (first_or no_dimensions shapes) (aggregated_same intervals along (first_or no_dimensions shapes) cut))
 follows (merge resolver) shapes number along taken valid cut = elim taken [
@@ -293,11 +293,11 @@ module _ (shapes : List Dimensions) (number : ℕ) (along : Kind) (is_cut : IsCu
       asked_wider 0 halo (labels_along along result) (labels_along along argument) (index_at along p) (index_at along q) (omega arith)
       (asked_label (labels_along along result) (labels_along along argument) (index_at along p) (index_at along q) follow (differ along argument (valid number)) h.below h.same)
 
-  pub asks : (operation : Operation) → IsTaken operation shapes number → is_whole operation shapes along ≡ false → Needs operation shapes number p q → IsAskedOf operation
+  pub asks : (operation : Operation) → IsTaken operation shapes number → needs_whole operation shapes along ≡ false → Needs operation shapes number p q → IsAskedOf operation
   asks (keep r) taken cut needs = by_label _ _ (follows (keep r) shapes number along taken valid cut) (label_along along _ argument p q is_cut needs)
   asks (each_cell c) taken cut needs = by_label _ _ (follows (each_cell c) shapes number along taken valid cut) (label_along along _ argument p q is_cut needs)
   asks (convolve kernel factor border replace) taken cut needs =
-      let near = reach_along along (is_whole (convolve kernel factor border replace) shapes) (halo_of (convolve kernel factor border replace)) argument p q is_cut cut needs in
+      let near = reach_along along (needs_whole (convolve kernel factor border replace) shapes) (halo_of (convolve kernel factor border replace)) argument p q is_cut cut needs in
       let same : labels_along along (first_or no_dimensions shapes) ≡ labels_along along argument = ap (λ n. labels_along along (argument_shape shapes n)) (sym taken) in
       asked_near (halo_of (convolve kernel factor border replace) along) (labels_along along (first_or no_dimensions shapes)) (labels_along along argument) (index_at along p) (index_at along q) same near.below near.low near.high
   asks (reduce kind c) taken cut needs = by_label _ _ (follows (reduce kind c) shapes number along taken valid cut) (beside_along kind along _ argument p q is_cut cut needs)

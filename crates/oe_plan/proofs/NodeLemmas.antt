@@ -18,16 +18,16 @@ use Rattle.oe_order.specs.Graph as order
 use Rattle.oe_expr.specs.Callback.{Callback}
 use Rattle.oe_expr.specs.Nodes.{id_at, node_named}
 use Rattle.oe_expr.specs.Requests.{with_both}
-use Rattle.oe_expr.specs.Rows.{Row, first_row}
+use Rattle.oe_expr.specs.Rows.{JudgedRow, first_row}
 use Rattle.oe_expr.proofs.NodeLemmas.{contains_node, id_at_is}
 use Rattle.oe_shape.specs.Checked.{AreFaultless, CheckedGraph, collection_of_node, operation_of_node, outline_of_node}
-use Rattle.oe_shape.specs.Graphs.{inputs_of, operation_at, outline_at, outline_named, request_outline}
+use Rattle.oe_shape.specs.Graphs.{request_inputs, operation_at, outline_at, outline_named, request_outline}
 use Rattle.oe_shape.specs.Labels.{differ_along, differing, one_if}
-use Rattle.oe_shape.specs.Links.{collection_of, index_referred, links_of, loaded_by}
+use Rattle.oe_shape.specs.Links.{loaded_collection, index_referred, links_of, loaded_by}
 use Rattle.oe_shape.specs.Operations.{Operation, Outline, dimension_named, first_or, no_dimensions, no_outline, operation_of, outline_of, second_or, shape_of}
 use Rattle.oe_shape.specs.Operations as operation
-use Rattle.oe_shape.specs.Reach.{input_shapes, is_whole, whole_of_node}
-use Rattle.oe_shape.specs.Requests.{Request, aggregate_temporal, apply, apply_kernel, cube_ids, filter_bands, filter_bbox, filter_temporal, load_collection, mask, merge_cubes, reduce_dimension, request_at, save_result}
+use Rattle.oe_shape.specs.Reach.{input_shapes, needs_whole, whole_of_node}
+use Rattle.oe_shape.specs.Requests.{CubeRequest, aggregate_temporal, apply, apply_kernel, cube_ids, filter_bands, filter_bbox, filter_temporal, load_collection, mask, merge_cubes, reduce_dimension, cube_request_at, save_result}
 use Rattle.oe_shape.specs.Rows.{differs_from_data, dimension_not_available, first_shape, mask_dimensions_differ}
 use Rattle.oe_shape.specs.SoundNodes.{input_outlines}
 use Rattle.oe_shape.specs.Stands.{HasNoFault, IsSound, asks_for_nothing, cubes_of, early, early_rows, sound}
@@ -45,20 +45,20 @@ use Rattle.oe_plan.proofs.FollowLemmas.{IsMaskOf, IsTaken}
 
 -- ---- the rows of faults
 
-none_of : (rows : List Row) → first_row rows ≡ None → (k : ℕ) (code : Code) (b : Bool) → slice_get rows k ≡ Some (code, b) → b ≡ false
+none_of : (rows : List JudgedRow) → first_row rows ≡ None → (k : ℕ) (code : Code) (b : Bool) → slice_get rows k ≡ Some (code, b) → b ≡ false
 none_of [] e k code b at = absurd cc
 none_of (row ∷ rows) e k code b at = by row.1 refl e k at (none_of rows)
   where
     by : (t : Bool) → row.1 ≡ t → (if t then Some row.0 else first_row rows) ≡ None → (k : ℕ) → slice_get (row ∷ rows) k ≡ Some (code, b)
         → (first_row rows ≡ None → (j : ℕ) (code : Code) (b : Bool) → slice_get rows j ≡ Some (code, b) → b ≡ false) → b ≡ false
     by true is e k at later = absurd cc
-    by false is e zero at later = let same : row ≡ (code, b) = cc in sym (ap (λ (x : Row). x.1) same) ∙ is
+    by false is e zero at later = let same : row ≡ (code, b) = cc in sym (ap (λ (x : JudgedRow). x.1) same) ∙ is
     by false is e (suc j) at later = later e j code b at
 
 no_fault : (rows : List DimsRow) (nodes : Nodes) (name : List ℕ) (n : PlainNode) → IsSound rows nodes name → node_named name nodes ≡ Some n → HasNoFault rows (outline_at rows nodes) n
 no_fault rows nodes name n (sound {n = m} is below none) named = let same : m ≡ n = cc in subst (HasNoFault rows (outline_at rows nodes)) same none
 
-no_early_fault : (rows : List DimsRow) (at : List ℕ → Outline) (n : PlainNode) (r : Request) → request_at n ≡ Some r → HasNoFault rows at n → first_row (early_rows rows r (cubes_of rows at r)) ≡ None
+no_early_fault : (rows : List DimsRow) (at : List ℕ → Outline) (n : PlainNode) (r : CubeRequest) → cube_request_at n ≡ Some r → HasNoFault rows at n → first_row (early_rows rows r (cubes_of rows at r)) ≡ None
 no_early_fault rows at n r asks none = by (first_row (early_rows rows r (cubes_of rows at r))) refl
   where
     by : (o : Option Code) → first_row (early_rows rows r (cubes_of rows at r)) ≡ o → o ≡ None
@@ -66,15 +66,15 @@ no_early_fault rows at n r asks none = by (first_row (early_rows rows r (cubes_o
     by (Some code) is = absurd (none code n.id (early asks is))
 
 -- it asks for something
-some_request : (rows : List DimsRow) (at : List ℕ → Outline) (n : PlainNode) → HasNoFault rows at n → (r : Request) × (request_at n ≡ Some r)
-some_request rows at n none = by (request_at n) refl
+some_request : (rows : List DimsRow) (at : List ℕ → Outline) (n : PlainNode) → HasNoFault rows at n → (r : CubeRequest) × (cube_request_at n ≡ Some r)
+some_request rows at n none = by (cube_request_at n) refl
   where
-    by : (o : Option Request) → request_at n ≡ o → (r : Request) × (request_at n ≡ Some r)
+    by : (o : Option CubeRequest) → cube_request_at n ≡ o → (r : CubeRequest) × (cube_request_at n ≡ Some r)
     by None is = absurd (none ProcessParameterInvalid n.id (asks_for_nothing is))
     by (Some r) is = (r, is)
 
 -- which is an operation
-some_operation : (r : Request) (cubes : List Outline) → dimension_not_available r cubes ≡ false → (op : Operation) × (operation_of r cubes ≡ Some op)
+some_operation : (r : CubeRequest) (cubes : List Outline) → dimension_not_available r cubes ≡ false → (op : Operation) × (operation_of r cubes ≡ Some op)
 some_operation (load_collection id box time bands) cubes h = (_, refl)
 some_operation (filter_bbox data_id box) cubes h = (_, refl)
 some_operation (filter_temporal data_id time name) cubes h = (_, refl)
@@ -163,7 +163,7 @@ one_of_two : (number : ℕ) → number < 2 → (number ≡ 0) ⊎ (number ≡ 1)
 one_of_two zero h = inl refl
 one_of_two (suc number) h = inr (omega arith)
 
-taken : (r : Request) (cubes : List Outline) (op : Operation) → loaded_by r ≡ None → operation_of r cubes ≡ Some op → mask_dimensions_differ r cubes ≡ false
+taken : (r : CubeRequest) (cubes : List Outline) (op : Operation) → loaded_by r ≡ None → operation_of r cubes ≡ Some op → mask_dimensions_differ r cubes ≡ false
     → (number : ℕ) → number < length (cube_ids r) → IsTaken op (shapes_of cubes) number
 taken (load_collection id box time bands) cubes op none is fits number below = absurd cc
 taken (filter_bbox data_id box) cubes op none is fits number below = subst (λ o. IsTaken o (shapes_of cubes) number) (same_Some _ _ is) (one_alone number below)
@@ -207,7 +207,7 @@ map_length f [] = refl
 map_length f (x ∷ xs) = ap suc (map_length f xs)
 
 -- what a request works on that loads no collection
-no_load : {A : Type 0} (collection at : List ℕ → A) (r : Request) → loaded_by r ≡ None → inputs_of collection at r ≡ map at (cube_ids r)
+no_load : {A : Type 0} (collection at : List ℕ → A) (r : CubeRequest) → loaded_by r ≡ None → request_inputs collection at r ≡ map at (cube_ids r)
 no_load collection at (load_collection id box time bands) none = absurd cc
 no_load collection at (filter_bbox data_id box) none = refl
 no_load collection at (filter_temporal data_id time name) none = refl
@@ -233,10 +233,10 @@ module _ (c : CheckedGraph) (f : AreFaultless c) (index : ℕ) (below : index < 
   abbrev at : List ℕ → Outline
   at = outline_at c.rows c.nodes
 
-  refers_to : (r : Request) → request_at there.node ≡ Some r → references_named there.node.arguments ≡ cube_ids r
+  refers_to : (r : CubeRequest) → cube_request_at there.node ≡ Some r → references_named there.node.arguments ≡ cube_ids r
   refers_to r asks = refer c.nodes f.resolved there.node (contains_node c.nodes index there.node there.is_there) r asks
 
-  arguments_are : (r : Request) → request_at there.node ≡ Some r → arguments_of_node c index ≡ map (index_referred c.nodes) (cube_ids r)
+  arguments_are : (r : CubeRequest) → cube_request_at there.node ≡ Some r → arguments_of_node c index ≡ map (index_referred c.nodes) (cube_ids r)
   arguments_are r asks = links_arguments c.nodes index there.node there.is_there ∙ ap (map (index_referred c.nodes)) (refers_to r asks)
 
   -- each is a node
@@ -272,13 +272,13 @@ module _ (c : CheckedGraph) (f : AreFaultless c) (index : ℕ) (below : index < 
     no_collection None e = refl
     no_collection (Some id) e = absurd (true≢false e)
 
-    loads_none : (r : Request) → request_at there.node ≡ Some r → loaded_by r ≡ None
+    loads_none : (r : CubeRequest) → cube_request_at there.node ≡ Some r → loaded_by r ≡ None
     loads_none r asks =
         no_collection (loaded_by r)
-        (ap is_some (sym (ap (option_and_then collection_of) there.is_there ∙ ap (option_and_then loaded_by) asks))
+        (ap is_some (sym (ap (option_and_then loaded_collection) there.is_there ∙ ap (option_and_then loaded_by) asks))
         ∙ (sym (loads_where c f index below) ∙ works))
 
-    module _ (r : Request) (asks : request_at there.node ≡ Some r) (gives : operation_of r (input_outlines c.rows c.nodes r) ≡ Some op) where
+    module _ (r : CubeRequest) (asks : cube_request_at there.node ≡ Some r) (gives : operation_of r (input_outlines c.rows c.nodes r) ≡ Some op) where
       inputs_here : input_outlines c.rows c.nodes r ≡ map (outline_of_node c) (arguments_of_node c index)
       inputs_here =
           no_load (outline_named c.rows) at r (loads_none r asks)
@@ -305,7 +305,7 @@ module _ (c : CheckedGraph) (f : AreFaultless c) (index : ℕ) (below : index < 
       seen_here = record {
         shape_is = ap (λ (o : Outline). o.shape) outline_here ∙ ap (shape_of op) shapes_here;
         inputs_are =
-            ap (λ o. option_map (λ q. shapes_of (input_outlines c.rows c.nodes q)) (option_and_then request_at o)) there.is_there
+            ap (λ o. option_map (λ q. shapes_of (input_outlines c.rows c.nodes q)) (option_and_then cube_request_at o)) there.is_there
             ∙ (ap (option_map (λ q. shapes_of (input_outlines c.rows c.nodes q))) asks ∙ ap Some shapes_here);
         taken_so = λ number under.
             let count : length (arguments_of_node c index) ≡ length (cube_ids r) = ap length (arguments_are r asks) ∙ map_length (index_referred c.nodes) (cube_ids r) in
@@ -314,13 +314,13 @@ module _ (c : CheckedGraph) (f : AreFaultless c) (index : ℕ) (below : index < 
       }
 
     pub seen : IsSeen c index op
-    seen = let r = found _ (request_at there.node) op operation_there in seen_here r.0 r.1 r.2
+    seen = let r = found _ (cube_request_at there.node) op operation_there in seen_here r.0 r.1 r.2
 
   -- a node that loads has no arguments
   pub load_alone : order.is_load (links_of c.nodes) index ≡ true → (n : ℕ) → Contains (arguments_of_node c index) n → ⊥
   load_alone loads n has = alone (collection_of_node c index) refl
     where
-      no_ids : (r : Request) (id : List ℕ) → loaded_by r ≡ Some id → Contains (map (index_referred c.nodes) (cube_ids r)) n → ⊥
+      no_ids : (r : CubeRequest) (id : List ℕ) → loaded_by r ≡ Some id → Contains (map (index_referred c.nodes) (cube_ids r)) n → ⊥
       no_ids (load_collection i box time bands) id e has = let under = has.1 in absurd (omega arith)
       no_ids (filter_bbox data_id box) id e has = absurd cc
       no_ids (filter_temporal data_id time name) id e has = absurd cc
@@ -336,7 +336,7 @@ module _ (c : CheckedGraph) (f : AreFaultless c) (index : ℕ) (below : index < 
       alone : (o : Option (List ℕ)) → collection_of_node c index ≡ o → ⊥
       alone None e = true≢false (sym loads ∙ (loads_where c f index below ∙ ap is_some e))
       alone (Some id) e =
-          let q = found loaded_by (request_at there.node) id (sym (ap (option_and_then collection_of) there.is_there) ∙ e) in
+          let q = found loaded_by (cube_request_at there.node) id (sym (ap (option_and_then loaded_collection) there.is_there) ∙ e) in
           no_ids q.0 id q.2 (subst (λ xs. Contains xs n) (arguments_are q.0 q.1) has)
 
   -- an argument is a node
@@ -358,9 +358,9 @@ module _ (c : CheckedGraph) (f : AreFaultless c) (index : ℕ) (below : index < 
 
 -- whether a node needs the whole side, by its operation
 pub whole_is : (c : CheckedGraph) (node : ℕ) (op : Operation) (along : Kind) → operation_of_node c node ≡ Some op → input_shapes c node ≡ Some (argument_shapes c node)
-    → whole_of_node c node along ≡ Some (is_whole op (argument_shapes c node) along)
+    → whole_of_node c node along ≡ Some (needs_whole op (argument_shapes c node) along)
 whole_is c node op along is inputs =
-    ap (λ o. with_both (λ p s. is_whole p s along) o (input_shapes c node)) is ∙ ap (with_both (λ p s. is_whole p s along) (Some op)) inputs
+    ap (λ o. with_both (λ p s. needs_whole p s along) o (input_shapes c node)) is ∙ ap (with_both (λ p s. needs_whole p s along) (Some op)) inputs
 
 -- the shape of an argument
 pub argument_shape_is : (c : CheckedGraph) (node number argument : ℕ) → slice_get (arguments_of_node c node) number ≡ Some argument

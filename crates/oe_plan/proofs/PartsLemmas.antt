@@ -7,7 +7,7 @@ use Rattle.std.proofs.lemmas.Bool.{and_from}
 use Rattle.std.proofs.lemmas.List.{append-nil}
 use Rattle.oe_dims.specs.Indices.{same_number}
 use Rattle.oe_dims.proofs.IndexLemmas.{same_number_refl, same_number_is}
-use Rattle.oe_shape.specs.Labels.{put_in_order, in_order, new_among, all_in_order, are_among, differ_in}
+use Rattle.oe_shape.specs.Labels.{insert_label, sorted_labels, new_among, all_in_order, are_among, differ_in}
 use Rattle.oe_shape.proofs.OrderedLemmas.{IsOrder, stand_in_order, left_of, right_of}
 use Rattle.oe_plan.proofs.CoreLemmas.{IsPartOf, Follows, whole_part}
 
@@ -138,14 +138,14 @@ module _ (is_before : ℤ → ℤ → Bool) (o : IsOrder is_before) where
       let there : list_any (same_number l) one ≡ true = left_of (list_any (same_number l) one) _ h in
       rw there (none_new one two (right_of (list_any (same_number l) one) _ h))
 
-  put_first : (x : ℤ) (xs : List ℤ) → list_all (is_before x) xs ≡ true → put_in_order is_before x xs ≡ x ∷ xs
+  put_first : (x : ℤ) (xs : List ℤ) → list_all (is_before x) xs ≡ true → insert_label is_before x xs ≡ x ∷ xs
   put_first x [] h = refl
   put_first x (y ∷ xs) h = let first : is_before x y ≡ true = left_of (is_before x y) _ h in rw first refl
 
-  already : (xs : List ℤ) → stand_in_order is_before xs ≡ true → in_order is_before xs ≡ xs
+  already : (xs : List ℤ) → stand_in_order is_before xs ≡ true → sorted_labels is_before xs ≡ xs
   already [] h = refl
   already (x ∷ xs) h =
-      ap (put_in_order is_before x) (already xs (right_of (list_all (is_before x) xs) _ h))
+      ap (insert_label is_before x) (already xs (right_of (list_all (is_before x) xs) _ h))
       ∙ put_first x xs (left_of (list_all (is_before x) xs) _ h)
 
   -- the labels stand in order, where the dimension is there
@@ -170,11 +170,11 @@ module _ (is_before : ℤ → ℤ → Bool) (o : IsOrder is_before) where
   follows_mask (Some one) (Some two) h k has same = subst (λ xs. IsPartOf one xs) (both_same one two h k same) (whole_part one)
 
   merged_same : (one two : List ℤ) → stand_in_order is_before one ≡ true → stand_in_order is_before two ≡ true → differ_in same_number (Some one) (Some two) ≡ false
-      → in_order is_before (one ++ new_among same_number one two) ≡ one
+      → sorted_labels is_before (one ++ new_among same_number one two) ≡ one
   merged_same one two h k same =
       let is : one ≡ two = both_same one two h k same in
       let none : new_among same_number one two ≡ [] = none_new one two (subst (λ xs. are_among same_number xs two ≡ true) (sym is) (among_itself two)) in
-      rw none (ap (in_order is_before) (append-nil one) ∙ already one h)
+      rw none (ap (sorted_labels is_before) (append-nil one) ∙ already one h)
     where
       or_left : (a b : Bool) → a ≡ true → (a || b) ≡ true
       or_left a b e = rw e refl

@@ -21,7 +21,7 @@ use Rattle.oe_ops.specs.Needs.{argument_shape, zero_window}
 use Rattle.oe_shape.specs.Checked.{AreFaultless, CheckedGraph, operation_of_node}
 use Rattle.oe_shape.specs.Links.{links_of}
 use Rattle.oe_shape.specs.Operations.{Operation, no_dimensions}
-use Rattle.oe_shape.specs.Reach.{halo_of, halo_of_node, is_whole, whole_of_node}
+use Rattle.oe_shape.specs.Reach.{halo_of, halo_of_node, needs_whole, whole_of_node}
 use Rattle.oe_shape.proofs.OrderedLemmas.{first_not, second_not}
 use Rattle.oe_shape.proofs.ValidLemmas.{no_dimensions_is_shape}
 use Rattle.oe_window.specs.Chunks.{FitsSides, tiling_of}
@@ -194,7 +194,7 @@ module _ (c : CheckedGraph) (f : AreFaultless c) (listing : IsListing (links_of 
         }
 
     module _ (along : Kind) (cut : is_whole_along c along ≡ false) where
-      not_whole : (a : ℕ) → InRun a → (op : Operation) → operation_of_node c a ≡ Some op → IsSeen c a op → is_whole op (argument_shapes c a) along ≡ false
+      not_whole : (a : ℕ) → InRun a → (op : Operation) → operation_of_node c a ≡ Some op → IsSeen c a op → needs_whole op (argument_shapes c a) along ≡ false
       not_whole a run op is s =
           let at = step_of_node a run in
           let none : unwrap_or (whole_of_node c (node_at at.0) along) false ≡ false = none_at (λ n. unwrap_or (whole_of_node c n along) false) (steps_of c) at.0 cut at.1 in

@@ -69,8 +69,8 @@ abbrev pub bound_of : CheckedGraph → ChunkSize → ℕ → ℕ
 bound_of c size workers = 2 * workers * (width_of_run c * largest_window c size + scratch_of c)
 
 -- the most cells that a plan may hold at once
-abbrev pub most_cells : ℕ
-most_cells = 67108864
+abbrev pub most_held_cells : ℕ
+most_held_cells = 67108864
 
 -- how many chunks the result has
 abbrev pub chunks_of : CheckedGraph → ChunkSize → ℕ

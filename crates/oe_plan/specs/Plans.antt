@@ -8,7 +8,7 @@ use Rattle.oe_shape.specs.Checked.{AreFaultless, CheckedGraph}
 use Rattle.oe_shape.specs.Links.{links_of}
 use Rattle.oe_window.specs.Chunks.{Tiling, tiling_of}
 use Rattle.oe_window.specs.declared.grid.ChunkSize.{ChunkSize}
-use Rattle.oe_plan.specs.Figures.{bound_of, largest_window, most_cells, scratch_of, shape_of_node, steps_of, width_of_run}
+use Rattle.oe_plan.specs.Figures.{bound_of, largest_window, most_held_cells, scratch_of, shape_of_node, steps_of, width_of_run}
 use Rattle.oe_plan.specs.Ranges.{IsWithinRanges}
 
 -- the graph, the sides of the chunks, the number of workers, and the order of the run with the slots of its nodes
@@ -28,7 +28,7 @@ pub record IsPlan (p : PlanOf) : Type 0 where
   pub evaluation : IsEvaluationOrder (links_of p.graph.nodes) p.graph.result p.order.steps
   pub slotted : IsSlotted (links_of p.graph.nodes) p.graph.result p.order
   pub width_is : p.order.width ≡ width_of_run p.graph
-  pub bounded : bound_of p.graph p.size p.workers ≤ most_cells
+  pub bounded : bound_of p.graph p.size p.workers ≤ most_held_cells
 
 -- how a plan is kept: with the grid of its chunks and the sizes of its buffers
 pub record IsKeptPlan (p : PlanOf) (grid : Tiling) (largest scratch : ℕ) : Type 0 where

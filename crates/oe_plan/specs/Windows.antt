@@ -37,8 +37,8 @@ pub record IsClosed (c : CheckedGraph) (chunk : Window) (boxes : ℕ → Window)
   pub needed : (s number r : ℕ) → Takes c s number r
       → HoldsNeed (NeedsOfNode c (slice_index (steps_of c) s) number) (boxes s) (boxes r)
 
--- The windows of a chunk: the least boxes that are closed. Each lies in the shape of its node, that of the result is the
--- chunk, and none has more indices along a dimension, or more cells, than the plan says of the largest.
+-- The windows of a chunk: the least boxes that are closed. Each lies in the shape of its node, that of the result is
+-- the chunk, and none has more indices along a dimension, or more cells, than the plan says of the largest.
 pub record AreWindows (c : CheckedGraph) (size : ChunkSize) (chunk : Window) (windows : List Window) : Type 0 where
   pub each : length windows ≡ length (steps_of c)
   pub closed : IsClosed c chunk (window_at windows)

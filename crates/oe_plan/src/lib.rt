@@ -1,11 +1,11 @@
 //! Plans of runs: the order in which the nodes of a checked graph are worked off, the windows that each chunk of the
 //! result needs of them, and the most cells that a run holds at once.
 //!
-//! [`figures`] tells how many cells a run would hold and in how many chunks it goes. [`Plan::new`] refuses a graph whose
-//! run would hold too many, and else keeps what a run asks for again and again: the node and the slot of each step, the
-//! steps that it takes, and the chunks. [`Plan::windows_of`] finds the windows of all steps for a chunk. The layers above
-//! use that the plan is that of the definitions, that its buffers have at most as many cells as its bound, and that each
-//! window is the least that has what later steps need and fits its buffer.
+//! [`figures`] tells how many cells a run would hold and in how many chunks it goes. [`Plan::new`] refuses a graph
+//! whose run would hold too many, and else keeps what a run asks for again and again: the node and the slot of each
+//! step, the steps that it takes, and the chunks. [`Plan::windows_of`] finds the windows of all steps for a chunk. The
+//! layers above use that the plan is that of the definitions, that its buffers have at most as many cells as its bound,
+//! and that each window is the least that has what later steps need and fits its buffer.
 #![tactic(auto)]
 
 mod bound;

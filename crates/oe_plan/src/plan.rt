@@ -89,7 +89,7 @@ impl Plan {
         // That it is a plan has that it is not too large.
         ensures valid { IfOk result (λ p. IsPlan p) }
         ensures too_large { (cells : ℕ) → IsErrOf result (PlanFail.TooLarge cells)
-            → (cells ≡ spec.bound_of checked size workers) × (spec.most_cells < cells) }
+            → (cells ≡ spec.bound_of checked size workers) × (spec.most_held_cells < cells) }
     {
         let order = order_of(alloc, &checked)?;
         let sizes = sizes_of(&checked, order.steps(), size);

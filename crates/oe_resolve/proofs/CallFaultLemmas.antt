@@ -8,7 +8,7 @@ use Rattle.oe_graph.specs.References.{each_node}
 use Rattle.oe_graph.specs.Tree.{Argument, null, flag, whole, inexact, text, list, object, from_node, from_parameter, callback, ListValues, no_arguments, argument, Named, no_named, named, Nodes, no_nodes, node, PlainNode, PlainStored}
 use Rattle.oe_order.specs.Graph as order
 use Rattle.oe_resolve.specs.Calls as calls
-use Rattle.oe_resolve.specs.Calls.{callee, means_stored, may_stand, Brings, Calls, CallsReach, HoldsNode, Reaches}
+use Rattle.oe_resolve.specs.Calls.{callee, means_stored, may_stand, Brings, Calls, CallsReach, HoldsNode, ReachesProcess}
 use Rattle.oe_resolve.specs.Reached.{held_nodes, held_named, held_in, held_each, held_by, support_nodes, support_named, supports, support_each, supports_node, index_at, back_from, IsIndexOf, IsCalledBehind, IsCallGraph, IsReached, AreReached, AnyRecurs, IsUnsupported, IsRecursive}
 use Rattle.oe_graph.specs.Valid.{AreValidStored}
 use Rattle.oe_resolve.proofs.Along.{first_there, later_there, none_there, there_cases}

@@ -14,7 +14,7 @@ use Rattle.oe_graph.proofs.LeastLemmas.{IsLeastOf, IsLeastOf-iff, IsLeastOf-leas
 use Rattle.oe_resolve.specs.Called.{nodes_call}
 use Rattle.oe_resolve.specs.Calls.{callee}
 use Rattle.oe_resolve.specs.Expansion.{IsNameFault, IsExpansion, IsEarly, IsSettled}
-use Rattle.oe_resolve.specs.Faults.{Stands}
+use Rattle.oe_resolve.specs.Faults.{StandsWithStored}
 use Rattle.oe_resolve.specs.Judged as judged
 use Rattle.oe_resolve.specs.Judged.{IdsRise, IsInside, HasFault, OfItself, OfObject}
 use Rattle.oe_resolve.specs.Rounds.{round, expanded_by, expanded, known_stored, known_graph}

@@ -13,8 +13,8 @@ use Rattle.oe_graph.specs.Printed.{ids_of, node_count}
 use Rattle.oe_graph.specs.Resolved.{IsResolved, most_nodes}
 use Rattle.oe_graph.specs.Tree.{Nodes, no_nodes, PlainGraph, PlainNode, PlainStored}
 use Rattle.oe_graph.specs.declared.code.Code.{Code}
-use Rattle.oe_resolve.specs.Calls.{means_stored, stored_named, callee, may_stand, HoldsNode, itself, by_callback, Calls, Reaches, calls, onwards, CallsReach, directly, Brings, by_call}
-use Rattle.oe_resolve.specs.Faults.{Stands, process_unsupported, process_recursive, graph_too_large, callback_too_large, most_main_nodes, most_callback_nodes}
+use Rattle.oe_resolve.specs.Calls.{means_stored, stored_named, callee, may_stand, HoldsNode, itself, by_callback, Calls, ReachesProcess, calls, onwards, CallsReach, directly, Brings, by_call}
+use Rattle.oe_resolve.specs.Faults.{StandsWithStored, process_unsupported, process_recursive, graph_too_large, callback_too_large, most_main_nodes, most_callback_nodes}
 use Rattle.oe_resolve.specs.Filled.{resolved}
 use Rattle.oe_resolve.specs.Rounds as rounds
 use Rattle.oe_resolve.specs.Rounds.{known_stored, known_graph, expanded_by, expanded}
@@ -249,8 +249,8 @@ module _ (stored : List PlainStored) (g : PlainGraph) where
 
 -- ---- no chain is longer than there are stored processes
 
-reaches_on : (stored : List PlainStored) (u s t : PlainStored) (n : PlainNode) → Reaches stored u s
-    → Contains (each_node s.graph.nodes) n → Calls stored n t → Reaches stored u t
+reaches_on : (stored : List PlainStored) (u s t : PlainStored) (n : PlainNode) → ReachesProcess stored u s
+    → Contains (each_node s.graph.nodes) n → Calls stored n t → ReachesProcess stored u t
 reaches_on stored u s t n (calls has_first one) has call = onwards has_first one (calls has call)
 reaches_on stored u s t n (onwards {t = v} has_first one rest) has call =
     onwards has_first one (reaches_on stored v s t n rest has call)
@@ -284,7 +284,7 @@ length-ids [] = refl
 length-ids (u ∷ us) = ap suc (length-ids us)
 
 module _ (stored : List PlainStored) (g : PlainGraph) (stored_valid : AreValidStored stored)
-    (faultless : (code : Code) (node : List ℕ) → ¬ Stands stored g code node) where
+    (faultless : (code : Code) (node : List ℕ) → ¬ StandsWithStored stored g code node) where
   at_index : (i j : ℕ) (u t : PlainStored) → slice_get stored i ≡ Some u → slice_get stored j ≡ Some t → u.id ≡ t.id → u ≡ t
   at_index i j u t is_u is_t same_id =
       elim (cases_lt i j) as (λ _. u ≡ t) [
@@ -330,18 +330,18 @@ module _ (stored : List PlainStored) (g : PlainGraph) (stored_valid : AreValidSt
       ]
 
   along_reaches : (count : ℕ) (s : PlainStored) (chain : Chained stored g count s) (u : PlainStored)
-      → Contains (along count s chain) u → (u ≡ s) ⊎ Reaches stored u s
+      → Contains (along count s chain) u → (u ≡ s) ⊎ ReachesProcess stored u s
   unfolding along
   along_reaches count s (first has call) u is =
-      elim (in_cons s [] u is) as (λ _. (u ≡ s) ⊎ Reaches stored u s) [
+      elim (in_cons s [] u is) as (λ _. (u ≡ s) ⊎ ReachesProcess stored u s) [
         | inl one ↦ inl (sym one)
         | inr there ↦ absurd (in_none u there)
       ]
   along_reaches count s (next {count = k} {n = n} {s = v} chain has call) u is =
-      elim (in_cons s (along k v chain) u is) as (λ _. (u ≡ s) ⊎ Reaches stored u s) [
+      elim (in_cons s (along k v chain) u is) as (λ _. (u ≡ s) ⊎ ReachesProcess stored u s) [
         | inl one ↦ inl (sym one)
-        | inr there ↦ elim (along_reaches k v chain u there) as (λ _. (u ≡ s) ⊎ Reaches stored u s) [
-          | inl last ↦ inr (subst (λ x. Reaches stored x s) (sym last) (calls has call))
+        | inr there ↦ elim (along_reaches k v chain u there) as (λ _. (u ≡ s) ⊎ ReachesProcess stored u s) [
+          | inl last ↦ inr (subst (λ x. ReachesProcess stored x s) (sym last) (calls has call))
           | inr reaches ↦ inr (reaches_on stored u v s n reaches has call)
         ]
       ]
@@ -353,7 +353,7 @@ module _ (stored : List PlainStored) (g : PlainGraph) (stored_valid : AreValidSt
       let start = begins k v chain in
       (start.0, start.1, calls_reach_on stored start.0 v s n start.2 has call)
 
-  not_itself : (count : ℕ) (s : PlainStored) → Chained stored g count s → Reaches stored s s → ⊥
+  not_itself : (count : ℕ) (s : PlainStored) → Chained stored g count s → ReachesProcess stored s s → ⊥
   not_itself count s chain reaches =
       let start = begins count s chain in
       faultless _ _ (process_recursive start.1 start.2 reaches)
@@ -363,12 +363,12 @@ module _ (stored : List PlainStored) (g : PlainGraph) (stored_valid : AreValidSt
       → Calls stored n s → (u : PlainStored) → Contains (along k v chain) u → u.id ≡ s.id → ⊥
   new_one k v s n chain has call u there same_id =
       let one : u ≡ s = one_of_id u s (along_stored k v chain u there) (called_stored n s call) same_id in
-      let reaches : Reaches stored u s =
-      elim (along_reaches k v chain u there) as (λ _. Reaches stored u s) [
-        | inl last ↦ subst (λ x. Reaches stored x s) (sym last) (calls has call)
+      let reaches : ReachesProcess stored u s =
+      elim (along_reaches k v chain u there) as (λ _. ReachesProcess stored u s) [
+        | inl last ↦ subst (λ x. ReachesProcess stored x s) (sym last) (calls has call)
         | inr reaches ↦ reaches_on stored u v s n reaches has call
       ] in
-      not_itself (suc k) s (next chain has call) (subst (λ x. Reaches stored x s) one reaches)
+      not_itself (suc k) s (next chain has call) (subst (λ x. ReachesProcess stored x s) one reaches)
 
   differs_by : (a b : List ℕ) (is_same : Bool) → same_name a b ≡ is_same → (b ≡ a → ⊥) → is_same ≡ false
   differs_by a b true is differ = absurd (differ (same_name_is a b is))

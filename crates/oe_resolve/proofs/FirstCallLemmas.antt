@@ -16,7 +16,7 @@ use Rattle.oe_graph.specs.declared.fault.Fault.{Fault}
 use Rattle.oe_graph.specs.declared.tree.Node.{Node}
 use Rattle.oe_graph.proofs.LeastLemmas.{IsLeastOf, IsLeastOf-iff, before_not_after, not_before_itself}
 use Rattle.oe_resolve.specs.Faults as faults
-use Rattle.oe_resolve.specs.Faults.{Stands}
+use Rattle.oe_resolve.specs.Faults.{StandsWithStored}
 use Rattle.oe_resolve.specs.Judged.{IsLeastFault}
 use Rattle.oe_resolve.specs.Reached.{IsCallFault, IsCodeOf, unsupported, recursive, faultless, IsUnsupported, IsRecursive}
 use Rattle.oe_resolve.proofs.Along.{first_there, later_there, none_there, there_cases, map_there}
@@ -116,7 +116,7 @@ module _ (stored : List PlainStored) where
   )
 
   module _ (g : PlainGraph) where
-    call_of : (code : Code) (at : List ℕ) → Stands stored g code at → phase_of code ≡ 2
+    call_of : (code : Code) (at : List ℕ) → StandsWithStored stored g code at → phase_of code ≡ 2
         → OfCalls (each_node g.nodes) (record { code = code; node = at })
     call_of code at (faults.process_unsupported {n = n} {m = m} {in_callback = b} has brings stands) phase = record {
       node = n;
@@ -138,14 +138,14 @@ module _ (stored : List PlainStored) where
     call_of code at (faults.node_unknown times few h there absent) phase = absurd (omega arith)
     call_of code at (faults.graph_cycle h leads) phase = absurd (omega arith)
 
-    stands_by : (n : PlainNode) (code : Code) → Contains (each_node g.nodes) n → HasCode n code → Stands stored g code n.id
+    stands_by : (n : PlainNode) (code : Code) → Contains (each_node g.nodes) n → HasCode n code → StandsWithStored stored g code n.id
     stands_by n code is_node (is_unsupported u) = faults.process_unsupported is_node u.brings u.stands_not
     stands_by n code is_node (is_recursive r) = faults.process_recursive is_node r.calls_reach r.recurs
 
     fault_of : (f : Fault) → OfCalls (each_node g.nodes) f → IsCallFault stored g f
     fault_of f c = (
       phase_two c.node f.code c.has,
-      subst (λ xs. Stands stored g f.code xs) (sym c.at) (stands_by c.node f.code c.is_node c.has),
+      subst (λ xs. StandsWithStored stored g f.code xs) (sym c.at) (stands_by c.node f.code c.is_node c.has),
     )
 
     pub call_least : (o : Option Fault) → IsLeastOf (OfCalls (each_node g.nodes)) o → IsLeastFault (IsCallFault stored g) o

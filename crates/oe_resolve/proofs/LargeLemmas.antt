@@ -10,7 +10,7 @@ use Rattle.oe_graph.specs.declared.code.Code.TheVariants.{GraphTooLarge}
 use Rattle.oe_resolve.specs.Calls as calls
 use Rattle.oe_resolve.specs.Counted.{total, size_by, fit_nodes}
 use Rattle.oe_resolve.specs.Faults as faults
-use Rattle.oe_resolve.specs.Faults.{Stands}
+use Rattle.oe_resolve.specs.Faults.{StandsWithStored}
 use Rattle.oe_resolve.specs.Reached.{index_at, IsReached}
 use Rattle.oe_resolve.specs.Rounds.{expanded}
 use Rattle.oe_resolve.proofs.Along.{none_there}
@@ -31,10 +31,10 @@ module _ (stored : List PlainStored) (g : PlainGraph) where
       let larger : 64 < total stored size h.nodes = omega (arith, more, expanded_count stored h) in
       true≢false (sym fits ∙ lt-leb (total stored size h.nodes) 64 larger)
 
-  pub main_large : 256 < total stored size g.nodes → Stands stored g GraphTooLarge []
+  pub main_large : 256 < total stored size g.nodes → StandsWithStored stored g GraphTooLarge []
   main_large larger = faults.graph_too_large (omega (arith, larger, expanded_count stored g))
 
-  pub written_large : fit_nodes stored size g.nodes ≡ false → Stands stored g GraphTooLarge []
+  pub written_large : fit_nodes stored size g.nodes ≡ false → StandsWithStored stored g GraphTooLarge []
   written_large fits_not =
       let t = nodes_large stored size false g.nodes fits_not in
       elim t.has [
@@ -45,7 +45,7 @@ module _ (stored : List PlainStored) (g : PlainGraph) where
       ]
 
   pub reached_large : (n : PlainNode) (k : ℕ) → Contains (each_node g.nodes) n → (r : IsReached stored n k)
-      → fit_nodes stored size r.called.graph.nodes ≡ false → Stands stored g GraphTooLarge []
+      → fit_nodes stored size r.called.graph.nodes ≡ false → StandsWithStored stored g GraphTooLarge []
   reached_large n k is_node r fits_not =
       let t = nodes_large stored size r.in_callback r.called.graph.nodes fits_not in
       elim t.has [
@@ -59,7 +59,7 @@ module _ (stored : List PlainStored) (g : PlainGraph) where
   module _ (main : total stored size g.nodes ≤ 256) (written : fit_nodes stored size g.nodes ≡ true)
       (reached : (n : PlainNode) (k : ℕ) → Contains (each_node g.nodes) n → (r : IsReached stored n k)
       → fit_nodes stored size r.called.graph.nodes ≡ true) where
-    none_by : (code : Code) (at : List ℕ) → Stands stored g code at → phase_of code ≡ 3 → ⊥
+    none_by : (code : Code) (at : List ℕ) → StandsWithStored stored g code at → phase_of code ≡ 3 → ⊥
     none_by code at (faults.process_unsupported has brings stands) phase = absurd (omega arith)
     none_by code at (faults.process_recursive has reach reaches) phase = absurd (omega arith)
     none_by code at (faults.graph_too_large more) phase = absurd (omega (arith, more, main, expanded_count stored g))
@@ -87,5 +87,5 @@ module _ (stored : List PlainStored) (g : PlainGraph) where
     none_by code at (faults.node_unknown times few h there absent) phase = absurd (omega arith)
     none_by code at (faults.graph_cycle h leads) phase = absurd (omega arith)
 
-    pub none_large : ¬ Stands stored g GraphTooLarge []
+    pub none_large : ¬ StandsWithStored stored g GraphTooLarge []
     none_large stands = none_by GraphTooLarge [] stands refl

@@ -14,7 +14,7 @@ use Rattle.oe_graph.specs.Tree.{Argument, null, flag, whole, inexact, text, list
 use Rattle.oe_resolve.specs.Calls.{means_stored, stored_named, callee, callback_parameters, HoldsNode, by_callback}
 use Rattle.oe_resolve.specs.Calls as calls
 use Rattle.oe_resolve.specs.Replaced as replaced
-use Rattle.oe_resolve.specs.Replaced.{default_of, value_before, values_given, carried, carried_each, carried_named, without}
+use Rattle.oe_resolve.specs.Replaced.{default_of, value_before, values_given, carried, carried_each, carried_named, without_names}
 use Rattle.oe_resolve.specs.Rounds as rounds
 use Rattle.oe_resolve.specs.Rounds.{known, known_each, known_named, known_nodes, known_graph, known_stored, under, under_each, under_named, under_nodes, under_id, put_node, put_nodes, id_at, index_of, landed, opened, round, expanded_by, expanded}
 use Rattle.oe_graph.specs.Valid.{is_valid, are_valid, are_valid_named, are_valid_nodes, IsValidGraph, is_plain, are_plain, are_plain_named, IsValidStored, AreValidStored}
@@ -266,10 +266,10 @@ module _ (Holding : Bool → Option (List ℕ) → List ℕ → Type 0) (Forming
   without_if true k a rest is later = later
   without_if false k a rest is later = (is, later)
 
-  without_ordered : (names : List (List ℕ)) (ms : Named) → OrderedNamed ms → OrderedNamed (without names ms)
+  without_ordered : (names : List (List ℕ)) (ms : Named) → OrderedNamed ms → OrderedNamed (without_names names ms)
   without_ordered names no_named is = tt
   without_ordered names (named k a rest) is =
-      without_if (list_any (same_name k) names) k a (without names rest) is.0 (without_ordered names rest is.1)
+      without_if (list_any (same_name k) names) k a (without_names names rest) is.0 (without_ordered names rest is.1)
 
   -- replaced parameters
   value_if : (same : Bool) (a b : Argument) (found : Option Argument) → Ordered a
@@ -306,7 +306,7 @@ module _ (Holding : Bool → Option (List ℕ) → List ℕ → Type 0) (Forming
             same_order ns (replaced.replaced_nodes stored seen ns) result (replaced_ids stored seen ns) (replaced_count stored seen ns) is.0.0,
             subst Forming (sym (places_of-replaced stored seen ns)) is.0.1,
           ),
-          replaced_ordered_nodes true stored seen ns (carried_ordered_named (without own values) (without_ordered own values v)) is.1,
+          replaced_ordered_nodes true stored seen ns (carried_ordered_named (without_names own values) (without_ordered own values v)) is.1,
         )
 
     replaced_ordered_each : (stored : List PlainStored) (own : List (List ℕ)) (values : Named) (rest : ListValues)

@@ -6,7 +6,7 @@ use Rattle.oe_graph.specs.Tree.{PlainNode, PlainStored}
 use Rattle.oe_order.specs.Graph as order
 use Rattle.oe_order.specs.Graph.{arguments, RefersWithin}
 use Rattle.oe_resolve.specs.Calls as calls
-use Rattle.oe_resolve.specs.Calls.{callee, Brings, Calls, CallsReach, HoldsNode, Reaches}
+use Rattle.oe_resolve.specs.Calls.{callee, Brings, Calls, CallsReach, HoldsNode, ReachesProcess}
 use Rattle.oe_resolve.specs.Reached.{held_nodes, held_named, held_by, index_at, back_from, IsIndexOf, IsCalledBehind, IsCallGraph, IsReached, AreReached, AnyRecurs, IsRecursive}
 use Rattle.oe_graph.specs.Valid.{AreValidStored}
 use Rattle.oe_resolve.proofs.Along.{first_there, later_there, none_there}
@@ -48,7 +48,7 @@ module _ (stored : List PlainStored) where
 
   -- a node that is called from a node of a stored process
   pub from_process : (s t : PlainStored) (k : PlainNode) → Contains (each_node s.graph.nodes) k → CallsReach stored k t
-      → Reaches stored s t
+      → ReachesProcess stored s t
   from_process s t k is_node (calls.directly c) = calls.calls is_node c
   from_process s t k is_node (calls.onwards c r) = calls.onwards is_node c r
 
@@ -98,7 +98,7 @@ module _ (stored : List PlainStored) where
 
   -- what reaches is brought by a node of the process
   reaches_brought : (a : Bool) (n m : PlainNode) (b : Bool) {s t : PlainStored} → Brings stored a n b m
-      → callee stored m.namespace m.process_id ≡ Some s → Reaches stored s t → Brought a n t
+      → callee stored m.namespace m.process_id ≡ Some s → ReachesProcess stored s t → Brought a n t
   reaches_brought a n m b {s} {t} brings is (calls.calls {n = k} is_node c) = through brings is is_node (calls_brought b k t c)
   reaches_brought a n m b {s} {t} brings is (calls.onwards {t = u} {n = k} is_node c r) =
       let first = through brings is is_node (calls_brought b k u c) in
@@ -151,7 +151,7 @@ module _ (stored : List PlainStored) where
     record Reaching (s : PlainStored) (index : ℕ) : Type 0 where
       pub process : PlainStored
       pub has_index : IsIndexOf stored process true index
-      pub reaches : Reaches stored s process
+      pub reaches : ReachesProcess stored s process
 
     refers_reaches : (s : PlainStored) (i j : ℕ) → IsIndexOf stored s true i → Contains (arguments links i) j → Reaching s j
     refers_reaches s i j at has =
@@ -166,7 +166,7 @@ module _ (stored : List PlainStored) where
               }
         ]
 
-    reaches_on : {s t u : PlainStored} → Reaches stored s t → Reaches stored t u → Reaches stored s u
+    reaches_on : {s t u : PlainStored} → ReachesProcess stored s t → ReachesProcess stored t u → ReachesProcess stored s u
     reaches_on (calls.calls is_node c) r = calls.onwards is_node c r
     reaches_on (calls.onwards is_node c q) r = calls.onwards is_node c (reaches_on q r)
 
@@ -195,7 +195,7 @@ module _ (stored : List PlainStored) where
         record {
           reached = r.called;
           calls_reach = brings_calls r.brings r.calls;
-          recurs = subst (λ (t : PlainStored). Reaches stored r.called t)
+          recurs = subst (λ (t : PlainStored). ReachesProcess stored r.called t)
               (sym (same_process r.called back.process i at back.has_index)) back.reaches;
         }
 
@@ -215,7 +215,7 @@ module _ (stored : List PlainStored) where
           (nodes_have true s.graph.nodes k (true, c.caller) is_node held) c.calls in
           (one.index, subst (λ m. Contains (arguments links m) one.index) (sym at.is) one.has, one.is)
 
-      to_index : (s t : PlainStored) (i : ℕ) → IsIndexOf stored s true i → Reaches stored s t
+      to_index : (s t : PlainStored) (i : ℕ) → IsIndexOf stored s true i → ReachesProcess stored s t
           → (j : ℕ) × (order.Reaches links i j) × IsIndexOf stored t true j
       to_index s t i at (calls.calls {n = k} is_node c) =
           let one = index_of_call s t k i at is_node c in (one.0, order.refers one.1, one.2)

@@ -18,7 +18,7 @@ use Rattle.oe_graph.specs.Tree.{Argument, null, flag, whole, inexact, text, list
 use Rattle.oe_graph.specs.declared.code.Code.{Code}
 use Rattle.oe_resolve.specs.Calls.{callee, means_catalogue, row_meant, may_stand, parameters_of}
 use Rattle.oe_resolve.specs.Faults as faults
-use Rattle.oe_resolve.specs.Faults.{each_argument, HasNode, names_among, Stands, argument_unknown, process_parameter_missing, parameter_unknown, node_unknown, graph_cycle}
+use Rattle.oe_resolve.specs.Faults.{each_argument, HasNode, names_among, StandsWithStored, argument_unknown, process_parameter_missing, parameter_unknown, node_unknown, graph_cycle}
 use Rattle.oe_resolve.specs.Filled.{parameters_named, filled, filled_each, filled_named, filled_nodes, filled_node, filled_graph, put_defaults, resolved}
 use Rattle.oe_resolve.specs.Rounds.{expanded}
 use Rattle.oe_resolve.proofs.FilledLemmas.{in_cons, in_none, in_first, in_rest, the_names, references-defaults, parameters-defaults, callbacks-defaults, names-defaults, names-kept, names-given, names_rise-defaults}
@@ -316,7 +316,7 @@ names_map : (ps : List Parameter) → names_among (map plain_parameter ps) ≡ t
 names_map [] = refl
 names_map (p ∷ ps) = ap (λ xs. p.name ∷ xs) (names_map ps)
 
-module _ (stored : List PlainStored) (g : PlainGraph) (faultless : (code : Code) (node : List ℕ) → ¬ Stands stored g code node)
+module _ (stored : List PlainStored) (g : PlainGraph) (faultless : (code : Code) (node : List ℕ) → ¬ StandsWithStored stored g code node)
     (in_callback : Bool) (scope : List (List ℕ)) (nodes : Nodes) (result : ℕ)
     (within : IsScopedWithin in_callback scope nodes result false [] (expanded stored g).nodes (expanded stored g).result) where
   abbrev named_object : HasName scope nodes [] [] (expanded stored g).nodes
@@ -450,7 +450,7 @@ module _ (stored : List PlainStored) (g : PlainGraph) (faultless : (code : Code)
 
 -- the graph that a graph without a fault resolves to
 pub resolved-is : (stored : List PlainStored) (g : PlainGraph)
-    → ((code : Code) (node : List ℕ) → ¬ Stands stored g code node)
+    → ((code : Code) (node : List ℕ) → ¬ StandsWithStored stored g code node)
     → EachObject (λ in_callback nodes result. IsOrderedObject nodes result) (expanded stored g)
     → EachObject (λ in_callback nodes result. node_count nodes ≤ most_nodes in_callback) (expanded stored g)
     → EachObject (StandInCatalogue stored) (expanded stored g)

@@ -8,7 +8,7 @@ use Rattle.oe_graph.specs.References.{each_node}
 use Rattle.oe_graph.specs.Tree.{Argument, null, flag, whole, inexact, text, list, object, from_node, from_parameter, callback, ListValues, no_arguments, argument, Named, no_named, named, Nodes, no_nodes, node, PlainGraph, PlainNode, PlainStored}
 use Rattle.oe_resolve.specs.Called.{nodes_call, named_call, calls, each_call}
 use Rattle.oe_resolve.specs.Calls.{callee}
-use Rattle.oe_resolve.specs.Rounds.{put_node, put_nodes, opened, round_nodes, round_named, round_argument, round_each, round, landed, landing, id_at, index_of, with_result, graph_with_result}
+use Rattle.oe_resolve.specs.Rounds.{put_node, put_nodes, opened, round_nodes, round_named, round_argument, round_each, round, landed, landing, id_at, index_of, callback_with_result, graph_with_result}
 use Rattle.oe_resolve.proofs.Along.{first_there, later_there, none_there, there_cases}
 use Rattle.oe_resolve.proofs.CycleLemmas.{rises_before, tail_rises, not_before_itself}
 use Rattle.oe_resolve.proofs.PlaceLemmas.{Place}
@@ -163,8 +163,8 @@ module _ (called stored : List PlainStored)
     same_argument all (from_node id) each is order = ap from_node (landed_same all id each)
     same_argument all (from_parameter name) each is order = refl
     same_argument all (callback ns result) each is order =
-        ap (λ id. with_result id (round_nodes stored ns ns no_nodes)) (landed_same ns (id_at ns result) (no_calls ns is))
-        ∙ ap (with_result (id_at ns result))
+        ap (λ id. callback_with_result id (round_nodes stored ns ns no_nodes)) (landed_same ns (id_at ns result) (no_calls ns is))
+        ∙ ap (callback_with_result (id_at ns result))
         (same_nodes true ns ns no_nodes (no_calls ns is) is order.1 order.0.0.rise (λ a b has there. absurd (none_there a has))
         ∙ joined_first ns)
         ∙ ap (callback ns) (index_same ns result order.0.0.rise order.0.0.has_result)

@@ -7,7 +7,7 @@ use Rattle.oe_graph.specs.Tree.{Nodes, PlainGraph, PlainNode, PlainStored}
 use Rattle.oe_graph.specs.declared.code.Code.{Code}
 use Rattle.oe_graph.specs.declared.fault.Fault.{Fault}
 use Rattle.oe_resolve.specs.Faults as faults
-use Rattle.oe_resolve.specs.Faults.{IsWithin, HasNode, Stands}
+use Rattle.oe_resolve.specs.Faults.{IsWithin, HasNode, StandsWithStored}
 use Rattle.oe_resolve.specs.Judged as judged
 use Rattle.oe_resolve.specs.Judged.{HasFault, OfObject}
 use Rattle.oe_resolve.specs.Rounds.{expanded_by, expanded}
@@ -65,7 +65,7 @@ module _ (stored : List PlainStored) (g : PlainGraph) where
   -- ---- what is found stands
 
   early : (times : ℕ) (code : Code) (at : List ℕ) (n : PlainNode) → times ≤ length stored
-      → (h : HasNode (expanded_by times stored g) n at) → HasFault stored false h.scope h.object n code → Stands stored g code at
+      → (h : HasNode (expanded_by times stored g) n at) → HasFault stored false h.scope h.object n code → StandsWithStored stored g code at
   early times code at n few h (judged.argument_unknown same there absent) = faults.argument_unknown times few h same there absent
   early times code at n few h (judged.process_parameter_missing same there default optional absent) =
       faults.process_parameter_missing times few h same there default optional absent
@@ -74,7 +74,7 @@ module _ (stored : List PlainStored) (g : PlainGraph) where
   early times code at n few h (judged.graph_cycle is leads) = absurd (true≢false (sym is))
 
   late : (code : Code) (at : List ℕ) (n : PlainNode)
-      → (h : HasNode (expanded stored g) n at) → HasFault stored true h.scope h.object n code → Stands stored g code at
+      → (h : HasNode (expanded stored g) n at) → HasFault stored true h.scope h.object n code → StandsWithStored stored g code at
   late code at n h (judged.argument_unknown same there absent) =
       faults.argument_unknown (length stored) (omega arith) h same there absent
   late code at n h (judged.process_parameter_missing same there default optional absent) =
@@ -84,7 +84,7 @@ module _ (stored : List PlainStored) (g : PlainGraph) where
   late code at n h (judged.graph_cycle is leads) = faults.graph_cycle h leads
 
   pub early_stands : (times : ℕ) (f : Fault) → times ≤ length stored
-      → OfObject stored false f [] [] (expanded_by times stored g).nodes → Stands stored g f.code f.node
+      → OfObject stored false f [] [] (expanded_by times stored g).nodes → StandsWithStored stored g f.code f.node
   early_stands times f few of =
       let r = found_of stored false f [] [] (expanded_by times stored g).nodes of in
       early times f.code f.node r.node few (record {
@@ -96,7 +96,7 @@ module _ (stored : List PlainStored) (g : PlainGraph) where
         is_named = sym r.is_named;
       }) r.has
 
-  pub last_stands : (f : Fault) → OfObject stored true f [] [] (expanded stored g).nodes → Stands stored g f.code f.node
+  pub last_stands : (f : Fault) → OfObject stored true f [] [] (expanded stored g).nodes → StandsWithStored stored g f.code f.node
   last_stands f of =
       let r = found_of stored true f [] [] (expanded stored g).nodes of in
       late f.code f.node r.node (record {
@@ -115,7 +115,7 @@ module _ (stored : List PlainStored) (g : PlainGraph) where
     earlier : (times : ℕ) → times ≤ length stored → OfObject stored false f [] [] (expanded_by times stored g).nodes → InRound f
     last_round : OfObject stored true f [] [] (expanded stored g).nodes → InRound f
 
-  pub in_round : (code : Code) (at : List ℕ) → Stands stored g code at → phase_of code ≡ 4
+  pub in_round : (code : Code) (at : List ℕ) → StandsWithStored stored g code at → phase_of code ≡ 4
       → InRound (record { code = code; node = at })
   in_round code at (faults.process_unsupported has brings stands) phase = absurd (omega arith)
   in_round code at (faults.process_recursive has reach reaches) phase = absurd (omega arith)

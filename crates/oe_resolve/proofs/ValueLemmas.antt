@@ -11,7 +11,7 @@ use Rattle.oe_graph.specs.References.{argument_named}
 use Rattle.oe_graph.specs.Tree.{Argument, null, flag, whole, inexact, text, list, object, from_node, from_parameter, callback, ListValues, no_arguments, argument, Named, no_named, named, named_from_list}
 use Rattle.oe_graph.specs.declared.tree.Arg.{Arg}
 use Rattle.oe_graph.specs.declared.catalogue.ParameterRow.{ParameterRow}
-use Rattle.oe_resolve.specs.Replaced.{default_of, value_before, values_given, carried, carried_each, carried_named, without, inside}
+use Rattle.oe_resolve.specs.Replaced.{default_of, value_before, values_given, carried, carried_each, carried_named, without_names, inside}
 use Rattle.oe_resolve.specs.Seen.{names_behind}
 
 -- ---- values one after the other
@@ -86,37 +86,37 @@ carried_if : (hidden : Bool) (name : List ℕ) (a : Argument) (rest : Named)
 carried_if true name a rest = refl
 carried_if false name a rest = refl
 
-pub without-carried : (names : List (List ℕ)) (ms : Named) → without names (carried_named ms) ≡ carried_named (without names ms)
+pub without-carried : (names : List (List ℕ)) (ms : Named) → without_names names (carried_named ms) ≡ carried_named (without_names names ms)
 without-carried names no_named = refl
 without-carried names (named name a rest) =
     ap (λ more. if list_any (same_name name) names then more else named name (carried a) more) (without-carried names rest)
-    ∙ sym (carried_if (list_any (same_name name) names) name a (without names rest))
+    ∙ sym (carried_if (list_any (same_name name) names) name a (without_names names rest))
 
 without_if : (own : List (List ℕ)) (here before : Bool) (name : List ℕ) (a : Argument) (rest both : Named)
     → list_any (same_name name) own ≡ here
-    → without own rest ≡ both
-    → without own (if before then rest else named name a rest) ≡ (if here || before then both else named name a both)
+    → without_names own rest ≡ both
+    → without_names own (if before then rest else named name a rest) ≡ (if here || before then both else named name a both)
 without_if own true true name a rest both is more = more
 without_if own false true name a rest both is more = more
 without_if own true false name a rest both is more =
-    ap (λ b. if b then without own rest else named name a (without own rest)) is ∙ more
+    ap (λ b. if b then without_names own rest else named name a (without_names own rest)) is ∙ more
 without_if own false false name a rest both is more =
-    ap (λ b. if b then without own rest else named name a (without own rest)) is ∙ ap (named name a) more
+    ap (λ b. if b then without_names own rest else named name a (without_names own rest)) is ∙ ap (named name a) more
 
-pub without-both : (own hidden : List (List ℕ)) (ms : Named) → without own (without hidden ms) ≡ without (own ++ hidden) ms
+pub without-both : (own hidden : List (List ℕ)) (ms : Named) → without_names own (without_names hidden ms) ≡ without_names (own ++ hidden) ms
 without-both own hidden no_named = refl
 without-both own hidden (named name a rest) =
-    without_if own _ (list_any (same_name name) hidden) name a (without hidden rest) (without (own ++ hidden) rest) refl
+    without_if own _ (list_any (same_name name) hidden) name a (without_names hidden rest) (without_names (own ++ hidden) rest) refl
     (without-both own hidden rest)
-    ∙ ap (λ b. if b then without (own ++ hidden) rest else named name a (without (own ++ hidden) rest))
+    ∙ ap (λ b. if b then without_names (own ++ hidden) rest else named name a (without_names (own ++ hidden) rest))
     (sym (any_append (same_name name) own hidden))
 
 -- what a callback in a callback sees
 pub inside-inside : (own hidden : List (List ℕ)) (ms : Named) → inside (own ++ hidden) ms ≡ inside own (inside hidden ms)
 inside-inside own hidden ms =
     ap carried_named (sym (without-both own hidden ms))
-    ∙ (sym (carried_named-again (without own (without hidden ms)))
-    ∙ ap carried_named (sym (without-carried own (without hidden ms))))
+    ∙ (sym (carried_named-again (without_names own (without_names hidden ms)))
+    ∙ ap carried_named (sym (without-carried own (without_names hidden ms))))
 
 -- ---- the value of a name
 
@@ -136,8 +136,8 @@ argument_named-carried name (named k a rest) =
 -- a member that is hidden is not found, and another is found as before
 either : (name : List ℕ) (names : List (List ℕ)) (k : List ℕ) (a : Argument) (rest : Named) (hidden same any : Bool)
     → list_any (same_name k) names ≡ hidden → same_name k name ≡ same → list_any (same_name name) names ≡ any
-    → argument_named name (without names rest) ≡ (if any then None else argument_named name rest)
-    → argument_named name (if hidden then without names rest else named k a (without names rest))
+    → argument_named name (without_names names rest) ≡ (if any then None else argument_named name rest)
+    → argument_named name (if hidden then without_names names rest else named k a (without_names names rest))
     ≡ (if any then None else (if same then Some a else argument_named name rest))
 either name names k a rest true true true is same any more = more
 either name names k a rest true true false is same any more =
@@ -148,18 +148,18 @@ either name names k a rest true false false is same any more = more
 either name names k a rest false true true is same any more =
     let k_is : name ≡ k = same_name_is k name same in
     absurd (true≢false (sym any ∙ (ap (λ n. list_any (same_name n) names) k_is ∙ is)))
-either name names k a rest false true false is same any more = ap (λ b. if b then Some a else argument_named name (without names rest)) same
+either name names k a rest false true false is same any more = ap (λ b. if b then Some a else argument_named name (without_names names rest)) same
 either name names k a rest false false true is same any more =
-    ap (λ b. if b then Some a else argument_named name (without names rest)) same ∙ more
+    ap (λ b. if b then Some a else argument_named name (without_names names rest)) same ∙ more
 either name names k a rest false false false is same any more =
-    ap (λ b. if b then Some a else argument_named name (without names rest)) same ∙ more
+    ap (λ b. if b then Some a else argument_named name (without_names names rest)) same ∙ more
 
 if_none : (any : Bool) → ◌≡◌ {A = Option Argument} None (if any then None else None)
 if_none true = refl
 if_none false = refl
 
 pub argument_named-without : (name : List ℕ) (names : List (List ℕ)) (ms : Named)
-    → argument_named name (without names ms) ≡ (if list_any (same_name name) names then None else argument_named name ms)
+    → argument_named name (without_names names ms) ≡ (if list_any (same_name name) names then None else argument_named name ms)
 argument_named-without name names no_named = if_none (list_any (same_name name) names)
 argument_named-without name names (named k a rest) =
     either name names k a rest _ _ _ refl refl refl (argument_named-without name names rest)
@@ -169,7 +169,7 @@ pub argument_named-inside : (name : List ℕ) (names : List (List ℕ)) (ms : Na
     → argument_named name (inside names ms)
     ≡ option_map carried (if list_any (same_name name) names then None else argument_named name ms)
 argument_named-inside name names ms =
-    argument_named-carried name (without names ms) ∙ ap (option_map carried) (argument_named-without name names ms)
+    argument_named-carried name (without_names names ms) ∙ ap (option_map carried) (argument_named-without name names ms)
 
 pub hidden_value : (name : List ℕ) (names : List (List ℕ)) (ms : Named) → list_any (same_name name) names ≡ true
     → argument_named name (inside names ms) ≡ None

@@ -61,16 +61,17 @@ pub record Calls (stored : List PlainStored) (n : PlainNode) (called : PlainStor
   pub calls : callee stored caller.namespace caller.process_id ≡ Some called
 
 -- a stored process reaches another: a node of it calls that one, or calls one that reaches it
-pub data Reaches (stored : List PlainStored) : PlainStored → PlainStored → Type 0 where
+pub data ReachesProcess (stored : List PlainStored) : PlainStored → PlainStored → Type 0 where
   calls : {s t : PlainStored} {n : PlainNode}
-      → Contains (each_node s.graph.nodes) n → Calls stored n t → Reaches stored s t
+      → Contains (each_node s.graph.nodes) n → Calls stored n t → ReachesProcess stored s t
   onwards : {s t u : PlainStored} {n : PlainNode}
-      → Contains (each_node s.graph.nodes) n → Calls stored n t → Reaches stored t u → Reaches stored s u
+      → Contains (each_node s.graph.nodes) n → Calls stored n t → ReachesProcess stored t u → ReachesProcess stored s u
 
 -- the calls of a node reach a stored process
 pub data CallsReach (stored : List PlainStored) (n : PlainNode) (reached : PlainStored) : Type 0 where
   directly : Calls stored n reached → CallsReach stored n reached
-  onwards : {called : PlainStored} → Calls stored n called → Reaches stored called reached → CallsReach stored n reached
+  onwards : {called : PlainStored} → Calls stored n called → ReachesProcess stored called reached
+      → CallsReach stored n reached
 
 -- A node that stands in the main graph, or in a callback, brings nodes with it, each with whether that one stands in a
 -- callback: itself, what the nodes of its callbacks bring, and what those of the process that it calls bring where it

@@ -5,13 +5,13 @@ use Rattle.oe_graph.specs.Tree.{PlainGraph, PlainStored}
 use Rattle.oe_graph.specs.Plain.{plain_graph}
 use Rattle.oe_graph.specs.declared.fault.Fault.{Fault}
 use Rattle.oe_graph.specs.declared.tree.Graph.{Graph}
-use Rattle.oe_resolve.specs.Faults.{Stands}
+use Rattle.oe_resolve.specs.Faults.{StandsWithStored}
 use Rattle.oe_resolve.specs.Judged.{IsLeastFault, OfObject}
 use Rattle.oe_resolve.specs.Rounds.{expanded_by, expanded}
 
 -- a fault of names that stands
 abbrev pub IsNameFault : List PlainStored → PlainGraph → Fault → Type 0
-IsNameFault stored g f = (phase_of f.code ≡ 4) × Stands stored g f.code f.node
+IsNameFault stored g f = (phase_of f.code ≡ 4) × StandsWithStored stored g f.code f.node
 
 pub record IsExpansion (stored : List PlainStored) (g : PlainGraph) (result : Graph × Option Fault) : Type 0 where
   pub graph : plain_graph result.0 ≡ expanded stored g

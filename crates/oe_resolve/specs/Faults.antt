@@ -1,5 +1,5 @@
--- Where each fault of the processes that a graph calls, of its size and of its names stands: one case for each row of the
--- table of faults.
+-- Where each fault of the processes that a graph calls, of its size and of its names stands: one case for each row of
+-- the table of faults.
 use Rattle.std.specs.Prelude.{◌≡◌, ◌<◌, ◌≤◌, ℕ, Bool, false, List, [], ◌∷◌, length, map, Some, None, Contains}
 use Rattle.oe_graph.specs.Form.{node_name, callback_name}
 use Rattle.oe_graph.specs.Printed.{ids_of, names_of, node_count}
@@ -8,7 +8,7 @@ use Rattle.oe_graph.specs.Resolved.{scope_inside}
 use Rattle.oe_graph.specs.Tree.{Argument, Named, no_named, named, Nodes, PlainGraph, PlainNode, PlainParameter, PlainStored}
 use Rattle.oe_graph.specs.declared.code.Code.{Code}
 use Rattle.oe_graph.specs.declared.code.Code.TheVariants.{ProcessUnsupported, ProcessRecursive, GraphTooLarge, ArgumentUnknown, ProcessParameterMissing, ParameterUnknown, NodeUnknown, GraphCycle}
-use Rattle.oe_resolve.specs.Calls.{may_stand, parameters_of, Brings, Reaches, CallsReach}
+use Rattle.oe_resolve.specs.Calls.{may_stand, parameters_of, Brings, ReachesProcess, CallsReach}
 use Rattle.oe_resolve.specs.Rounds.{expanded_by, expanded}
 
 -- most nodes of an expanded main graph, and of an expanded callback
@@ -26,10 +26,12 @@ each_argument (named name a rest) = (name, a) ∷ each_argument rest
 -- A graph object, by its name and scope, stands within one: it is that one itself, or stands within a callback in an
 -- argument of a node of it. The callback in the argument a of the node p is p/a, and sees the parameters of the process
 -- of p and those that p sees.
-pub data IsWithin (name : List ℕ) (scope : List (List ℕ)) (nodes : Nodes) : List ℕ → List (List ℕ) → Nodes → Type 0 where
+pub data IsWithin (name : List ℕ) (scope : List (List ℕ)) (nodes : Nodes) : List ℕ → List (List ℕ) → Nodes
+    → Type 0 where
   itself : IsWithin name scope nodes name scope nodes
   inside :
-      {at : List ℕ} {outer_scope : List (List ℕ)} {outer : Nodes} {n : PlainNode} {a : List ℕ × Argument} {g : PlainGraph}
+      {at : List ℕ} {outer_scope : List (List ℕ)} {outer : Nodes} {n : PlainNode} {a : List ℕ × Argument}
+      {g : PlainGraph}
       → Contains (each_node outer) n → Contains (each_argument n.arguments) a → Contains (callbacks_in a.1) g
       → IsWithin name scope nodes (callback_name (node_name at n.id) a.0) (scope_inside n outer_scope) g.nodes
       → IsWithin name scope nodes at outer_scope outer
@@ -47,47 +49,48 @@ pub record HasNode (g : PlainGraph) (n : PlainNode) (name : List ℕ) : Type 0 w
 abbrev pub names_among : List PlainParameter → List (List ℕ)
 names_among parameters = map (λ (p : PlainParameter). p.name) parameters
 
--- Calls are judged in the graph after so many rounds in which they stand. A call that stands there in a callback has its
--- name there, and that in the graph of the call c begins with c/.
-pub data Stands (stored : List PlainStored) (g : PlainGraph) : Code → List ℕ → Type 0 where
+-- Calls are judged in the graph after so many rounds in which they stand. A call that stands there in a callback has
+-- its name there, and that in the graph of the call c begins with c/.
+pub data StandsWithStored (stored : List PlainStored) (g : PlainGraph) : Code → List ℕ → Type 0 where
   -- a node, or one that its callbacks and calls bring, names no process that may stand where it does
   process_unsupported : {n m : PlainNode} {in_callback : Bool}
       → Contains (each_node g.nodes) n → Brings stored false n in_callback m → may_stand stored in_callback m ≡ false
-      → Stands stored g ProcessUnsupported n.id
+      → StandsWithStored stored g ProcessUnsupported n.id
   -- the calls of a node reach a stored process that reaches itself
   process_recursive : {n : PlainNode} {s : PlainStored}
-      → Contains (each_node g.nodes) n → CallsReach stored n s → Reaches stored s s
-      → Stands stored g ProcessRecursive n.id
+      → Contains (each_node g.nodes) n → CallsReach stored n s → ReachesProcess stored s s
+      → StandsWithStored stored g ProcessRecursive n.id
   -- after expansion the main graph has more nodes than it may
-  graph_too_large : most_main_nodes < node_count (expanded stored g).nodes → Stands stored g GraphTooLarge []
+  graph_too_large : most_main_nodes < node_count (expanded stored g).nodes → StandsWithStored stored g GraphTooLarge []
   -- or a callback has, as it is written in the graph or in a process that calls reach
   callback_too_large : {n m : PlainNode} {in_callback : Bool} {written : PlainGraph}
       → Contains (each_node g.nodes) n → Brings stored false n in_callback m
       → Contains (callbacks_named m.arguments) written
       → most_callback_nodes < node_count (expanded stored written).nodes
-      → Stands stored g GraphTooLarge []
+      → StandsWithStored stored g GraphTooLarge []
   -- the name of an argument is no parameter of the process
   argument_unknown : (times : ℕ) {n : PlainNode} {name argument : List ℕ} {parameters : List PlainParameter}
       → times ≤ length stored → HasNode (expanded_by times stored g) n name
       → parameters_of stored n ≡ Some parameters
       → Contains (names_of n.arguments) argument → ¬ Contains (names_among parameters) argument
-      → Stands stored g ArgumentUnknown name
+      → StandsWithStored stored g ArgumentUnknown name
   -- a parameter without a default that is not optional is not given
-  process_parameter_missing : (times : ℕ) {n : PlainNode} {name : List ℕ} {parameters : List PlainParameter} {p : PlainParameter}
+  process_parameter_missing : (times : ℕ) {n : PlainNode} {name : List ℕ} {parameters : List PlainParameter}
+      {p : PlainParameter}
       → times ≤ length stored → HasNode (expanded_by times stored g) n name
       → parameters_of stored n ≡ Some parameters
       → Contains parameters p → p.default ≡ None → p.optional ≡ false → ¬ Contains (names_of n.arguments) p.name
-      → Stands stored g ProcessParameterMissing name
+      → StandsWithStored stored g ProcessParameterMissing name
   -- after all replacement an argument still refers to a parameter that its scope lacks
   parameter_unknown : {n : PlainNode} {name parameter : List ℕ} (has : HasNode (expanded stored g) n name)
       → Contains (parameters_named n.arguments) parameter → ¬ Contains has.scope parameter
-      → Stands stored g ParameterUnknown name
+      → StandsWithStored stored g ParameterUnknown name
   -- a reference names no node of its graph object: it named none where it was written, or was carried into another one
   node_unknown : (times : ℕ) {n : PlainNode} {name id : List ℕ}
       → times ≤ length stored → (has : HasNode (expanded_by times stored g) n name)
       → Contains (references_named n.arguments) id → ¬ Contains (ids_of has.object) id
-      → Stands stored g NodeUnknown name
+      → StandsWithStored stored g NodeUnknown name
   -- references lead from a node of the expanded graph back to itself
   graph_cycle : {n : PlainNode} {name : List ℕ} (has : HasNode (expanded stored g) n name)
       → Leads has.object n.id n.id
-      → Stands stored g GraphCycle name
+      → StandsWithStored stored g GraphCycle name

@@ -30,7 +30,8 @@ has_unknown names no_named = false
 has_unknown names (named name a rest) = not (list_any (λ other. same_name other name) names) || has_unknown names rest
 
 abbrev pub has_unknown_argument : Option (List PlainParameter) → Named → Bool
-has_unknown_argument parameters arguments = option_map_or (λ ps. has_unknown (names_among ps) arguments) parameters false
+has_unknown_argument parameters arguments =
+    option_map_or (λ ps. has_unknown (names_among ps) arguments) parameters false
 
 -- a parameter needs an argument, and none is given
 abbrev pub is_missing : Named → PlainParameter → Bool
@@ -130,19 +131,22 @@ pub data OfObject (stored : List PlainStored) (last : Bool) (f : Fault)
   by_itself : {name : List ℕ} {scope : List (List ℕ)} {nodes : Nodes} {n : PlainNode}
       → Contains (each_node nodes) n → OfItself stored last (node_name name n.id) scope nodes n f
       → OfObject stored last f name scope nodes
-  inside : {name : List ℕ} {scope : List (List ℕ)} {nodes : Nodes} {n : PlainNode} {a : List ℕ × Argument} {g : PlainGraph}
+  inside : {name : List ℕ} {scope : List (List ℕ)} {nodes : Nodes} {n : PlainNode} {a : List ℕ × Argument}
+      {g : PlainGraph}
       → Contains (each_node nodes) n → Contains (each_argument n.arguments) a → Contains (callbacks_in a.1) g
       → OfObject stored last f (callback_name (node_name name n.id) a.0) (scope_inside n scope) g.nodes
       → OfObject stored last f name scope nodes
 
 -- of a callback in the argument of a name, where the node of it gives callbacks this scope
-pub record OfArgument (stored : List PlainStored) (last : Bool) (node name : List ℕ) (scope : List (List ℕ)) (a : Argument)
+pub record OfArgument (stored : List PlainStored) (last : Bool) (node name : List ℕ) (scope : List (List ℕ))
+    (a : Argument)
     (f : Fault) : Type 0 where
   pub graph : PlainGraph
   pub is_there : Contains (callbacks_in a) graph
   pub has : OfObject stored last f (callback_name node name) scope graph.nodes
 
-pub record OfArguments (stored : List PlainStored) (last : Bool) (node : List ℕ) (scope : List (List ℕ)) (arguments : Named)
+pub record OfArguments (stored : List PlainStored) (last : Bool) (node : List ℕ) (scope : List (List ℕ))
+    (arguments : Named)
     (f : Fault) : Type 0 where
   pub one : List ℕ × Argument
   pub is_there : Contains (each_argument arguments) one

@@ -1,5 +1,5 @@
--- For private functions. Which stored processes the calls of a node reach, each where it stands in the main graph or in a
--- callback, and whether all nodes that come with it may stand there.
+-- For private functions. Which stored processes the calls of a node reach, each where it stands in the main graph or in
+-- a callback, and whether all nodes that come with it may stand there.
 use Rattle.std.specs.Prelude.{◌≡◌, ◌↔◌, ℕ, ◌+◌, ◌*◌, ◌/◌, Bool, true, false, ◌&&◌, ◌⊎◌, List, [], ◌∷◌, ◌++◌, length, map, slice_get, slice_index_or, Option, Some, None, if◌then◌else◌, Contains}
 use Rattle.oe_graph.specs.Codes.{phase_of}
 use Rattle.oe_graph.specs.Tree.{Argument, null, flag, whole, inexact, text, list, object, from_node, from_parameter, callback, ListValues, no_arguments, argument, Named, no_named, named, Nodes, no_nodes, node, PlainGraph, PlainNode, PlainStored}
@@ -8,8 +8,8 @@ use Rattle.oe_graph.specs.declared.code.Code.TheVariants.{ProcessUnsupported, Pr
 use Rattle.oe_graph.specs.declared.fault.Fault.{Fault}
 use Rattle.oe_order.specs.Graph as order
 use Rattle.oe_resolve.specs.Calls as calls
-use Rattle.oe_resolve.specs.Calls.{callee, Brings, CallsReach, Reaches}
-use Rattle.oe_resolve.specs.Faults.{Stands}
+use Rattle.oe_resolve.specs.Calls.{callee, Brings, CallsReach, ReachesProcess}
+use Rattle.oe_resolve.specs.Faults.{StandsWithStored}
 
 -- nodes and the nodes of their callbacks, at any depth, each with whether it stands in a callback
 abbrev mutual
@@ -96,7 +96,8 @@ pub record IsCalled (stored : List PlainStored) (held : List (Bool × PlainNode)
   pub has_index : IsIndexOf stored called caller.0 index
 
 -- the index of a process is in a list
-pub record HasIndexOf (stored : List PlainStored) (called : PlainStored) (in_callback : Bool) (indices : List ℕ) : Type 0 where
+pub record HasIndexOf (stored : List PlainStored) (called : PlainStored) (in_callback : Bool)
+    (indices : List ℕ) : Type 0 where
   pub index : ℕ
   pub has : Contains indices index
   pub is : IsIndexOf stored called in_callback index
@@ -113,7 +114,8 @@ pub record IsCallGraph (stored : List PlainStored) (links : List order.Node) (su
   pub each : length links ≡ 2 * length stored
   pub each_marked : length supported ≡ 2 * length stored
   pub linked : (place : ℕ) (in_callback : Bool) (s : PlainStored) → slice_get stored place ≡ Some s
-      → IsCalledBehind stored (held_nodes in_callback s.graph.nodes) [] (order.arguments links (index_at place in_callback))
+      → IsCalledBehind stored (held_nodes in_callback s.graph.nodes) []
+      (order.arguments links (index_at place in_callback))
   pub marked : (place : ℕ) (in_callback : Bool) (s : PlainStored) → slice_get stored place ≡ Some s
       → slice_index_or supported (index_at place in_callback) false ≡ support_nodes stored in_callback s.graph.nodes
 
@@ -151,7 +153,7 @@ pub record IsUnsupported (stored : List PlainStored) (n : PlainNode) : Type 0 wh
 pub record IsRecursive (stored : List PlainStored) (n : PlainNode) : Type 0 where
   pub reached : PlainStored
   pub calls_reach : CallsReach stored n reached
-  pub recurs : Reaches stored reached reached
+  pub recurs : ReachesProcess stored reached reached
 
 -- the first of the two codes of which the calls of a node have a fault
 pub data IsCodeOf (stored : List PlainStored) (n : PlainNode) : Option Code → Type 0 where
@@ -161,4 +163,4 @@ pub data IsCodeOf (stored : List PlainStored) (n : PlainNode) : Option Code → 
 
 -- a fault of the processes that a graph calls
 abbrev pub IsCallFault : List PlainStored → PlainGraph → Fault → Type 0
-IsCallFault stored g f = (phase_of f.code ≡ 2) × Stands stored g f.code f.node
+IsCallFault stored g f = (phase_of f.code ≡ 2) × StandsWithStored stored g f.code f.node

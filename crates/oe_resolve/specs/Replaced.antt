@@ -49,14 +49,14 @@ abbrev mutual
   carried_named no_named = no_named
   carried_named (named name a rest) = named name (carried a) (carried_named rest)
 
-abbrev pub without : List (List ℕ) → Named → Named
-without names no_named = no_named
-without names (named name a rest) =
-    if list_any (same_name name) names then without names rest else named name a (without names rest)
+abbrev pub without_names : List (List ℕ) → Named → Named
+without_names names no_named = no_named
+without_names names (named name a rest) =
+    if list_any (same_name name) names then without_names names rest else named name a (without_names names rest)
 
 -- the values that a callback sees: the parameters that its node gives it hide those of the same names
 abbrev pub inside : List (List ℕ) → Named → Named
-inside own values = carried_named (without own values)
+inside own values = carried_named (without_names own values)
 
 -- ---- replaced
 
@@ -94,4 +94,7 @@ abbrev mutual
 
 abbrev pub replaced_node : List PlainStored → Named → PlainNode → PlainNode
 replaced_node stored values n =
-    record n { arguments = replaced_named stored (callback_parameters stored n.namespace n.process_id) values n.arguments }
+    record n {
+      arguments = replaced_named stored (callback_parameters stored n.namespace n.process_id) values
+          n.arguments;
+    }

@@ -137,8 +137,8 @@ opened stored n (Some s) =
     replaced_nodes stored (values_given s.parameters n.arguments) (under_nodes n.id s.graph.nodes)
 
 -- a callback whose result is the node of an id
-abbrev pub with_result : List ℕ → Nodes → Argument
-with_result id ns = callback ns (index_of id ns)
+abbrev pub callback_with_result : List ℕ → Nodes → Argument
+callback_with_result id ns = callback ns (index_of id ns)
 
 -- the nodes of a graph object that has all of these, put beside those that stand already; and the arguments in it
 abbrev mutual
@@ -166,7 +166,7 @@ abbrev mutual
   round_argument stored all (from_node id) = from_node (landed stored all id)
   round_argument stored all (from_parameter name) = from_parameter name
   round_argument stored all (callback ns result) =
-      with_result (landed stored ns (id_at ns result)) (round_nodes stored ns ns no_nodes)
+      callback_with_result (landed stored ns (id_at ns result)) (round_nodes stored ns ns no_nodes)
 
   pub round_each : List PlainStored → Nodes → ListValues → ListValues
   round_each stored all no_arguments = no_arguments

@@ -7,7 +7,7 @@ ghost use Rattle.oe_graph.specs.declared.code.Code.TheVariants.{GraphTooLarge};
 ghost use Rattle.oe_order.specs.Graph.{graph_of};
 ghost use Rattle.oe_resolve.specs.Calls.{callee};
 ghost use Rattle.oe_resolve.specs.Counted as spec;
-ghost use Rattle.oe_resolve.specs.Faults.{Stands};
+ghost use Rattle.oe_resolve.specs.Faults.{StandsWithStored};
 ghost use Rattle.oe_resolve.specs.Reached.{IsCallGraph};
 ghost use Rattle.oe_graph.specs.Valid.{AreValidStored};
 
@@ -107,7 +107,7 @@ pub fn is_too_large(
     requires calls { IsCallGraph (map plain_stored stored.now) (graph_of calls.now.links.items)
         calls.now.supported.items }
     ensures { IfOk result (λ b. b ≡ true
-        ↔ Stands (map plain_stored stored.now) (plain_graph graph.now) GraphTooLarge []) }
+        ↔ StandsWithStored (map plain_stored stored.now) (plain_graph graph.now) GraphTooLarge []) }
 {
     let counts = counts(alloc, stored)?;
     if total(stored, counts.as_slice(), &graph.nodes) > MOST_NODES {

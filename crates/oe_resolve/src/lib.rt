@@ -21,7 +21,7 @@ ghost use Rattle.oe_graph.specs.Plain.{plain_graph, plain_stored};
 ghost use Rattle.oe_graph.specs.Read.{IsFault};
 ghost use Rattle.oe_graph.specs.Resolved.{IsResolved};
 ghost use Rattle.oe_graph.specs.Tree.{PlainGraph};
-ghost use Rattle.oe_resolve.specs.Faults.{Stands};
+ghost use Rattle.oe_resolve.specs.Faults.{StandsWithStored};
 ghost use Rattle.oe_resolve.specs.Called.{nodes_call};
 ghost use Rattle.oe_resolve.specs.Expansion.{IsExpansion, IsSettled};
 ghost use Rattle.oe_resolve.specs.Filled as spec;
@@ -51,9 +51,9 @@ pub fn resolve(alloc: Global, graph: &Graph, stored: &[StoredProcess]) -> Result
     ensures resolved { IfOk result (λ g. IsResolved (plain_graph g)) }
     // Ok comes exactly where no fault stands, else the least one.
     ensures without_fault { IfOk result (λ g. (code : Code) (node : List ℕ)
-        → ¬ Stands (map plain_stored stored.now) (plain_graph graph.now) code node) }
+        → ¬ StandsWithStored (map plain_stored stored.now) (plain_graph graph.now) code node) }
     ensures refused { IfErr result
-        (IsFault (Stands (map plain_stored stored.now) (plain_graph graph.now))) }
+        (IsFault (StandsWithStored (map plain_stored stored.now) (plain_graph graph.now))) }
 {
     let calls = reach::read_calls(alloc, stored)?;
     if let Some(fault) = reach::call_fault(alloc, stored, &calls, graph)? {

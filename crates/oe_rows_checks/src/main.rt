@@ -1,7 +1,8 @@
 //! Calls of `openeo` over objects in memory, whose answers were taken from outside: by hand, from the public texts, or
-//! from a reference that shares no code with these crates. The cells of the processes of callbacks are like those of the
-//! examples in openEO Processes and were reckoned by hand. The rows over the collection `WIN`, one graph each in chunks of
-//! four sizes, are from a short program of the definitions of openEO Processes on whole cubes, label by label.
+//! from a reference that shares no code with these crates. The cells of the processes of callbacks are like those of
+//! the examples in openEO Processes and were reckoned by hand. The rows over the collection `WIN`, one graph each in
+//! chunks of four sizes, are from a short program of the definitions of openEO Processes on whole cubes, label by
+//! label.
 //!
 //! The input has a line for each step, the output a line for each answer.
 //!
@@ -17,8 +18,9 @@
 //! | `WORDS` | calls it with no byte of input |
 //!
 //! `replace` and `detach` answer `none` where no collection is mounted under the id, and `file` answers `invalid` where
-//! the bytes are no cube file; else they answer nothing. The answer of a call is the status, then the bytes of the output and, behind a bar, those of the error output, where there are
-//! any. Bytes are spelled as they are, with `\n` for a line feed, if each is printable, and else in hexadecimal digits.
+//! the bytes are no cube file; else they answer nothing. The answer of a call is the status, then the bytes of the
+//! output and, behind a bar, those of the error output, where there are any. Bytes are spelled as they are, with `\n`
+//! for a line feed, if each is printable, and else in hexadecimal digits.
 #![tactic(auto)]
 
 mod answer;

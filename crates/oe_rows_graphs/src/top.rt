@@ -175,8 +175,8 @@ fn is_used(object: Object, uses: (bool, bool, bool)) -> bool {
     }
 }
 
-/// Whether the call ended with its whole output. Refuses: what is neither that nor the answer to the fault of the object,
-/// with a part of the output; nothing is written before all was read.
+/// Whether the call ended with its whole output. Refuses: what is neither that nor the answer to the fault of the
+/// object, with a part of the output; nothing is written before all was read.
 fn has_ended(called: &Called, row: &Call, object: Object) -> Result<bool, Fail> {
     let (line, _, whole, _) = row;
     let out = called.out.bytes();

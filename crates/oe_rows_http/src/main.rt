@@ -1,5 +1,5 @@
-//! HTTP messages that are read from links in memory and written to them, whose answers were found by hand from RFC 9112,
-//! RFC 9110 and the limits of this profile.
+//! HTTP messages that are read from links in memory and written to them, whose answers were found by hand from RFC
+//! 9112, RFC 9110 and the limits of this profile.
 //!
 //! The input has a line for each step; each line but those of links has lines of answers in the output.
 //!
@@ -21,8 +21,8 @@
 //!
 //! An answer is a refusal, or all that was read, or the bytes that were written, behind `Failed` where a write failed;
 //! then the number of the link's calls that failed, if any did. Of several links each has a line where its answer
-//! differs from that of the one before it, so one line says that all agree. Over 16 equal bytes side by side are spelled
-//! as `|N*B|`.
+//! differs from that of the one before it, so one line says that all agree. Over 16 equal bytes side by side are
+//! spelled as `|N*B|`.
 #![tactic(auto)]
 
 mod fault;

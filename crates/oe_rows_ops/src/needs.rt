@@ -1,5 +1,5 @@
-//! Windows of results, and the least windows of an argument that they need: of a cube of 2 dates, 2 bands, 3 lines and 5
-//! columns, counted by hand.
+//! Windows of results, and the least windows of an argument that they need: of a cube of 2 dates, 2 bands, 3 lines and
+//! 5 columns, counted by hand.
 use oe_cell::Frac;
 use oe_dims::{Kind, Shape, Text};
 use oe_kernel::{Border, Kernel};

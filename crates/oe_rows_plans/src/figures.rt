@@ -1,6 +1,6 @@
-//! How many cells a run holds and in how many chunks it goes. The bound is 2 · workers · (width · largest + scratch): the
-//! most nodes that are live at one step, the product of the four sides of a window, and twice the most labels along one
-//! dimension and 192.
+//! How many cells a run holds and in how many chunks it goes. The bound is 2 · workers · (width · largest + scratch):
+//! the most nodes that are live at one step, the product of the four sides of a window, and twice the most labels along
+//! one dimension and 192.
 use crate::collections::{Sides, graph_of, size_of};
 use oe_plan::{PlanFigures, figures};
 use std::alloc::Global;

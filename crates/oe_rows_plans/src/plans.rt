@@ -13,8 +13,8 @@ const LARGE: &str =
 const BLOCK: &str =
     r#""a":{"process_id":"load_collection","arguments":{"id":"BLOCK","spatial_extent":null,"temporal_extent":null},"result":true}"#;
 
-/// A name, the nodes of a graph, the sides of chunks along x, y and t, the number of workers, and the cells that are too
-/// many, or 0 where they are not.
+/// A name, the nodes of a graph, the sides of chunks along x, y and t, the number of workers, and the cells that are
+/// too many, or 0 where they are not.
 type Row = (&'static str, &'static str, Sides, u32, u128);
 
 /// A plan may hold 67108864 cells and not one more.

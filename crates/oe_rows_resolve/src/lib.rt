@@ -1,7 +1,7 @@
 //! Worked values of resolved graphs, in tables.
 //!
-//! Nothing stands on this crate: like `oe_rows`, it has only tests, whose expected values are by hand, from the sentences
-//! on stored processes, scopes and faults in `docs/formats.md`.
+//! Nothing stands on this crate: like `oe_rows`, it has only tests, whose expected values are by hand, from the
+//! sentences on stored processes, scopes and faults in `docs/formats.md`.
 #![tactic(auto)]
 
 #[cfg(test)]

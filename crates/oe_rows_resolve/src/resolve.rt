@@ -1,5 +1,5 @@
-//! Graphs whose names lead somewhere: what calls of stored processes are replaced by, and the fault of each row of calls,
-//! sizes and names, alone and beside another.
+//! Graphs whose names lead somewhere: what calls of stored processes are replaced by, and the fault of each row of
+//! calls, sizes and names, alone and beside another.
 ghost use Rattle.std.specs.Prelude.{◌≡◌, IfOk, map};
 ghost use Rattle.oe_graph.specs.Plain.{plain_stored};
 ghost use Rattle.oe_graph.specs.Valid.{AreValidStored, IsValidStored};
@@ -102,8 +102,8 @@ const RESOLVED: &[Row] = &[
 const LOADING: &str =
     r#""a":{"process_id":"load_collection","arguments":{"id":"ONE","spatial_extent":null,"temporal_extent":null},"result":true}"#;
 
-/// Faults of calls: that of a process that is not there is reported at the node of the main graph, and comes before that
-/// of processes that call themselves.
+/// Faults of calls: that of a process that is not there is reported at the node of the main graph, and comes before
+/// that of processes that call themselves.
 const CALLS: &[Row] = &[
     (
         "no process of the name",

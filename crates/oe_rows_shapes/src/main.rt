@@ -1,8 +1,8 @@
-//! Worked values of dimensions, instants, windows and the order of a run, taken from outside: by hand, or from the public
-//! texts.
+//! Worked values of dimensions, instants, windows and the order of a run, taken from outside: by hand, or from the
+//! public texts.
 //!
-//! The input has a line for each call, the output a line for each answer. A line that begins with `#` says what the next
-//! ones show, and has no answer.
+//! The input has a line for each call, the output a line for each answer. A line that begins with `#` says what the
+//! next ones show, and has no answer.
 //!
 //! | Line | What it does |
 //! |---|---|

@@ -113,8 +113,8 @@ fn refuses_other_spellings(rt: HostRuntime) -> Result<(), Fail> {
     Ok(())
 }
 
-/// Records of 17 bytes that are that of no number: of tag 4, of tag 5, which is one of 9 bytes, of no tag at all, of the
-/// pair 2 and 4, which is not in lowest terms, and of the least numerator of 64 bits.
+/// Records of 17 bytes that are that of no number: of tag 4, of tag 5, which is one of 9 bytes, of no tag at all, of
+/// the pair 2 and 4, which is not in lowest terms, and of the least numerator of 64 bits.
 const DAMAGED: [&[u8; 17]; 5] = [
     b"\x04\x00\x00\x00\x00\x00\x00\x00\x00\x00\x00\x00\x00\x00\x00\x00\x00",
     b"\x05\x00\x00\x00\x00\x00\x00\x00\x07\x00\x00\x00\x00\x00\x00\x00\x00",

@@ -35,8 +35,8 @@ fn seven() -> Cell
     whole_cell(7)
 }
 
-/// A catalogue of two dates in memory, with nulls alone on the first, and null and 7 on the second; its reads with these
-/// numbers fail.
+/// A catalogue of two dates in memory, with nulls alone on the first, and null and 7 on the second; its reads with
+/// these numbers fail.
 fn with_dates(alloc: Global, failing: &[u64]) -> Result<Catalogue, Fail> {
     let t = vec![in alloc; 0i64, 60]?;
     let x = vec![in alloc; 0i64, 10]?;

@@ -23,7 +23,7 @@ use Rattle.oe_shape.proofs.CellKindLemmas.{AllOfKind, cell_fits, list_value_fits
 use Rattle.oe_shape.proofs.TimeLemmas.{part_in_time_is}
 use Rattle.oe_shape.specs.Extents.{labels_in_time, part_in_time}
 use Rattle.oe_shape.specs.declared.extent.TemporalExtent.{TemporalExtent}
-use Rattle.oe_shape.specs.Labels.{is_below, put_in_order, in_order}
+use Rattle.oe_shape.specs.Labels.{is_below, insert_label, sorted_labels}
 use Rattle.oe_shape.specs.Meaning.{cell, value_on_list, extent_labelled, instants_inside, cells_at, aggregated}
 use Rattle.oe_shape.specs.Operations.{aggregated_shape}
 use Rattle.oe_shape.specs.declared.extent.Interval.{Interval}
@@ -43,7 +43,7 @@ among_there x (y ∷ ys) c = by c.0 c.1 c.2 (among_there x ys)
     by zero l e rest = inl (sym e)
     by (suc k) l e rest = inr (rest (k, omega arith, e))
 
-put_among : (x label : ℤ) (ys : List ℤ) → IsAmong x (put_in_order is_below label ys) → IsAmong x (label ∷ ys)
+put_among : (x label : ℤ) (ys : List ℤ) → IsAmong x (insert_label is_below label ys) → IsAmong x (label ∷ ys)
 put_among x label [] m = m
 put_among x label (y ∷ ys) m = by (is_below label y) m (put_among x label ys)
   where
@@ -51,20 +51,20 @@ put_among x label (y ∷ ys) m = by (is_below label y) m (put_among x label ys)
     later (inl e) = inl e
     later (inr m) = inr (inr m)
 
-    deeper : (x ≡ y) ⊎ IsAmong x (put_in_order is_below label ys) → (IsAmong x (put_in_order is_below label ys) → IsAmong x (label ∷ ys)) → IsAmong x (label ∷ y ∷ ys)
+    deeper : (x ≡ y) ⊎ IsAmong x (insert_label is_below label ys) → (IsAmong x (insert_label is_below label ys) → IsAmong x (label ∷ ys)) → IsAmong x (label ∷ y ∷ ys)
     deeper (inl e) rest = inr (inl e)
     deeper (inr m) rest = later (rest m)
 
-    by : (b : Bool) → IsAmong x (if b then label ∷ y ∷ ys else y ∷ put_in_order is_below label ys)
-        → (IsAmong x (put_in_order is_below label ys) → IsAmong x (label ∷ ys)) → IsAmong x (label ∷ y ∷ ys)
+    by : (b : Bool) → IsAmong x (if b then label ∷ y ∷ ys else y ∷ insert_label is_below label ys)
+        → (IsAmong x (insert_label is_below label ys) → IsAmong x (label ∷ ys)) → IsAmong x (label ∷ y ∷ ys)
     by true m rest = m
     by false m rest = deeper m rest
 
-order_among : (x : ℤ) (ys : List ℤ) → IsAmong x (in_order is_below ys) → IsAmong x ys
+order_among : (x : ℤ) (ys : List ℤ) → IsAmong x (sorted_labels is_below ys) → IsAmong x ys
 order_among x [] m = m
-order_among x (y ∷ ys) m = by (put_among x y (in_order is_below ys) m) (order_among x ys)
+order_among x (y ∷ ys) m = by (put_among x y (sorted_labels is_below ys) m) (order_among x ys)
   where
-    by : IsAmong x (y ∷ in_order is_below ys) → (IsAmong x (in_order is_below ys) → IsAmong x ys) → IsAmong x (y ∷ ys)
+    by : IsAmong x (y ∷ sorted_labels is_below ys) → (IsAmong x (sorted_labels is_below ys) → IsAmong x ys) → IsAmong x (y ∷ ys)
     by (inl e) rest = inl e
     by (inr m) rest = inr (rest m)
 
@@ -129,11 +129,11 @@ module _ (kind : CellKind) (intervals : List Interval) (cube : Cube Cell) (h : A
 
   -- at a tuple of the result
   tuple_value_fits : (graph : PlainGraph) (context : Cell) → KeepsKind (callback_of graph (the_scope kind intervals cube.shape) context)
-      → (tuple : Tuple) (t : Option ℤ) → IsLabelOf (Some (in_order is_below (map label_of intervals))) t
+      → (tuple : Tuple) (t : Option ℤ) → IsLabelOf (Some (sorted_labels is_below (map label_of intervals))) t
       → IsOfKind (callback_kind (callback_of graph (the_scope kind intervals cube.shape) context)) (value_in (callback_of graph (the_scope kind intervals cube.shape) context) cube tuple (extent_labelled intervals t))
   tuple_value_fits graph context keeps tuple None m = elim m [ ]
   tuple_value_fits graph context keeps tuple (Some label) m =
-      let found = labelled_there intervals label (order_among label (map label_of intervals) (among_there label (in_order is_below (map label_of intervals)) m)) in
+      let found = labelled_there intervals label (order_among label (map label_of intervals) (among_there label (sorted_labels is_below (map label_of intervals)) m)) in
       subst (λ e. IsOfKind (callback_kind (callback_of graph (the_scope kind intervals cube.shape) context)) (value_in (callback_of graph (the_scope kind intervals cube.shape) context) cube tuple e))
       (sym found.extent_is) (interval_value_fits graph context keeps tuple found.index found.interval found.there)
 

@@ -21,11 +21,11 @@ use Rattle.oe_shape.proofs.RequestLemmas.{found, both_found, passed}
 use Rattle.oe_shape.specs.Brings.{HasDistinctLabels, BringValidLabels}
 use Rattle.oe_shape.specs.declared.extent.TemporalExtent.{TemporalExtent}
 use Rattle.oe_shape.specs.Operations.{Operation, keep, each_cell, convolve, aggregate, merge, cover, give_back, Outline, operation_of, dimension_named, callback_under, first_or, no_outline, interval_scope}
-use Rattle.oe_shape.specs.Parameters.{where_it, null_or, each_in, list_in, name_in, text_in, box_in, cube_in, callback_in, literal_in, number_in, kernel_in, border_in, bands_in, is_given, some_bands_in, instant_in, extent_from, is_limited, extent_in, labelled, by_starts, by_labels, intervals_of, is_empty_list, is_null_or_empty_object}
+use Rattle.oe_shape.specs.Parameters.{where_it, null_or, each_in, list_in, name_in, text_in, box_in, cube_in, callback_in, literal_in, number_in, kernel_in, border_in, bands_in, is_given, some_bands_in, instant_in, extent_from, is_limited, extent_in, labelled_interval, by_starts, by_labels, intervals_of, is_empty_list, is_null_or_empty_object}
 use Rattle.oe_shape.specs.declared.extent.Interval.{Interval}
 use Rattle.oe_shape.specs.declared.process.CubeProcess.{CubeProcess}
 use Rattle.oe_shape.specs.declared.process.CubeProcess.TheVariants.{AggregateTemporal, Apply, ApplyKernel, FilterBands, FilterBbox, FilterTemporal, LoadCollection, Mask, MergeCubes, ReduceDimension, SaveResult}
-use Rattle.oe_shape.specs.Requests.{cube_process_named, Request, load_collection, filter_bbox, filter_temporal, filter_bands, apply, apply_kernel, reduce_dimension, aggregate_temporal, merge_cubes, mask, save_result, called_in, intervals_in, resolver_in, request_of}
+use Rattle.oe_shape.specs.Requests.{cube_process_named, CubeRequest, load_collection, filter_bbox, filter_temporal, filter_bands, apply, apply_kernel, reduce_dimension, aggregate_temporal, merge_cubes, mask, save_result, called_in, intervals_in, resolver_in, cube_request_of}
 use Rattle.oe_shape.specs.ValidShapes.{AreBands, labels_of, BringsLabels}
 
 -- ---- lists of what a reader reads
@@ -150,7 +150,7 @@ HasInstants intervals = list_all is_instant (labels_of intervals) ≡ true
 starts_valid : (extents : List TemporalExtent) (intervals : List Interval) → list_all starts_in_range extents ≡ true → by_starts extents ≡ Some intervals → HasInstants intervals
 starts_valid [] intervals h e = let none : [] ≡ intervals = cc in subst HasInstants none refl
 starts_valid (x ∷ extents) intervals h e =
-    let both = both_found (λ start rest. labelled x start ∷ rest) x.start (by_starts extents) intervals e in
+    let both = both_found (λ start rest. labelled_interval x start ∷ rest) x.start (by_starts extents) intervals e in
     let first : is_instant both.0 ≡ true = subst (λ o. option_map_or is_instant o true ≡ true) both.2 (left_of (starts_in_range x) _ h) in
     subst HasInstants both.4 (and_from (is_instant both.0) _ first (starts_valid extents both.1 (right_of (starts_in_range x) _ h) both.3))
 
@@ -163,7 +163,7 @@ labels_valid [] [] intervals h e = let none : [] ≡ intervals = cc in subst Has
 labels_valid [] (label ∷ labels) intervals h e = absurd cc
 labels_valid (x ∷ extents) [] intervals h e = absurd cc
 labels_valid (x ∷ extents) (label ∷ labels) intervals h e =
-    let rest = mapped (λ l. labelled x label ∷ l) (by_labels extents labels) intervals e in
+    let rest = mapped (λ l. labelled_interval x label ∷ l) (by_labels extents labels) intervals e in
     subst HasInstants rest.2 (and_from (is_instant label) _ (left_of (is_instant label) _ h) (labels_valid extents labels rest.0 (right_of (is_instant label) _ h) rest.1))
 
 intervals_valid : (extents : List TemporalExtent) (labels : List ℤ) (intervals : List Interval) → list_all starts_in_range extents ≡ true → list_all is_instant labels ≡ true
@@ -184,7 +184,7 @@ intervals_in_valid given intervals e =
 -- ---- requests
 
 -- what a request brings
-abbrev pub Brings : Request → Type 0
+abbrev pub Brings : CubeRequest → Type 0
 Brings (load_collection id box time bands) = IfSome bands AreBands
 Brings (filter_bbox data_id box) = ⊤
 Brings (filter_temporal data_id time name) = ⊤
@@ -197,7 +197,7 @@ Brings (merge_cubes one two resolver) = ⊤
 Brings (mask data_id mask_id replacement) = ⊤
 Brings (save_result data_id format) = ⊤
 
-operation_brings : (r : Request) (cubes : List Outline) (operation : Operation) → operation_of r cubes ≡ Some operation → Brings r → HasDistinctLabels operation → BringsLabels operation
+operation_brings : (r : CubeRequest) (cubes : List Outline) (operation : Operation) → operation_of r cubes ≡ Some operation → Brings r → HasDistinctLabels operation → BringsLabels operation
 operation_brings (load_collection id box time bands) cubes operation e b d =
     let same : keep (record { box = box; time = time; bands = bands }) ≡ operation = cc in subst BringsLabels same b
 operation_brings (filter_bbox data_id box) cubes operation e b d =
@@ -218,7 +218,7 @@ operation_brings (mask data_id mask_id replacement) cubes operation e b d = let 
 operation_brings (save_result data_id format) cubes operation e b d = let same : give_back ≡ operation = cc in subst BringsLabels same tt
 
 module _ (given : Named) where
-  load_brings : (r : Request) → request_of LoadCollection given ≡ Some r → Brings r
+  load_brings : (r : CubeRequest) → cube_request_of LoadCollection given ≡ Some r → Brings r
   load_brings r e =
       let p = passed (passes is_null_or_empty_object (codes "properties") given) _ r e in
       let id = found _ (read text_in (codes "id") given) r p in
@@ -227,21 +227,21 @@ module _ (given : Named) where
       let bands = found (null_or some_bands_in) (argument_named (codes "bands") given) rest.1 rest.3 in
       subst Brings rest.4 (null_or_valid some_bands_in AreBands some_bands_valid bands.0 rest.1 bands.2)
 
-  bands_brings : (r : Request) → request_of FilterBands given ≡ Some r → Brings r
+  bands_brings : (r : CubeRequest) → cube_request_of FilterBands given ≡ Some r → Brings r
   bands_brings r e =
       let p = passed (passes is_empty_list (codes "wavelengths") given) _ r e in
       let b = both_found filter_bands (read cube_in (codes "data") given) (read bands_in (codes "bands") given) r p in
       let bands = found bands_in (argument_named (codes "bands") given) b.1 b.3 in
       subst Brings b.4 (bands_valid bands.0 b.1 bands.2)
 
-  aggregate_brings : (r : Request) → request_of AggregateTemporal given ≡ Some r → Brings r
+  aggregate_brings : (r : CubeRequest) → cube_request_of AggregateTemporal given ≡ Some r → Brings r
   aggregate_brings r e =
       let d = found _ (read cube_in (codes "data") given) r e in
       let i = found _ (intervals_in given) r d.2 in
       let b = both_found (aggregate_temporal d.0 i.0) (read (null_or text_in) (codes "dimension") given) (called_in (codes "reducer") given) r i.2 in
       subst Brings b.4 (intervals_in_valid given i.0 i.1)
 
-  pub request_brings : (process : CubeProcess) (r : Request) → request_of process given ≡ Some r → Brings r
+  pub request_brings : (process : CubeProcess) (r : CubeRequest) → cube_request_of process given ≡ Some r → Brings r
   request_brings AggregateTemporal r e = aggregate_brings r e
   request_brings FilterBands r e = bands_brings r e
   request_brings LoadCollection r e = load_brings r e

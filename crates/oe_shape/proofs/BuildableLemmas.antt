@@ -16,7 +16,7 @@ use Rattle.oe_graph.specs.Tree.{Nodes, PlainNode, PlainGraph}
 use Rattle.oe_graph.specs.declared.code.Code.{Code}
 use Rattle.oe_graph.specs.declared.code.Code.TheVariants.{DimensionNotAvailable, TemporalExtentEmpty, KernelDimensionsUneven, KernelTooLarge, DistinctDimensionLabelsRequired}
 use Rattle.oe_expr.specs.Requests.{read, passes}
-use Rattle.oe_expr.specs.Rows.{Row, first_row}
+use Rattle.oe_expr.specs.Rows.{JudgedRow, first_row}
 use Rattle.oe_shape.proofs.ReadLemmas.{IsCounted, IsReadCallback, IsRead, labels_read, parts_read}
 use Rattle.oe_shape.proofs.RequestLemmas.{found, both_found, passed}
 use Rattle.oe_shape.specs.Callbacks.{IsResolvedCallback, AreIntervals, IsBuildable}
@@ -24,7 +24,7 @@ use Rattle.oe_shape.specs.Extents.{is_empty_extent}
 use Rattle.oe_shape.specs.Inputs.{HasFewIntervals}
 use Rattle.oe_shape.specs.Operations.{Outline}
 use Rattle.oe_shape.specs.Parameters.{null_or, text_in, cube_in, literal_in, number_in, box_in, extent_in, bands_in, some_bands_in, kernel_in, border_in, is_empty_list, is_empty_object, is_null_or_empty_object}
-use Rattle.oe_shape.specs.Requests.{NamedProcess, cube_processes, process_among, cube_process_named, Called, Request, load_collection, filter_bbox, filter_temporal, filter_bands, apply, apply_kernel, reduce_dimension, aggregate_temporal, merge_cubes, mask, save_result, called_in, intervals_in, resolver_in, request_of, request_at}
+use Rattle.oe_shape.specs.Requests.{NamedProcess, cube_processes, process_among, cube_process_named, Called, CubeRequest, load_collection, filter_bbox, filter_temporal, filter_bands, apply, apply_kernel, reduce_dimension, aggregate_temporal, merge_cubes, mask, save_result, called_in, intervals_in, resolver_in, cube_request_of, cube_request_at}
 use Rattle.oe_shape.specs.Results.{HasValidLabels}
 use Rattle.oe_shape.specs.Rows.{is_even, temporal_extent_empty, kernel_dimensions_uneven, kernel_too_large, distinct_labels_required, dimension_not_available}
 use Rattle.oe_shape.specs.Stands.{early_rows}
@@ -35,25 +35,25 @@ use Rattle.oe_shape.specs.declared.process.CubeProcess.TheVariants.{AggregateTem
 
 -- ---- rows that do not hold
 
-none_of : (rows : List Row) → first_row rows ≡ None → (k : ℕ) (code : Code) (b : Bool) → slice_get rows k ≡ Some (code, b) → b ≡ false
+none_of : (rows : List JudgedRow) → first_row rows ≡ None → (k : ℕ) (code : Code) (b : Bool) → slice_get rows k ≡ Some (code, b) → b ≡ false
 none_of [] e k code b at = absurd cc
 none_of (row ∷ rows) e k code b at = by row.1 refl e k at (none_of rows)
   where
     by : (t : Bool) → row.1 ≡ t → (if t then Some row.0 else first_row rows) ≡ None → (k : ℕ) → slice_get (row ∷ rows) k ≡ Some (code, b)
         → (first_row rows ≡ None → (j : ℕ) (code : Code) (b : Bool) → slice_get rows j ≡ Some (code, b) → b ≡ false) → b ≡ false
     by true is e k at later = absurd cc
-    by false is e zero at later = let same : row ≡ (code, b) = cc in sym (ap (λ (x : Row). x.1) same) ∙ is
+    by false is e zero at later = let same : row ≡ (code, b) = cc in sym (ap (λ (x : JudgedRow). x.1) same) ∙ is
     by false is e (suc j) at later = later e j code b at
 
 -- the rows that the building of an operation asks after
-pub record NoneHolds (r : Request) (cubes : List Outline) : Type 0 where
+pub record NoneHolds (r : CubeRequest) (cubes : List Outline) : Type 0 where
   pub dimension : dimension_not_available r cubes ≡ false
   pub extent : temporal_extent_empty r ≡ false
   pub uneven : kernel_dimensions_uneven r ≡ false
   pub large : kernel_too_large r ≡ false
   pub distinct : distinct_labels_required r ≡ false
 
-pub none_holds : (rows : List DimsRow) (r : Request) (cubes : List Outline) → first_row (early_rows rows r cubes) ≡ None → NoneHolds r cubes
+pub none_holds : (rows : List DimsRow) (r : CubeRequest) (cubes : List Outline) → first_row (early_rows rows r cubes) ≡ None → NoneHolds r cubes
 none_holds rows r cubes none =
     let no_row = none_of (early_rows rows r cubes) none in
     record {
@@ -150,7 +150,7 @@ module _ (nodes : Nodes) (is : AreResolved nodes) (n : PlainNode) (at : IsNodeOf
   }
 
   -- what a request needs to be built, but that no row holds
-  abbrev Read : Request → Type 0
+  abbrev Read : CubeRequest → Type 0
   Read (load_collection id box time bands) = ⊤
   Read (filter_bbox data_id box) = ⊤
   Read (filter_temporal data_id time name) = ⊤
@@ -168,7 +168,7 @@ module _ (nodes : Nodes) (is : AreResolved nodes) (n : PlainNode) (at : IsNodeOf
   each_resolver None e h = tt
   each_resolver (Some c) e h = resolved_callback MergeCubes _ c e refl h
 
-  is_read : (process : CubeProcess) (r : Request) → cube_process_named n.process_id ≡ Some process → request_of process n.arguments ≡ Some r
+  is_read : (process : CubeProcess) (r : CubeRequest) → cube_process_named n.process_id ≡ Some process → cube_request_of process n.arguments ≡ Some r
       → IsRead n.arguments r → Read r
   is_read AggregateTemporal r p e h =
       let d = found _ (read cube_in (codes "data") n.arguments) r e in
@@ -217,7 +217,7 @@ module _ (nodes : Nodes) (is : AreResolved nodes) (n : PlainNode) (at : IsNodeOf
       let b = both_found save_result (read cube_in (codes "data") n.arguments) (read text_in (codes "format") n.arguments) r q in
       subst Read b.4 tt
 
-  from_read : (r : Request) (cubes : List Outline) → Read r → NoneHolds r cubes → HasFewIntervals r → IsBuildable r
+  from_read : (r : CubeRequest) (cubes : List Outline) → Read r → NoneHolds r cubes → HasFewIntervals r → IsBuildable r
   from_read (load_collection id box time bands) cubes h none few = tt
   from_read (filter_bbox data_id box) cubes h none few = tt
   from_read (filter_temporal data_id time name) cubes h none few = tt
@@ -230,12 +230,12 @@ module _ (nodes : Nodes) (is : AreResolved nodes) (n : PlainNode) (at : IsNodeOf
   from_read (mask data_id mask_id replacement) cubes h none few = tt
   from_read (save_result data_id format) cubes h none few = tt
 
-  pub buildable : (r : Request) (cubes : List Outline) → request_at n ≡ Some r → NoneHolds r cubes → HasFewIntervals r → IsBuildable r
+  pub buildable : (r : CubeRequest) (cubes : List Outline) → cube_request_at n ≡ Some r → NoneHolds r cubes → HasFewIntervals r → IsBuildable r
   buildable r cubes asks none few =
       let process = found _ (cube_process_named n.process_id) r asks in
       from_read r cubes (is_read process.0 r process.1 process.2 (parts_read n r asks)) none few
 
 -- ---- the labels that it brings
 
-pub valid_labels : (n : PlainNode) (r : Request) (cubes : List Outline) → request_at n ≡ Some r → NoneHolds r cubes → HasValidLabels r
+pub valid_labels : (n : PlainNode) (r : CubeRequest) (cubes : List Outline) → cube_request_at n ≡ Some r → NoneHolds r cubes → HasValidLabels r
 valid_labels n r cubes asks none = labels_read n r asks none.distinct

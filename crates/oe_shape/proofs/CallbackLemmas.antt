@@ -10,16 +10,16 @@ use Rattle.oe_graph.specs.declared.code.Code.{Code}
 use Rattle.oe_graph.specs.declared.fault.Fault.{Fault}
 use Rattle.oe_graph.specs.declared.fault.Refusal.{Refusal}
 use Rattle.oe_graph.specs.declared.fault.Refusal.TheVariants as refusal
-use Rattle.oe_expr.specs.Callback.{Callback, IsFaultless, StandsIn}
+use Rattle.oe_expr.specs.Callback.{Callback, IsFaultlessCallback, StandsInCallbackAt}
 use Rattle.oe_shape.specs.Callbacks.{IsBuilt, StandsInCallback}
 use Rattle.oe_shape.specs.Operations.{Outline, operation_of, reduce, callback_under, dimension_named, reduction_scope}
 use Rattle.oe_shape.specs.PlainRequests.{plain_operation}
-use Rattle.oe_shape.specs.Requests.{Called, Request, reduce_dimension}
+use Rattle.oe_shape.specs.Requests.{Called, CubeRequest, reduce_dimension}
 use Rattle.oe_shape.specs.Stands.{callback_in, callback_on}
 use Rattle.oe_shape.specs.declared.operation.Operation.{Operation}
 
 -- an operation without a callback, or with one in which no fault stands
-pub built_alone : (id : List ℕ) (r : Request) (one : Outline) (o : Operation)
+pub built_alone : (id : List ℕ) (r : CubeRequest) (one : Outline) (o : Operation)
     → ((others : List Outline) → operation_of r (one ∷ others) ≡ Some (plain_operation o))
     → callback_in (plain_operation o) ≡ None → IsBuilt id r one (Ok (Some o))
 built_alone id r one o is alone = record {
@@ -28,9 +28,9 @@ built_alone id r one o is alone = record {
   refused = tt;
 }
 
-pub built_by : (id : List ℕ) (r : Request) (one : Outline) (o : Operation) (argument : List ℕ) (c : Callback)
+pub built_by : (id : List ℕ) (r : CubeRequest) (one : Outline) (o : Operation) (argument : List ℕ) (c : Callback)
     → ((others : List Outline) → operation_of r (one ∷ others) ≡ Some (plain_operation o))
-    → callback_in (plain_operation o) ≡ Some (argument, c) → IsFaultless c → IsBuilt id r one (Ok (Some o))
+    → callback_in (plain_operation o) ≡ Some (argument, c) → IsFaultlessCallback c → IsBuilt id r one (Ok (Some o))
 built_by id r one o argument c is by faultless = record {
   built = λ others. sym (is others);
   faultless = λ others. rw (is others, by) faultless;
@@ -38,7 +38,7 @@ built_by id r one o argument c is by faultless = record {
 }
 
 -- no operation
-pub built_none : (id : List ℕ) (r : Request) (one : Outline)
+pub built_none : (id : List ℕ) (r : CubeRequest) (one : Outline)
     → ((others : List Outline) → operation_of r (one ∷ others) ≡ None) → IsBuilt id r one (Ok None)
 built_none id r one is = record {
   built = λ others. sym (is others);
@@ -47,16 +47,16 @@ built_none id r one is = record {
 }
 
 -- a fault of the callback
-stands_from : (id : List ℕ) (r : Request) (one : Outline) (argument : List ℕ) (c : Callback)
+stands_from : (id : List ℕ) (r : CubeRequest) (one : Outline) (argument : List ℕ) (c : Callback)
     → ((others : List Outline) → callback_on r (one ∷ others) ≡ Some (argument, c))
-    → (code : Code) (name : List ℕ) → StandsInCallback id r one code name → StandsIn c (callback_name id argument) code name
+    → (code : Code) (name : List ℕ) → StandsInCallback id r one code name → StandsInCallbackAt c (callback_name id argument) code name
 stands_from id r one argument c is code name s =
     let same : (s.argument, s.callback) ≡ (argument, c) = let both = sym (s.is_callback []) ∙ is [] in cc in
-    subst (λ (p : List ℕ × Callback). StandsIn p.1 (callback_name id p.0) code name) same s.stands
+    subst (λ (p : List ℕ × Callback). StandsInCallbackAt p.1 (callback_name id p.0) code name) same s.stands
 
-pub refused_by : (id : List ℕ) (r : Request) (one : Outline) (argument : List ℕ) (c : Callback)
+pub refused_by : (id : List ℕ) (r : CubeRequest) (one : Outline) (argument : List ℕ) (c : Callback)
     → ((others : List Outline) → callback_on r (one ∷ others) ≡ Some (argument, c))
-    → (e : Refusal) → IsFault (StandsIn c (callback_name id argument)) e
+    → (e : Refusal) → IsFault (StandsInCallbackAt c (callback_name id argument)) e
     → (result : Result (Option Operation) Refusal) → IsErrAnd result (λ other. other ≡ e) → IsBuilt id r one result
 refused_by id r one argument c is e h (Err other) same = record {
   built = tt;
@@ -64,7 +64,7 @@ refused_by id r one argument c is e h (Err other) same = record {
   refused = subst (IsFault (StandsInCallback id r one)) (sym same) (by e h);
 }
   where
-    by : (e : Refusal) → IsFault (StandsIn c (callback_name id argument)) e → IsFault (StandsInCallback id r one) e
+    by : (e : Refusal) → IsFault (StandsInCallbackAt c (callback_name id argument)) e → IsFault (StandsInCallback id r one) e
     by (refusal.Fault fault) h = record {
       stands = record { argument = argument; callback = c; is_callback = is; stands = h.stands };
       least = λ other s. h.least other (stands_from id r one argument c is other.code other.node s);

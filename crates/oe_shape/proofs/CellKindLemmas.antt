@@ -25,12 +25,12 @@ use Rattle.oe_kernel.specs.Kernels.{KernelValues}
 use Rattle.oe_kernel.specs.declared.border.Border.{Border}
 use Rattle.oe_expr.specs.Callback.{Callback, callback_of, callback_kind, KeepsKind}
 use Rattle.oe_expr.specs.Scope as scope
-use Rattle.oe_expr.specs.Scope.{PlainScope, label_count, labels_in, no_labels}
+use Rattle.oe_expr.specs.Scope.{PlainScope, count_labels, labels_in, no_labels}
 use Rattle.oe_expr.specs.declared.scope.ListPart.{ListPart}
 use Rattle.oe_shape.specs.Extents.{Restriction, kept_shape}
 use Rattle.oe_shape.specs.Labels.{restrict, merged_shape}
-use Rattle.oe_shape.specs.Meaning.{cell, value_on_cells, value_on_list, kept, applied, convolution, reduced, cells_along, tuples_along, joined, merged, covered_by, covered}
-use Rattle.oe_shape.specs.Operations.{labels_along, without}
+use Rattle.oe_shape.specs.Meaning.{cell, value_on_cells, value_on_list, restricted_cube, applied, convolution, reduced, cells_along, tuples_along, joined, merged, covered_by, covered}
+use Rattle.oe_shape.specs.Operations.{labels_along, without_dimension}
 
 -- ---- cells of a cube
 
@@ -92,14 +92,14 @@ module _ (graph : PlainGraph) (context : Cell) where
   -- on a list of the scope, by its number
   pub list_value_fits : (kind : CellKind) (labels : PlainLabels) (lists : List ListPart) → KeepsKind (callback_of graph (scope.reduce kind labels lists) context)
       → (i : ℕ) → i < length lists → (its : PlainLabels) → slice_index_or (map (labels_in labels) lists) i no_labels ≡ its
-      → (cells : List Cell) → length cells ≡ label_count its → All (IsOfKind kind) cells
+      → (cells : List Cell) → length cells ≡ count_labels its → All (IsOfKind kind) cells
       → IsOfKind (callback_kind (callback_of graph (scope.reduce kind labels lists) context)) (value_on_list (callback_of graph (scope.reduce kind labels lists) context) its cells)
   list_value_fits kind labels lists keeps i inside its is cells counted fit =
       let all = map (labels_in labels) lists in
       let as_many : length all ≡ length lists = length-map lists (labels_in labels) in
       let there : Contains all (slice_index_or all i no_labels) = Contains-get_or all i no_labels (subst (λ n. i < n) (sym as_many) inside) in
       subst (λ l. IsOfKind (callback_kind (callback_of graph (scope.reduce kind labels lists) context)) (value_on_list (callback_of graph (scope.reduce kind labels lists) context) l cells)) is
-      (keeps Empty Empty cells i (record { list_is = inside; cells_fit = record { among = there; as_many = subst (λ l. length cells ≡ label_count l) (sym is) counted; of_kind = fit } }))
+      (keeps Empty Empty cells i (record { list_is = inside; cells_fit = record { among = there; as_many = subst (λ l. length cells ≡ count_labels l) (sym is) counted; of_kind = fit } }))
 
 -- what holds of a callback under a scope holds of one whose scope is that
 pub under_scope : (P : Callback → Type 0) (c : Callback) (given : PlainScope) → c.scope ≡ given → P (callback_of c.graph given c.context) → P c
@@ -107,7 +107,7 @@ under_scope P c given is h = subst (λ s. P (callback_of c.graph s c.context)) (
 
 -- ---- the processes on one cube
 
-pub kept_fits : (kind : CellKind) (r : Restriction) (cube : Cube Cell) → AllOfKind kind cube → AllOfKind kind (kept r cube)
+pub kept_fits : (kind : CellKind) (r : Restriction) (cube : Cube Cell) → AllOfKind kind cube → AllOfKind kind (restricted_cube r cube)
 kept_fits kind r cube h = tabulated_fits kind (kept_shape r cube.shape) (cell cube) (λ tuple. cell_fits kind cube tuple h)
 
 pub applied_fits : (kind : CellKind) (c : Callback) (cube : Cube Cell) → c.scope ≡ scope.apply kind → KeepsKind c → AllOfKind kind cube → AllOfKind (callback_kind c) (applied c cube)
@@ -127,24 +127,24 @@ convolution_fits k factor border replace cube = tabulated_fits Numbers cube.shap
 all_of_list : {A : Type 0} (xs : List A) → slice_range xs 0 (length xs) ≡ xs
 all_of_list xs = let all : length xs - 0 ≡ length xs = omega arith in rw all (take-length xs)
 
-pub all_labels : (labels : PlainLabels) → labels_in labels (record { from = 0; to = label_count labels }) ≡ labels
+pub all_labels : (labels : PlainLabels) → labels_in labels (record { from = 0; to = count_labels labels }) ≡ labels
 all_labels (plain_instants labels) = ap plain_instants (all_of_list labels)
 all_labels (plain_names labels) = ap plain_names (all_of_list labels)
 all_labels (plain_coordinates labels) = ap plain_coordinates (all_of_list labels)
 
-counted_along : (along : Kind) (cube : Cube Cell) (tuple : Tuple) → length (cells_along along cube tuple) ≡ label_count (labels_along along cube.shape)
+counted_along : (along : Kind) (cube : Cube Cell) (tuple : Tuple) → length (cells_along along cube tuple) ≡ count_labels (labels_along along cube.shape)
 counted_along Time cube tuple = length-map (tuples_along Time cube.shape tuple) (cell cube) ∙ length-map _ _
 counted_along Bands cube tuple = length-map (tuples_along Bands cube.shape tuple) (cell cube) ∙ length-map _ _
 counted_along Y cube tuple = length-map (tuples_along Y cube.shape tuple) (cell cube) ∙ length-map _ _
 counted_along X cube tuple = length-map (tuples_along X cube.shape tuple) (cell cube) ∙ length-map _ _
 
 abbrev one_list : CellKind → PlainLabels → PlainScope
-one_list kind labels = scope.reduce kind labels (record { from = 0; to = label_count labels } ∷ [])
+one_list kind labels = scope.reduce kind labels (record { from = 0; to = count_labels labels } ∷ [])
 
 pub reduced_fits : (kind : CellKind) (along : Kind) (c : Callback) (cube : Cube Cell) → c.scope ≡ one_list kind (labels_along along cube.shape) → KeepsKind c → AllOfKind kind cube → AllOfKind (callback_kind c) (reduced along c cube)
 reduced_fits kind along c cube is =
     under_scope (λ k. KeepsKind k → AllOfKind kind cube → AllOfKind (callback_kind k) (reduced along k cube)) c (one_list kind (labels_along along cube.shape)) is
-    (λ keeps h. tabulated_fits _ (without along cube.shape) _ (λ tuple. list_value_fits c.graph c.context kind (labels_along along cube.shape) _ keeps 0 (omega arith) (labels_along along cube.shape) (all_labels _)
+    (λ keeps h. tabulated_fits _ (without_dimension along cube.shape) _ (λ tuple. list_value_fits c.graph c.context kind (labels_along along cube.shape) _ keeps 0 (omega arith) (labels_along along cube.shape) (all_labels _)
     (cells_along along cube tuple) (counted_along along cube tuple) (mapped_fits kind cube (tuples_along along cube.shape tuple) h)))
 
 -- ---- `mask`

@@ -15,14 +15,14 @@ use Rattle.oe_expr.proofs.NodeLemmas.{node_is}
 use Rattle.oe_expr.proofs.StateLemmas.{count_plain}
 use Rattle.oe_shape.specs.Checked.{CheckedGraph, AreFaultless, IsKept}
 use Rattle.oe_shape.specs.Links.{links_of}
-use Rattle.oe_shape.specs.Stands.{Stands, IsSound}
+use Rattle.oe_shape.specs.Stands.{StandsInGraph, IsSound}
 use Rattle.oe_shape.specs.Walked.{AreResolved, AreSound}
 use Rattle.oe_shape.specs.declared.checked.State.{State}
 use Rattle.oe_shape.proofs.KeptLemmas.{faultless}
 use Rattle.oe_shape.proofs.StandsLemmas.{none_at_or_below}
 
 -- no fault stands in a graph without one
-pub none_stands : (c : CheckedGraph) → AreFaultless c → IsFaultless (Stands c.rows c.nodes)
+pub none_stands : (c : CheckedGraph) → AreFaultless c → IsFaultless (StandsInGraph c.rows c.nodes)
 none_stands c f code name stands =
     let there = node_is c.nodes stands.id stands.at.node stands.at.is_node in
     let sound : IsSound c.rows c.nodes stands.id = subst (IsSound c.rows c.nodes) there.1 (f.sound stands.at.node there.0) in

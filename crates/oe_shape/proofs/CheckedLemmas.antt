@@ -10,13 +10,13 @@ use Rattle.oe_order.specs.Graph as order
 use Rattle.oe_expr.specs.Nodes.{node_named, id_at}
 use Rattle.oe_expr.proofs.NodeLemmas.{id_at_is, contains_node}
 use Rattle.oe_shape.specs.Checked.{CheckedGraph, AreFaultless, operation_of_node, collection_of_node}
-use Rattle.oe_shape.specs.Graphs.{Collections, collection_named, rows_of, inputs_of, outline_at, meaning_at, operation_at}
+use Rattle.oe_shape.specs.Graphs.{Collections, collection_named, collection_rows, request_inputs, outline_at, meaning_at, operation_at}
 use Rattle.oe_shape.specs.Laws.{ReferToCubes, AreCollectionsOf, meaning_of_node, IsCubeOfNode, GiveCubes}
-use Rattle.oe_shape.specs.Links.{index_referred, links_of, loaded_by, collection_of}
+use Rattle.oe_shape.specs.Links.{index_referred, links_of, loaded_by, loaded_collection}
 use Rattle.oe_shape.specs.Meaning.{Datacube, operated}
 use Rattle.oe_shape.specs.Operations.{Operation}
-use Rattle.oe_shape.specs.Requests.{Request, load_collection, filter_bbox, filter_temporal, filter_bands, apply, apply_kernel, reduce_dimension, aggregate_temporal, merge_cubes, mask, save_result, cube_ids, request_at}
-use Rattle.oe_shape.specs.SoundNodes.{IsAcyclic, IsSoundNode}
+use Rattle.oe_shape.specs.Requests.{CubeRequest, load_collection, filter_bbox, filter_temporal, filter_bands, apply, apply_kernel, reduce_dimension, aggregate_temporal, merge_cubes, mask, save_result, cube_ids, cube_request_at}
+use Rattle.oe_shape.specs.SoundNodes.{AreAcyclic, IsSoundNode}
 use Rattle.oe_shape.specs.Walked.{AreResolved, IsNodeOf}
 use Rattle.oe_shape.proofs.GraphLemmas.{unfold_at_nodes, are_sound}
 use Rattle.oe_shape.proofs.LoadLemmas.{loads_where}
@@ -25,7 +25,7 @@ use Rattle.oe_shape.proofs.ReferenceLemmas.{references_are}
 use Rattle.oe_shape.proofs.RequestLemmas.{found}
 use Rattle.oe_shape.proofs.LinkLemmas.{object, named_at, referred, index_is, links_arguments}
 
-pub refer : (nodes : Nodes) → AreResolved nodes → (n : PlainNode) → IsNodeOf nodes n → (r : Request) → request_at n ≡ Some r
+pub refer : (nodes : Nodes) → AreResolved nodes → (n : PlainNode) → IsNodeOf nodes n → (r : CubeRequest) → cube_request_at n ≡ Some r
     → references_named n.arguments ≡ cube_ids r
 refer nodes is n has r asks = references_are _ n r ((object nodes is).each n has) asks
 
@@ -43,7 +43,7 @@ map_twice f g h (name ∷ names) same =
     rw (first, rest) refl
 
 -- what a request works on that loads no collection
-no_load : {A : Type 0} (collection at : List ℕ → A) (r : Request) → loaded_by r ≡ None → inputs_of collection at r ≡ map at (cube_ids r)
+no_load : {A : Type 0} (collection at : List ℕ → A) (r : CubeRequest) → loaded_by r ≡ None → request_inputs collection at r ≡ map at (cube_ids r)
 no_load collection at (load_collection id box time bands) none = absurd cc
 no_load collection at (filter_bbox data_id box) none = refl
 no_load collection at (filter_temporal data_id time name) none = refl
@@ -57,7 +57,7 @@ no_load collection at (mask data_id mask_id replacement) none = refl
 no_load collection at (save_result data_id format) none = refl
 
 -- and that loads one
-a_load : {A : Type 0} (collection at : List ℕ → A) (r : Request) (id : List ℕ) → loaded_by r ≡ Some id → inputs_of collection at r ≡ collection id ∷ []
+a_load : {A : Type 0} (collection at : List ℕ → A) (r : CubeRequest) (id : List ℕ) → loaded_by r ≡ Some id → request_inputs collection at r ≡ collection id ∷ []
 a_load collection at (load_collection name box time bands) id e = let same : name ≡ id = cc in ap (λ i. collection i ∷ []) same
 a_load collection at (filter_bbox data_id box) id e = absurd cc
 a_load collection at (filter_temporal data_id time name) id e = absurd cc
@@ -81,12 +81,12 @@ module _ (c : CheckedGraph) (f : AreFaultless c) (collections : Collections) (ha
   named : node_named there.node.id c.nodes ≡ Some there.node
   named = named_at c.nodes f.resolved index there.node there.is_there
 
-  sound : IsSoundNode (rows_of collections) c.nodes there.node.id
+  sound : IsSoundNode (collection_rows collections) c.nodes there.node.id
   sound =
       subst (λ (rows : List DimsRow). IsSoundNode rows c.nodes there.node.id) (sym has.rows_are)
       (f.sound_cells there.node (contains_node c.nodes index there.node there.is_there))
 
-  acyclic_here : IsAcyclic c.nodes
+  acyclic_here : AreAcyclic c.nodes
   acyclic_here = (object c.nodes f.resolved).acyclic
 
   cube_here : IsCubeOfNode c index (meaning_of_node collections c index)
@@ -101,23 +101,23 @@ module _ (c : CheckedGraph) (f : AreFaultless c) (collections : Collections) (ha
   })
 
   module _ (operation : Operation) (is : operation_of_node c index ≡ Some operation) where
-    abbrev inputs : Request → List Datacube
-    inputs r = inputs_of (collection_named collections) (meaning_at collections c.nodes) r
+    abbrev inputs : CubeRequest → List Datacube
+    inputs r = request_inputs (collection_named collections) (meaning_at collections c.nodes) r
 
     operation_there : operation_at c.rows c.nodes there.node ≡ Some operation
     operation_there = sym (ap (option_and_then (operation_at c.rows c.nodes)) there.is_there) ∙ is
 
-    request_there : (r : Request) × (request_at there.node ≡ Some r)
-    request_there = let r = found _ (request_at there.node) operation operation_there in (r.0, r.1)
+    request_there : (r : CubeRequest) × (cube_request_at there.node ≡ Some r)
+    request_there = let r = found _ (cube_request_at there.node) operation operation_there in (r.0, r.1)
 
-    by_request : (r : Request) → request_at there.node ≡ Some r → meaning_of_node collections c index ≡ operated operation (inputs r)
+    by_request : (r : CubeRequest) → cube_request_at there.node ≡ Some r → meaning_of_node collections c index ≡ operated operation (inputs r)
     by_request r asks =
         ap (meaning_at collections c.nodes) id_there
         ∙ unfold_at_nodes.operated collections c.nodes acyclic_here there.node.id there.node named r operation asks
         (subst (λ (rows : List DimsRow). operation_at rows c.nodes there.node ≡ Some operation) (sym has.rows_are) operation_there)
 
-    collection_there : (r : Request) → request_at there.node ≡ Some r → collection_of_node c index ≡ loaded_by r
-    collection_there r asks = ap (option_and_then collection_of) there.is_there ∙ ap (option_and_then loaded_by) asks
+    collection_there : (r : CubeRequest) → cube_request_at there.node ≡ Some r → collection_of_node c index ≡ loaded_by r
+    collection_there r asks = ap (option_and_then loaded_collection) there.is_there ∙ ap (option_and_then loaded_by) asks
 
     loaded_here : (id : List ℕ) → collection_of_node c index ≡ Some id
         → meaning_of_node collections c index ≡ operated operation (collection_named collections id ∷ [])

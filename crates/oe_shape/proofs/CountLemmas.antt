@@ -15,7 +15,7 @@ use Rattle.oe_dims.specs.declared.kind.Kind.TheVariants.{Time, Bands, Y, X}
 use Rattle.oe_dims.proofs.IndexLemmas.{same_number_is, same_number_refl}
 use Rattle.oe_dims.proofs.OrderLemmas.{same_name_is, same_name_refl}
 use Rattle.oe_dims.proofs.ShapeLemmas.{numbers_rise, y_falls, bands_differ}
-use Rattle.oe_shape.specs.Labels.{is_below, is_above, put_in_order, in_order, new_among, all_in_order, all_bands, merged_shape, are_distinct, are_among, differ_in, differ_along}
+use Rattle.oe_shape.specs.Labels.{is_below, is_above, insert_label, sorted_labels, new_among, all_in_order, all_bands, merged_shape, are_distinct, are_among, differ_in, differ_along}
 use Rattle.oe_shape.proofs.OrderedLemmas.{below_is_order, above_is_order, ordered_differ, rises_stand, falls_stand}
 
 -- ---- counts and tests
@@ -165,19 +165,19 @@ module _ (L : Type 0) (same : L → L → Bool) (same_is : (a b : L) → same a 
 
 -- ---- the labels of shapes
 
-put_count : (is_before : ℤ → ℤ → Bool) (label : ℤ) (labels : List ℤ) → length (put_in_order is_before label labels) ≡ suc (length labels)
+put_count : (is_before : ℤ → ℤ → Bool) (label : ℤ) (labels : List ℤ) → length (insert_label is_before label labels) ≡ suc (length labels)
 put_count is_before label [] = refl
 put_count is_before label (other ∷ labels) = by (is_before label other) refl (put_count is_before label labels)
   where
-    by : (b : Bool) → is_before label other ≡ b → length (put_in_order is_before label labels) ≡ suc (length labels)
-        → length (if b then label ∷ other ∷ labels else other ∷ put_in_order is_before label labels) ≡ suc (suc (length labels))
+    by : (b : Bool) → is_before label other ≡ b → length (insert_label is_before label labels) ≡ suc (length labels)
+        → length (if b then label ∷ other ∷ labels else other ∷ insert_label is_before label labels) ≡ suc (suc (length labels))
     by true is rest = refl
     by false is rest = ap suc rest
 
-order_count : (is_before : ℤ → ℤ → Bool) (labels : List ℤ) → length (in_order is_before labels) ≡ length labels
+order_count : (is_before : ℤ → ℤ → Bool) (labels : List ℤ) → length (sorted_labels is_before labels) ≡ length labels
 order_count is_before [] = refl
 order_count is_before (label ∷ labels) =
-    put_count is_before label (in_order is_before labels) ∙ ap suc (order_count is_before labels)
+    put_count is_before label (sorted_labels is_before labels) ∙ ap suc (order_count is_before labels)
 
 joined_numbers : (is_before : ℤ → ℤ → Bool) (one two : Option (List ℤ)) (a b : List ℤ) → one ≡ Some a → two ≡ Some b
     → option_map length (all_in_order is_before one two) ≡ Some (length (a ++ new_among same_number a b))

@@ -10,7 +10,7 @@ use Rattle.oe_dims.specs.Dimensions.{rises}
 use Rattle.oe_dims.specs.Indices.{same_number}
 use Rattle.oe_shape.proofs.OrderedLemmas.{left_of, right_of, first_not, second_not, turned, ordered_differ, rises_stand, below_is_order, ordered_rise}
 use Rattle.oe_shape.proofs.SortLemmas.{compares_below, rising_is}
-use Rattle.oe_shape.specs.Labels.{is_below, in_order, are_distinct}
+use Rattle.oe_shape.specs.Labels.{is_below, sorted_labels, are_distinct}
 
 -- 1 for each label that is x
 abbrev same_count : ℤ → ℤ → ℕ

@@ -26,19 +26,19 @@ use Rattle.oe_shape.proofs.ValidLemmas.{no_dimensions_is_shape, gives_valid_shap
 use Rattle.oe_shape.specs.CellKinds.{HasCellsOfKind}
 use Rattle.oe_shape.specs.Extents.{kept_shape}
 use Rattle.oe_shape.specs.Labels.{merged_shape}
-use Rattle.oe_shape.specs.Graphs.{Collections, no_datacube, datacube_of, collection_named, rows_of, inputs_of, outline_named, outline_at, node_meaning, node_outline, request_meaning, meaning_at, operation_at}
+use Rattle.oe_shape.specs.Graphs.{Collections, no_datacube, datacube_of, collection_named, collection_rows, request_inputs, outline_named, outline_at, node_meaning, node_outline, request_meaning, meaning_at, operation_at}
 use Rattle.oe_shape.specs.Meaning.{Datacube, no_cube, operated, outline}
-use Rattle.oe_shape.specs.Operations.{Operation, Outline, no_outline, operation_of, keep, each_cell, convolve, reduce, aggregate, merge, cover, give_back, first_or, second_or, without, aggregated_shape}
-use Rattle.oe_shape.specs.Requests.{Request, load_collection, filter_bbox, filter_temporal, filter_bands, apply, apply_kernel, reduce_dimension, aggregate_temporal, merge_cubes, mask, save_result, cube_ids, request_at}
-use Rattle.oe_shape.specs.SoundNodes.{IsAcyclic, UnfoldAtNodes, IsSoundOperation, input_outlines, HasSoundOperation, IsSoundNode, sound_node, AreCollections, AreSound}
+use Rattle.oe_shape.specs.Operations.{Operation, Outline, no_outline, operation_of, keep, each_cell, convolve, reduce, aggregate, merge, cover, give_back, first_or, second_or, without_dimension, aggregated_shape}
+use Rattle.oe_shape.specs.Requests.{CubeRequest, load_collection, filter_bbox, filter_temporal, filter_bands, apply, apply_kernel, reduce_dimension, aggregate_temporal, merge_cubes, mask, save_result, cube_ids, cube_request_at}
+use Rattle.oe_shape.specs.SoundNodes.{AreAcyclic, UnfoldAtNodes, IsSoundOperation, input_outlines, HasSoundOperation, IsSoundNode, sound_node, AreCollections, AreSound}
 
 -- ---- unfolding
 
-meaning_unfolds : (collections : Collections) (nodes : Nodes) → IsAcyclic nodes → (name : List ℕ) (n : PlainNode) → node_named name nodes ≡ Some n → meaning_at collections nodes name ≡ node_meaning collections (meaning_at collections nodes) n
+meaning_unfolds : (collections : Collections) (nodes : Nodes) → AreAcyclic nodes → (name : List ℕ) (n : PlainNode) → node_named name nodes ≡ Some n → meaning_at collections nodes name ≡ node_meaning collections (meaning_at collections nodes) n
 meaning_unfolds collections nodes acyclic name n e =
     unfolds nodes no_datacube (node_meaning collections) (meaning_looks_down collections) acyclic name n e
 
-outline_unfolds : (rows : List DimsRow) (nodes : Nodes) → IsAcyclic nodes → (name : List ℕ) (n : PlainNode) → node_named name nodes ≡ Some n → outline_at rows nodes name ≡ node_outline rows (outline_at rows nodes) n
+outline_unfolds : (rows : List DimsRow) (nodes : Nodes) → AreAcyclic nodes → (name : List ℕ) (n : PlainNode) → node_named name nodes ≡ Some n → outline_at rows nodes name ≡ node_outline rows (outline_at rows nodes) n
 outline_unfolds rows nodes acyclic name n e =
     unfolds nodes no_outline (node_outline rows) (outline_looks_down rows) acyclic name n e
 
@@ -50,27 +50,27 @@ by_operation (Some p) operation inputs e = by cc
     by : p ≡ operation → operated p inputs ≡ operated operation inputs
     by same = ap (λ q. operated q inputs) same
 
-by_request : (collections : Collections) (at : List ℕ → Datacube) (o : Option Request) (r : Request) → o ≡ Some r
+by_request : (collections : Collections) (at : List ℕ → Datacube) (o : Option CubeRequest) (r : CubeRequest) → o ≡ Some r
     → option_map_or (request_meaning collections at) o no_datacube ≡ request_meaning collections at r
 by_request collections at o r e = ap (λ p. option_map_or (request_meaning collections at) p no_datacube) e
 
-asked : (o : Option Request) (r : Request) (f : Request → Option Operation) → o ≡ Some r → option_and_then f o ≡ f r
+asked : (o : Option CubeRequest) (r : CubeRequest) (f : CubeRequest → Option Operation) → o ≡ Some r → option_and_then f o ≡ f r
 asked o r f e = ap (λ p. option_and_then f p) e
 
 -- the meaning of a node is its operation on the meanings of the nodes that it refers to
-operation_unfolds : (collections : Collections) (nodes : Nodes) → IsAcyclic nodes → (name : List ℕ) (n : PlainNode) → node_named name nodes ≡ Some n
-    → (r : Request) (operation : Operation) → request_at n ≡ Some r → operation_at (rows_of collections) nodes n ≡ Some operation
-    → meaning_at collections nodes name ≡ operated operation (inputs_of (collection_named collections) (meaning_at collections nodes) r)
+operation_unfolds : (collections : Collections) (nodes : Nodes) → AreAcyclic nodes → (name : List ℕ) (n : PlainNode) → node_named name nodes ≡ Some n
+    → (r : CubeRequest) (operation : Operation) → cube_request_at n ≡ Some r → operation_at (collection_rows collections) nodes n ≡ Some operation
+    → meaning_at collections nodes name ≡ operated operation (request_inputs (collection_named collections) (meaning_at collections nodes) r)
 operation_unfolds collections nodes acyclic name n is r operation asks gives =
     let at = meaning_at collections nodes in
-    let to = outline_at (rows_of collections) nodes in
-    let inputs = inputs_of (collection_named collections) at r in
+    let to = outline_at (collection_rows collections) nodes in
+    let inputs = request_inputs (collection_named collections) at r in
     let same = inputs_outlined collections at to (at_outlined collections nodes) r in
     let there : operation_of r (map outline inputs) ≡ Some operation =
     ap (operation_of r) same
-    ∙ sym (asked (request_at n) r (λ q. operation_of q (inputs_of (outline_named (rows_of collections)) to q)) asks) ∙ gives in
+    ∙ sym (asked (cube_request_at n) r (λ q. operation_of q (request_inputs (outline_named (collection_rows collections)) to q)) asks) ∙ gives in
     meaning_unfolds collections nodes acyclic name n is
-    ∙ by_request collections at (request_at n) r asks
+    ∙ by_request collections at (cube_request_at n) r asks
     ∙ by_operation (operation_of r (map outline inputs)) operation inputs there
 
 pub unfold_at_nodes : UnfoldAtNodes
@@ -129,7 +129,7 @@ module _ (collections : Collections) (valid : AreCollections collections) (at : 
   two_valid a b h k (suc zero) d l = k
   two_valid a b h k (suc (suc i)) d l = absurd (omega arith)
 
-  inputs_valid : (r : Request) → EachOf (λ id. IsValid (at id)) (cube_ids r) → All IsValid (inputs_of (collection_named collections) at r)
+  inputs_valid : (r : CubeRequest) → EachOf (λ id. IsValid (at id)) (cube_ids r) → All IsValid (request_inputs (collection_named collections) at r)
   inputs_valid (load_collection id box time bands) h = one_valid (collection_named collections id) (named_valid collections id valid)
   inputs_valid (filter_bbox data_id box) h = one_valid (at data_id) h.0
   inputs_valid (filter_temporal data_id time name) h = one_valid (at data_id) h.0
@@ -159,7 +159,7 @@ operated_counted : (operation : Operation) (inputs : List Datacube) → All IsVa
 operated_counted (keep r) inputs h = IsCube-tabulate (kept_shape r (first_cube inputs).shape) _
 operated_counted (each_cell c) inputs h = IsCube-tabulate (first_cube inputs).shape _
 operated_counted (convolve kernel factor border replace) inputs h = IsCube-tabulate (first_cube inputs).shape _
-operated_counted (reduce kind c) inputs h = IsCube-tabulate (without kind (first_cube inputs).shape) _
+operated_counted (reduce kind c) inputs h = IsCube-tabulate (without_dimension kind (first_cube inputs).shape) _
 operated_counted (aggregate intervals c) inputs h = IsCube-tabulate (aggregated_shape intervals (first_cube inputs).shape) _
 operated_counted (merge resolver) inputs h = IsCube-tabulate (merged_shape (first_cube inputs).shape (second_cube inputs).shape) _
 operated_counted (cover replacement) inputs h = IsCube-tabulate (first_cube inputs).shape _
@@ -185,32 +185,32 @@ operated_valid operation inputs s h = record {
 
 -- ---- nodes
 
-module _ (collections : Collections) (valid : AreCollections collections) (nodes : Nodes) (acyclic : IsAcyclic nodes) where
+module _ (collections : Collections) (valid : AreCollections collections) (nodes : Nodes) (acyclic : AreAcyclic nodes) where
   abbrev rows : List DimsRow
-  rows = rows_of collections
+  rows = collection_rows collections
 
   abbrev means : List ℕ → Datacube
   means = meaning_at collections nodes
 
-  same_outlines : (r : Request) → map outline (inputs_of (collection_named collections) means r) ≡ input_outlines rows nodes r
+  same_outlines : (r : CubeRequest) → map outline (request_inputs (collection_named collections) means r) ≡ input_outlines rows nodes r
   same_outlines r = inputs_outlined collections means (outline_at rows nodes) (at_outlined collections nodes) r
 
-  request_valid : (n : PlainNode) (r : Request) → request_at n ≡ Some r → HasSoundOperation rows nodes n → EachOf (λ id. IsValid (means id)) (cube_ids r) → IsValid (request_meaning collections means r)
-  request_valid n r e sound below = by (operation_of r (map outline (inputs_of (collection_named collections) means r))) refl
+  request_valid : (n : PlainNode) (r : CubeRequest) → cube_request_at n ≡ Some r → HasSoundOperation rows nodes n → EachOf (λ id. IsValid (means id)) (cube_ids r) → IsValid (request_meaning collections means r)
+  request_valid n r e sound below = by (operation_of r (map outline (request_inputs (collection_named collections) means r))) refl
     where
-      by : (o : Option Operation) → operation_of r (map outline (inputs_of (collection_named collections) means r)) ≡ o
-          → IsValid (option_map_or (λ operation. operated operation (inputs_of (collection_named collections) means r)) o no_datacube)
+      by : (o : Option Operation) → operation_of r (map outline (request_inputs (collection_named collections) means r)) ≡ o
+          → IsValid (option_map_or (λ operation. operated operation (request_inputs (collection_named collections) means r)) o no_datacube)
       by None is = nothing_valid
       by (Some operation) is =
           let named : operation_of r (input_outlines rows nodes r) ≡ Some operation = subst (λ cubes. operation_of r cubes ≡ Some operation) (same_outlines r) is in
-          operated_valid operation (inputs_of (collection_named collections) means r)
+          operated_valid operation (request_inputs (collection_named collections) means r)
           (subst (IsSoundOperation operation) (sym (same_outlines r)) (sound r operation e named))
           (inputs_valid collections valid means r below)
 
   node_valid : (n : PlainNode) → HasSoundOperation rows nodes n → ((other : List ℕ) → Contains (references_named n.arguments) other → IsValid (means other)) → IsValid (node_meaning collections means n)
-  node_valid n sound below = by (request_at n) refl
+  node_valid n sound below = by (cube_request_at n) refl
     where
-      by : (o : Option Request) → request_at n ≡ o → IsValid (option_map_or (request_meaning collections means) o no_datacube)
+      by : (o : Option CubeRequest) → cube_request_at n ≡ o → IsValid (option_map_or (request_meaning collections means) o no_datacube)
       by None is = nothing_valid
       by (Some r) is = request_valid n r is sound (of_node_request (λ id. IsValid (means id)) n r is below)
 

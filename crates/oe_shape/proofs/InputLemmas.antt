@@ -16,7 +16,7 @@ use Rattle.oe_shape.specs.Graphs.{row_outline, outline_named}
 use Rattle.oe_shape.specs.Inputs.{AreNamed, outline_sound, WorksOn, AreInputs}
 use Rattle.oe_shape.specs.Links.{index_referred}
 use Rattle.oe_shape.specs.Operations.{Outline}
-use Rattle.oe_shape.specs.Requests.{Request, load_collection, cube_ids, request_at}
+use Rattle.oe_shape.specs.Requests.{CubeRequest, load_collection, cube_ids, cube_request_at}
 use Rattle.oe_shape.specs.Rows.{collection_not_found}
 use Rattle.oe_shape.specs.Walked.{AreResolved, IsNodeOf, IsKnown, AreKnown, state_at}
 use Rattle.oe_shape.specs.declared.checked.State.{State}
@@ -43,16 +43,16 @@ each_named P (id ∷ ids) all name zero below is = subst P is all.0
 each_named P (id ∷ ids) all name (suc k) below is = each_named P ids all.1 name k (omega arith) is
 
 -- what holds of the nodes that a node refers to holds of those that its request names
-of_cubes : (P : List ℕ → Type 0) (n : PlainNode) (r : Request) → request_at n ≡ Some r
+of_cubes : (P : List ℕ → Type 0) (n : PlainNode) (r : CubeRequest) → cube_request_at n ≡ Some r
     → ((name : List ℕ) → Contains (references_named n.arguments) name → P name) → (name : List ℕ) → Contains (cube_ids r) name → P name
 of_cubes P n r asks all name has = each_named P (cube_ids r) (of_node_request P n r asks all) name has.0 has.1 has.2
 
 module _ (nodes : Nodes) (is : AreResolved nodes) where
-  pub cubes_are_nodes : (n : PlainNode) (r : Request) → IsNodeOf nodes n → request_at n ≡ Some r
+  pub cubes_are_nodes : (n : PlainNode) (r : CubeRequest) → IsNodeOf nodes n → cube_request_at n ≡ Some r
       → AreNamed nodes (cube_ids r)
   cubes_are_nodes n r at asks = of_cubes (Contains (ids_of nodes)) n r asks ((object nodes is).each n at).names_nodes
 
-  pub cubes_are_known : (states : List State) (at : List ℕ → Outline) (n : PlainNode) (r : Request) → AreKnown nodes states at n → request_at n ≡ Some r
+  pub cubes_are_known : (states : List State) (at : List ℕ → Outline) (n : PlainNode) (r : CubeRequest) → AreKnown nodes states at n → cube_request_at n ≡ Some r
       → (name : List ℕ) → Contains (cube_ids r) name → IsKnown nodes states at name
   cubes_are_known states at n r known asks = of_cubes (IsKnown nodes states at) n r asks known
 
@@ -73,7 +73,7 @@ module _ (nodes : Nodes) (is : AreResolved nodes) where
         ∙ (ap outline_sound known.state_is ∙ ap Some (sym known.outline_is)))
 
     -- the cubes of a request, where the nodes that it names are known
-    abbrev Finds : Request → Option (Outline × Outline) → Type 0
+    abbrev Finds : CubeRequest → Option (Outline × Outline) → Type 0
     Finds r found = ((name : List ℕ) → Contains (cube_ids r) name → IsKnown nodes states at name) → AreInputs rows at r found
 
     abbrev twice : Option Outline → Option (Outline × Outline)
@@ -82,7 +82,7 @@ module _ (nodes : Nodes) (is : AreResolved nodes) where
     abbrev both : Option Outline → Option Outline → Option (Outline × Outline)
     both one two = with_both (λ (a b : Outline). (a, b)) one two
 
-    pub one_input : (q r : Request) (name : List ℕ) (o : Option Outline) (found : Option (Outline × Outline)) → q ≡ r
+    pub one_input : (q r : CubeRequest) (name : List ℕ) (o : Option Outline) (found : Option (Outline × Outline)) → q ≡ r
         → cube_ids r ≡ name ∷ [] → collection_not_found rows r ≡ false → WorksOn rows at r (at name) (at name)
         → o ≡ outline_sound (state_at states (index_referred nodes name)) → found ≡ twice o → Finds q found
     one_input q r name o found same names is_found works e is =
@@ -90,7 +90,7 @@ module _ (nodes : Nodes) (is : AreResolved nodes) where
         let one = known name (subst (λ ids. Contains ids name) (sym names) (Contains-push [] name)) in
         subst (AreInputs rows at r) (sym (is ∙ ap twice (outline_known name o e one))) (is_found, works))
 
-    pub two_inputs : (q r : Request) (first second : List ℕ) (one two : Option Outline) (found : Option (Outline × Outline)) → q ≡ r
+    pub two_inputs : (q r : CubeRequest) (first second : List ℕ) (one two : Option Outline) (found : Option (Outline × Outline)) → q ≡ r
         → cube_ids r ≡ first ∷ second ∷ [] → collection_not_found rows r ≡ false → WorksOn rows at r (at first) (at second)
         → one ≡ outline_sound (state_at states (index_referred nodes first))
         → two ≡ outline_sound (state_at states (index_referred nodes second)) → found ≡ both one two → Finds q found
@@ -102,14 +102,14 @@ module _ (nodes : Nodes) (is : AreResolved nodes) where
         is ∙ (ap (λ o. both o two) (outline_known first one e there) ∙ ap (both (Some (at first))) (outline_known second two f also)) in
         subst (AreInputs rows at r) (sym found_is) (is_found, works))
 
-pub load_input : (rows : List DimsRow) (at : List ℕ → Outline) (q : Request) (id : List ℕ) (box : Option BoundingBox) (time : Option TemporalExtent)
+pub load_input : (rows : List DimsRow) (at : List ℕ → Outline) (q : CubeRequest) (id : List ℕ) (box : Option BoundingBox) (time : Option TemporalExtent)
     (bands : Option (List (List ℕ))) (o : Option Outline) (found : Option (Outline × Outline)) → q ≡ load_collection id box time bands
     → o ≡ option_map row_outline (find (λ (row : DimsRow). same_name row.id id) rows)
     → found ≡ option_map (λ (a : Outline). (a, a)) o → AreInputs rows at q found
 load_input rows at q id box time bands o found same e is =
     subst (λ x. AreInputs rows at x found) (sym same) (by (find (λ (row : DimsRow). same_name row.id id) rows) refl)
   where
-    r : Request
+    r : CubeRequest
     r = load_collection id box time bands
 
     by : (row : Option DimsRow) → find (λ (x : DimsRow). same_name x.id id) rows ≡ row → AreInputs rows at r found

@@ -2,7 +2,7 @@
 use Rattle.std.proofs.Common.{◌≡◌, ◌≢◌, ℕ, ℤ, suc, ◌+◌, ◌<◌, ◌≤◌, List, [], ◌∷◌, ◌++◌, length, drop, get_or, Option, Some, None, option_map, refl, sym, ap, ◌∙◌, append_assoc}
 use Rattle.std.proofs.lemmas.List.{at_drop_more, at_drop_all}
 use Rattle.oe_expr.specs.Requests.{with_both}
-use Rattle.oe_shape.specs.Parameters.{labelled, by_starts, by_labels}
+use Rattle.oe_shape.specs.Parameters.{labelled_interval, by_starts, by_labels}
 use Rattle.oe_shape.specs.declared.extent.Interval.{Interval}
 use Rattle.oe_shape.specs.declared.extent.TemporalExtent.{TemporalExtent}
 
@@ -27,28 +27,28 @@ starts_first extents = none_before (by_starts extents)
 
 one_start : (before : List Interval) (extents : List TemporalExtent) (i : ℕ) (e : TemporalExtent) → i < length extents → e ≡ get_or extents i e
     → starts_from before extents i
-    ≡ behind before (with_both (λ start intervals. labelled e start ∷ intervals) e.start (by_starts (drop (i + 1) extents)))
+    ≡ behind before (with_both (λ start intervals. labelled_interval e start ∷ intervals) e.start (by_starts (drop (i + 1) extents)))
 one_start before extents i e below is =
     at_drop_more (λ xs. behind before (by_starts xs)) extents i e below
-    ∙ ap (λ (x : TemporalExtent). behind before (with_both (λ start intervals. labelled x start ∷ intervals) x.start (by_starts (drop (i + 1) extents)))) (sym is)
+    ∙ ap (λ (x : TemporalExtent). behind before (with_both (λ start intervals. labelled_interval x start ∷ intervals) x.start (by_starts (drop (i + 1) extents)))) (sym is)
 
 start_by : (before : List Interval) (e : TemporalExtent) (label : ℤ) (rest : Option (List Interval))
-    → behind before (with_both (λ start intervals. labelled e start ∷ intervals) (Some label) rest) ≡ behind (before ++ labelled e label ∷ []) rest
+    → behind before (with_both (λ start intervals. labelled_interval e start ∷ intervals) (Some label) rest) ≡ behind (before ++ labelled_interval e label ∷ []) rest
 start_by before e label None = refl
-start_by before e label (Some xs) = ap Some (sym (append_assoc before (labelled e label ∷ []) xs))
+start_by before e label (Some xs) = ap Some (sym (append_assoc before (labelled_interval e label ∷ []) xs))
 
 pub starts_next : (before : List Interval) (extents : List TemporalExtent) (i : ℕ) (e : TemporalExtent) (label : ℤ) → i < length extents → e ≡ get_or extents i e
-    → e.start ≡ Some label → starts_from before extents i ≡ starts_from (before ++ labelled e label ∷ []) extents (i + 1)
+    → e.start ≡ Some label → starts_from before extents i ≡ starts_from (before ++ labelled_interval e label ∷ []) extents (i + 1)
 starts_next before extents i e label below is found =
     one_start before extents i e below is
-    ∙ (ap (λ o. behind before (with_both (λ start intervals. labelled e start ∷ intervals) o (by_starts (drop (i + 1) extents)))) found
+    ∙ (ap (λ o. behind before (with_both (λ start intervals. labelled_interval e start ∷ intervals) o (by_starts (drop (i + 1) extents)))) found
     ∙ start_by before e label (by_starts (drop (i + 1) extents)))
 
 pub starts_stop : (before : List Interval) (extents : List TemporalExtent) (i : ℕ) (e : TemporalExtent) → i < length extents → e ≡ get_or extents i e
     → e.start ≡ None → starts_from before extents i ≡ None
 starts_stop before extents i e below is none =
     one_start before extents i e below is
-    ∙ ap (λ o. behind before (with_both (λ start intervals. labelled e start ∷ intervals) o (by_starts (drop (i + 1) extents)))) none
+    ∙ ap (λ o. behind before (with_both (λ start intervals. labelled_interval e start ∷ intervals) o (by_starts (drop (i + 1) extents)))) none
 
 pub starts_end : (before : List Interval) (extents : List TemporalExtent) (i : ℕ) → length extents ≤ i → starts_from before extents i ≡ Some before
 starts_end before extents i past =
@@ -63,18 +63,18 @@ pub labels_first : (extents : List TemporalExtent) (labels : List ℤ) → label
 labels_first extents labels = none_before (by_labels extents labels)
 
 label_by : (before : List Interval) (e : TemporalExtent) (label : ℤ) (rest : Option (List Interval))
-    → behind before (option_map (λ intervals. labelled e label ∷ intervals) rest) ≡ behind (before ++ labelled e label ∷ []) rest
+    → behind before (option_map (λ intervals. labelled_interval e label ∷ intervals) rest) ≡ behind (before ++ labelled_interval e label ∷ []) rest
 label_by before e label None = refl
-label_by before e label (Some xs) = ap Some (sym (append_assoc before (labelled e label ∷ []) xs))
+label_by before e label (Some xs) = ap Some (sym (append_assoc before (labelled_interval e label ∷ []) xs))
 
 pub labels_next : (before : List Interval) (extents : List TemporalExtent) (labels : List ℤ) (i : ℕ) (e : TemporalExtent) (label : ℤ)
     → i < length extents → i < length labels → e ≡ get_or extents i e → label ≡ get_or labels i label
-    → labels_from before extents labels i ≡ labels_from (before ++ labelled e label ∷ []) extents labels (i + 1)
+    → labels_from before extents labels i ≡ labels_from (before ++ labelled_interval e label ∷ []) extents labels (i + 1)
 labels_next before extents labels i e label below inside is same =
     at_drop_more (λ xs. behind before (by_labels xs (drop i labels))) extents i e below
     ∙ (at_drop_more (λ ls. behind before (by_labels (get_or extents i e ∷ drop (i + 1) extents) ls)) labels i label inside
-    ∙ (ap (λ (x : TemporalExtent). behind before (option_map (λ intervals. labelled x (get_or labels i label) ∷ intervals) (by_labels (drop (i + 1) extents) (drop (i + 1) labels)))) (sym is)
-    ∙ (ap (λ (l : ℤ). behind before (option_map (λ intervals. labelled e l ∷ intervals) (by_labels (drop (i + 1) extents) (drop (i + 1) labels)))) (sym same)
+    ∙ (ap (λ (x : TemporalExtent). behind before (option_map (λ intervals. labelled_interval x (get_or labels i label) ∷ intervals) (by_labels (drop (i + 1) extents) (drop (i + 1) labels)))) (sym is)
+    ∙ (ap (λ (l : ℤ). behind before (option_map (λ intervals. labelled_interval e l ∷ intervals) (by_labels (drop (i + 1) extents) (drop (i + 1) labels)))) (sym same)
     ∙ label_by before e label (by_labels (drop (i + 1) extents) (drop (i + 1) labels)))))
 
 pub labels_end : (before : List Interval) (extents : List TemporalExtent) (labels : List ℤ) (i : ℕ) → length extents ≤ i → length labels ≤ i
@@ -88,4 +88,4 @@ uneven [] [] h = absurd (h refl)
 uneven [] (label ∷ labels) h = refl
 uneven (e ∷ extents) [] h = refl
 uneven (e ∷ extents) (label ∷ labels) h =
-    ap (option_map (λ intervals. labelled e label ∷ intervals)) (uneven extents labels (λ same. h (ap suc same)))
+    ap (option_map (λ intervals. labelled_interval e label ∷ intervals)) (uneven extents labels (λ same. h (ap suc same)))

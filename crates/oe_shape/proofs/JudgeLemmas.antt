@@ -18,10 +18,10 @@ use Rattle.oe_graph.specs.declared.code.Code.{Code}
 use Rattle.oe_graph.specs.declared.code.Code.TheVariants.{CellKindInvalid, CollectionNotFound, CubeTooLarge}
 use Rattle.oe_graph.specs.declared.fault.Fault.{Fault}
 use Rattle.oe_expr.proofs.KindLemmas.{keeps_kind}
-use Rattle.oe_expr.specs.Callback.{Callback, IsFaultless}
-use Rattle.oe_expr.specs.Rows.{Row, first_row}
+use Rattle.oe_expr.specs.Callback.{Callback, IsFaultlessCallback}
+use Rattle.oe_expr.specs.Rows.{JudgedRow, first_row}
 use Rattle.oe_expr.specs.Scope as scope
-use Rattle.oe_expr.specs.Scope.{PlainScope, parameter_names}
+use Rattle.oe_expr.specs.Scope.{PlainScope, scope_parameters}
 use Rattle.oe_shape.proofs.BuildableLemmas.{or_false, NoneHolds, none_holds}
 use Rattle.oe_shape.proofs.KindLemmas.{kinds_asked}
 use Rattle.oe_shape.proofs.VerdictLemmas.{StandsInside, found_early, wrong_kinds, wrong_size, no_fault, inside_alone, inside_or_size}
@@ -31,21 +31,21 @@ use Rattle.oe_shape.specs.Early.{IsEarlyFault}
 use Rattle.oe_shape.specs.Graphs.{request_outline, node_outline}
 use Rattle.oe_shape.specs.Inputs.{AreInputs, WorksOn}
 use Rattle.oe_shape.specs.Links.{loaded_by}
-use Rattle.oe_shape.specs.Operations.{Operation, reduce, Outline, no_dimensions, no_outline, first_or, operation_of, outline_of, shape_of, kind_of, dimension_named, callback_under, reduction_scope, interval_scope}
+use Rattle.oe_shape.specs.Operations.{Operation, reduce, Outline, no_dimensions, no_outline, first_or, operation_of, outline_of, shape_of, operation_kind, dimension_named, callback_under, reduction_scope, interval_scope}
 use Rattle.oe_shape.specs.PlainRequests.{plain_operation}
-use Rattle.oe_shape.specs.Requests.{Called, Request, load_collection, filter_bbox, filter_temporal, filter_bands, apply, apply_kernel, reduce_dimension, aggregate_temporal, merge_cubes, mask, save_result, request_at}
+use Rattle.oe_shape.specs.Requests.{Called, CubeRequest, load_collection, filter_bbox, filter_temporal, filter_bands, apply, apply_kernel, reduce_dimension, aggregate_temporal, merge_cubes, mask, save_result, cube_request_at}
 use Rattle.oe_shape.specs.Results.{cubes_among, takes_other_kinds, where_within_limits, HasValidLabels, IsResultShape}
 use Rattle.oe_shape.specs.Rows.{collection_not_found, cell_kind_invalid, cube_too_large, gives_too_large, is_of_another, dimension_not_available}
 use Rattle.oe_shape.specs.SoundNodes.{IsSoundOperation}
 use Rattle.oe_shape.specs.Stands.{early_rows, callback_in, callback_on, cubes_of, Passes, HasFaultlessCallback, StandsHere}
 use Rattle.oe_shape.specs.ValidShapes.{BringsLabels, is_within_limits}
 use Rattle.oe_shape.specs.Walked.{outline_kept, IsJudgedSound}
-use Rattle.oe_shape.specs.Words.{same_cell_kind, lacks}
+use Rattle.oe_shape.specs.Words.{same_cell_kind, lacks_dimension}
 use Rattle.oe_shape.specs.declared.checked.CheckedNode.{CheckedNode}
 
 -- ---- an operation depends on the first cube alone
 
-first_alone : (r : Request) (one : Outline) (xs ys : List Outline) → operation_of r (one ∷ xs) ≡ operation_of r (one ∷ ys)
+first_alone : (r : CubeRequest) (one : Outline) (xs ys : List Outline) → operation_of r (one ∷ xs) ≡ operation_of r (one ∷ ys)
 first_alone (load_collection id box time bands) one xs ys = refl
 first_alone (filter_bbox data_id box) one xs ys = refl
 first_alone (filter_temporal data_id time name) one xs ys = refl
@@ -58,11 +58,11 @@ first_alone (merge_cubes one_id two_id resolver) one xs ys = refl
 first_alone (mask data_id mask_id replacement) one xs ys = refl
 first_alone (save_result data_id format) one xs ys = refl
 
-callback_alone : (r : Request) (one : Outline) (xs ys : List Outline) → callback_on r (one ∷ xs) ≡ callback_on r (one ∷ ys)
+callback_alone : (r : CubeRequest) (one : Outline) (xs ys : List Outline) → callback_on r (one ∷ xs) ≡ callback_on r (one ∷ ys)
 callback_alone r one xs ys = ap (option_and_then callback_in) (first_alone r one xs ys)
 
 -- the cubes after the first
-abbrev behind : Request → Outline → List Outline
+abbrev behind : CubeRequest → Outline → List Outline
 behind (load_collection id box time bands) two = []
 behind (filter_bbox data_id box) two = []
 behind (filter_temporal data_id time name) two = []
@@ -75,7 +75,7 @@ behind (merge_cubes one_id two_id resolver) two = two ∷ []
 behind (mask data_id mask_id replacement) two = two ∷ []
 behind (save_result data_id format) two = []
 
-among : (r : Request) (one two : Outline) → cubes_among r one two ≡ one ∷ behind r two
+among : (r : CubeRequest) (one two : Outline) → cubes_among r one two ≡ one ∷ behind r two
 among (load_collection id box time bands) one two = refl
 among (filter_bbox data_id box) one two = refl
 among (filter_temporal data_id time name) one two = refl
@@ -110,13 +110,13 @@ literal_fits Flags (Flag b) e = tt
 literal_fits Flags (Number q) e = absurd cc
 literal_fits Flags Over e = tt
 
-sound_under : (given : PlainScope) (c : Called) → IsResolvedCallback (parameter_names given) c → IsFaultless (callback_under given c)
+sound_under : (given : PlainScope) (c : Called) → IsResolvedCallback (scope_parameters given) c → IsFaultlessCallback (callback_under given c)
     → IsSoundUnder given (callback_under given c)
 sound_under given c is faultless = record { scope_is = refl; keeps = keeps_kind (callback_under given c) is.resolved faultless }
 
 -- the kinds that the operation takes
-pub sound_on : (r : Request) (one two : Outline) → IsBuildable r → IsShape one.shape
-    → IfSome (callback_on r (cubes_among r one two)) (λ c. IsFaultless c.1) → cell_kind_invalid r (cubes_among r one two) ≡ false
+pub sound_on : (r : CubeRequest) (one two : Outline) → IsBuildable r → IsShape one.shape
+    → IfSome (callback_on r (cubes_among r one two)) (λ c. IsFaultlessCallback c.1) → cell_kind_invalid r (cubes_among r one two) ≡ false
     → IfSome (operation_of r (cubes_among r one two)) (λ operation. IsSoundOn operation (cubes_among r one two))
 sound_on (load_collection id box time bands) one two h s f k = tt
 sound_on (filter_bbox data_id box) one two h s f k = tt
@@ -127,7 +127,7 @@ sound_on (apply_kernel data_id kernel factor border replace) one two h s f k = t
 sound_on (reduce_dimension data_id name c) one two h s f k = by (dimension_named name) f
   where
     by : (o : Option Kind)
-        → IfSome (option_and_then callback_in (option_map (λ kind. reduce kind (callback_under (reduction_scope kind one) c)) o)) (λ c. IsFaultless c.1)
+        → IfSome (option_and_then callback_in (option_map (λ kind. reduce kind (callback_under (reduction_scope kind one) c)) o)) (λ c. IsFaultlessCallback c.1)
         → IfSome (option_map (λ kind. reduce kind (callback_under (reduction_scope kind one) c)) o) (λ operation. IsSoundOn operation (one ∷ []))
     by None f = tt
     by (Some kind) f = sound_under (reduction_scope kind one) c h f
@@ -141,7 +141,7 @@ sound_on (mask data_id mask_id replacement) one two h s f k = literal_fits one.k
 sound_on (save_result data_id format) one two h s f k = tt
 
 -- the labels that it brings
-pub brings_labels : (r : Request) (cubes : List Outline) → HasValidLabels r → IfSome (operation_of r cubes) BringsLabels
+pub brings_labels : (r : CubeRequest) (cubes : List Outline) → HasValidLabels r → IfSome (operation_of r cubes) BringsLabels
 brings_labels (load_collection id box time bands) cubes h = h
 brings_labels (filter_bbox data_id box) cubes h = tt
 brings_labels (filter_temporal data_id time name) cubes h = tt
@@ -179,13 +179,13 @@ large d found is = by (is_within_limits d) refl
     by true l = ap is_none (is ∙ within d true l) ∙ sym (ap not l)
     by false l = ap is_none (is ∙ within d false l) ∙ sym (ap not l)
 
-too_large : (r : Request) (cubes : List Outline) (operation : Operation) → operation_of r cubes ≡ Some operation
+too_large : (r : CubeRequest) (cubes : List Outline) (operation : Operation) → operation_of r cubes ≡ Some operation
     → cube_too_large r cubes ≡ gives_too_large cubes operation
 too_large r cubes operation e = ap (λ o. option_map_or (gives_too_large cubes) o false) e
 
 -- ---- the node
 
-module _ (rows : List DimsRow) (at : List ℕ → Outline) (n : PlainNode) (r : Request) (p : Passes rows at n r)
+module _ (rows : List DimsRow) (at : List ℕ → Outline) (n : PlainNode) (r : CubeRequest) (p : Passes rows at n r)
     (one two : Outline) (works : WorksOn rows at r one two) where
   abbrev cubes : List Outline
   cubes = cubes_of rows at r
@@ -244,12 +244,12 @@ module _ (rows : List DimsRow) (at : List ℕ → Outline) (n : PlainNode) (r : 
   -- ---- where none stands in the callback
 
   module _ (operation : Operation) (op : (others : List Outline) → Some operation ≡ operation_of r (one ∷ others))
-      (right : (others : List Outline) → IfSome (callback_on r (one ∷ others)) (λ c. IsFaultless c.1)) where
+      (right : (others : List Outline) → IfSome (callback_on r (one ∷ others)) (λ c. IsFaultlessCallback c.1)) where
     is_operation : operation_of r cubes ≡ Some operation
     is_operation = ap (operation_of r) first_cube ∙ sym (op (behind r two))
 
     faultless : HasFaultlessCallback rows at r
-    faultless = subst (λ (xs : List Outline). IfSome (callback_on r xs) (λ c. IsFaultless c.1)) (sym first_cube) (right (behind r two))
+    faultless = subst (λ (xs : List Outline). IfSome (callback_on r xs) (λ c. IsFaultlessCallback c.1)) (sym first_cube) (right (behind r two))
 
     kinds : takes_other_kinds operation one.kind two.kind ≡ cell_kind_invalid r cubes
     kinds =
@@ -272,12 +272,12 @@ module _ (rows : List DimsRow) (at : List ℕ → Outline) (n : PlainNode) (r : 
       too_many none = wrong_size rows at n r p.asks p.none_holds faultless (sym kinds ∙ same) (sym size ∙ ap is_none none)
 
       pub judged_sound : IsBuildable r → HasValidLabels r → IsShape one.shape → (kept : CheckedNode) → found ≡ Some kept.shape
-          → operation ≡ plain_operation kept.operation → ((others : List CellKind) → kept.kind ≡ kind_of operation (one.kind ∷ others))
+          → operation ≡ plain_operation kept.operation → ((others : List CellKind) → kept.kind ≡ operation_kind operation (one.kind ∷ others))
           → kept.collection ≡ loaded_by r → IsJudgedSound rows at n kept
       judged_sound buildable labels valid kept some operation_is kind_is collection_is = record {
         no_fault = no_fault rows at n r p.asks p.none_holds faultless (sym kinds ∙ same) (sym size ∙ ap is_none some);
         operation_is =
-            ap (option_and_then (λ (q : Request). operation_of q (cubes_of rows at q))) p.asks ∙ (is_operation ∙ ap Some operation_is);
+            ap (option_and_then (λ (q : CubeRequest). operation_of q (cubes_of rows at q))) p.asks ∙ (is_operation ∙ ap Some operation_is);
         sound_operation = sound_operation;
         collection_is = ap (option_and_then loaded_by) p.asks ∙ sym collection_is;
         outline_is = outline_is;
@@ -293,7 +293,7 @@ module _ (rows : List DimsRow) (at : List ℕ → Outline) (n : PlainNode) (r : 
               (some_is (λ o. IsSoundOn o (cubes_among r one two)) (operation_of r (cubes_among r one two)) operation
               (sym (ap (operation_of r) works) ∙ is_operation)
               (sound_on r one two buildable valid
-              (subst (λ (xs : List Outline). IfSome (callback_on r xs) (λ c. IsFaultless c.1)) works faultless)
+              (subst (λ (xs : List Outline). IfSome (callback_on r xs) (λ c. IsFaultlessCallback c.1)) works faultless)
               (ap (cell_kind_invalid r) (sym works) ∙ (sym kinds ∙ same))))
 
           is_sound : IsSoundOperation operation cubes
@@ -303,24 +303,24 @@ module _ (rows : List DimsRow) (at : List ℕ → Outline) (n : PlainNode) (r : 
             limits = limits.0;
           }
 
-          sound_operation : (q : Request) (other : Operation) → request_at n ≡ Some q → operation_of q (cubes_of rows at q) ≡ Some other
+          sound_operation : (q : CubeRequest) (other : Operation) → cube_request_at n ≡ Some q → operation_of q (cubes_of rows at q) ≡ Some other
               → IsSoundOperation other (cubes_of rows at q)
           sound_operation q other e f =
               let mine : r ≡ q = let asks = p.asks in cc in
-              let g : operation_of r cubes ≡ Some other = subst (λ (x : Request). operation_of x (cubes_of rows at x) ≡ Some other) (sym mine) f in
+              let g : operation_of r cubes ≡ Some other = subst (λ (x : CubeRequest). operation_of x (cubes_of rows at x) ≡ Some other) (sym mine) f in
               let equal : operation ≡ other = let h = is_operation in cc in
-              subst (λ (x : Request). IsSoundOperation other (cubes_of rows at x)) mine (subst (λ o. IsSoundOperation o cubes) equal is_sound)
+              subst (λ (x : CubeRequest). IsSoundOperation other (cubes_of rows at x)) mine (subst (λ o. IsSoundOperation o cubes) equal is_sound)
 
-          kind_there : kind_of operation (map (λ (o : Outline). o.kind) cubes) ≡ kept.kind
+          kind_there : operation_kind operation (map (λ (o : Outline). o.kind) cubes) ≡ kept.kind
           kind_there =
-              ap (λ (xs : List Outline). kind_of operation (map (λ (o : Outline). o.kind) xs)) first_cube
+              ap (λ (xs : List Outline). operation_kind operation (map (λ (o : Outline). o.kind) xs)) first_cube
               ∙ sym (kind_is (map (λ (o : Outline). o.kind) (behind r two)))
 
           outline_is : node_outline rows at n ≡ outline_kept kept
           outline_is =
               ap (λ o. option_map_or (request_outline rows at) o no_outline) p.asks
               ∙ (ap (λ o. option_map_or (λ (x : Operation). outline_of x cubes) o no_outline) is_operation
-              ∙ (ap (λ (d : Dimensions). record { shape = d; kind = kind_of operation (map (λ (o : Outline). o.kind) cubes) }) (sym limits.1)
+              ∙ (ap (λ (d : Dimensions). record { shape = d; kind = operation_kind operation (map (λ (o : Outline). o.kind) cubes) }) (sym limits.1)
               ∙ ap (λ (k : CellKind). record { shape = kept.shape; kind = k }) kind_there))
 
   -- ---- there is an operation, since a dimension of another name is not available
@@ -330,11 +330,11 @@ module _ (rows : List DimsRow) (at : List ℕ → Outline) (n : PlainNode) (r : 
       (subst (λ (xs : List Outline). dimension_not_available r xs ≡ false) first_cube (none_holds rows r cubes p.none_holds).dimension)
     where
       no_such : (o : Option Kind) (d : Dimensions) (given : Kind → Callback) → None ≡ option_map (λ kind. reduce kind (given kind)) o
-          → option_map_or (λ along. lacks along d) o true ≡ false → ⊥
+          → option_map_or (λ along. lacks_dimension along d) o true ≡ false → ⊥
       no_such None d given e f = true≢false f
       no_such (Some kind) d given e f = absurd cc
 
-      absent : (q : Request) (first : Outline) (rest : List Outline) → None ≡ operation_of q (first ∷ rest) → dimension_not_available q (first ∷ rest) ≡ false → ⊥
+      absent : (q : CubeRequest) (first : Outline) (rest : List Outline) → None ≡ operation_of q (first ∷ rest) → dimension_not_available q (first ∷ rest) ≡ false → ⊥
       absent (load_collection id box time bands) first rest e f = absurd cc
       absent (filter_bbox data_id box) first rest e f = absurd cc
       absent (filter_temporal data_id time name) first rest e f = absurd cc
@@ -350,16 +350,16 @@ module _ (rows : List DimsRow) (at : List ℕ → Outline) (n : PlainNode) (r : 
 
 -- ---- the rows that a callback's faults wait for, from the shapes of the cubes alone
 
-first_true : (table : List Row) (code : Code) (b : Bool) → slice_get table 0 ≡ Some (code, b) → b ≡ true → first_row table ≡ Some code
+first_true : (table : List JudgedRow) (code : Code) (b : Bool) → slice_get table 0 ≡ Some (code, b) → b ≡ true → first_row table ≡ Some code
 first_true [] code b at e = absurd cc
 first_true (row ∷ table) code b at e =
-    let same : row ≡ (code, b) = cc in subst (λ (x : Row). first_row (x ∷ table) ≡ Some code) (sym same) (by b e)
+    let same : row ≡ (code, b) = cc in subst (λ (x : JudgedRow). first_row (x ∷ table) ≡ Some code) (sym same) (by b e)
   where
     by : (t : Bool) → t ≡ true → first_row ((code, t) ∷ table) ≡ Some code
     by true e = refl
     by false e = absurd cc
 
-pub not_found : (rows : List DimsRow) (at : List ℕ → Outline) (n : PlainNode) (r : Request) → request_at n ≡ Some r → collection_not_found rows r ≡ true
+pub not_found : (rows : List DimsRow) (at : List ℕ → Outline) (n : PlainNode) (r : CubeRequest) → cube_request_at n ≡ Some r → collection_not_found rows r ≡ true
     → IsLeast (StandsHere rows at n) (record { code = CollectionNotFound; node = n.id })
 not_found rows at n r asks missing =
     found_early rows at n r asks CollectionNotFound
@@ -369,7 +369,7 @@ not_found rows at n r asks missing =
 abbrev rows_with : List ℕ → List DimsRow
 rows_with id = record { id = id; shape = no_dimensions; kind = Numbers } ∷ []
 
-found_among : (r : Request) → (rows : List DimsRow) × (collection_not_found rows r ≡ false)
+found_among : (r : CubeRequest) → (rows : List DimsRow) × (collection_not_found rows r ≡ false)
 found_among (load_collection id box time bands) = (rows_with id, rw (same_name_refl id) refl)
 found_among (filter_bbox data_id box) = ([], refl)
 found_among (filter_temporal data_id time name) = ([], refl)
@@ -385,13 +385,13 @@ found_among (save_result data_id format) = ([], refl)
 abbrev pub numbers_of : Dimensions → Outline
 numbers_of d = record { shape = d; kind = Numbers }
 
-pub none_early : (r : Request) (one two : Dimensions) → IsEarlyFault r one two None → NoneHolds r (cubes_among r (numbers_of one) (numbers_of two))
+pub none_early : (r : CubeRequest) (one two : Dimensions) → IsEarlyFault r one two None → NoneHolds r (cubes_among r (numbers_of one) (numbers_of two))
 none_early r one two e =
     let rows = found_among r in
     none_holds rows.0 r (cubes_among r (numbers_of one) (numbers_of two)) (sym (e rows.0 Numbers Numbers rows.1))
 
 -- the first row that holds, where the cubes are these
-pub first_early : (rows : List DimsRow) (at : List ℕ → Outline) (r : Request) (one two : Outline) (code : Option Code)
+pub first_early : (rows : List DimsRow) (at : List ℕ → Outline) (r : CubeRequest) (one two : Outline) (code : Option Code)
     → AreInputs rows at r (Some (one, two)) → IsEarlyFault r one.shape two.shape code → first_row (early_rows rows r (cubes_of rows at r)) ≡ code
 first_early rows at r one two code inputs e =
     ap (λ (cubes : List Outline). first_row (early_rows rows r cubes)) inputs.1 ∙ sym (e rows one.kind two.kind inputs.0)

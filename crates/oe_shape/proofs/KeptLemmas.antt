@@ -11,7 +11,7 @@ use Rattle.oe_order.specs.declared.Links.{Links}
 use Rattle.oe_expr.proofs.NodeLemmas.{id_at_is, index_of_node}
 use Rattle.oe_shape.specs.Checked.{CheckedGraph, outline_of_node, operation_of_node, collection_of_node, AreFaultless, IsKept}
 use Rattle.oe_shape.specs.Graphs.{outline_at, operation_at}
-use Rattle.oe_shape.specs.Links.{collection_of}
+use Rattle.oe_shape.specs.Links.{loaded_collection}
 use Rattle.oe_shape.specs.Operations.{Outline}
 use Rattle.oe_shape.specs.PlainRequests.{plain_operation}
 use Rattle.oe_shape.specs.Walked.{IsNodeOf, outline_kept, IsSoundOf}
@@ -48,7 +48,7 @@ module _ (c : CheckedGraph) (ids : List (List ℕ)) (states : List State) (links
           shape_is = sym (ap (λ (o : Outline). o.shape) outline);
           kind_is = sym (ap (λ (o : Outline). o.kind) outline);
           operation_is = ap (option_and_then (operation_at c.rows c.nodes)) there.is_there ∙ so.operation_is n named;
-          collection_is = sym (ap (option_and_then collection_of) there.is_there ∙ so.collection_is n named);
+          collection_is = sym (ap (option_and_then loaded_collection) there.is_there ∙ so.collection_is n named);
         },
       )
 

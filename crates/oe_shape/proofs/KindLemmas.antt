@@ -5,7 +5,7 @@ use Rattle.oe_dims.specs.declared.kind.CellKind.{CellKind}
 use Rattle.oe_dims.specs.declared.kind.Kind.{Kind}
 use Rattle.oe_expr.specs.Callback.{Callback}
 use Rattle.oe_shape.specs.Operations.{Operation, reduce, Outline, operation_of, dimension_named, callback_under, reduction_scope}
-use Rattle.oe_shape.specs.Requests.{Request, load_collection, filter_bbox, filter_temporal, filter_bands, apply, apply_kernel, reduce_dimension, aggregate_temporal, merge_cubes, mask, save_result}
+use Rattle.oe_shape.specs.Requests.{CubeRequest, load_collection, filter_bbox, filter_temporal, filter_bands, apply, apply_kernel, reduce_dimension, aggregate_temporal, merge_cubes, mask, save_result}
 use Rattle.oe_shape.specs.Results.{cubes_among, takes_other_kinds}
 use Rattle.oe_shape.specs.Rows.{cell_kind_invalid}
 
@@ -16,7 +16,7 @@ reduced_taken : (one two : CellKind) (given : Kind → Callback) (o : Option Kin
 reduced_taken one two given None = refl
 reduced_taken one two given (Some kind) = refl
 
-asked : (r : Request) (one two : Outline) → taken one.kind two.kind (operation_of r (cubes_among r one two)) ≡ cell_kind_invalid r (cubes_among r one two)
+asked : (r : CubeRequest) (one two : Outline) → taken one.kind two.kind (operation_of r (cubes_among r one two)) ≡ cell_kind_invalid r (cubes_among r one two)
 asked (load_collection id box time bands) one two = refl
 asked (filter_bbox data_id box) one two = refl
 asked (filter_temporal data_id time name) one two = refl
@@ -31,6 +31,6 @@ asked (merge_cubes one_id two_id (Some c)) one two = refl
 asked (mask data_id mask_id replacement) one two = refl
 asked (save_result data_id format) one two = refl
 
-pub kinds_asked : (r : Request) (one two : Outline) (operation : Operation) → operation_of r (cubes_among r one two) ≡ Some operation
+pub kinds_asked : (r : CubeRequest) (one two : Outline) (operation : Operation) → operation_of r (cubes_among r one two) ≡ Some operation
     → takes_other_kinds operation one.kind two.kind ≡ cell_kind_invalid r (cubes_among r one two)
 kinds_asked r one two operation e = sym (ap (taken one.kind two.kind) e) ∙ asked r one two

@@ -6,7 +6,7 @@ use Rattle.oe_dims.proofs.IndexLemmas.{same_number_is}
 use Rattle.oe_dims.proofs.OrderLemmas.{same_name_is}
 use Rattle.oe_dims.specs.Indices.{same_number}
 use Rattle.oe_dims.specs.Names.{same_name}
-use Rattle.oe_shape.specs.Labels.{put_in_order, in_order, new_among}
+use Rattle.oe_shape.specs.Labels.{insert_label, sorted_labels, new_among}
 use Rattle.oe_shape.specs.Laws.{KeepAllLabels}
 
 -- ---- in order
@@ -16,18 +16,18 @@ swapped true true c = refl
 swapped true false c = refl
 swapped false b c = refl
 
-put_any : (is_before : ℤ → ℤ → Bool) (p : ℤ → Bool) (x : ℤ) (ys : List ℤ) → list_any p (put_in_order is_before x ys) ≡ (p x || list_any p ys)
+put_any : (is_before : ℤ → ℤ → Bool) (p : ℤ → Bool) (x : ℤ) (ys : List ℤ) → list_any p (insert_label is_before x ys) ≡ (p x || list_any p ys)
 put_any is_before p x [] = refl
 put_any is_before p x (y ∷ ys) = by (is_before x y) refl (put_any is_before p x ys)
   where
-    by : (b : Bool) → is_before x y ≡ b → list_any p (put_in_order is_before x ys) ≡ (p x || list_any p ys)
-        → list_any p (put_in_order is_before x (y ∷ ys)) ≡ (p x || (p y || list_any p ys))
+    by : (b : Bool) → is_before x y ≡ b → list_any p (insert_label is_before x ys) ≡ (p x || list_any p ys)
+        → list_any p (insert_label is_before x (y ∷ ys)) ≡ (p x || (p y || list_any p ys))
     by true is rest = rw is refl
     by false is rest = rw is (ap (λ b. p y || b) rest ∙ swapped (p y) (p x) (list_any p ys))
 
-order_any : (is_before : ℤ → ℤ → Bool) (p : ℤ → Bool) (ys : List ℤ) → list_any p (in_order is_before ys) ≡ list_any p ys
+order_any : (is_before : ℤ → ℤ → Bool) (p : ℤ → Bool) (ys : List ℤ) → list_any p (sorted_labels is_before ys) ≡ list_any p ys
 order_any is_before p [] = refl
-order_any is_before p (y ∷ ys) = put_any is_before p y (in_order is_before ys) ∙ ap (λ b. p y || b) (order_any is_before p ys)
+order_any is_before p (y ∷ ys) = put_any is_before p y (sorted_labels is_before ys) ∙ ap (λ b. p y || b) (order_any is_before p ys)
 
 -- ---- of both
 
@@ -55,7 +55,7 @@ module _ {L : Type 0} (same : L → L → Bool) (is_same : (a b : L) → same a 
 
 pub keep_all_labels : KeepAllLabels
 keep_all_labels = record {
-  in_order = λ is_before labels label. order_any is_before (same_number label) labels;
+  sorted_labels = λ is_before labels label. order_any is_before (same_number label) labels;
   of_both = λ is_before one two label.
       order_any is_before (same_number label) (one ++ new_among same_number one two) ∙ both_any same_number same_number_is one two label;
   bands_of_both = λ one two name. both_any same_name same_name_is one two name;

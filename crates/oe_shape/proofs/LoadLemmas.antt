@@ -12,9 +12,9 @@ use Rattle.oe_order.specs.Graph as order
 use Rattle.oe_expr.proofs.NodeLemmas.{contains_node}
 use Rattle.oe_expr.specs.Requests.{read, passes}
 use Rattle.oe_shape.specs.Checked.{CheckedGraph, AreFaultless, collection_of_node}
-use Rattle.oe_shape.specs.Links.{link_of, links_of, loaded_by, collection_of}
+use Rattle.oe_shape.specs.Links.{link_of, links_of, loaded_by, loaded_collection}
 use Rattle.oe_shape.specs.Parameters.{cube_in, text_in, number_in, literal_in, box_in, extent_in, bands_in, some_bands_in, kernel_in, border_in, null_or, is_empty_list, is_empty_object, is_null_or_empty_object}
-use Rattle.oe_shape.specs.Requests.{cube_processes, cube_process_named, Request, load_collection, filter_bbox, filter_temporal, filter_bands, apply, apply_kernel, reduce_dimension, aggregate_temporal, merge_cubes, mask, save_result, called_in, intervals_in, resolver_in, request_of, request_at}
+use Rattle.oe_shape.specs.Requests.{cube_processes, cube_process_named, CubeRequest, load_collection, filter_bbox, filter_temporal, filter_bands, apply, apply_kernel, reduce_dimension, aggregate_temporal, merge_cubes, mask, save_result, called_in, intervals_in, resolver_in, cube_request_of, cube_request_at}
 use Rattle.oe_shape.specs.Stands.{IsSound, sound, asks_for_nothing}
 use Rattle.oe_shape.specs.declared.process.CubeProcess.{CubeProcess}
 use Rattle.oe_shape.specs.declared.process.CubeProcess.TheVariants.{AggregateTemporal, Apply, ApplyKernel, FilterBands, FilterBbox, FilterTemporal, LoadCollection, Mask, MergeCubes, ReduceDimension, SaveResult}
@@ -23,7 +23,7 @@ use Rattle.oe_shape.proofs.ReferenceLemmas.{id_of, id_is, all_named, passed_so}
 use Rattle.oe_shape.proofs.RequestLemmas.{found, both_found}
 
 -- the request of a process loads a collection where the process is the one that does
-loads_by : (process : CubeProcess) (given : Named) (r : Request) → request_of process given ≡ Some r
+loads_by : (process : CubeProcess) (given : Named) (r : CubeRequest) → cube_request_of process given ≡ Some r
     → is_some (loaded_by r) ≡ same_name (id_of process) (codes "load_collection")
 loads_by AggregateTemporal given r e =
     let d = found _ (read cube_in (codes "data") given) r e in
@@ -73,7 +73,7 @@ loads_by SaveResult given r e =
     let b = both_found save_result (read cube_in (codes "data") given) (read text_in (codes "format") given) r p.1 in
     ap (λ q. is_some (loaded_by q)) (sym b.4)
 
-loads_here : (n : PlainNode) (r : Request) → request_at n ≡ Some r → same_name n.process_id (codes "load_collection") ≡ is_some (collection_of n)
+loads_here : (n : PlainNode) (r : CubeRequest) → cube_request_at n ≡ Some r → same_name n.process_id (codes "load_collection") ≡ is_some (loaded_collection n)
 loads_here n r e =
     let process = found _ (cube_process_named n.process_id) r e in
     let id = id_is n.process_id cube_processes process.0 all_named process.1 in
@@ -91,16 +91,16 @@ pub loads_where : (c : CheckedGraph) → AreFaultless c → (index : ℕ) → in
 loads_where c f index below =
     let there = node_below c.nodes index below in
     is_load_at (link_of c.nodes) (each_node c.nodes) index there.node there.is_there
-    ∙ (by (request_at there.node) refl ∙ ap (λ o. is_some (option_and_then collection_of o)) (sym there.is_there))
+    ∙ (by (cube_request_at there.node) refl ∙ ap (λ o. is_some (option_and_then loaded_collection o)) (sym there.is_there))
   where
     n : PlainNode
     n = (node_below c.nodes index below).node
 
-    asks : IsSound c.rows c.nodes n.id → request_at n ≡ None → ⊥
+    asks : IsSound c.rows c.nodes n.id → cube_request_at n ≡ None → ⊥
     asks (sound {n = m} is refs none) nothing =
         let same : n ≡ m = one_node c.nodes f.resolved n index m (node_below c.nodes index below).is_there is in
-        none ProcessParameterInvalid m.id (asks_for_nothing (ap request_at (sym same) ∙ nothing))
+        none ProcessParameterInvalid m.id (asks_for_nothing (ap cube_request_at (sym same) ∙ nothing))
 
-    by : (o : Option Request) → request_at n ≡ o → same_name n.process_id (codes "load_collection") ≡ is_some (collection_of n)
+    by : (o : Option CubeRequest) → cube_request_at n ≡ o → same_name n.process_id (codes "load_collection") ≡ is_some (loaded_collection n)
     by None is = absurd (asks (f.sound n (contains_node c.nodes index n (node_below c.nodes index below).is_there)) is)
     by (Some r) is = loads_here n r is

@@ -10,7 +10,7 @@ use Rattle.oe_dims.proofs.OrderLemmas.{same_name_is, same_name_refl}
 use Rattle.oe_dims.specs.Dimensions.{rises, falls, all_differ}
 use Rattle.oe_dims.specs.Indices.{same_number}
 use Rattle.oe_dims.specs.Names.{same_name}
-use Rattle.oe_shape.specs.Labels.{is_below, is_above, put_in_order, in_order, new_among, are_distinct}
+use Rattle.oe_shape.specs.Labels.{is_below, is_above, insert_label, sorted_labels, new_among, are_distinct}
 
 -- ---- tests
 
@@ -163,46 +163,46 @@ module _ (is_before : ℤ → ℤ → Bool) (o : IsOrder is_before) where
       (ordered_differ xs (right_of (list_all (is_before x) xs) _ h))
 
   -- a test of all, or of any, sees no order
-  put_all : (p : ℤ → Bool) (x : ℤ) (ys : List ℤ) → p x ≡ true → list_all p ys ≡ true → list_all p (put_in_order is_before x ys) ≡ true
+  put_all : (p : ℤ → Bool) (x : ℤ) (ys : List ℤ) → p x ≡ true → list_all p ys ≡ true → list_all p (insert_label is_before x ys) ≡ true
   put_all p x [] h k = and_from (p x) true h refl
   put_all p x (y ∷ ys) h k = by (is_before x y) refl (put_all p x ys h (right_of (p y) _ k))
     where
-      by : (b : Bool) → is_before x y ≡ b → list_all p (put_in_order is_before x ys) ≡ true → list_all p (put_in_order is_before x (y ∷ ys)) ≡ true
+      by : (b : Bool) → is_before x y ≡ b → list_all p (insert_label is_before x ys) ≡ true → list_all p (insert_label is_before x (y ∷ ys)) ≡ true
       by true is rest = rw is (and_from (p x) _ h k)
       by false is rest = rw is (and_from (p y) _ (left_of (p y) _ k) rest)
 
-  pub order_all : (p : ℤ → Bool) (ys : List ℤ) → list_all p ys ≡ true → list_all p (in_order is_before ys) ≡ true
+  pub order_all : (p : ℤ → Bool) (ys : List ℤ) → list_all p ys ≡ true → list_all p (sorted_labels is_before ys) ≡ true
   order_all p [] h = refl
-  order_all p (y ∷ ys) h = put_all p y (in_order is_before ys) (left_of (p y) _ h) (order_all p ys (right_of (p y) _ h))
+  order_all p (y ∷ ys) h = put_all p y (sorted_labels is_before ys) (left_of (p y) _ h) (order_all p ys (right_of (p y) _ h))
 
-  put_none : (p : ℤ → Bool) (x : ℤ) (ys : List ℤ) → p x ≡ false → list_any p ys ≡ false → list_any p (put_in_order is_before x ys) ≡ false
+  put_none : (p : ℤ → Bool) (x : ℤ) (ys : List ℤ) → p x ≡ false → list_any p ys ≡ false → list_any p (insert_label is_before x ys) ≡ false
   put_none p x [] h k = neither_of (p x) false h refl
   put_none p x (y ∷ ys) h k = by (is_before x y) refl (put_none p x ys h (second_not (p y) _ k))
     where
-      by : (b : Bool) → is_before x y ≡ b → list_any p (put_in_order is_before x ys) ≡ false → list_any p (put_in_order is_before x (y ∷ ys)) ≡ false
+      by : (b : Bool) → is_before x y ≡ b → list_any p (insert_label is_before x ys) ≡ false → list_any p (insert_label is_before x (y ∷ ys)) ≡ false
       by true is rest = rw is (neither_of (p x) _ h k)
       by false is rest = rw is (neither_of (p y) _ (first_not (p y) _ k) rest)
 
-  order_none : (p : ℤ → Bool) (ys : List ℤ) → list_any p ys ≡ false → list_any p (in_order is_before ys) ≡ false
+  order_none : (p : ℤ → Bool) (ys : List ℤ) → list_any p ys ≡ false → list_any p (sorted_labels is_before ys) ≡ false
   order_none p [] h = refl
-  order_none p (y ∷ ys) h = put_none p y (in_order is_before ys) (first_not (p y) _ h) (order_none p ys (second_not (p y) _ h))
+  order_none p (y ∷ ys) h = put_none p y (sorted_labels is_before ys) (first_not (p y) _ h) (order_none p ys (second_not (p y) _ h))
 
-  put_stands : (x : ℤ) (ys : List ℤ) → stand_in_order is_before ys ≡ true → list_any (same_number x) ys ≡ false → stand_in_order is_before (put_in_order is_before x ys) ≡ true
+  put_stands : (x : ℤ) (ys : List ℤ) → stand_in_order is_before ys ≡ true → list_any (same_number x) ys ≡ false → stand_in_order is_before (insert_label is_before x ys) ≡ true
   put_stands x [] h k = refl
   put_stands x (y ∷ ys) h k = by (is_before x y) refl (put_stands x ys (right_of (list_all (is_before y) ys) _ h) (second_not (same_number x y) _ k))
     where
-      by : (b : Bool) → is_before x y ≡ b → stand_in_order is_before (put_in_order is_before x ys) ≡ true → stand_in_order is_before (put_in_order is_before x (y ∷ ys)) ≡ true
+      by : (b : Bool) → is_before x y ≡ b → stand_in_order is_before (insert_label is_before x ys) ≡ true → stand_in_order is_before (insert_label is_before x (y ∷ ys)) ≡ true
       by true is rest =
           rw is (and_from (is_before x y && list_all (is_before x) ys) _
           (and_from (is_before x y) _ is (all_later x y ys is (left_of (list_all (is_before y) ys) _ h))) h)
       by false is rest =
-          rw is (and_from (list_all (is_before y) (put_in_order is_before x ys)) _
+          rw is (and_from (list_all (is_before y) (insert_label is_before x ys)) _
           (put_all (is_before y) x ys (o.either x y is (first_not (same_number x y) _ k)) (left_of (list_all (is_before y) ys) _ h)) rest)
 
-  pub order_stands : (ys : List ℤ) → are_distinct same_number ys ≡ true → stand_in_order is_before (in_order is_before ys) ≡ true
+  pub order_stands : (ys : List ℤ) → are_distinct same_number ys ≡ true → stand_in_order is_before (sorted_labels is_before ys) ≡ true
   order_stands [] h = refl
   order_stands (y ∷ ys) h =
-      put_stands y (in_order is_before ys) (order_stands ys (right_of (not (list_any (same_number y) ys)) _ h))
+      put_stands y (sorted_labels is_before ys) (order_stands ys (right_of (not (list_any (same_number y) ys)) _ h))
       (order_none (same_number y) ys (turned _ (left_of (not (list_any (same_number y) ys)) _ h)))
 
 -- ---- labels that rise, and that fall
@@ -245,19 +245,19 @@ filtered_rise q xs h = stand_rises (filter q xs) (filter_in_order is_below below
 pub filtered_fall : (q : ℤ → Bool) (xs : List ℤ) → falls xs ≡ true → falls (filter q xs) ≡ true
 filtered_fall q xs h = stand_falls (filter q xs) (filter_in_order is_above above_is_order q xs (falls_stand xs h))
 
-pub ordered_rise : (xs : List ℤ) → are_distinct same_number xs ≡ true → rises (in_order is_below xs) ≡ true
-ordered_rise xs h = stand_rises (in_order is_below xs) (order_stands is_below below_is_order xs h)
+pub ordered_rise : (xs : List ℤ) → are_distinct same_number xs ≡ true → rises (sorted_labels is_below xs) ≡ true
+ordered_rise xs h = stand_rises (sorted_labels is_below xs) (order_stands is_below below_is_order xs h)
 
-pub ordered_fall : (xs : List ℤ) → are_distinct same_number xs ≡ true → falls (in_order is_above xs) ≡ true
-ordered_fall xs h = stand_falls (in_order is_above xs) (order_stands is_above above_is_order xs h)
+pub ordered_fall : (xs : List ℤ) → are_distinct same_number xs ≡ true → falls (sorted_labels is_above xs) ≡ true
+ordered_fall xs h = stand_falls (sorted_labels is_above xs) (order_stands is_above above_is_order xs h)
 
-pub merged_rise : (one two : List ℤ) → rises one ≡ true → rises two ≡ true → rises (in_order is_below (one ++ new_among same_number one two)) ≡ true
+pub merged_rise : (one two : List ℤ) → rises one ≡ true → rises two ≡ true → rises (sorted_labels is_below (one ++ new_among same_number one two)) ≡ true
 merged_rise one two h k =
     ordered_rise (one ++ new_among same_number one two)
     (all_distinct same_number same_number_is same_number_refl one two
     (ordered_differ is_below below_is_order one (rises_stand one h)) (ordered_differ is_below below_is_order two (rises_stand two k)))
 
-pub merged_fall : (one two : List ℤ) → falls one ≡ true → falls two ≡ true → falls (in_order is_above (one ++ new_among same_number one two)) ≡ true
+pub merged_fall : (one two : List ℤ) → falls one ≡ true → falls two ≡ true → falls (sorted_labels is_above (one ++ new_among same_number one two)) ≡ true
 merged_fall one two h k =
     ordered_fall (one ++ new_among same_number one two)
     (all_distinct same_number same_number_is same_number_refl one two

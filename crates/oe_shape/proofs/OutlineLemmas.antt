@@ -10,12 +10,12 @@ use Rattle.oe_graph.specs.Printed.{node_count}
 use Rattle.oe_graph.specs.Tree.{Nodes, PlainNode}
 use Rattle.oe_expr.specs.Nodes.{node_named, within_turns, down_from}
 use Rattle.oe_shape.specs.Extents.{kept_shape}
-use Rattle.oe_shape.specs.Graphs.{Collections, no_datacube, collection_named, outline_named, rows_of, inputs_of, request_outline, node_outline, outline_at, request_meaning, node_meaning, meaning_at}
+use Rattle.oe_shape.specs.Graphs.{Collections, no_datacube, collection_named, outline_named, collection_rows, request_inputs, request_outline, node_outline, outline_at, request_meaning, node_meaning, meaning_at}
 use Rattle.oe_shape.specs.Labels.{merged_shape}
 use Rattle.oe_shape.specs.Laws.{AreFoundWithoutCells}
 use Rattle.oe_shape.specs.Meaning.{Datacube, no_cube, cube_of, operated, outline}
-use Rattle.oe_shape.specs.Operations.{Operation, keep, each_cell, convolve, reduce, aggregate, merge, cover, give_back, Outline, no_outline, no_dimensions, first_or, second_or, without, aggregated_shape, shape_of, kind_of, outline_of, operation_of}
-use Rattle.oe_shape.specs.Requests.{Request, load_collection, filter_bbox, filter_temporal, filter_bands, apply, apply_kernel, reduce_dimension, aggregate_temporal, merge_cubes, mask, save_result, request_at}
+use Rattle.oe_shape.specs.Operations.{Operation, keep, each_cell, convolve, reduce, aggregate, merge, cover, give_back, Outline, no_outline, no_dimensions, first_or, second_or, without_dimension, aggregated_shape, shape_of, operation_kind, outline_of, operation_of}
+use Rattle.oe_shape.specs.Requests.{CubeRequest, load_collection, filter_bbox, filter_temporal, filter_bands, apply, apply_kernel, reduce_dimension, aggregate_temporal, merge_cubes, mask, save_result, cube_request_at}
 
 -- ---- one operation
 
@@ -36,7 +36,7 @@ shape_given : (operation : Operation) (cubes : List (Cube Cell)) → (cube_of op
 shape_given (keep r) cubes = ap (kept_shape r) (first_map the_shape no_cube cubes)
 shape_given (each_cell c) cubes = first_map the_shape no_cube cubes
 shape_given (convolve kernel factor border replace) cubes = first_map the_shape no_cube cubes
-shape_given (reduce kind c) cubes = ap (without kind) (first_map the_shape no_cube cubes)
+shape_given (reduce kind c) cubes = ap (without_dimension kind) (first_map the_shape no_cube cubes)
 shape_given (aggregate intervals c) cubes = ap (aggregated_shape intervals) (first_map the_shape no_cube cubes)
 shape_given (merge resolver) cubes =
     ap (λ d. merged_shape d (second_or no_cube cubes).shape) (first_map the_shape no_cube cubes)
@@ -55,21 +55,21 @@ outline_given operation inputs =
     let kinds : map (λ (d : Datacube). d.kind) inputs ≡ map (λ (o : Outline). o.kind) (map outline inputs)
     = sym (map_map (λ (o : Outline). o.kind) outline inputs) in
     let cubes = map (λ (d : Datacube). d.cube) inputs in
-    let given_kind = kind_of operation (map (λ (d : Datacube). d.kind) inputs) in
+    let given_kind = operation_kind operation (map (λ (d : Datacube). d.kind) inputs) in
     ap (λ (d : Dimensions). record { shape = d; kind = given_kind }) (shape_given operation cubes ∙ ap (shape_of operation) shapes)
-    ∙ ap (λ (k : CellKind). record { shape = shape_of operation (map (λ (o : Outline). o.shape) (map outline inputs)); kind = k }) (ap (kind_of operation) kinds)
+    ∙ ap (λ (k : CellKind). record { shape = shape_of operation (map (λ (o : Outline). o.shape) (map outline inputs)); kind = k }) (ap (operation_kind operation) kinds)
 
 -- ---- collections
 
 abbrev found_or : {A B : Type 0} → (A → B) → B → Option A → B
 found_or f other found = option_map_or f found other
 
-outline_named_is : (collections : Collections) (id : List ℕ) → outline (collection_named collections id) ≡ outline_named (rows_of collections) id
+outline_named_is : (collections : Collections) (id : List ℕ) → outline (collection_named collections id) ≡ outline_named (collection_rows collections) id
 outline_named_is [] id = refl
 outline_named_is (c ∷ collections) id = by (same_name c.0 id) refl (outline_named_is collections id)
   where
-    by : (b : Bool) → same_name c.0 id ≡ b → outline (collection_named collections id) ≡ outline_named (rows_of collections) id
-        → outline (collection_named (c ∷ collections) id) ≡ outline_named (rows_of (c ∷ collections)) id
+    by : (b : Bool) → same_name c.0 id ≡ b → outline (collection_named collections id) ≡ outline_named (collection_rows collections) id
+        → outline (collection_named (c ∷ collections) id) ≡ outline_named (collection_rows (c ∷ collections)) id
     by true is rest = rw is refl
     by false is rest = rw is rest
 
@@ -77,7 +77,7 @@ outline_named_is (c ∷ collections) id = by (same_name c.0 id) refl (outline_na
 
 module _ (collections : Collections) where
   pub inputs_outlined : (at : List ℕ → Datacube) (to : List ℕ → Outline) → ((id : List ℕ) → outline (at id) ≡ to id)
-      → (r : Request) → map outline (inputs_of (collection_named collections) at r) ≡ inputs_of (outline_named (rows_of collections)) to r
+      → (r : CubeRequest) → map outline (request_inputs (collection_named collections) at r) ≡ request_inputs (outline_named (collection_rows collections)) to r
   inputs_outlined at to same (load_collection id box time bands) = ap (λ o. o ∷ []) (outline_named_is collections id)
   inputs_outlined at to same (filter_bbox data_id box) = ap (λ o. o ∷ []) (same data_id)
   inputs_outlined at to same (filter_temporal data_id time name) = ap (λ o. o ∷ []) (same data_id)
@@ -95,36 +95,36 @@ module _ (collections : Collections) where
   operated_or None inputs = refl
   operated_or (Some operation) inputs = outline_given operation inputs
 
-  abbrev outlined_from : Request → List Outline → Outline
+  abbrev outlined_from : CubeRequest → List Outline → Outline
   outlined_from r cubes = option_map_or (λ operation. outline_of operation cubes) (operation_of r cubes) no_outline
 
   module _ (at : List ℕ → Datacube) (to : List ℕ → Outline) (same : (id : List ℕ) → outline (at id) ≡ to id) where
-    request_outlined : (r : Request) → outline (request_meaning collections at r) ≡ request_outline (rows_of collections) to r
+    request_outlined : (r : CubeRequest) → outline (request_meaning collections at r) ≡ request_outline (collection_rows collections) to r
     request_outlined r =
-        let inputs = inputs_of (collection_named collections) at r in
+        let inputs = request_inputs (collection_named collections) at r in
         operated_or (operation_of r (map outline inputs)) inputs ∙ ap (outlined_from r) (inputs_outlined at to same r)
 
-    requested_or : (o : Option Request)
-        → outline (option_map_or (request_meaning collections at) o no_datacube) ≡ option_map_or (request_outline (rows_of collections) to) o no_outline
+    requested_or : (o : Option CubeRequest)
+        → outline (option_map_or (request_meaning collections at) o no_datacube) ≡ option_map_or (request_outline (collection_rows collections) to) o no_outline
     requested_or None = refl
     requested_or (Some r) = request_outlined r
 
-    node_outlined : (n : PlainNode) → outline (node_meaning collections at n) ≡ node_outline (rows_of collections) to n
-    node_outlined n = requested_or (request_at n)
+    node_outlined : (n : PlainNode) → outline (node_meaning collections at n) ≡ node_outline (collection_rows collections) to n
+    node_outlined n = requested_or (cube_request_at n)
 
     there_or : (o : Option PlainNode)
-        → outline (option_map_or (node_meaning collections at) o no_datacube) ≡ option_map_or (node_outline (rows_of collections) to) o no_outline
+        → outline (option_map_or (node_meaning collections at) o no_datacube) ≡ option_map_or (node_outline (collection_rows collections) to) o no_outline
     there_or None = refl
     there_or (Some n) = node_outlined n
 
   within_outlined : (nodes : Nodes) (turns : ℕ) (name : List ℕ)
-      → outline (within_turns turns no_datacube (node_meaning collections) nodes name) ≡ within_turns turns no_outline (node_outline (rows_of collections)) nodes name
+      → outline (within_turns turns no_datacube (node_meaning collections) nodes name) ≡ within_turns turns no_outline (node_outline (collection_rows collections)) nodes name
   within_outlined nodes zero name = refl
   within_outlined nodes (suc turns) name =
-      there_or (within_turns turns no_datacube (node_meaning collections) nodes) (within_turns turns no_outline (node_outline (rows_of collections)) nodes)
+      there_or (within_turns turns no_datacube (node_meaning collections) nodes) (within_turns turns no_outline (node_outline (collection_rows collections)) nodes)
       (within_outlined nodes turns) (node_named name nodes)
 
-  pub at_outlined : (nodes : Nodes) (name : List ℕ) → outline (meaning_at collections nodes name) ≡ outline_at (rows_of collections) nodes name
+  pub at_outlined : (nodes : Nodes) (name : List ℕ) → outline (meaning_at collections nodes name) ≡ outline_at (collection_rows collections) nodes name
   unfolding down_from
   at_outlined nodes name = within_outlined nodes (node_count nodes) name
 

@@ -22,7 +22,7 @@ use Rattle.oe_shape.proofs.KernelLemmas.{all_rows}
 use Rattle.oe_shape.proofs.RequestLemmas.{found, both_found, passed}
 use Rattle.oe_shape.specs.Labels.{are_distinct}
 use Rattle.oe_shape.specs.Parameters.{null_or, list_in, cube_in, callback_in, text_in, whole_in, number_in, literal_in, box_in, extent_in, bands_in, some_bands_in, kernel_in, kernel_of, border_in, is_given, is_empty_list, is_empty_object, is_null_or_empty_object}
-use Rattle.oe_shape.specs.Requests.{Called, called, cube_process_named, Request, load_collection, filter_bbox, filter_temporal, filter_bands, apply, apply_kernel, reduce_dimension, aggregate_temporal, merge_cubes, mask, save_result, called_in, intervals_in, resolver_in, request_of, request_at}
+use Rattle.oe_shape.specs.Requests.{Called, called, cube_process_named, CubeRequest, load_collection, filter_bbox, filter_temporal, filter_bands, apply, apply_kernel, reduce_dimension, aggregate_temporal, merge_cubes, mask, save_result, called_in, intervals_in, resolver_in, cube_request_of, cube_request_at}
 use Rattle.oe_shape.specs.Results.{HasValidLabels}
 use Rattle.oe_shape.specs.Rows.{distinct_labels_required}
 use Rattle.oe_shape.specs.ValidShapes.{labels_of}
@@ -31,7 +31,7 @@ use Rattle.oe_shape.specs.declared.process.CubeProcess.TheVariants.{AggregateTem
 
 -- ---- labels
 
-labels_valid : (r : Request) → Brings r → distinct_labels_required r ≡ false → HasValidLabels r
+labels_valid : (r : CubeRequest) → Brings r → distinct_labels_required r ≡ false → HasValidLabels r
 labels_valid (load_collection id box time bands) b d = b
 labels_valid (filter_bbox data_id box) b d = tt
 labels_valid (filter_temporal data_id time name) b d = tt
@@ -46,9 +46,9 @@ labels_valid (mask data_id mask_id replacement) b d = tt
 labels_valid (save_result data_id format) b d = tt
 
 -- the bands and the labels of intervals that a node asks for are valid, where no two of the intervals have one label
-pub labels_read : (n : PlainNode) (r : Request) → request_at n ≡ Some r → distinct_labels_required r ≡ false → HasValidLabels r
+pub labels_read : (n : PlainNode) (r : CubeRequest) → cube_request_at n ≡ Some r → distinct_labels_required r ≡ false → HasValidLabels r
 labels_read n r e d =
-    let process = found (λ p. request_of p n.arguments) (cube_process_named n.process_id) r e in
+    let process = found (λ p. cube_request_of p n.arguments) (cube_process_named n.process_id) r e in
     labels_valid r (request_brings n.arguments process.0 r process.2) d
 
 -- ---- kernels
@@ -172,7 +172,7 @@ module _ (given : Named) where
 -- ---- requests
 
 -- a kernel has rows of one length, and each callback is one of the arguments with a literal `context`
-abbrev pub IsRead : Named → Request → Type 0
+abbrev pub IsRead : Named → CubeRequest → Type 0
 IsRead given (load_collection id box time bands) = ⊤
 IsRead given (filter_bbox data_id box) = ⊤
 IsRead given (filter_temporal data_id time name) = ⊤
@@ -186,7 +186,7 @@ IsRead given (mask data_id mask_id replacement) = ⊤
 IsRead given (save_result data_id format) = ⊤
 
 module _ (given : Named) where
-  request_read : (process : CubeProcess) (r : Request) → request_of process given ≡ Some r → IsRead given r
+  request_read : (process : CubeProcess) (r : CubeRequest) → cube_request_of process given ≡ Some r → IsRead given r
   request_read AggregateTemporal r e =
       let d = found _ (read cube_in (codes "data") given) r e in
       let i = found _ (intervals_in given) r d.2 in
@@ -238,7 +238,7 @@ module _ (given : Named) where
       subst (IsRead given) b.4 tt
 
 -- of what a node asks for
-pub parts_read : (n : PlainNode) (r : Request) → request_at n ≡ Some r → IsRead n.arguments r
+pub parts_read : (n : PlainNode) (r : CubeRequest) → cube_request_at n ≡ Some r → IsRead n.arguments r
 parts_read n r e =
-    let process = found (λ p. request_of p n.arguments) (cube_process_named n.process_id) r e in
+    let process = found (λ p. cube_request_of p n.arguments) (cube_process_named n.process_id) r e in
     request_read n.arguments process.0 r process.2

@@ -17,13 +17,13 @@ use Rattle.oe_graph.specs.Resolved.{IsResolvedNode, parameter_names}
 use Rattle.oe_graph.specs.Tree as tree
 use Rattle.oe_graph.specs.Tree.{Argument, ListValues, Named, PlainNode}
 use Rattle.oe_expr.specs.Requests.{with_both, read, passes, where_passed, is_null}
-use Rattle.oe_shape.specs.Parameters.{where_it, cube_in, callback_in, text_in, whole_in, number_in, literal_in, name_in, box_in, box_of, box_members, is_flat_box, is_box, side_of, crs_of, epsg_in, extent_in, extent_from, is_limited, instant_in, bands_in, some_bands_in, kernel_in, kernel_of, border_in, list_in, each_in, null_or, is_empty_list, is_empty_object, is_null_or_empty_object}
+use Rattle.oe_shape.specs.Parameters.{where_it, cube_in, callback_in, text_in, whole_in, number_in, literal_in, name_in, box_in, bounding_box_of, box_members, is_flat_box, is_box, side_of, crs_of, epsg_in, extent_in, extent_from, is_limited, instant_in, bands_in, some_bands_in, kernel_in, kernel_of, border_in, list_in, each_in, null_or, is_empty_list, is_empty_object, is_null_or_empty_object}
 use Rattle.oe_shape.specs.declared.extent.BoundingBox.{BoundingBox}
 use Rattle.oe_shape.specs.declared.extent.TemporalExtent.{TemporalExtent}
 use Rattle.oe_shape.specs.declared.process.CubeProcess.{CubeProcess}
 use Rattle.oe_shape.specs.declared.process.CubeProcess.TheVariants.{AggregateTemporal, Apply, ApplyKernel, FilterBands, FilterBbox, FilterTemporal, LoadCollection, Mask, MergeCubes, ReduceDimension, SaveResult}
 use Rattle.oe_shape.specs.Labels.{are_among}
-use Rattle.oe_shape.specs.Requests.{NamedProcess, process_among, cube_processes, cube_process_named, Request, load_collection, filter_bbox, filter_temporal, filter_bands, apply, apply_kernel, reduce_dimension, aggregate_temporal, merge_cubes, mask, save_result, cube_ids, called, called_in, intervals_in, resolver_in, request_of, request_at}
+use Rattle.oe_shape.specs.Requests.{NamedProcess, process_among, cube_processes, cube_process_named, CubeRequest, load_collection, filter_bbox, filter_temporal, filter_bands, apply, apply_kernel, reduce_dimension, aggregate_temporal, merge_cubes, mask, save_result, cube_ids, called, called_in, intervals_in, resolver_in, cube_request_of, cube_request_at}
 use Rattle.oe_shape.proofs.RequestLemmas.{found, both_found}
 
 -- ---- names in byte order
@@ -372,7 +372,7 @@ null_or_object_quiet : (a : Argument) → is_null_or_empty_object a ≡ true →
 null_or_object_quiet a h =
     quiet_but (λ b. is_null_or_empty_object b ≡ true) (λ rest is. absurd (no_truth is)) empty_object (λ id is. no_truth is) a h
 
-box_quiet : (members : Named) (box : BoundingBox) → is_flat_box members ≡ true → box_of members ≡ Some box → references_named members ≡ []
+box_quiet : (members : Named) (box : BoundingBox) → is_flat_box members ≡ true → bounding_box_of members ≡ Some box → references_named members ≡ []
 box_quiet members box flat e =
     let parts = and_parts _ _ flat in
     let named = and_parts _ _ parts.0 in
@@ -409,8 +409,8 @@ box_quiet members box flat e =
 members_quiet : (ms : Named) (v : BoundingBox) → box_in (tree.object ms) ≡ Some v → references_named ms ≡ []
 members_quiet ms v e = by (is_flat_box ms) refl e
   where
-    by : (b : Bool) → is_flat_box ms ≡ b → (if b then option_and_then (where_it is_box) (box_of ms) else None) ≡ Some v → references_named ms ≡ []
-    by true flat e = let o = found (where_it is_box) (box_of ms) v e in box_quiet ms o.0 flat o.1
+    by : (b : Bool) → is_flat_box ms ≡ b → (if b then option_and_then (where_it is_box) (bounding_box_of ms) else None) ≡ Some v → references_named ms ≡ []
+    by true flat e = let o = found (where_it is_box) (bounding_box_of ms) v e in box_quiet ms o.0 flat o.1
     by false flat e = absurd cc
 
 quiet_box : IsQuiet box_in
@@ -510,10 +510,10 @@ module _ (given : Named) where
   one_then name id names refs one rest =
       ap (λ first. first ++ references_all given names) one ∙ ap (λ more. id ∷ more) rest
 
-  abbrev AreCubes : CubeProcess → Request → Type 0
+  abbrev AreCubes : CubeProcess → CubeRequest → Type 0
   AreCubes process r = references_all given (parameters_of process) ≡ cube_ids r
 
-  load_references : (r : Request) → request_of LoadCollection given ≡ Some r → AreCubes LoadCollection r
+  load_references : (r : CubeRequest) → cube_request_of LoadCollection given ≡ Some r → AreCubes LoadCollection r
   load_references r e =
       let p = passed_so (passes is_null_or_empty_object (codes "properties") given) _ r e in
       let id = found _ (read text_in (codes "id") given) r p.1 in
@@ -526,14 +526,14 @@ module _ (given : Named) where
       let time_at = at_read given (null_or extent_in) (codes "temporal_extent") b.0 (quiet_null_or extent_in quiet_extent) b.2 in
       rw (bands_at, id_at, properties_at, box_at, time_at) (ap cube_ids {x = load_collection id.0 box.0 b.0 b.1} b.4)
 
-  bbox_references : (r : Request) → request_of FilterBbox given ≡ Some r → AreCubes FilterBbox r
+  bbox_references : (r : CubeRequest) → cube_request_of FilterBbox given ≡ Some r → AreCubes FilterBbox r
   bbox_references r e =
       let b = both_found filter_bbox (read cube_in (codes "data") given) (read box_in (codes "extent") given) r e in
       let data_at = at_cube given (codes "data") b.0 b.2 in
       let extent_at = at_read given box_in (codes "extent") b.1 quiet_box b.3 in
       rw (data_at, extent_at) (ap cube_ids b.4)
 
-  temporal_references : (r : Request) → request_of FilterTemporal given ≡ Some r → AreCubes FilterTemporal r
+  temporal_references : (r : CubeRequest) → cube_request_of FilterTemporal given ≡ Some r → AreCubes FilterTemporal r
   temporal_references r e =
       let d = found _ (read cube_in (codes "data") given) r e in
       let b = both_found (filter_temporal d.0) (read extent_in (codes "extent") given) (read (null_or text_in) (codes "dimension") given) r d.2 in
@@ -542,7 +542,7 @@ module _ (given : Named) where
       let extent_at = at_read given extent_in (codes "extent") b.0 quiet_extent b.2 in
       rw (data_at, dimension_at, extent_at) (ap cube_ids b.4)
 
-  bands_references : (r : Request) → request_of FilterBands given ≡ Some r → AreCubes FilterBands r
+  bands_references : (r : CubeRequest) → cube_request_of FilterBands given ≡ Some r → AreCubes FilterBands r
   bands_references r e =
       let p = passed_so (passes is_empty_list (codes "wavelengths") given) _ r e in
       let b = both_found filter_bands (read cube_in (codes "data") given) (read bands_in (codes "bands") given) r p.1 in
@@ -551,7 +551,7 @@ module _ (given : Named) where
       let wavelengths_at = at_test given is_empty_list (codes "wavelengths") list_quiet p.0 in
       rw (bands_at, data_at, wavelengths_at) (ap cube_ids b.4)
 
-  apply_references : (r : Request) → request_of Apply given ≡ Some r → AreCubes Apply r
+  apply_references : (r : CubeRequest) → cube_request_of Apply given ≡ Some r → AreCubes Apply r
   apply_references r e =
       let b = both_found apply (read cube_in (codes "data") given) (called_in (codes "process") given) r e in
       let c = both_found called (read callback_in (codes "process") given) (read literal_in (codes "context") given) b.1 b.3 in
@@ -560,7 +560,7 @@ module _ (given : Named) where
       let process_at = at_read given callback_in (codes "process") c.0 quiet_callback c.2 in
       rw (context_at, data_at, process_at) (ap cube_ids b.4)
 
-  kernel_references : (r : Request) → request_of ApplyKernel given ≡ Some r → AreCubes ApplyKernel r
+  kernel_references : (r : CubeRequest) → cube_request_of ApplyKernel given ≡ Some r → AreCubes ApplyKernel r
   kernel_references r e =
       let d = found _ (read cube_in (codes "data") given) r e in
       let k = found _ (read kernel_in (codes "kernel") given) r d.2 in
@@ -573,7 +573,7 @@ module _ (given : Named) where
       let replace_at = at_read given number_in (codes "replace_invalid") b.1 quiet_number b.3 in
       rw (border_at, data_at, factor_at, kernel_at, replace_at) (ap cube_ids b.4)
 
-  reduce_references : (r : Request) → request_of ReduceDimension given ≡ Some r → AreCubes ReduceDimension r
+  reduce_references : (r : CubeRequest) → cube_request_of ReduceDimension given ≡ Some r → AreCubes ReduceDimension r
   reduce_references r e =
       let d = found _ (read cube_in (codes "data") given) r e in
       let b = both_found (reduce_dimension d.0) (read text_in (codes "dimension") given) (called_in (codes "reducer") given) r d.2 in
@@ -584,7 +584,7 @@ module _ (given : Named) where
       let reducer_at = at_read given callback_in (codes "reducer") c.0 quiet_callback c.2 in
       rw (context_at, data_at, dimension_at, reducer_at) (ap cube_ids b.4)
 
-  aggregate_references : (r : Request) → request_of AggregateTemporal given ≡ Some r → AreCubes AggregateTemporal r
+  aggregate_references : (r : CubeRequest) → cube_request_of AggregateTemporal given ≡ Some r → AreCubes AggregateTemporal r
   aggregate_references r e =
       let d = found _ (read cube_in (codes "data") given) r e in
       let i = found _ (intervals_in given) r d.2 in
@@ -600,7 +600,7 @@ module _ (given : Named) where
       let reducer_at = at_read given callback_in (codes "reducer") c.0 quiet_callback c.2 in
       rw (context_at, data_at, dimension_at, intervals_at, labels_at, reducer_at) (ap cube_ids b.4)
 
-  merge_references : (r : Request) → request_of MergeCubes given ≡ Some r → AreCubes MergeCubes r
+  merge_references : (r : CubeRequest) → cube_request_of MergeCubes given ≡ Some r → AreCubes MergeCubes r
   merge_references r e =
       let one = found _ (read cube_in (codes "cube1") given) r e in
       let b = both_found (merge_cubes one.0) (read cube_in (codes "cube2") given) (resolver_in given) r one.2 in
@@ -611,7 +611,7 @@ module _ (given : Named) where
       let resolver_at = at_read given (null_or callback_in) (codes "overlap_resolver") s.0 (quiet_null_or callback_in quiet_callback) s.2 in
       rw (context_at, first_at, second_at, resolver_at) (ap cube_ids b.4)
 
-  mask_references : (r : Request) → request_of Mask given ≡ Some r → AreCubes Mask r
+  mask_references : (r : CubeRequest) → cube_request_of Mask given ≡ Some r → AreCubes Mask r
   mask_references r e =
       let d = found _ (read cube_in (codes "data") given) r e in
       let b = both_found (mask d.0) (read cube_in (codes "mask") given) (read literal_in (codes "replacement") given) r d.2 in
@@ -620,7 +620,7 @@ module _ (given : Named) where
       let replacement_at = at_read given literal_in (codes "replacement") b.1 quiet_literal b.3 in
       rw (data_at, mask_at, replacement_at) (ap cube_ids b.4)
 
-  save_references : (r : Request) → request_of SaveResult given ≡ Some r → AreCubes SaveResult r
+  save_references : (r : CubeRequest) → cube_request_of SaveResult given ≡ Some r → AreCubes SaveResult r
   save_references r e =
       let p = passed_so (passes is_empty_object (codes "options") given) _ r e in
       let b = both_found save_result (read cube_in (codes "data") given) (read text_in (codes "format") given) r p.1 in
@@ -629,7 +629,7 @@ module _ (given : Named) where
       let options_at = at_test given is_empty_object (codes "options") object_quiet p.0 in
       rw (data_at, format_at, options_at) (ap cube_ids b.4)
 
-  process_references : (process : CubeProcess) (r : Request) → request_of process given ≡ Some r → AreCubes process r
+  process_references : (process : CubeProcess) (r : CubeRequest) → cube_request_of process given ≡ Some r → AreCubes process r
   process_references AggregateTemporal r e = aggregate_references r e
   process_references Apply r e = apply_references r e
   process_references ApplyKernel r e = kernel_references r e
@@ -644,7 +644,7 @@ module _ (given : Named) where
 
 -- ---- at a node
 
-pub references_are : (ids : List (List ℕ)) (n : PlainNode) (r : Request) → IsResolvedNode false [] ids n → request_at n ≡ Some r
+pub references_are : (ids : List (List ℕ)) (n : PlainNode) (r : CubeRequest) → IsResolvedNode false [] ids n → cube_request_at n ≡ Some r
     → references_named n.arguments ≡ cube_ids r
 references_are ids n r is e =
     let process = found _ (cube_process_named n.process_id) r e in

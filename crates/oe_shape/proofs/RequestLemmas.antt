@@ -10,13 +10,13 @@ use Rattle.oe_graph.specs.Tree.{Argument, Named, PlainNode, PlainGraph}
 use Rattle.oe_expr.specs.Nodes.{LooksDown}
 use Rattle.oe_expr.specs.Requests.{with_both, read, passes, where_passed}
 use Rattle.oe_dims.specs.declared.dims.DimsRow.{DimsRow}
-use Rattle.oe_shape.specs.Graphs.{Collections, no_datacube, collection_named, outline_named, inputs_of, request_outline, node_outline, request_meaning, node_meaning}
+use Rattle.oe_shape.specs.Graphs.{Collections, no_datacube, collection_named, outline_named, request_inputs, request_outline, node_outline, request_meaning, node_meaning}
 use Rattle.oe_shape.specs.Meaning.{Datacube, operated, outline}
 use Rattle.oe_shape.specs.Operations.{Outline, no_outline, operation_of, outline_of}
 use Rattle.oe_shape.specs.Parameters.{cube_in, callback_in, text_in, number_in, literal_in, box_in, extent_in, bands_in, some_bands_in, kernel_in, border_in, null_or, is_empty_list, is_empty_object, is_null_or_empty_object}
 use Rattle.oe_shape.specs.declared.process.CubeProcess.{CubeProcess}
 use Rattle.oe_shape.specs.declared.process.CubeProcess.TheVariants.{AggregateTemporal, Apply, ApplyKernel, FilterBands, FilterBbox, FilterTemporal, LoadCollection, Mask, MergeCubes, ReduceDimension, SaveResult}
-use Rattle.oe_shape.specs.Requests.{cube_process_named, called, Request, load_collection, filter_bbox, filter_temporal, filter_bands, apply, apply_kernel, reduce_dimension, aggregate_temporal, merge_cubes, mask, save_result, cube_ids, called_in, intervals_in, resolver_in, request_of, request_at}
+use Rattle.oe_shape.specs.Requests.{cube_process_named, called, CubeRequest, load_collection, filter_bbox, filter_temporal, filter_bands, apply, apply_kernel, reduce_dimension, aggregate_temporal, merge_cubes, mask, save_result, cube_ids, called_in, intervals_in, resolver_in, cube_request_of, cube_request_at}
 
 -- ---- readers that found something
 
@@ -70,10 +70,10 @@ module _ (P : List ℕ → Type 0) (given : Named) (all : (id : List ℕ) → Co
       let a = found cube_in (argument_named name given) id e in
       all id (referred_there name given id (subst (λ x. argument_named name given ≡ Some x) (is_cube a.0 id a.2) a.1))
 
-  abbrev Each : Request → Type 0
+  abbrev Each : CubeRequest → Type 0
   Each r = EachOf P (cube_ids r)
 
-  of_load : (r : Request) → request_of LoadCollection given ≡ Some r → Each r
+  of_load : (r : CubeRequest) → cube_request_of LoadCollection given ≡ Some r → Each r
   of_load r e =
       let p = passed (passes is_null_or_empty_object (codes "properties") given) _ r e in
       let id = found _ (read text_in (codes "id") given) r p in
@@ -81,29 +81,29 @@ module _ (P : List ℕ → Type 0) (given : Named) (all : (id : List ℕ) → Co
       let rest = both_found (load_collection id.0 box.0) (read (null_or extent_in) (codes "temporal_extent") given) (read (null_or some_bands_in) (codes "bands") given) r box.2 in
       subst Each rest.4 tt
 
-  of_filter_bbox : (r : Request) → request_of FilterBbox given ≡ Some r → Each r
+  of_filter_bbox : (r : CubeRequest) → cube_request_of FilterBbox given ≡ Some r → Each r
   of_filter_bbox r e =
       let b = both_found filter_bbox (read cube_in (codes "data") given) (read box_in (codes "extent") given) r e in
       subst Each b.4 (of_cube (codes "data") b.0 b.2, tt)
 
-  of_filter_temporal : (r : Request) → request_of FilterTemporal given ≡ Some r → Each r
+  of_filter_temporal : (r : CubeRequest) → cube_request_of FilterTemporal given ≡ Some r → Each r
   of_filter_temporal r e =
       let d = found _ (read cube_in (codes "data") given) r e in
       let b = both_found (filter_temporal d.0) (read extent_in (codes "extent") given) (read (null_or text_in) (codes "dimension") given) r d.2 in
       subst Each b.4 (of_cube (codes "data") d.0 d.1, tt)
 
-  of_filter_bands : (r : Request) → request_of FilterBands given ≡ Some r → Each r
+  of_filter_bands : (r : CubeRequest) → cube_request_of FilterBands given ≡ Some r → Each r
   of_filter_bands r e =
       let p = passed (passes is_empty_list (codes "wavelengths") given) _ r e in
       let b = both_found filter_bands (read cube_in (codes "data") given) (read bands_in (codes "bands") given) r p in
       subst Each b.4 (of_cube (codes "data") b.0 b.2, tt)
 
-  of_apply : (r : Request) → request_of Apply given ≡ Some r → Each r
+  of_apply : (r : CubeRequest) → cube_request_of Apply given ≡ Some r → Each r
   of_apply r e =
       let b = both_found apply (read cube_in (codes "data") given) (called_in (codes "process") given) r e in
       subst Each b.4 (of_cube (codes "data") b.0 b.2, tt)
 
-  of_apply_kernel : (r : Request) → request_of ApplyKernel given ≡ Some r → Each r
+  of_apply_kernel : (r : CubeRequest) → cube_request_of ApplyKernel given ≡ Some r → Each r
   of_apply_kernel r e =
       let d = found _ (read cube_in (codes "data") given) r e in
       let k = found _ (read kernel_in (codes "kernel") given) r d.2 in
@@ -111,38 +111,38 @@ module _ (P : List ℕ → Type 0) (given : Named) (all : (id : List ℕ) → Co
       let b = both_found (apply_kernel d.0 k.0 f.0) (read border_in (codes "border") given) (read number_in (codes "replace_invalid") given) r f.2 in
       subst Each b.4 (of_cube (codes "data") d.0 d.1, tt)
 
-  of_reduce : (r : Request) → request_of ReduceDimension given ≡ Some r → Each r
+  of_reduce : (r : CubeRequest) → cube_request_of ReduceDimension given ≡ Some r → Each r
   of_reduce r e =
       let d = found _ (read cube_in (codes "data") given) r e in
       let b = both_found (reduce_dimension d.0) (read text_in (codes "dimension") given) (called_in (codes "reducer") given) r d.2 in
       subst Each b.4 (of_cube (codes "data") d.0 d.1, tt)
 
-  of_aggregate : (r : Request) → request_of AggregateTemporal given ≡ Some r → Each r
+  of_aggregate : (r : CubeRequest) → cube_request_of AggregateTemporal given ≡ Some r → Each r
   of_aggregate r e =
       let d = found _ (read cube_in (codes "data") given) r e in
       let i = found _ (intervals_in given) r d.2 in
       let b = both_found (aggregate_temporal d.0 i.0) (read (null_or text_in) (codes "dimension") given) (called_in (codes "reducer") given) r i.2 in
       subst Each b.4 (of_cube (codes "data") d.0 d.1, tt)
 
-  of_merge : (r : Request) → request_of MergeCubes given ≡ Some r → Each r
+  of_merge : (r : CubeRequest) → cube_request_of MergeCubes given ≡ Some r → Each r
   of_merge r e =
       let one = found _ (read cube_in (codes "cube1") given) r e in
       let b = both_found (merge_cubes one.0) (read cube_in (codes "cube2") given) (resolver_in given) r one.2 in
       subst Each b.4 (of_cube (codes "cube1") one.0 one.1, (of_cube (codes "cube2") b.0 b.2, tt))
 
-  of_mask : (r : Request) → request_of Mask given ≡ Some r → Each r
+  of_mask : (r : CubeRequest) → cube_request_of Mask given ≡ Some r → Each r
   of_mask r e =
       let d = found _ (read cube_in (codes "data") given) r e in
       let b = both_found (mask d.0) (read cube_in (codes "mask") given) (read literal_in (codes "replacement") given) r d.2 in
       subst Each b.4 (of_cube (codes "data") d.0 d.1, (of_cube (codes "mask") b.0 b.2, tt))
 
-  of_save : (r : Request) → request_of SaveResult given ≡ Some r → Each r
+  of_save : (r : CubeRequest) → cube_request_of SaveResult given ≡ Some r → Each r
   of_save r e =
       let p = passed (passes is_empty_object (codes "options") given) _ r e in
       let b = both_found save_result (read cube_in (codes "data") given) (read text_in (codes "format") given) r p in
       subst Each b.4 (of_cube (codes "data") b.0 b.2, tt)
 
-  of_request : (process : CubeProcess) (r : Request) → request_of process given ≡ Some r → Each r
+  of_request : (process : CubeProcess) (r : CubeRequest) → cube_request_of process given ≡ Some r → Each r
   of_request AggregateTemporal r e = of_aggregate r e
   of_request Apply r e = of_apply r e
   of_request ApplyKernel r e = of_apply_kernel r e
@@ -156,14 +156,14 @@ module _ (P : List ℕ → Type 0) (given : Named) (all : (id : List ℕ) → Co
   of_request SaveResult r e = of_save r e
 
 -- what holds of the nodes that a node refers to holds of those that its request names
-pub of_node_request : (P : List ℕ → Type 0) (n : PlainNode) (r : Request) → request_at n ≡ Some r
+pub of_node_request : (P : List ℕ → Type 0) (n : PlainNode) (r : CubeRequest) → cube_request_at n ≡ Some r
     → ((id : List ℕ) → Contains (references_named n.arguments) id → P id) → EachOf P (cube_ids r)
 of_node_request P n r e all =
     let process = found _ (cube_process_named n.process_id) r e in of_request P n.arguments all process.0 r process.2
 
 -- ---- the steps of the recursions look down alone
 
-same_inputs : {A : Type 0} (collection f g : List ℕ → A) (r : Request) → EachOf (λ id. f id ≡ g id) (cube_ids r) → inputs_of collection f r ≡ inputs_of collection g r
+same_inputs : {A : Type 0} (collection f g : List ℕ → A) (r : CubeRequest) → EachOf (λ id. f id ≡ g id) (cube_ids r) → request_inputs collection f r ≡ request_inputs collection g r
 same_inputs collection f g (load_collection id box time bands) h = refl
 same_inputs collection f g (filter_bbox data_id box) h = ap (λ a. a ∷ []) h.0
 same_inputs collection f g (filter_temporal data_id time name) h = ap (λ a. a ∷ []) h.0
@@ -176,22 +176,22 @@ same_inputs collection f g (merge_cubes one two resolver) h = ap (λ a. a ∷ f 
 same_inputs collection f g (mask data_id mask_id replacement) h = ap (λ a. a ∷ f mask_id ∷ []) h.0 ∙ ap (λ a. g data_id ∷ a ∷ []) h.1.0
 same_inputs collection f g (save_result data_id format) h = ap (λ a. a ∷ []) h.0
 
-abbrev outline_on : Request → List Outline → Outline
+abbrev outline_on : CubeRequest → List Outline → Outline
 outline_on r inputs = option_map_or (λ operation. outline_of operation inputs) (operation_of r inputs) no_outline
 
-abbrev meaning_on : Request → List Datacube → Datacube
+abbrev meaning_on : CubeRequest → List Datacube → Datacube
 meaning_on r inputs = option_map_or (λ operation. operated operation inputs) (operation_of r (map outline inputs)) no_datacube
 
 pub outline_looks_down : (rows : List DimsRow) → LooksDown (node_outline rows)
-outline_looks_down rows n f g h = by (request_at n) refl
+outline_looks_down rows n f g h = by (cube_request_at n) refl
   where
-    by : (o : Option Request) → request_at n ≡ o → option_map_or (request_outline rows f) o no_outline ≡ option_map_or (request_outline rows g) o no_outline
+    by : (o : Option CubeRequest) → cube_request_at n ≡ o → option_map_or (request_outline rows f) o no_outline ≡ option_map_or (request_outline rows g) o no_outline
     by None is = refl
     by (Some r) is = ap (outline_on r) (same_inputs (outline_named rows) f g r (of_node_request (λ id. f id ≡ g id) n r is h))
 
 pub meaning_looks_down : (collections : Collections) → LooksDown (node_meaning collections)
-meaning_looks_down collections n f g h = by (request_at n) refl
+meaning_looks_down collections n f g h = by (cube_request_at n) refl
   where
-    by : (o : Option Request) → request_at n ≡ o → option_map_or (request_meaning collections f) o no_datacube ≡ option_map_or (request_meaning collections g) o no_datacube
+    by : (o : Option CubeRequest) → cube_request_at n ≡ o → option_map_or (request_meaning collections f) o no_datacube ≡ option_map_or (request_meaning collections g) o no_datacube
     by None is = refl
     by (Some r) is = ap (meaning_on r) (same_inputs (collection_named collections) f g r (of_node_request (λ id. f id ≡ g id) n r is h))

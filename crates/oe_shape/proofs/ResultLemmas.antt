@@ -13,7 +13,7 @@ use Rattle.oe_dims.specs.declared.shape.ShapeFault.{ShapeFault}
 use Rattle.oe_shape.proofs.ValidLemmas.{labelled_shape, is_shape, kept_labelled, without_labelled, aggregated_labelled, merged_labelled}
 use Rattle.oe_shape.specs.Extents.{Restriction, kept_shape}
 use Rattle.oe_shape.specs.Labels.{merged_shape}
-use Rattle.oe_shape.specs.Operations.{without, aggregated_shape}
+use Rattle.oe_shape.specs.Operations.{without_dimension, aggregated_shape}
 use Rattle.oe_shape.specs.Results.{where_within_limits}
 use Rattle.oe_shape.specs.ValidShapes.{is_within_limits, AreBands, AreIntervalLabels, labels_of}
 use Rattle.oe_shape.specs.declared.extent.Interval.{Interval}
@@ -49,8 +49,8 @@ pub from_parts : (d : Dimensions) (epsg : ℕ) (t : Option (Vec ℤ Global)) (ba
     → dimensions_with epsg t bands y x ≡ d
 from_parts d epsg t bands y x e f g h k = rw (e, f, g, h, k) refl
 
-pub without_valid : (kind : Kind) (d : Dimensions) → IsShape d → is_within_limits (without kind d) ≡ true → IsShape (without kind d)
-without_valid kind d h l = is_shape (without kind d) (without_labelled kind d (labelled_shape d h)) l
+pub without_valid : (kind : Kind) (d : Dimensions) → IsShape d → is_within_limits (without_dimension kind d) ≡ true → IsShape (without_dimension kind d)
+without_valid kind d h l = is_shape (without_dimension kind d) (without_labelled kind d (labelled_shape d h)) l
 
 pub kept_valid : (r : Restriction) (d : Dimensions) → IfSome r.bands AreBands → IsShape d → is_within_limits (kept_shape r d) ≡ true → IsShape (kept_shape r d)
 kept_valid r d g h l = is_shape (kept_shape r d) (kept_labelled r d g (labelled_shape d h)) l

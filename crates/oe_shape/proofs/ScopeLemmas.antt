@@ -12,7 +12,7 @@ use Rattle.oe_dims.specs.Dimensions.{Dimensions, IsShape, rises, number_labels, 
 use Rattle.oe_dims.specs.Plain.{plain_instants}
 use Rattle.oe_dims.specs.declared.kind.Kind.{Kind}
 use Rattle.oe_dims.specs.declared.kind.Kind.TheVariants.{Time, Bands, Y, X}
-use Rattle.oe_expr.specs.Scope.{label_count, labels_in, list_labels, AreDistinct, LiesWithin, IsScope}
+use Rattle.oe_expr.specs.Scope.{count_labels, labels_in, list_labels, AreDistinct, LiesWithin, IsScope}
 use Rattle.oe_shape.proofs.CellKindLemmas.{all_labels}
 use Rattle.oe_shape.proofs.TimeLemmas.{part_in_time_is}
 use Rattle.oe_shape.specs.Extents.{has_begun, has_not_ended, is_empty_extent, part_in_time, labels_in_time}
@@ -34,7 +34,7 @@ distinct_along Bands d h = pairs_differ (band_names d) (IsUnrepeated-names (band
 distinct_along Y d h = pairs_differ (number_labels d Y) (IsUnrepeated-numbers d Y h)
 distinct_along X d h = pairs_differ (number_labels d X) (IsUnrepeated-numbers d X h)
 
-few_along : (kind : Kind) (d : Dimensions) → IsShape d → label_count (labels_along kind d) < 2 ^ 32
+few_along : (kind : Kind) (d : Dimensions) → IsShape d → count_labels (labels_along kind d) < 2 ^ 32
 few_along Time d h = let few = numbers_within d Time h in omega arith
 few_along Bands d h = let few = names_within d h in omega arith
 few_along Y d h = let few = numbers_within d Y h in omega arith
@@ -48,7 +48,7 @@ whole_within count (suc k) d l = absurd (omega arith)
 
 of_reduction : (kind : Kind) (cube : Outline) → IsShape cube.shape → IsScope (reduction_scope kind cube)
 of_reduction kind cube h = record {
-  within = whole_within (label_count (labels_along kind cube.shape));
+  within = whole_within (count_labels (labels_along kind cube.shape));
   distinct = distinct_along kind cube.shape h;
   few_labels = few_along kind cube.shape h;
   few_lists = omega arith;

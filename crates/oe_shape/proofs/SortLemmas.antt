@@ -11,7 +11,7 @@ use Rattle.std.proofs.lemmas.List.Sorted.{sorted_far, sum_by-IsPermutation}
 use Rattle.std.proofs.lemmas.List.Sums.{sum_by-cons}
 use Rattle.oe_dims.specs.Indices.{same_number}
 use Rattle.oe_shape.proofs.OrderedLemmas.{IsOrder, below_is_order, above_is_order, stand_in_order, order_stands, left_of, right_of}
-use Rattle.oe_shape.specs.Labels.{is_below, is_above, put_in_order, in_order, are_distinct}
+use Rattle.oe_shape.specs.Labels.{is_below, is_above, insert_label, sorted_labels, are_distinct}
 
 module _ (is_before : ℤ → ℤ → Bool) (ranks : IsStrictWeakOrder is_before) (ties : (x y : ℤ) → is_before x y ≡ false → is_before y x ≡ false → x ≡ y) where
   -- 1 for each label that stands before x
@@ -70,22 +70,22 @@ module _ (is_before : ℤ → ℤ → Bool) (ranks : IsStrictWeakOrder is_before
           omega (arith, left, right, first, h)
 
   -- labels in order are the labels
-  put_sums : (f : ℤ → ℕ) (x : ℤ) (ys : List ℤ) → sum_by f (put_in_order is_before x ys) ≡ f x + sum_by f ys
+  put_sums : (f : ℤ → ℕ) (x : ℤ) (ys : List ℤ) → sum_by f (insert_label is_before x ys) ≡ f x + sum_by f ys
   put_sums f x [] = sum_by-cons f x []
   put_sums f x (y ∷ ys) = by (is_before x y) refl (put_sums f x ys)
     where
-      by : (b : Bool) → is_before x y ≡ b → sum_by f (put_in_order is_before x ys) ≡ f x + sum_by f ys
-          → sum_by f (put_in_order is_before x (y ∷ ys)) ≡ f x + sum_by f (y ∷ ys)
+      by : (b : Bool) → is_before x y ≡ b → sum_by f (insert_label is_before x ys) ≡ f x + sum_by f ys
+          → sum_by f (insert_label is_before x (y ∷ ys)) ≡ f x + sum_by f (y ∷ ys)
       by true is rest = rw is (sum_by-cons f x (y ∷ ys))
       by false is rest =
-          let one = sum_by-cons f y (put_in_order is_before x ys) in
+          let one = sum_by-cons f y (insert_label is_before x ys) in
           let two = sum_by-cons f y ys in
           rw is (omega (arith, one, two, rest))
 
-  order_sums : (f : ℤ → ℕ) (xs : List ℤ) → sum_by f (in_order is_before xs) ≡ sum_by f xs
+  order_sums : (f : ℤ → ℕ) (xs : List ℤ) → sum_by f (sorted_labels is_before xs) ≡ sum_by f xs
   order_sums f [] = refl
   order_sums f (x ∷ xs) =
-      let put = put_sums f x (in_order is_before xs) in
+      let put = put_sums f x (sorted_labels is_before xs) in
       let rest = order_sums f xs in
       let whole = sum_by-cons f x xs in
       omega (arith, put, rest, whole)
@@ -102,9 +102,9 @@ module _ (is_before : ℤ → ℤ → Bool) (ranks : IsStrictWeakOrder is_before
       subst (λ (n : ℕ). is_before (get_or (x ∷ y ∷ xs) n d) (get_or (y ∷ xs) k d) ≡ false) e rest
 
   -- a sorted list of labels that differ
-  sorted_is : IsOrder is_before → (xs ys : List ℤ) → IsPermutation xs ys → IsSortedBy is_before ys → are_distinct same_number xs ≡ true → ys ≡ in_order is_before xs
+  sorted_is : IsOrder is_before → (xs ys : List ℤ) → IsPermutation xs ys → IsSortedBy is_before ys → are_distinct same_number xs ≡ true → ys ≡ sorted_labels is_before xs
   sorted_is o xs ys moved up differ =
-      sorted_unique ys (in_order is_before xs) up (stands_sorted (in_order is_before xs) (order_stands is_before o xs differ))
+      sorted_unique ys (sorted_labels is_before xs) up (stands_sorted (sorted_labels is_before xs) (order_stands is_before o xs differ))
       (λ f. sum_by-IsPermutation f xs ys moved ∙ sym (order_sums f xs))
 
 -- ---- along t and x, and along y
@@ -142,10 +142,10 @@ compares_above_ranks = record {
   chain = λ x y z h k. compare_below z x ∙ above_ranks.chain x y z (sym (compare_below y x) ∙ h) (sym (compare_below z y) ∙ k);
 }
 
-pub rising_is : (xs ys : List ℤ) → IsPermutation xs ys → IsSortedBy compares_below ys → are_distinct same_number xs ≡ true → ys ≡ in_order is_below xs
+pub rising_is : (xs ys : List ℤ) → IsPermutation xs ys → IsSortedBy compares_below ys → are_distinct same_number xs ≡ true → ys ≡ sorted_labels is_below xs
 rising_is xs ys moved up differ =
     sorted_is is_below below_ranks below_ties below_is_order xs ys moved (λ k d low high. sym (compare_below (get_or ys (k + 1) d) (get_or ys k d)) ∙ up k d low high) differ
 
-pub falling_is : (xs ys : List ℤ) → IsPermutation xs ys → IsSortedBy compares_above ys → are_distinct same_number xs ≡ true → ys ≡ in_order is_above xs
+pub falling_is : (xs ys : List ℤ) → IsPermutation xs ys → IsSortedBy compares_above ys → are_distinct same_number xs ≡ true → ys ≡ sorted_labels is_above xs
 falling_is xs ys moved up differ =
     sorted_is is_above above_ranks above_ties above_is_order xs ys moved (λ k d low high. sym (compare_below (get_or ys k d) (get_or ys (k + 1) d)) ∙ up k d low high) differ

@@ -10,8 +10,8 @@ use Rattle.oe_dims.specs.declared.kind.Kind.{Kind}
 use Rattle.oe_dims.specs.declared.kind.Kind.TheVariants.{Time, Bands, Y, X}
 use Rattle.oe_shape.proofs.OrderedLemmas.{left_of, right_of, filter_all, filtered_rise, filtered_fall, ordered_rise, merged_rise, merged_fall, merged_all, order_all, below_is_order, above_is_order, all_bands_differ}
 use Rattle.oe_shape.specs.Extents.{Restriction, is_in_time, is_up, is_across, kept_labels, kept_bands, kept_shape}
-use Rattle.oe_shape.specs.Labels.{is_below, is_above, in_order, new_among, all_in_order, all_bands, either_epsg, merged_shape}
-use Rattle.oe_shape.specs.Operations.{Operation, keep, each_cell, convolve, reduce, aggregate, merge, cover, give_back, no_dimensions, first_or, second_or, epsg_without, without, aggregated_shape, shape_of}
+use Rattle.oe_shape.specs.Labels.{is_below, is_above, sorted_labels, new_among, all_in_order, all_bands, either_epsg, merged_shape}
+use Rattle.oe_shape.specs.Operations.{Operation, keep, each_cell, convolve, reduce, aggregate, merge, cover, give_back, no_dimensions, first_or, second_or, epsg_without, without_dimension, aggregated_shape, shape_of}
 use Rattle.oe_shape.specs.declared.extent.Interval.{Interval}
 use Rattle.oe_shape.specs.ValidShapes.{is_within_limits, AreBands, labels_of, AreIntervalLabels, BringsLabels, GiveValidShapes}
 
@@ -131,7 +131,7 @@ kept_labelled r d g h = record {
 
 -- ---- without a dimension
 
-pub without_labelled : (kind : Kind) (d : Dimensions) → AreLabelled d → AreLabelled (without kind d)
+pub without_labelled : (kind : Kind) (d : Dimensions) → AreLabelled d → AreLabelled (without_dimension kind d)
 without_labelled Time d h = record { t_rises = refl; t_range = refl; bands_differ = h.bands_differ; bands_valid = h.bands_valid; y_falls = h.y_falls; y_range = h.y_range; x_rises = h.x_rises; x_range = h.x_range; epsg_fits = h.epsg_fits }
 without_labelled Bands d h = record { t_rises = h.t_rises; t_range = h.t_range; bands_differ = refl; bands_valid = refl; y_falls = h.y_falls; y_range = h.y_range; x_rises = h.x_rises; x_range = h.x_range; epsg_fits = h.epsg_fits }
 without_labelled Y d h = record {
@@ -184,7 +184,7 @@ aggregated_labelled intervals d g h = record {
 
 -- ---- all labels of two cubes
 
-merged_pass : (is_before : ℤ → ℤ → Bool) (test : List ℤ → Bool) → ((one two : List ℤ) → test one ≡ true → test two ≡ true → test (in_order is_before (one ++ new_among same_number one two)) ≡ true)
+merged_pass : (is_before : ℤ → ℤ → Bool) (test : List ℤ → Bool) → ((one two : List ℤ) → test one ≡ true → test two ≡ true → test (sorted_labels is_before (one ++ new_among same_number one two)) ≡ true)
     → (one two : Option (List ℤ)) → of_labels test one ≡ true → of_labels test two ≡ true → of_labels test (all_in_order is_before one two) ≡ true
 merged_pass is_before test both None two h k = k
 merged_pass is_before test both (Some one) None h k = h
@@ -264,7 +264,7 @@ gives_shape (keep r) shapes g h l =
 gives_shape (each_cell c) shapes g h l = first_is_shape shapes h
 gives_shape (convolve kernel factor border replace) shapes g h l = first_is_shape shapes h
 gives_shape (reduce kind c) shapes g h l =
-    is_shape (without kind (first_or no_dimensions shapes)) (without_labelled kind (first_or no_dimensions shapes) (labelled_shape _ (first_is_shape shapes h))) l
+    is_shape (without_dimension kind (first_or no_dimensions shapes)) (without_labelled kind (first_or no_dimensions shapes) (labelled_shape _ (first_is_shape shapes h))) l
 gives_shape (aggregate intervals c) shapes g h l =
     is_shape (aggregated_shape intervals (first_or no_dimensions shapes)) (aggregated_labelled intervals (first_or no_dimensions shapes) g (labelled_shape _ (first_is_shape shapes h))) l
 gives_shape (merge resolver) shapes g h l =

@@ -9,10 +9,10 @@ use Rattle.oe_graph.specs.Tree.{PlainNode}
 use Rattle.oe_graph.specs.declared.code.Code.{Code}
 use Rattle.oe_graph.specs.declared.code.Code.TheVariants.{ProcessParameterInvalid, CellKindInvalid, CubeTooLarge}
 use Rattle.oe_graph.specs.declared.fault.Fault.{Fault}
-use Rattle.oe_expr.specs.Callback.{Callback, StandsIn, IsFaultless}
+use Rattle.oe_expr.specs.Callback.{Callback, StandsInCallbackAt, IsFaultlessCallback}
 use Rattle.oe_expr.specs.Rows.{first_row}
 use Rattle.oe_shape.specs.Operations.{Outline}
-use Rattle.oe_shape.specs.Requests.{Request, request_at}
+use Rattle.oe_shape.specs.Requests.{CubeRequest, cube_request_at}
 use Rattle.oe_shape.specs.Rows.{cell_kind_invalid, cube_too_large}
 use Rattle.oe_shape.specs.Stands.{early_rows, callback_on, cubes_of, Passes, HasFaultlessCallback, StandsHere, asks_for_nothing, early, inside, of_kind, of_size, HasNoFault}
 
@@ -34,10 +34,10 @@ module _ (rows : List DimsRow) (at : List ℕ → Outline) (n : PlainNode) where
       → IsLeast (StandsHere rows at n) (here code)
   alone code s only = record { stands = s; least = λ other t. not_before code other (only other.code other.node t) }
 
-  pub nothing_asked : request_at n ≡ None → IsLeast (StandsHere rows at n) (here ProcessParameterInvalid)
+  pub nothing_asked : cube_request_at n ≡ None → IsLeast (StandsHere rows at n) (here ProcessParameterInvalid)
   nothing_asked none = alone ProcessParameterInvalid (asks_for_nothing none) only
     where
-      not_asked : (q : Request) → request_at n ≡ Some q → ⊥
+      not_asked : (q : CubeRequest) → cube_request_at n ≡ Some q → ⊥
       not_asked q e = absurd cc
 
       only : (other : Code) (name : List ℕ) → StandsHere rows at n other name → IsHere ProcessParameterInvalid other name
@@ -47,27 +47,27 @@ module _ (rows : List DimsRow) (at : List ℕ → Outline) (n : PlainNode) where
       only other name (of_kind {r = q} p f s) = absurd (not_asked q p.asks)
       only other name (of_size {r = q} p f s) = absurd (not_asked q p.asks)
 
-  module _ (r : Request) (asks : request_at n ≡ Some r) where
+  module _ (r : CubeRequest) (asks : cube_request_at n ≡ Some r) where
     -- the first of the rows that its callback waits for
-    abbrev first : Request → Option Code
+    abbrev first : CubeRequest → Option Code
     first q = first_row (early_rows rows q (cubes_of rows at q))
 
-    same_request : (q : Request) → request_at n ≡ Some q → q ≡ r
+    same_request : (q : CubeRequest) → cube_request_at n ≡ Some q → q ≡ r
     same_request q e = cc
 
-    asked : request_at n ≡ None → ⊥
+    asked : cube_request_at n ≡ None → ⊥
     asked e = absurd cc
 
-    same_first : (q : Request) (o : Option Code) → request_at n ≡ Some q → first q ≡ o → first r ≡ o
-    same_first q o e f = subst (λ (x : Request). first x ≡ o) (same_request q e) f
+    same_first : (q : CubeRequest) (o : Option Code) → cube_request_at n ≡ Some q → first q ≡ o → first r ≡ o
+    same_first q o e f = subst (λ (x : CubeRequest). first x ≡ o) (same_request q e) f
 
     pub found_early : (code : Code) → first r ≡ Some code → IsLeast (StandsHere rows at n) (here code)
     found_early code found = alone code (early asks found) only
       where
-        passes_not : (q : Request) → Passes rows at n q → ⊥
+        passes_not : (q : CubeRequest) → Passes rows at n q → ⊥
         passes_not q p = let none : first r ≡ None = same_first q None p.asks p.none_holds in absurd cc
 
-        same_code : (q : Request) (other : Code) → request_at n ≡ Some q → first q ≡ Some other → other ≡ code
+        same_code : (q : CubeRequest) (other : Code) → cube_request_at n ≡ Some q → first q ≡ Some other → other ≡ code
         same_code q other e f = let also : first r ≡ Some other = same_first q (Some other) e f in cc
 
         only : (other : Code) (name : List ℕ) → StandsHere rows at n other name → IsHere code other name
@@ -81,27 +81,27 @@ module _ (rows : List DimsRow) (at : List ℕ → Outline) (n : PlainNode) where
       pub passes : Passes rows at n r
       passes = record { asks = asks; none_holds = none }
 
-      not_early : (q : Request) (code : Code) → request_at n ≡ Some q → first q ≡ Some code → ⊥
+      not_early : (q : CubeRequest) (code : Code) → cube_request_at n ≡ Some q → first q ≡ Some code → ⊥
       not_early q code e f = let some : first r ≡ Some code = same_first q (Some code) e f in absurd cc
 
       -- ---- where no fault stands in the callback
 
       module _ (faultless : HasFaultlessCallback rows at r) where
-        not_inside : (q : Request) (argument : List ℕ) (c : Callback) (code : Code) (name : List ℕ) → request_at n ≡ Some q
-            → callback_on q (cubes_of rows at q) ≡ Some (argument, c) → StandsIn c (callback_name n.id argument) code name → ⊥
+        not_inside : (q : CubeRequest) (argument : List ℕ) (c : Callback) (code : Code) (name : List ℕ) → cube_request_at n ≡ Some q
+            → callback_on q (cubes_of rows at q) ≡ Some (argument, c) → StandsInCallbackAt c (callback_name n.id argument) code name → ⊥
         not_inside q argument c code name e on s =
-            let mine : callback_on r (cubes_of rows at r) ≡ Some (argument, c) = subst (λ (x : Request). callback_on x (cubes_of rows at x) ≡ Some (argument, c)) (same_request q e) on in
-            let right : IsFaultless c = subst (λ (o : Option (List ℕ × Callback)). IfSome o (λ c. IsFaultless c.1)) mine faultless in
+            let mine : callback_on r (cubes_of rows at r) ≡ Some (argument, c) = subst (λ (x : CubeRequest). callback_on x (cubes_of rows at x) ≡ Some (argument, c)) (same_request q e) on in
+            let right : IsFaultlessCallback c = subst (λ (o : Option (List ℕ × Callback)). IfSome o (λ c. IsFaultlessCallback c.1)) mine faultless in
             right (callback_name n.id argument) code name s
 
-        kinds_of : (q : Request) (b : Bool) → request_at n ≡ Some q → cell_kind_invalid q (cubes_of rows at q) ≡ b → cell_kind_invalid r (cubes_of rows at r) ≡ b
-        kinds_of q b e f = subst (λ (x : Request). cell_kind_invalid x (cubes_of rows at x) ≡ b) (same_request q e) f
+        kinds_of : (q : CubeRequest) (b : Bool) → cube_request_at n ≡ Some q → cell_kind_invalid q (cubes_of rows at q) ≡ b → cell_kind_invalid r (cubes_of rows at r) ≡ b
+        kinds_of q b e f = subst (λ (x : CubeRequest). cell_kind_invalid x (cubes_of rows at x) ≡ b) (same_request q e) f
 
-        size_of : (q : Request) → request_at n ≡ Some q → cube_too_large q (cubes_of rows at q) ≡ true → cube_too_large r (cubes_of rows at r) ≡ true
-        size_of q e f = subst (λ (x : Request). cube_too_large x (cubes_of rows at x) ≡ true) (same_request q e) f
+        size_of : (q : CubeRequest) → cube_request_at n ≡ Some q → cube_too_large q (cubes_of rows at q) ≡ true → cube_too_large r (cubes_of rows at r) ≡ true
+        size_of q e f = subst (λ (x : CubeRequest). cube_too_large x (cubes_of rows at x) ≡ true) (same_request q e) f
 
-        faultless_of : (q : Request) → request_at n ≡ Some q → HasFaultlessCallback rows at q
-        faultless_of q e = subst (λ (x : Request). HasFaultlessCallback rows at x) (sym (same_request q e)) faultless
+        faultless_of : (q : CubeRequest) → cube_request_at n ≡ Some q → HasFaultlessCallback rows at q
+        faultless_of q e = subst (λ (x : CubeRequest). HasFaultlessCallback rows at x) (sym (same_request q e)) faultless
 
         pub wrong_kinds : cell_kind_invalid r (cubes_of rows at r) ≡ true → IsLeast (StandsHere rows at n) (here CellKindInvalid)
         wrong_kinds wrong = alone CellKindInvalid (of_kind passes faultless wrong) only
@@ -136,26 +136,26 @@ module _ (rows : List DimsRow) (at : List ℕ → Outline) (n : PlainNode) where
       -- a fault stands in the callback
       abbrev pub StandsInside : Code → List ℕ → Type 0
       StandsInside code name =
-          (argument : List ℕ) × (c : Callback) × (callback_on r (cubes_of rows at r) ≡ Some (argument, c)) × StandsIn c (callback_name n.id argument) code name
+          (argument : List ℕ) × (c : Callback) × (callback_on r (cubes_of rows at r) ≡ Some (argument, c)) × StandsInCallbackAt c (callback_name n.id argument) code name
 
-      is_inside : (q : Request) (argument : List ℕ) (c : Callback) (code : Code) (name : List ℕ) → request_at n ≡ Some q
-          → callback_on q (cubes_of rows at q) ≡ Some (argument, c) → StandsIn c (callback_name n.id argument) code name → StandsInside code name
+      is_inside : (q : CubeRequest) (argument : List ℕ) (c : Callback) (code : Code) (name : List ℕ) → cube_request_at n ≡ Some q
+          → callback_on q (cubes_of rows at q) ≡ Some (argument, c) → StandsInCallbackAt c (callback_name n.id argument) code name → StandsInside code name
       is_inside q argument c code name e on s =
-          (argument, c, subst (λ (x : Request). callback_on x (cubes_of rows at x) ≡ Some (argument, c)) (same_request q e) on, s)
+          (argument, c, subst (λ (x : CubeRequest). callback_on x (cubes_of rows at x) ≡ Some (argument, c)) (same_request q e) on, s)
 
       stands_inside : (code : Code) (name : List ℕ) → StandsInside code name → StandsHere rows at n code name
       stands_inside code name s = inside passes s.2 s.3
 
       module _ (fault : Fault) (is : IsLeast StandsInside fault) where
-        not_faultless : (q : Request) → request_at n ≡ Some q → HasFaultlessCallback rows at q → ⊥
+        not_faultless : (q : CubeRequest) → cube_request_at n ≡ Some q → HasFaultlessCallback rows at q → ⊥
         not_faultless q e faultless =
             let s = is.stands in
-            let mine : HasFaultlessCallback rows at r = subst (λ (x : Request). HasFaultlessCallback rows at x) (same_request q e) faultless in
-            let right : IsFaultless s.1 = subst (λ (o : Option (List ℕ × Callback)). IfSome o (λ c. IsFaultless c.1)) s.2 mine in
+            let mine : HasFaultlessCallback rows at r = subst (λ (x : CubeRequest). HasFaultlessCallback rows at x) (same_request q e) faultless in
+            let right : IsFaultlessCallback s.1 = subst (λ (o : Option (List ℕ × Callback)). IfSome o (λ c. IsFaultlessCallback c.1)) s.2 mine in
             right (callback_name n.id s.0) fault.code fault.node s.3
 
-        large_too : (q : Request) → request_at n ≡ Some q → cube_too_large q (cubes_of rows at q) ≡ true → cube_too_large r (cubes_of rows at r) ≡ true
-        large_too q e f = subst (λ (x : Request). cube_too_large x (cubes_of rows at x) ≡ true) (same_request q e) f
+        large_too : (q : CubeRequest) → cube_request_at n ≡ Some q → cube_too_large q (cubes_of rows at q) ≡ true → cube_too_large r (cubes_of rows at r) ≡ true
+        large_too q e f = subst (λ (x : CubeRequest). cube_too_large x (cubes_of rows at x) ≡ true) (same_request q e) f
 
         -- each fault stands in the callback, or is the size of the cube
         which : (other : Code) (name : List ℕ) → StandsHere rows at n other name

@@ -18,11 +18,11 @@ use Rattle.oe_graph.proofs.LeastLemmas.{IsLeastOf, IsLeastOf-iff, IsLeastOf-leas
 use Rattle.oe_graph.proofs.ResolvedLemmas.{references_end}
 use Rattle.oe_expr.proofs.NodeLemmas.{node_is, contains_node, index_of_node, id_within}
 use Rattle.oe_shape.specs.Graphs.{outline_at, operation_at}
-use Rattle.oe_shape.specs.Links.{index_referred, links_of, collection_of}
+use Rattle.oe_shape.specs.Links.{index_referred, links_of, loaded_collection}
 use Rattle.oe_shape.specs.Operations.{Outline}
 use Rattle.oe_shape.specs.PlainRequests.{plain_operation}
 use Rattle.oe_shape.specs.SoundNodes.{sound_node}
-use Rattle.oe_shape.specs.Stands.{StandsHere, IsSound, sound, StandsAt, Stands}
+use Rattle.oe_shape.specs.Stands.{StandsHere, IsSound, sound, StandsAt, StandsInGraph}
 use Rattle.oe_shape.specs.Walked.{AreResolved, IsNodeAt, state_at, below_indices, AreKnown, IsVerdict, IsJudgedSound, IsSoundOf, IsState, StandsSeen, IsLeastSeen, IsWalked, IsChecked, Waits, IsStep, LeadsDown, AreDeep}
 use Rattle.oe_shape.specs.declared.checked.CheckedNode.{CheckedNode}
 use Rattle.oe_shape.specs.declared.checked.State.{State}
@@ -153,7 +153,7 @@ module _ (rows : List DimsRow) (nodes : Nodes) (is : AreResolved nodes) where
         operation_is = λ m is_m.
             subst (λ (x : PlainNode). operation_at rows nodes x ≡ Some (plain_operation kept.operation)) (one_node nodes is n index m at is_m) j.operation_is;
         collection_is = λ m is_m.
-            subst (λ (x : PlainNode). collection_of x ≡ kept.collection) (one_node nodes is n index m at is_m) j.collection_is;
+            subst (λ (x : PlainNode). loaded_collection x ≡ kept.collection) (one_node nodes is n index m at is_m) j.collection_is;
       }
 
       stands_here : (code : Code) (name : List ℕ) → StandsHere rows (outline_at rows nodes) n code name → StandsAt rows nodes n.id code name
@@ -375,7 +375,7 @@ module _ (rows : List DimsRow) (nodes : Nodes) (is : AreResolved nodes) where
     least = λ other stands. w.least.1 other (seen_at other stands);
   }
     where
-      seen_at : (other : Fault) → Stands rows nodes other.code other.node → StandsSeen rows nodes states other
+      seen_at : (other : Fault) → StandsInGraph rows nodes other.code other.node → StandsSeen rows nodes states other
       seen_at other stands =
           let there = node_is nodes stands.id stands.at.node stands.at.is_node in
           let found_at = index_of_node nodes stands.at.node there.0 in

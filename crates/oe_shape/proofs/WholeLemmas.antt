@@ -20,8 +20,8 @@ use Rattle.oe_shape.specs.Graphs.{outline_at, operation_at, request_outline}
 use Rattle.oe_shape.specs.Labels.{merged_shape, differ_along}
 use Rattle.oe_shape.specs.Links.{index_referred, links_of}
 use Rattle.oe_shape.specs.Operations.{Operation, Outline, no_outline, merge, operation_of, outline_of, dimension_named}
-use Rattle.oe_shape.specs.Reach.{is_whole, input_shapes, whole_of_node}
-use Rattle.oe_shape.specs.Requests.{Request, Called, load_collection, filter_bbox, filter_temporal, filter_bands, apply, apply_kernel, reduce_dimension, aggregate_temporal, merge_cubes, mask, save_result, request_at}
+use Rattle.oe_shape.specs.Reach.{needs_whole, input_shapes, whole_of_node}
+use Rattle.oe_shape.specs.Requests.{CubeRequest, Called, load_collection, filter_bbox, filter_temporal, filter_bands, apply, apply_kernel, reduce_dimension, aggregate_temporal, merge_cubes, mask, save_result, cube_request_at}
 use Rattle.oe_shape.specs.SoundNodes.{input_outlines}
 use Rattle.oe_shape.specs.Walked.{AreResolved}
 use Rattle.oe_shape.proofs.CheckedLemmas.{refer}
@@ -31,9 +31,9 @@ use Rattle.oe_shape.proofs.RequestLemmas.{found}
 
 -- ---- whatever the shapes of its inputs are
 
-shapes_of : (o : Option PlainNode) (f : PlainNode → Option Operation) (g : Request → List Dimensions) (operation : Operation)
-    → ((n : PlainNode) → f n ≡ Some operation → (r : Request) × (request_at n ≡ Some r)) → option_and_then f o ≡ Some operation
-    → (shapes : List Dimensions) × (option_map g (option_and_then request_at o) ≡ Some shapes)
+shapes_of : (o : Option PlainNode) (f : PlainNode → Option Operation) (g : CubeRequest → List Dimensions) (operation : Operation)
+    → ((n : PlainNode) → f n ≡ Some operation → (r : CubeRequest) × (cube_request_at n ≡ Some r)) → option_and_then f o ≡ Some operation
+    → (shapes : List Dimensions) × (option_map g (option_and_then cube_request_at o) ≡ Some shapes)
 shapes_of None f g operation asks e = absurd cc
 shapes_of (Some n) f g operation asks e = let r = asks n e in (g r.0, ap (option_map g) r.1)
 
@@ -42,25 +42,25 @@ module _ (c : CheckedGraph) (index : ℕ) (operation : Operation) (is : operatio
   shapes_there =
       shapes_of (slice_get (each_node c.nodes) index) (operation_at c.rows c.nodes)
       (λ r. map (λ (o : Outline). o.shape) (input_outlines c.rows c.nodes r)) operation
-      (λ n e. let r = found _ (request_at n) operation e in (r.0, r.1)) is
+      (λ n e. let r = found _ (cube_request_at n) operation e in (r.0, r.1)) is
 
-  pub whole_with : (shapes : List Dimensions) (b : Bool) → input_shapes c index ≡ Some shapes → is_whole operation shapes along ≡ b → whole_of_node c index along ≡ Some b
+  pub whole_with : (shapes : List Dimensions) (b : Bool) → input_shapes c index ≡ Some shapes → needs_whole operation shapes along ≡ b → whole_of_node c index along ≡ Some b
   whole_with shapes b has e =
-      ap (λ o. with_both (λ p s. is_whole p s along) o (input_shapes c index)) is
-      ∙ (ap (with_both (λ p s. is_whole p s along) (Some operation)) has ∙ ap Some e)
+      ap (λ o. with_both (λ p s. needs_whole p s along) o (input_shapes c index)) is
+      ∙ (ap (with_both (λ p s. needs_whole p s along) (Some operation)) has ∙ ap Some e)
 
-  pub whole_always : (b : Bool) → ((shapes : List Dimensions) → is_whole operation shapes along ≡ b) → whole_of_node c index along ≡ Some b
+  pub whole_always : (b : Bool) → ((shapes : List Dimensions) → needs_whole operation shapes along ≡ b) → whole_of_node c index along ≡ Some b
   whole_always b e = whole_with shapes_there.0 b shapes_there.1 (e shapes_there.0)
 
 -- ---- a merge
 
-record IsMergeRequest (r : Request) : Type 0 where
+record IsMergeRequest (r : CubeRequest) : Type 0 where
   pub one : List ℕ
   pub two : List ℕ
   pub resolver : Option Called
   pub is : r ≡ merge_cubes one two resolver
 
-is_merge : (r : Request) (cubes : List Outline) (resolver : Option Callback) → operation_of r cubes ≡ Some (merge resolver) → IsMergeRequest r
+is_merge : (r : CubeRequest) (cubes : List Outline) (resolver : Option Callback) → operation_of r cubes ≡ Some (merge resolver) → IsMergeRequest r
 is_merge (load_collection id box time bands) cubes resolver e = absurd cc
 is_merge (filter_bbox data_id box) cubes resolver e = absurd cc
 is_merge (filter_temporal data_id time name) cubes resolver e = absurd cc
@@ -98,7 +98,7 @@ module _ (c : CheckedGraph) (resolved : AreResolved c.nodes) (index : ℕ) (belo
   abbrev ids : List ℕ → List ℕ → List (List ℕ)
   ids one two = one ∷ two ∷ []
 
-  module _ (one two : List ℕ) (called : Option Called) (asks : request_at there.node ≡ Some (merge_cubes one two called)) where
+  module _ (one two : List ℕ) (called : Option Called) (asks : cube_request_at there.node ≡ Some (merge_cubes one two called)) where
     refers : references_named there.node.arguments ≡ one ∷ two ∷ []
     refers = refer c.nodes resolved there.node (contains_node c.nodes index there.node there.is_there) (merge_cubes one two called) asks
 
@@ -145,7 +145,7 @@ module _ (c : CheckedGraph) (resolved : AreResolved c.nodes) (index : ℕ) (belo
           ∙ (ap (λ (o : Outline). merged_shape o.shape (outline_at c.rows c.nodes two).shape) (sym (outline_of_name one first))
           ∙ ap (λ (o : Outline). merged_shape (outline_of_node c (index_referred c.nodes one)).shape o.shape) (sym (outline_of_name two second)));
       shapes_are =
-          ap (λ o. option_map (λ r. map (λ (o : Outline). o.shape) (input_outlines c.rows c.nodes r)) (option_and_then request_at o)) there.is_there
+          ap (λ o. option_map (λ r. map (λ (o : Outline). o.shape) (input_outlines c.rows c.nodes r)) (option_and_then cube_request_at o)) there.is_there
           ∙ (ap (option_map (λ r. map (λ (o : Outline). o.shape) (input_outlines c.rows c.nodes r))) asks
           ∙ (ap (λ (o : Outline). Some (o.shape ∷ (outline_at c.rows c.nodes two).shape ∷ [])) (sym (outline_of_name one first))
           ∙ ap (λ (o : Outline). Some ((outline_of_node c (index_referred c.nodes one)).shape ∷ o.shape ∷ [])) (sym (outline_of_name two second))));
@@ -153,7 +153,7 @@ module _ (c : CheckedGraph) (resolved : AreResolved c.nodes) (index : ℕ) (belo
 
   pub merges : Merges c index
   merges =
-      let r = found _ (request_at there.node) (merge resolver) operation_there in
+      let r = found _ (cube_request_at there.node) (merge resolver) operation_there in
       let m = is_merge r.0 (input_outlines c.rows c.nodes r.0) resolver r.2 in
       merges_here m.one m.two m.resolver (r.1 ∙ ap Some m.is)
 

@@ -4,7 +4,7 @@ use Rattle.oe_cell.specs.declared.cell.Cell.{Cell}
 use Rattle.oe_cell.specs.declared.cell.Cell.TheVariants.{Empty, Over}
 use Rattle.oe_dims.specs.Cube.{Cube}
 use Rattle.oe_shape.specs.Extents.{Restriction, no_restriction, part_in_time}
-use Rattle.oe_shape.specs.Meaning.{kept, cube_of}
+use Rattle.oe_shape.specs.Meaning.{restricted_cube, cube_of}
 use Rattle.oe_shape.specs.Operations.{give_back}
 use Rattle.oe_shape.specs.Parameters.{extent_from}
 use Rattle.oe_shape.proofs.WorkedWords.{whole, cells_of, january_1, january_2, january_3, year_2025, year_2026, shape_with, cube_with, pixel, square, line, banded, dated, series}
@@ -23,23 +23,23 @@ with_bands bands = record { box = None; time = None; bands = Some bands }
 
 -- no date of the cube lies in the extent: the dimension is left without labels, the cube without cells
 nothing_in_2025 :
-    kept (in_time (Some year_2025) (Some year_2026)) (cube_with pixel (cells_of (7 ∷ [])))
+    restricted_cube (in_time (Some year_2025) (Some year_2026)) (cube_with pixel (cells_of (7 ∷ [])))
     ≡ cube_with (shape_with [] (codes "B1" ∷ []) (pos 0 ∷ []) (pos 0 ∷ [])) []
 nothing_in_2025 = refl
 
 -- the start is inside, and the end is not
 start_alone :
-    kept (in_time (Some january_1) (Some january_2)) (dated (january_1 ∷ january_2 ∷ []) (cells_of (5 ∷ 6 ∷ [])))
+    restricted_cube (in_time (Some january_1) (Some january_2)) (dated (january_1 ∷ january_2 ∷ []) (cells_of (5 ∷ 6 ∷ [])))
     ≡ dated (january_1 ∷ []) (cells_of (5 ∷ []))
 start_alone = refl
 
 from_the_second :
-    kept (in_time (Some january_2) None) (dated (january_1 ∷ january_2 ∷ january_3 ∷ []) (cells_of (5 ∷ 6 ∷ 7 ∷ [])))
+    restricted_cube (in_time (Some january_2) None) (dated (january_1 ∷ january_2 ∷ january_3 ∷ []) (cells_of (5 ∷ 6 ∷ 7 ∷ [])))
     ≡ dated (january_2 ∷ january_3 ∷ []) (cells_of (6 ∷ 7 ∷ []))
 from_the_second = refl
 
 before_the_second :
-    kept (in_time None (Some january_2)) (series (january_1 ∷ january_2 ∷ []) (Over ∷ Empty ∷ [])) ≡ series (january_1 ∷ []) (Over ∷ [])
+    restricted_cube (in_time None (Some january_2)) (series (january_1 ∷ january_2 ∷ []) (Over ∷ Empty ∷ [])) ≡ series (january_1 ∷ []) (Over ∷ [])
 before_the_second = refl
 
 -- the index range of the labels inside
@@ -48,21 +48,21 @@ second_of_three = refl
 
 -- ---- in space: both borders are inside
 
-whole_square : kept (in_box (pos 0) (pos 0) (pos 10) (pos 10)) square ≡ square
+whole_square : restricted_cube (in_box (pos 0) (pos 0) (pos 10) (pos 10)) square ≡ square
 whole_square = refl
 
 lower_row :
-    kept (in_box (negsuc 4) (negsuc 4) (pos 10) (pos 9)) square
+    restricted_cube (in_box (negsuc 4) (negsuc 4) (pos 10) (pos 9)) square
     ≡ cube_with (shape_with (january_1 ∷ []) (codes "B1" ∷ []) (pos 0 ∷ []) (pos 0 ∷ pos 10 ∷ [])) (cells_of (3 ∷ 4 ∷ []))
 lower_row = refl
 
 upper_right :
-    kept (in_box (pos 1) (pos 10) (pos 10) (pos 10)) square
+    restricted_cube (in_box (pos 1) (pos 10) (pos 10) (pos 10)) square
     ≡ cube_with (shape_with (january_1 ∷ []) (codes "B1" ∷ []) (pos 10 ∷ []) (pos 10 ∷ [])) (cells_of (2 ∷ []))
 upper_right = refl
 
 between_pixels :
-    kept (in_box (pos 1) (pos 0) (pos 9) (pos 10)) square
+    restricted_cube (in_box (pos 1) (pos 0) (pos 9) (pos 10)) square
     ≡ cube_with (shape_with (january_1 ∷ []) (codes "B1" ∷ []) (pos 10 ∷ pos 0 ∷ []) []) []
 between_pixels = refl
 
@@ -71,26 +71,26 @@ between_pixels = refl
 three_bands : Cube Cell
 three_bands = banded (codes "B1" ∷ codes "B2" ∷ codes "B3" ∷ []) (cells_of (1 ∷ 2 ∷ 3 ∷ []))
 
-other_order : kept (with_bands (codes "B3" ∷ codes "B1" ∷ [])) three_bands ≡ banded (codes "B3" ∷ codes "B1" ∷ []) (cells_of (3 ∷ 1 ∷ []))
+other_order : restricted_cube (with_bands (codes "B3" ∷ codes "B1" ∷ [])) three_bands ≡ banded (codes "B3" ∷ codes "B1" ∷ []) (cells_of (3 ∷ 1 ∷ []))
 unfolding three_bands
 other_order = refl
 
-one_band : kept (with_bands (codes "B2" ∷ [])) three_bands ≡ banded (codes "B2" ∷ []) (cells_of (2 ∷ []))
+one_band : restricted_cube (with_bands (codes "B2" ∷ [])) three_bands ≡ banded (codes "B2" ∷ []) (cells_of (2 ∷ []))
 unfolding three_bands
 one_band = refl
 
-all_bands_given : kept (with_bands (codes "B1" ∷ codes "B2" ∷ codes "B3" ∷ [])) three_bands ≡ three_bands
+all_bands_given : restricted_cube (with_bands (codes "B1" ∷ codes "B2" ∷ codes "B3" ∷ [])) three_bands ≡ three_bands
 unfolding three_bands
 all_bands_given = refl
 
 -- ---- a load: all restrictions at once, or none
 
-loaded_whole : kept no_restriction three_bands ≡ three_bands
+loaded_whole : restricted_cube no_restriction three_bands ≡ three_bands
 unfolding three_bands
 loaded_whole = refl
 
 loaded_part :
-    kept (record {
+    restricted_cube (record {
       box = Some (record { west = pos 1; south = pos 0; east = pos 2; north = pos 0; epsg = 4326 });
       time = Some (extent_from (Some january_1) None);
       bands = Some (codes "B1" ∷ []);
@@ -99,7 +99,7 @@ loaded_part :
 loaded_part = refl
 
 -- a cube without x and y keeps what it has
-loaded_series : kept no_restriction (series (january_1 ∷ january_2 ∷ []) (whole 1 ∷ Empty ∷ [])) ≡ series (january_1 ∷ january_2 ∷ []) (whole 1 ∷ Empty ∷ [])
+loaded_series : restricted_cube no_restriction (series (january_1 ∷ january_2 ∷ []) (whole 1 ∷ Empty ∷ [])) ≡ series (january_1 ∷ january_2 ∷ []) (whole 1 ∷ Empty ∷ [])
 loaded_series = refl
 
 -- ---- `save_result`

@@ -12,7 +12,7 @@ use Rattle.oe_dims.specs.declared.kind.CellKind.TheVariants.{Numbers, Flags}
 use Rattle.oe_graph.specs.Tree as tree
 use Rattle.oe_graph.specs.Tree.{Argument, Named, PlainGraph, values_from_list}
 use Rattle.oe_expr.specs.Nodes.{down_from}
-use Rattle.oe_shape.specs.Graphs.{Collections, meaning, graph_outline, rows_of}
+use Rattle.oe_shape.specs.Graphs.{Collections, meaning, graph_outline, collection_rows}
 use Rattle.oe_shape.specs.Meaning.{Datacube, outline}
 use Rattle.oe_shape.proofs.WorkedWords.{whole, cells_of, largest, january_1, january_2, shape_with, cube_with, pixel, banded, dated, parameter, node_with, on_two, resolving, ratio, fraction}
 
@@ -146,16 +146,16 @@ one_and_null = refl
 
 -- ---- shapes and kinds, from those of the collections alone
 
-outlined : graph_outline (rows_of collections) band_ratio ≡ outline (meaning collections band_ratio)
+outlined : graph_outline (collection_rows collections) band_ratio ≡ outline (meaning collections band_ratio)
 unfolding collections band_ratio down_from exact gcd_of gcd_within cell_of_lowest
 outlined = refl
 
-outlined_diamond : graph_outline (rows_of collections) diamond ≡ outline (meaning collections diamond)
+outlined_diamond : graph_outline (collection_rows collections) diamond ≡ outline (meaning collections diamond)
 unfolding collections diamond down_from exact gcd_of gcd_within cell_of_lowest
 outlined_diamond = refl
 
 flags_are_flags :
-    graph_outline (rows_of collections) (record { nodes = node_with (codes "a") (codes "load_collection") (load (codes "CLOUD")) tree.no_nodes; result = 0 })
+    graph_outline (collection_rows collections) (record { nodes = node_with (codes "a") (codes "load_collection") (load (codes "CLOUD")) tree.no_nodes; result = 0 })
     ≡ record { shape = (dated (january_1 ∷ january_2 ∷ []) []).shape; kind = Flags }
 unfolding collections down_from
 flags_are_flags = refl

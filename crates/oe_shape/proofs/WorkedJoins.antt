@@ -8,16 +8,16 @@ use Rattle.oe_dims.specs.declared.kind.CellKind.TheVariants.{Numbers}
 use Rattle.oe_expr.specs.Callback.{Callback}
 use Rattle.oe_expr.specs.Nodes.{down_from}
 use Rattle.oe_expr.specs.Scope as scope
-use Rattle.oe_shape.specs.Labels.{is_below, is_above, in_order, merged_shape}
+use Rattle.oe_shape.specs.Labels.{is_below, is_above, sorted_labels, merged_shape}
 use Rattle.oe_shape.specs.Meaning.{merged, covered}
 use Rattle.oe_shape.proofs.WorkedWords.{whole, cells_of, january_1, january_2, january_3, cube_with, shape_with, line, banded, dated, series, single, resolving, under}
 
 -- ---- labels
 
-in_time_order : in_order is_below (january_2 ∷ january_3 ∷ january_1 ∷ []) ≡ january_1 ∷ january_2 ∷ january_3 ∷ []
+in_time_order : sorted_labels is_below (january_2 ∷ january_3 ∷ january_1 ∷ []) ≡ january_1 ∷ january_2 ∷ january_3 ∷ []
 in_time_order = refl
 
-from_the_top : in_order is_above (pos 0 ∷ negsuc 9 ∷ pos 10 ∷ []) ≡ pos 10 ∷ pos 0 ∷ negsuc 9 ∷ []
+from_the_top : sorted_labels is_above (pos 0 ∷ negsuc 9 ∷ pos 10 ∷ []) ≡ pos 10 ∷ pos 0 ∷ negsuc 9 ∷ []
 from_the_top = refl
 
 -- the reference system of the cube that has one; labels of both

@@ -15,7 +15,7 @@ use Rattle.oe_expr.specs.Nodes.{down_from}
 use Rattle.oe_expr.specs.Scope as scope
 use Rattle.oe_shape.specs.Meaning.{reduced, aggregated}
 use Rattle.oe_shape.specs.Operations.{reduction_scope, interval_scope}
-use Rattle.oe_shape.specs.Parameters.{labelled, extent_from}
+use Rattle.oe_shape.specs.Parameters.{labelled_interval, extent_from}
 use Rattle.oe_shape.specs.declared.extent.Interval.{Interval}
 use Rattle.oe_shape.proofs.WorkedWords.{fraction, whole, cells_of, largest, january_1, january_2, january_3, january_4, february_1, february_2, cube_with, square, banded, dated, single, reducing, counting, ratio}
 
@@ -97,7 +97,7 @@ all_four = refl
 -- ---- `aggregate_temporal`
 
 abbrev from_to : ℤ → ℤ → ℤ → Interval
-from_to start end label = labelled (extent_from (Some start) (Some end)) label
+from_to start end label = labelled_interval (extent_from (Some start) (Some end)) label
 
 abbrev three_days : Cube Cell
 three_days = dated (january_1 ∷ january_2 ∷ january_3 ∷ []) (cells_of (1 ∷ 2 ∷ 4 ∷ []))
@@ -124,7 +124,7 @@ in_time_order = refl
 
 -- an end that is missing does not limit
 to_the_end :
-    sums_in (labelled (extent_from (Some january_2) None) january_2 ∷ labelled (extent_from None (Some january_2)) january_1 ∷ [])
+    sums_in (labelled_interval (extent_from (Some january_2) None) january_2 ∷ labelled_interval (extent_from None (Some january_2)) january_1 ∷ [])
     ≡ dated (january_1 ∷ january_2 ∷ []) (cells_of (1 ∷ 6 ∷ []))
 unfolding down_from reduction_of exact gcd_of gcd_within cell_of_lowest
 to_the_end = refl

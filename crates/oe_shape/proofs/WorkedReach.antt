@@ -9,7 +9,7 @@ use Rattle.oe_kernel.specs.declared.border.Border.{Border}
 use Rattle.oe_kernel.specs.declared.border.Border.TheVariants.{Replicate, Wrap}
 use Rattle.oe_expr.specs.Scope as scope
 use Rattle.oe_shape.specs.Operations.{Operation, convolve, reduce, merge}
-use Rattle.oe_shape.specs.Reach.{is_whole, halo_of, time_fold}
+use Rattle.oe_shape.specs.Reach.{needs_whole, halo_of, time_fold}
 use Rattle.oe_shape.proofs.WorkedWords.{january_1, january_2, banded, dated, reducing, counting, ratio, under}
 
 abbrev wide : Border → Operation
@@ -24,25 +24,25 @@ one_up_and_down = refl
 none_in_time : halo_of (wide Replicate) Time ≡ 0
 none_in_time = refl
 
-wraps_along_x : is_whole (wide Wrap) [] X ≡ true
+wraps_along_x : needs_whole (wide Wrap) [] X ≡ true
 wraps_along_x = refl
 
-wraps_along_no_band : is_whole (wide Wrap) [] Bands ≡ false
+wraps_along_no_band : needs_whole (wide Wrap) [] Bands ≡ false
 wraps_along_no_band = refl
 
-replicates_nearby : is_whole (wide Replicate) [] Y ≡ false
+replicates_nearby : needs_whole (wide Replicate) [] Y ≡ false
 replicates_nearby = refl
 
 -- the same bands in another order do not differ
 same_bands :
-    is_whole (merge None) ((banded (codes "B1" ∷ codes "B2" ∷ []) []).shape ∷ (banded (codes "B2" ∷ codes "B1" ∷ []) []).shape ∷ []) Bands ≡ false
+    needs_whole (merge None) ((banded (codes "B1" ∷ codes "B2" ∷ []) []).shape ∷ (banded (codes "B2" ∷ codes "B1" ∷ []) []).shape ∷ []) Bands ≡ false
 same_bands = refl
 
 other_bands :
-    is_whole (merge None) ((banded (codes "B1" ∷ []) []).shape ∷ (banded (codes "B1" ∷ codes "B2" ∷ []) []).shape ∷ []) Bands ≡ true
+    needs_whole (merge None) ((banded (codes "B1" ∷ []) []).shape ∷ (banded (codes "B1" ∷ codes "B2" ∷ []) []).shape ∷ []) Bands ≡ true
 other_bands = refl
 
-other_dates : is_whole (merge None) ((dated (january_1 ∷ []) []).shape ∷ (dated (january_2 ∷ []) []).shape ∷ []) Time ≡ true
+other_dates : needs_whole (merge None) ((dated (january_1 ∷ []) []).shape ∷ (dated (january_2 ∷ []) []).shape ∷ []) Time ≡ true
 other_dates = refl
 
 sums_by_date : time_fold (reduce Time (under (scope.reduce Numbers scope.no_labels []) (reducing (codes "sum") false))) ≡ Some (Sum, false)

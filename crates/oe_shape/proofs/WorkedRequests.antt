@@ -13,7 +13,7 @@ use Rattle.oe_shape.specs.Extents.{is_empty_extent}
 use Rattle.oe_shape.specs.declared.extent.BoundingBox.{BoundingBox}
 use Rattle.oe_shape.specs.declared.extent.TemporalExtent.{TemporalExtent}
 use Rattle.oe_shape.specs.Labels.{are_distinct}
-use Rattle.oe_shape.specs.Parameters.{extent_from, labelled, extent_in, box_in, epsg_in, bands_in, some_bands_in, null_or, kernel_in, border_in, literal_in, intervals_of}
+use Rattle.oe_shape.specs.Parameters.{extent_from, labelled_interval, extent_in, box_in, epsg_in, bands_in, some_bands_in, null_or, kernel_in, border_in, literal_in, intervals_of}
 use Rattle.oe_shape.specs.Requests.{NamedProcess, cube_processes, cube_process_named, load_collection, filter_bands, merge_cubes, mask, save_result, called, load_request, filter_bands_request, merge_request, mask_request, save_request}
 use Rattle.oe_shape.proofs.WorkedWords.{january_1, january_2, january_3}
 
@@ -176,13 +176,13 @@ no_literal = refl
 abbrev day : Option ℤ → TemporalExtent
 day start = extent_from start (Some january_3)
 
-named_by_starts : intervals_of (day (Some january_2) ∷ day (Some january_1) ∷ []) [] ≡ Some (labelled (day (Some january_2)) january_2 ∷ labelled (day (Some january_1)) january_1 ∷ [])
+named_by_starts : intervals_of (day (Some january_2) ∷ day (Some january_1) ∷ []) [] ≡ Some (labelled_interval (day (Some january_2)) january_2 ∷ labelled_interval (day (Some january_1)) january_1 ∷ [])
 named_by_starts = refl
 
 start_to_be_given : intervals_of (day None ∷ []) [] ≡ None
 start_to_be_given = refl
 
-named_by_labels : intervals_of (day None ∷ []) (january_1 ∷ []) ≡ Some (labelled (day None) january_1 ∷ [])
+named_by_labels : intervals_of (day None ∷ []) (january_1 ∷ []) ≡ Some (labelled_interval (day None) january_1 ∷ [])
 named_by_labels = refl
 
 as_many_labels : intervals_of (day None ∷ []) (january_1 ∷ january_2 ∷ []) ≡ None

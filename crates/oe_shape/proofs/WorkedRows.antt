@@ -12,8 +12,8 @@ use Rattle.oe_kernel.specs.declared.border.Border.TheVariants.{Wrap}
 use Rattle.oe_expr.specs.Nodes.{down_from}
 use Rattle.oe_expr.specs.Rows.{first_row}
 use Rattle.oe_shape.specs.Operations.{Outline}
-use Rattle.oe_shape.specs.Parameters.{extent_from, labelled}
-use Rattle.oe_shape.specs.Requests.{Request, Called, called, load_collection, filter_bbox, filter_temporal, filter_bands, apply_kernel, reduce_dimension, aggregate_temporal, merge_cubes, mask, save_result}
+use Rattle.oe_shape.specs.Parameters.{extent_from, labelled_interval}
+use Rattle.oe_shape.specs.Requests.{CubeRequest, Called, called, load_collection, filter_bbox, filter_temporal, filter_bands, apply_kernel, reduce_dimension, aggregate_temporal, merge_cubes, mask, save_result}
 use Rattle.oe_shape.specs.Rows.{collection_not_found, crs_unsupported, format_unsupported, dimension_not_available, temporal_extent_empty, band_filter_parameter_missing, band_not_available, kernel_dimensions_uneven, kernel_too_large, distinct_labels_required, merge_dimensions_differ, overlap_resolver_missing, mask_dimensions_differ, cell_kind_invalid, cube_too_large}
 use Rattle.oe_shape.specs.Stands.{early_rows}
 use Rattle.oe_shape.specs.Words.{share_tuple}
@@ -143,10 +143,10 @@ end_after_its_start = refl
 without_a_start : temporal_extent_empty (filter_temporal a (extent_from None (Some january_1)) None) ≡ false
 without_a_start = refl
 
-abbrev intervals : List Interval → Request
+abbrev intervals : List Interval → CubeRequest
 intervals given = aggregate_temporal a given None given_null
 
-second_interval_empty : temporal_extent_empty (intervals (labelled first_day january_1 ∷ labelled (extent_from (Some january_2) (Some january_1)) january_2 ∷ [])) ≡ true
+second_interval_empty : temporal_extent_empty (intervals (labelled_interval first_day january_1 ∷ labelled_interval (extent_from (Some january_2) (Some january_1)) january_2 ∷ [])) ≡ true
 second_interval_empty = refl
 
 band_is_there : band_not_available (filter_bands a (codes "B1" ∷ [])) one ≡ false
@@ -157,7 +157,7 @@ band_is_not_there = refl
 
 -- ---- kernels
 
-abbrev kernel_of_sizes : ℕ → ℕ → Request
+abbrev kernel_of_sizes : ℕ → ℕ → CubeRequest
 kernel_of_sizes width height =
     apply_kernel a (record { width = width; height = height; values = [] }) (whole_of (pos 1)) Wrap (whole_of (pos 0))
 
@@ -175,15 +175,15 @@ width_over_it = refl
 
 -- ---- labels of intervals
 
-equal_labels : distinct_labels_required (intervals (labelled first_day january_1 ∷ labelled first_day january_1 ∷ [])) ≡ true
+equal_labels : distinct_labels_required (intervals (labelled_interval first_day january_1 ∷ labelled_interval first_day january_1 ∷ [])) ≡ true
 equal_labels = refl
 
-other_labels : distinct_labels_required (intervals (labelled first_day january_1 ∷ labelled first_day january_2 ∷ [])) ≡ false
+other_labels : distinct_labels_required (intervals (labelled_interval first_day january_1 ∷ labelled_interval first_day january_2 ∷ [])) ≡ false
 other_labels = refl
 
 -- ---- merges
 
-abbrev merged : Request
+abbrev merged : CubeRequest
 merged = merge_cubes a b None
 
 abbrev dot_of_b2 : Dimensions
@@ -225,7 +225,7 @@ repeated_over_none = refl
 
 -- ---- masks
 
-abbrev masked : Request
+abbrev masked : CubeRequest
 masked = mask a b Empty
 
 mask_of_more_dimensions : mask_dimensions_differ masked (two without_t dot) ≡ true

@@ -4,7 +4,7 @@ use Rattle.oe_dims.specs.Indices.{same_number}
 use Rattle.oe_graph.specs.Tree.{PlainNode}
 use Rattle.oe_shape.specs.Labels.{are_distinct}
 use Rattle.oe_shape.specs.Operations.{Operation, keep, each_cell, convolve, reduce, aggregate, merge, cover, give_back, Outline, operation_of}
-use Rattle.oe_shape.specs.Requests.{Request, request_at}
+use Rattle.oe_shape.specs.Requests.{CubeRequest, cube_request_at}
 use Rattle.oe_shape.specs.ValidShapes.{labels_of, BringsLabels}
 
 -- no two labels of its intervals are equal
@@ -20,5 +20,6 @@ HasDistinctLabels give_back = ⊤
 
 -- bands are valid names, none of them twice, and labels of intervals are instants
 pub record BringValidLabels : Type 0 where
-  pub each : (n : PlainNode) (r : Request) (cubes : List Outline) (operation : Operation) → request_at n ≡ Some r
+  pub each : (n : PlainNode) (r : CubeRequest) (cubes : List Outline) (operation : Operation) → cube_request_at n
+      ≡ Some r
       → operation_of r cubes ≡ Some operation → HasDistinctLabels operation → BringsLabels operation

@@ -9,12 +9,12 @@ use Rattle.oe_graph.specs.Read.{IsFault}
 use Rattle.oe_graph.specs.declared.code.Code.{Code}
 use Rattle.oe_graph.specs.declared.fault.Refusal.{Refusal}
 use Rattle.oe_kernel.specs.Kernels.{IsKernel}
-use Rattle.oe_expr.specs.Callback.{Callback, StandsIn, IsFaultless}
+use Rattle.oe_expr.specs.Callback.{Callback, StandsInCallbackAt, IsFaultlessCallback}
 use Rattle.oe_shape.specs.Extents.{is_empty_extent}
 use Rattle.oe_shape.specs.Operations.{Outline, operation_of}
 use Rattle.oe_shape.specs.PlainRequests.{plain_operation}
 use Rattle.oe_shape.specs.Stands.{callback_on}
-use Rattle.oe_shape.specs.Requests.{Called, Request, load_collection, filter_bbox, filter_temporal, filter_bands, apply, apply_kernel, reduce_dimension, aggregate_temporal, merge_cubes, mask, save_result}
+use Rattle.oe_shape.specs.Requests.{Called, CubeRequest, load_collection, filter_bbox, filter_temporal, filter_bands, apply, apply_kernel, reduce_dimension, aggregate_temporal, merge_cubes, mask, save_result}
 use Rattle.oe_shape.specs.declared.extent.Interval.{Interval}
 use Rattle.oe_shape.specs.declared.operation.Operation.{Operation}
 
@@ -28,7 +28,7 @@ pub record AreIntervals (intervals : List Interval) : Type 0 where
   pub not_empty : All (λ (i : Interval). is_empty_extent i.extent ≡ false) intervals
   pub few : length intervals < 2 ^ 32
 
-abbrev pub IsBuildable : Request → Type 0
+abbrev pub IsBuildable : CubeRequest → Type 0
 IsBuildable (load_collection id box time bands) = ⊤
 IsBuildable (filter_bbox data_id box) = ⊤
 IsBuildable (filter_temporal data_id time dimension) = ⊤
@@ -44,18 +44,18 @@ IsBuildable (mask data_id mask_id replacement) = ⊤
 IsBuildable (save_result data_id format) = ⊤
 
 -- a fault stands in the callback of a request of the node `id`, of whose cubes the first has this outline
-pub record StandsInCallback (id : List ℕ) (r : Request) (one : Outline) (code : Code) (name : List ℕ) : Type 0 where
+pub record StandsInCallback (id : List ℕ) (r : CubeRequest) (one : Outline) (code : Code) (name : List ℕ) : Type 0 where
   pub argument : List ℕ
   pub callback : Callback
   pub is_callback : (others : List Outline) → callback_on r (one ∷ others) ≡ Some (argument, callback)
-  pub stands : StandsIn callback (callback_name id argument) code name
+  pub stands : StandsInCallbackAt callback (callback_name id argument) code name
 
 -- What is built for a request of the node `id`, of whose cubes the first has this outline: its operation, in whose
 -- callback no fault stands. Refused are the least of the faults that stand there, and out of memory.
-pub record IsBuilt (id : List ℕ) (r : Request) (one : Outline) (result : Result (Option Operation) Refusal)
+pub record IsBuilt (id : List ℕ) (r : CubeRequest) (one : Outline) (result : Result (Option Operation) Refusal)
     : Type 0 where
   pub built : IfOk result (λ operation. (others : List Outline)
       → option_map plain_operation operation ≡ operation_of r (one ∷ others))
   pub faultless : OnOk result ((others : List Outline)
-      → IfSome (callback_on r (one ∷ others)) (λ c. IsFaultless c.1))
+      → IfSome (callback_on r (one ∷ others)) (λ c. IsFaultlessCallback c.1))
   pub refused : IfErr result (IsFault (StandsInCallback id r one))

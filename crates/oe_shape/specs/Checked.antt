@@ -8,7 +8,7 @@ use Rattle.oe_order.specs.Graph as order
 use Rattle.oe_order.specs.declared.Links.{Links}
 use Rattle.oe_expr.specs.Nodes.{id_at}
 use Rattle.oe_shape.specs.Graphs.{outline_at, operation_at}
-use Rattle.oe_shape.specs.Links.{links_of, collection_of}
+use Rattle.oe_shape.specs.Links.{links_of, loaded_collection}
 use Rattle.oe_shape.specs.Operations.{Operation, Outline}
 use Rattle.oe_shape.specs.SoundNodes.{IsSoundNode}
 use Rattle.oe_shape.specs.Stands.{IsSound}
@@ -34,7 +34,7 @@ operation_of_node c node = option_and_then (operation_at c.rows c.nodes) (slice_
 
 -- the collection that it loads
 abbrev pub collection_of_node : CheckedGraph → ℕ → Option (List ℕ)
-collection_of_node c node = option_and_then collection_of (slice_get (each_node c.nodes) node)
+collection_of_node c node = option_and_then loaded_collection (slice_get (each_node c.nodes) node)
 
 -- ---- all nodes
 

@@ -5,14 +5,14 @@ use Rattle.oe_dims.specs.declared.dims.DimsRow.{DimsRow}
 use Rattle.oe_dims.specs.declared.kind.CellKind.{CellKind}
 use Rattle.oe_expr.specs.Rows.{first_row}
 use Rattle.oe_graph.specs.declared.code.Code.{Code}
-use Rattle.oe_shape.specs.Requests.{Request}
+use Rattle.oe_shape.specs.Requests.{CubeRequest}
 use Rattle.oe_shape.specs.Results.{cubes_among}
 use Rattle.oe_shape.specs.Rows.{collection_not_found}
 use Rattle.oe_shape.specs.Stands.{early_rows}
 
--- the first of these rows that holds of a request on cubes of these shapes, whatever the kinds of their cells, where the
--- collection of a load is found
-abbrev pub IsEarlyFault : Request → Dimensions → Dimensions → Option Code → Type 0
+-- the first of these rows that holds of a request on cubes of these shapes, whatever the kinds of their cells, where
+-- the collection of a load is found
+abbrev pub IsEarlyFault : CubeRequest → Dimensions → Dimensions → Option Code → Type 0
 IsEarlyFault r one two code =
     (rows : List DimsRow) (kind other_kind : CellKind) → collection_not_found rows r ≡ false
     → code ≡ first_row (early_rows rows r

@@ -10,7 +10,7 @@ use Rattle.oe_graph.specs.Tree.{Nodes, PlainGraph, PlainNode}
 use Rattle.oe_expr.specs.Nodes.{down_from, result_id}
 use Rattle.oe_shape.specs.Meaning.{Datacube, no_cube, operated, outline}
 use Rattle.oe_shape.specs.Operations.{Operation, Outline, no_outline, operation_of, outline_of}
-use Rattle.oe_shape.specs.Requests.{Request, load_collection, cube_ids, request_at}
+use Rattle.oe_shape.specs.Requests.{CubeRequest, load_collection, cube_ids, cube_request_at}
 
 -- ---- collections
 
@@ -41,42 +41,42 @@ abbrev pub outline_named : List DimsRow → List ℕ → Outline
 outline_named rows id = option_map_or row_outline (find (λ (row : DimsRow). same_name row.id id) rows) no_outline
 
 -- the shapes and kinds of collections
-abbrev pub row_of : NamedCollection → DimsRow
-row_of c = record { id = c.0; shape = c.1.shape; kind = c.1.kind }
+abbrev pub collection_row : NamedCollection → DimsRow
+collection_row c = record { id = c.0; shape = c.1.shape; kind = c.1.kind }
 
-abbrev pub rows_of : Collections → List DimsRow
-rows_of collections = map row_of collections
+abbrev pub collection_rows : Collections → List DimsRow
+collection_rows collections = map collection_row collections
 
 -- ---- nodes
 
 -- what a request works on: of a load the collection, and else what stands for each node whose cube it takes
-abbrev pub inputs_of : {A : Type 0} → (List ℕ → A) → (List ℕ → A) → Request → List A
-inputs_of collection at (load_collection id box time bands) = collection id ∷ []
-inputs_of collection at r = map at (cube_ids r)
+abbrev pub request_inputs : {A : Type 0} → (List ℕ → A) → (List ℕ → A) → CubeRequest → List A
+request_inputs collection at (load_collection id box time bands) = collection id ∷ []
+request_inputs collection at r = map at (cube_ids r)
 
 -- the shape and the kind of a request's cube
-abbrev pub request_outline : List DimsRow → (List ℕ → Outline) → Request → Outline
+abbrev pub request_outline : List DimsRow → (List ℕ → Outline) → CubeRequest → Outline
 request_outline rows at r =
-    let inputs = inputs_of (outline_named rows) at r in
+    let inputs = request_inputs (outline_named rows) at r in
     option_map_or (λ operation. outline_of operation inputs) (operation_of r inputs) no_outline
 
 -- those of a node, where `at` has those of the nodes that it refers to
 abbrev pub node_outline : List DimsRow → (List ℕ → Outline) → PlainNode → Outline
-node_outline rows at n = option_map_or (request_outline rows at) (request_at n) no_outline
+node_outline rows at n = option_map_or (request_outline rows at) (cube_request_at n) no_outline
 
 -- those of the node of a name
 abbrev pub outline_at : List DimsRow → Nodes → List ℕ → Outline
 outline_at rows nodes name = down_from no_outline (node_outline rows) nodes name
 
 -- the cube of a request: its operation on the cubes that it works on
-abbrev pub request_meaning : Collections → (List ℕ → Datacube) → Request → Datacube
+abbrev pub request_meaning : Collections → (List ℕ → Datacube) → CubeRequest → Datacube
 request_meaning collections at r =
-    let inputs = inputs_of (collection_named collections) at r in
+    let inputs = request_inputs (collection_named collections) at r in
     option_map_or (λ operation. operated operation inputs) (operation_of r (map outline inputs)) no_datacube
 
 -- of a node, where `at` has the cubes of the nodes that it refers to
 abbrev pub node_meaning : Collections → (List ℕ → Datacube) → PlainNode → Datacube
-node_meaning collections at n = option_map_or (request_meaning collections at) (request_at n) no_datacube
+node_meaning collections at n = option_map_or (request_meaning collections at) (cube_request_at n) no_datacube
 
 -- of the node of a name
 abbrev pub meaning_at : Collections → Nodes → List ℕ → Datacube
@@ -92,4 +92,5 @@ graph_outline rows g = outline_at rows g.nodes (result_id g)
 -- the operation that a node stands for in a graph over collections of these shapes and kinds
 abbrev pub operation_at : List DimsRow → Nodes → PlainNode → Option Operation
 operation_at rows nodes n =
-    option_and_then (λ r. operation_of r (inputs_of (outline_named rows) (outline_at rows nodes) r)) (request_at n)
+    option_and_then (λ r. operation_of r (request_inputs (outline_named rows) (outline_at rows nodes) r))
+    (cube_request_at n)

@@ -4,7 +4,7 @@ use Rattle.oe_dims.specs.declared.dims.DimsRow.{DimsRow}
 use Rattle.oe_graph.specs.Printed.{ids_of}
 use Rattle.oe_graph.specs.Tree.{Nodes}
 use Rattle.oe_shape.specs.Operations.{Outline}
-use Rattle.oe_shape.specs.Requests.{Request, aggregate_temporal}
+use Rattle.oe_shape.specs.Requests.{CubeRequest, aggregate_temporal}
 use Rattle.oe_shape.specs.Results.{cubes_among}
 use Rattle.oe_shape.specs.Rows.{collection_not_found}
 use Rattle.oe_shape.specs.Stands.{cubes_of}
@@ -36,17 +36,17 @@ AreNamed nodes names = (name : List ℕ) → Contains names name → Contains (i
 
 module _ (rows : List DimsRow) (at : List ℕ → Outline) where
   -- these are their outlines, where a request that takes one cube alone does not look at the second
-  abbrev pub WorksOn : Request → Outline → Outline → Type 0
+  abbrev pub WorksOn : CubeRequest → Outline → Outline → Type 0
   WorksOn r one two = cubes_of rows at r ≡ cubes_among r one two
 
   -- none where the collection of a load is not found, and else their outlines
-  abbrev pub AreInputs : Request → Option (Outline × Outline) → Type 0
+  abbrev pub AreInputs : CubeRequest → Option (Outline × Outline) → Type 0
   AreInputs r None = collection_not_found rows r ≡ true
   AreInputs r (Some both) = (collection_not_found rows r ≡ false) × WorksOn r both.0 both.1
 
 -- ---- intervals
 
 -- the intervals of a request can be counted
-abbrev pub HasFewIntervals : Request → Type 0
+abbrev pub HasFewIntervals : CubeRequest → Type 0
 HasFewIntervals (aggregate_temporal id intervals name c) = length intervals < 2 ^ 32
 HasFewIntervals _ = ⊤

@@ -20,15 +20,15 @@ abbrev pub is_above : ℤ → ℤ → Bool
 is_above a b = int_lt b a
 
 -- a label among others that stand in order: before the first that it stands before
-abbrev pub put_in_order : (ℤ → ℤ → Bool) → ℤ → List ℤ → List ℤ
-put_in_order is_before label [] = label ∷ []
-put_in_order is_before label (other ∷ labels) =
-    if is_before label other then label ∷ other ∷ labels else other ∷ put_in_order is_before label labels
+abbrev pub insert_label : (ℤ → ℤ → Bool) → ℤ → List ℤ → List ℤ
+insert_label is_before label [] = label ∷ []
+insert_label is_before label (other ∷ labels) =
+    if is_before label other then label ∷ other ∷ labels else other ∷ insert_label is_before label labels
 
 -- the labels in their order
-abbrev pub in_order : (ℤ → ℤ → Bool) → List ℤ → List ℤ
-in_order is_before [] = []
-in_order is_before (label ∷ labels) = put_in_order is_before label (in_order is_before labels)
+abbrev pub sorted_labels : (ℤ → ℤ → Bool) → List ℤ → List ℤ
+sorted_labels is_before [] = []
+sorted_labels is_before (label ∷ labels) = insert_label is_before label (sorted_labels is_before labels)
 
 -- ---- all labels of two cubes
 
@@ -40,7 +40,7 @@ new_among same labels others = filter (λ label. not (list_any (same label) labe
 abbrev pub all_in_order : (ℤ → ℤ → Bool) → Option (List ℤ) → Option (List ℤ) → Option (List ℤ)
 all_in_order is_before None two = two
 all_in_order is_before (Some one) None = Some one
-all_in_order is_before (Some one) (Some two) = Some (in_order is_before (one ++ new_among same_number one two))
+all_in_order is_before (Some one) (Some two) = Some (sorted_labels is_before (one ++ new_among same_number one two))
 
 -- bands: those of the first cube, and then the new ones of the second
 abbrev pub all_bands : Option (List (List ℕ)) → Option (List (List ℕ)) → Option (List (List ℕ))

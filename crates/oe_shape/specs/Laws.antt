@@ -12,12 +12,12 @@ use Rattle.oe_graph.specs.Tree.{Nodes, PlainNode}
 use Rattle.oe_order.specs.Graph as order
 use Rattle.oe_shape.specs.CellKinds.{HasCellsOfKind}
 use Rattle.oe_shape.specs.Checked.{CheckedGraph, AreFaultless, outline_of_node, operation_of_node, collection_of_node}
-use Rattle.oe_shape.specs.Graphs.{Collections, collection_named, rows_of, outline_at, meaning_at}
-use Rattle.oe_shape.specs.Labels.{in_order, all_in_order, all_bands, merged_shape, differing, restrict}
+use Rattle.oe_shape.specs.Graphs.{Collections, collection_named, collection_rows, outline_at, meaning_at}
+use Rattle.oe_shape.specs.Labels.{sorted_labels, all_in_order, all_bands, merged_shape, differing, restrict}
 use Rattle.oe_shape.specs.Links.{links_of}
 use Rattle.oe_shape.specs.Meaning.{Datacube, operated, outline}
 use Rattle.oe_shape.specs.Operations.{Operation, outline_of}
-use Rattle.oe_shape.specs.Requests.{Request, cube_ids, request_at}
+use Rattle.oe_shape.specs.Requests.{CubeRequest, cube_ids, cube_request_at}
 use Rattle.oe_shape.specs.SoundNodes.{AreCollections}
 use Rattle.oe_shape.specs.Walked.{AreResolved, IsNodeOf}
 
@@ -27,7 +27,7 @@ pub record AreFoundWithoutCells : Type 0 where
   pub of_operation : (operation : Operation) (inputs : List Datacube)
       → outline (operated operation inputs) ≡ outline_of operation (map outline inputs)
   pub of_node : (collections : Collections) (nodes : Nodes) (name : List ℕ)
-      → outline (meaning_at collections nodes name) ≡ outline_at (rows_of collections) nodes name
+      → outline (meaning_at collections nodes name) ≡ outline_at (collection_rows collections) nodes name
 
 -- a label is one of these
 abbrev pub is_label : ℤ → List ℤ → Bool
@@ -39,8 +39,8 @@ is_band name names = list_any (same_name name) names
 -- Labels that are put in order stay the same, and those of a merge are all labels of both cubes. That they stand in the
 -- order of their dimension is a part of the rules of a shape.
 pub record KeepAllLabels : Type 0 where
-  pub in_order : (is_before : ℤ → ℤ → Bool) (labels : List ℤ) (label : ℤ)
-      → is_label label (in_order is_before labels) ≡ is_label label labels
+  pub sorted_labels : (is_before : ℤ → ℤ → Bool) (labels : List ℤ) (label : ℤ)
+      → is_label label (sorted_labels is_before labels) ≡ is_label label labels
   pub of_both : (is_before : ℤ → ℤ → Bool) (one two : List ℤ) (label : ℤ)
       → IfSome (all_in_order is_before (Some one) (Some two))
       (λ labels. is_label label labels ≡ (is_label label one || is_label label two))
@@ -56,14 +56,14 @@ pub record AreInOneAtLeast : Type 0 where
 -- A node of a resolved graph refers to the nodes whose cubes its request works on and to no others, in their order.
 pub record ReferToCubes : Type 0 where
   pub each : (nodes : Nodes) → AreResolved nodes → (n : PlainNode) → IsNodeOf nodes n
-      → (r : Request) → request_at n ≡ Some r → references_named n.arguments ≡ cube_ids r
+      → (r : CubeRequest) → cube_request_at n ≡ Some r → references_named n.arguments ≡ cube_ids r
 
 -- ---- graphs without a fault
 
 -- the collections are valid, and theirs are the shapes and kinds that the graph was checked over
 pub record AreCollectionsOf (c : CheckedGraph) (collections : Collections) : Type 0 where
   pub valid : AreCollections collections
-  pub rows_are : rows_of collections ≡ c.rows
+  pub rows_are : collection_rows collections ≡ c.rows
 
 -- what the node at an index means over collections
 abbrev pub meaning_of_node : Collections → CheckedGraph → ℕ → Datacube
@@ -77,8 +77,8 @@ pub record IsCubeOfNode (c : CheckedGraph) (node : ℕ) (d : Datacube) : Type 0 
   pub counted : IsCube d.cube
   pub of_kind : HasCellsOfKind d
 
--- Each node of a graph without a fault means such a cube: its operation on the collection that it loads, or on the cubes
--- of the nodes that it refers to, in their order. By its links it loads a collection exactly where it has one.
+-- Each node of a graph without a fault means such a cube: its operation on the collection that it loads, or on the
+-- cubes of the nodes that it refers to, in their order. By its links it loads a collection exactly where it has one.
 pub record GiveCubes : Type 0 where
   pub loads : (c : CheckedGraph) → AreFaultless c → (node : ℕ) → node < node_count c.nodes
       → order.is_load (links_of c.nodes) node ≡ is_some (collection_of_node c node)

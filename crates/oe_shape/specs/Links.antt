@@ -6,7 +6,7 @@ use Rattle.oe_graph.specs.Printed.{ids_of}
 use Rattle.oe_graph.specs.References.{each_node, references_named}
 use Rattle.oe_graph.specs.Tree.{Nodes, PlainNode}
 use Rattle.oe_order.specs.Graph as order
-use Rattle.oe_shape.specs.Requests.{Request, load_collection, request_at}
+use Rattle.oe_shape.specs.Requests.{CubeRequest, load_collection, cube_request_at}
 
 -- the index of the node of a name
 abbrev pub index_named : Nodes → List ℕ → Option ℕ
@@ -31,10 +31,10 @@ abbrev pub links_of : Nodes → List order.Node
 links_of nodes = map (link_of nodes) (each_node nodes)
 
 -- the collection that a request loads
-abbrev pub loaded_by : Request → Option (List ℕ)
+abbrev pub loaded_by : CubeRequest → Option (List ℕ)
 loaded_by (load_collection id box time bands) = Some id
 loaded_by _ = None
 
 -- the collection that a node loads
-abbrev pub collection_of : PlainNode → Option (List ℕ)
-collection_of n = option_and_then loaded_by (request_at n)
+abbrev pub loaded_collection : PlainNode → Option (List ℕ)
+loaded_collection n = option_and_then loaded_by (cube_request_at n)

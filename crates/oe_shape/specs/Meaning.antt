@@ -21,7 +21,7 @@ use Rattle.oe_expr.specs.Scope.{no_labels}
 use Rattle.oe_shape.specs.Extents.{Restriction, kept_shape, labels_in_time}
 use Rattle.oe_shape.specs.declared.extent.TemporalExtent.{TemporalExtent}
 use Rattle.oe_shape.specs.Labels.{restrict, merged_shape}
-use Rattle.oe_shape.specs.Operations.{Operation, keep, each_cell, convolve, reduce, aggregate, merge, cover, give_back, Outline, no_dimensions, first_or, second_or, labels_along, without, aggregated_shape, kind_of}
+use Rattle.oe_shape.specs.Operations.{Operation, keep, each_cell, convolve, reduce, aggregate, merge, cover, give_back, Outline, no_dimensions, first_or, second_or, labels_along, without_dimension, aggregated_shape, operation_kind}
 use Rattle.oe_shape.specs.declared.extent.Interval.{Interval}
 
 -- the cell of a tuple; of one that the cube does not have, which is never asked for, null
@@ -43,8 +43,8 @@ value_on_list c labels cells =
 -- ---- `load_collection`, `filter_bbox`, `filter_temporal`, `filter_bands`: the labels inside the extents stay, and so
 -- do the bands that are given, in the order in which they are given; each tuple that stays keeps its cell
 
-abbrev pub kept : Restriction → Cube Cell → Cube Cell
-kept r cube = tabulate (kept_shape r cube.shape) (cell cube)
+abbrev pub restricted_cube : Restriction → Cube Cell → Cube Cell
+restricted_cube r cube = tabulate (kept_shape r cube.shape) (cell cube)
 
 -- ---- `apply`: each cell becomes the value of the callback with it as `x`
 
@@ -55,8 +55,8 @@ applied c cube = tabulate cube.shape (λ tuple. value_on_cells c (cell cube tupl
 -- (rules of this profile: the kernel is not flipped, true counts as 1 and false as 0, and the result has numbers)
 
 -- the plane in which a tuple stands
-abbrev pub plane_of : Cube Cell → Tuple → WholePlane
-plane_of cube tuple = record {
+abbrev pub plane_of_tuple : Cube Cell → Tuple → WholePlane
+plane_of_tuple cube tuple = record {
   side_y = extent cube.shape.y;
   side_x = extent cube.shape.x;
   cell = λ row column. cell cube (record tuple { y = label_of cube.shape.y row; x = label_of cube.shape.x column });
@@ -68,7 +68,7 @@ index_in labels label = unwrap_or (index_along same_number labels label) 0
 
 abbrev pub convolution : KernelValues → Fraction → Border → Fraction → Cube Cell → Cube Cell
 convolution kernel factor border replace cube =
-    tabulate cube.shape (λ tuple. convolved kernel factor border replace (plane_of cube tuple)
+    tabulate cube.shape (λ tuple. convolved kernel factor border replace (plane_of_tuple cube tuple)
     (index_in cube.shape.y tuple.y) (index_in cube.shape.x tuple.x))
 
 -- ---- `reduce_dimension`: the dimension is gone, and the cells along it become the value of the reducer on their list
@@ -85,7 +85,7 @@ cells_along kind cube tuple = map (cell cube) (tuples_along kind cube.shape tupl
 
 abbrev pub reduced : Kind → Callback → Cube Cell → Cube Cell
 reduced kind c cube =
-    tabulate (without kind cube.shape)
+    tabulate (without_dimension kind cube.shape)
     (λ tuple. value_on_list c (labels_along kind cube.shape) (cells_along kind cube tuple))
 
 -- ---- `aggregate_temporal`: each interval becomes a label, whose cell is the value of the reducer on the list of the
@@ -160,7 +160,7 @@ no_cube = record { shape = no_dimensions; cells = Empty ∷ [] }
 
 -- the cube that an operation gives; `save_result` gives back its own (rule of this profile)
 abbrev pub cube_of : Operation → List (Cube Cell) → Cube Cell
-cube_of (keep r) cubes = kept r (first_or no_cube cubes)
+cube_of (keep r) cubes = restricted_cube r (first_or no_cube cubes)
 cube_of (each_cell c) cubes = applied c (first_or no_cube cubes)
 cube_of (convolve kernel factor border replace) cubes =
     convolution kernel factor border replace (first_or no_cube cubes)
@@ -174,5 +174,5 @@ cube_of give_back cubes = first_or no_cube cubes
 abbrev pub operated : Operation → List Datacube → Datacube
 operated operation inputs = record {
   cube = cube_of operation (map (λ (d : Datacube). d.cube) inputs);
-  kind = kind_of operation (map (λ (d : Datacube). d.kind) inputs);
+  kind = operation_kind operation (map (λ (d : Datacube). d.kind) inputs);
 }

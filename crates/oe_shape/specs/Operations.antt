@@ -14,12 +14,12 @@ use Rattle.oe_kernel.specs.Kernels.{KernelValues}
 use Rattle.oe_kernel.specs.declared.border.Border.{Border}
 use Rattle.oe_expr.specs.Callback.{Callback, callback_of, callback_kind}
 use Rattle.oe_expr.specs.Scope as scope
-use Rattle.oe_expr.specs.Scope.{PlainScope, label_count}
+use Rattle.oe_expr.specs.Scope.{PlainScope, count_labels}
 use Rattle.oe_shape.specs.Extents.{Restriction, kept_shape, part_in_time}
-use Rattle.oe_shape.specs.Labels.{is_below, in_order, merged_shape}
+use Rattle.oe_shape.specs.Labels.{is_below, sorted_labels, merged_shape}
 use Rattle.oe_shape.specs.declared.extent.Interval.{Interval}
 use Rattle.oe_shape.specs.Requests as request
-use Rattle.oe_shape.specs.Requests.{Request, Called}
+use Rattle.oe_shape.specs.Requests.{CubeRequest, Called}
 
 -- a cube without its cells: its shape and the kind of its cells
 pub record Outline : Type 0 where
@@ -69,7 +69,7 @@ labels_along X d = plain_coordinates (number_labels d X)
 abbrev pub reduction_scope : Kind → Outline → PlainScope
 reduction_scope kind cube =
     let labels = labels_along kind cube.shape in
-    scope.reduce cube.kind labels (record { from = 0; to = label_count labels } ∷ [])
+    scope.reduce cube.kind labels (record { from = 0; to = count_labels labels } ∷ [])
 
 -- one list for each interval, with the labels inside
 abbrev pub interval_scope : List Interval → Outline → PlainScope
@@ -97,7 +97,7 @@ second_or other things = slice_index_or things 1 other
 
 -- The operation on cubes of these outlines; a load works on the cube of its collection. There is none for a dimension
 -- of another name than the four. A resolver sees `x` and `y` of the kind of the first cube (rule of this profile).
-abbrev pub operation_of : Request → List Outline → Option Operation
+abbrev pub operation_of : CubeRequest → List Outline → Option Operation
 operation_of (request.load_collection id box time bands) cubes =
     Some (keep (record { box = box; time = time; bands = bands }))
 operation_of (request.filter_bbox data_id box) cubes =
@@ -127,21 +127,22 @@ abbrev pub epsg_without : ℕ → Option (List ℤ) → Option (List ℤ) → �
 epsg_without epsg y x = if is_some y || is_some x then epsg else 0
 
 -- the shape without a dimension
-abbrev pub without : Kind → Dimensions → Dimensions
-without Time d = record d { t = None }
-without Bands d = record d { bands = None }
-without Y d = record d { y = None; epsg = epsg_without d.epsg None d.x }
-without X d = record d { x = None; epsg = epsg_without d.epsg d.y None }
+abbrev pub without_dimension : Kind → Dimensions → Dimensions
+without_dimension Time d = record d { t = None }
+without_dimension Bands d = record d { bands = None }
+without_dimension Y d = record d { y = None; epsg = epsg_without d.epsg None d.x }
+without_dimension X d = record d { x = None; epsg = epsg_without d.epsg d.y None }
 
 -- the shape with one label of t for each interval, in the order of time
 abbrev pub aggregated_shape : List Interval → Dimensions → Dimensions
-aggregated_shape intervals d = record d { t = Some (in_order is_below (map (λ (i : Interval). i.label) intervals)) }
+aggregated_shape intervals d =
+    record d { t = Some (sorted_labels is_below (map (λ (i : Interval). i.label) intervals)) }
 
 abbrev pub shape_of : Operation → List Dimensions → Dimensions
 shape_of (keep restriction) shapes = kept_shape restriction (first_or no_dimensions shapes)
 shape_of (each_cell c) shapes = first_or no_dimensions shapes
 shape_of (convolve kernel factor border replace) shapes = first_or no_dimensions shapes
-shape_of (reduce kind c) shapes = without kind (first_or no_dimensions shapes)
+shape_of (reduce kind c) shapes = without_dimension kind (first_or no_dimensions shapes)
 shape_of (aggregate intervals c) shapes = aggregated_shape intervals (first_or no_dimensions shapes)
 shape_of (merge resolver) shapes = merged_shape (first_or no_dimensions shapes) (second_or no_dimensions shapes)
 shape_of (cover replacement) shapes = first_or no_dimensions shapes
@@ -149,18 +150,18 @@ shape_of give_back shapes = first_or no_dimensions shapes
 
 -- ---- the kind of its cells: that of the callback, numbers for a kernel, and else that of the data
 
-abbrev pub kind_of : Operation → List CellKind → CellKind
-kind_of (keep restriction) kinds = first_or Numbers kinds
-kind_of (each_cell c) kinds = callback_kind c
-kind_of (convolve kernel factor border replace) kinds = Numbers
-kind_of (reduce kind c) kinds = callback_kind c
-kind_of (aggregate intervals c) kinds = callback_kind c
-kind_of (merge resolver) kinds = first_or Numbers kinds
-kind_of (cover replacement) kinds = first_or Numbers kinds
-kind_of give_back kinds = first_or Numbers kinds
+abbrev pub operation_kind : Operation → List CellKind → CellKind
+operation_kind (keep restriction) kinds = first_or Numbers kinds
+operation_kind (each_cell c) kinds = callback_kind c
+operation_kind (convolve kernel factor border replace) kinds = Numbers
+operation_kind (reduce kind c) kinds = callback_kind c
+operation_kind (aggregate intervals c) kinds = callback_kind c
+operation_kind (merge resolver) kinds = first_or Numbers kinds
+operation_kind (cover replacement) kinds = first_or Numbers kinds
+operation_kind give_back kinds = first_or Numbers kinds
 
 abbrev pub outline_of : Operation → List Outline → Outline
 outline_of operation cubes = record {
   shape = shape_of operation (map (λ (o : Outline). o.shape) cubes);
-  kind = kind_of operation (map (λ (o : Outline). o.kind) cubes);
+  kind = operation_kind operation (map (λ (o : Outline). o.kind) cubes);
 }

@@ -189,8 +189,8 @@ abbrev pub side_of : List ℕ → Named → Option ℤ
 side_of name members = option_and_then whole_in (argument_named name members)
 
 -- the box of its members
-abbrev pub box_of : Named → Option BoundingBox
-box_of members =
+abbrev pub bounding_box_of : Named → Option BoundingBox
+bounding_box_of members =
     option_and_then (λ west. option_and_then (λ south. option_and_then (λ east. option_and_then (λ north.
     option_map (λ epsg. record { west = west; south = south; east = east; north = north; epsg = epsg })
     (crs_of members)) (side_of (codes "north") members)) (side_of (codes "east") members))
@@ -199,7 +199,8 @@ box_of members =
 -- a box: whole numbers `west`, `south`, `east` and `north`, of which, by a rule of this profile, west is not above east
 -- and south not above north
 abbrev pub box_in : Argument → Option BoundingBox
-box_in (tree.object members) = if is_flat_box members then option_and_then (where_it is_box) (box_of members) else None
+box_in (tree.object members) =
+    if is_flat_box members then option_and_then (where_it is_box) (bounding_box_of members) else None
 box_in _ = None
 
 -- ---- kernels
@@ -236,13 +237,14 @@ border_in a = option_map Value (number_in a)
 -- ---- intervals
 
 -- an interval from its parts
-abbrev pub labelled : TemporalExtent → ℤ → Interval
-labelled extent label = record { extent = extent; label = label }
+abbrev pub labelled_interval : TemporalExtent → ℤ → Interval
+labelled_interval extent label = record { extent = extent; label = label }
 
 -- each by its start, which, by a rule of this profile, is then to be given
 abbrev pub by_starts : List TemporalExtent → Option (List Interval)
 by_starts [] = Some []
-by_starts (e ∷ extents) = with_both (λ start intervals. labelled e start ∷ intervals) e.start (by_starts extents)
+by_starts (e ∷ extents) =
+    with_both (λ start intervals. labelled_interval e start ∷ intervals) e.start (by_starts extents)
 
 -- each by the label at its index; there are as many
 abbrev pub by_labels : List TemporalExtent → List ℤ → Option (List Interval)
@@ -250,7 +252,7 @@ by_labels [] [] = Some []
 by_labels [] (label ∷ labels) = None
 by_labels (e ∷ extents) [] = None
 by_labels (e ∷ extents) (label ∷ labels) =
-    option_map (λ intervals. labelled e label ∷ intervals) (by_labels extents labels)
+    option_map (λ intervals. labelled_interval e label ∷ intervals) (by_labels extents labels)
 
 -- an empty list of labels gives none
 abbrev pub intervals_of : List TemporalExtent → List ℤ → Option (List Interval)

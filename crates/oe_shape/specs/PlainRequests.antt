@@ -22,24 +22,24 @@ plain_called c = request.called (plain_graph c.graph.now) c.context
 abbrev pub plain_kernel : KernelRows → KernelValues
 plain_kernel k = record { width = k.width; height = k.height; values = k.values.items }
 
-abbrev pub plain_request : Request → request.Request
-plain_request (LoadCollection id area time bands) =
+abbrev pub plain_cube_request : Request → request.CubeRequest
+plain_cube_request (LoadCollection id area time bands) =
     request.load_collection id.now area time (option_map (λ names. map (λ name. name.now) names.items) bands)
-plain_request (FilterBbox cube area) = request.filter_bbox cube.now area
-plain_request (FilterTemporal cube time dimension) =
+plain_cube_request (FilterBbox cube area) = request.filter_bbox cube.now area
+plain_cube_request (FilterTemporal cube time dimension) =
     request.filter_temporal cube.now time (option_map (λ name. name.now) dimension)
-plain_request (FilterBands cube bands) = request.filter_bands cube.now (map (λ name. name.now) bands.items)
-plain_request (Apply cube process) = request.apply cube.now (plain_called process)
-plain_request (ApplyKernel cube kernel factor border replace_invalid) =
+plain_cube_request (FilterBands cube bands) = request.filter_bands cube.now (map (λ name. name.now) bands.items)
+plain_cube_request (Apply cube process) = request.apply cube.now (plain_called process)
+plain_cube_request (ApplyKernel cube kernel factor border replace_invalid) =
     request.apply_kernel cube.now (plain_kernel kernel) factor border replace_invalid
-plain_request (ReduceDimension cube dimension reducer) =
+plain_cube_request (ReduceDimension cube dimension reducer) =
     request.reduce_dimension cube.now dimension.now (plain_called reducer)
-plain_request (AggregateTemporal cube intervals dimension reducer) =
+plain_cube_request (AggregateTemporal cube intervals dimension reducer) =
     request.aggregate_temporal cube.now intervals.items (option_map (λ name. name.now) dimension) (plain_called reducer)
-plain_request (MergeCubes one two resolver) =
+plain_cube_request (MergeCubes one two resolver) =
     request.merge_cubes one.now two.now (option_map plain_called resolver)
-plain_request (Mask cube mask replacement) = request.mask cube.now mask.now replacement
-plain_request (SaveResult cube format) = request.save_result cube.now format.now
+plain_cube_request (Mask cube mask replacement) = request.mask cube.now mask.now replacement
+plain_cube_request (SaveResult cube format) = request.save_result cube.now format.now
 
 -- ---- operations
 

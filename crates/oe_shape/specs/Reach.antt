@@ -17,12 +17,12 @@ use Rattle.oe_kernel.specs.declared.border.Border.TheVariants.{Wrap}
 use Rattle.oe_expr.specs.Callback.{Callback}
 use Rattle.oe_expr.specs.Folds.{callback_reducer}
 use Rattle.oe_expr.specs.Requests.{with_both}
-use Rattle.oe_expr.specs.Scope.{parameter_names}
+use Rattle.oe_expr.specs.Scope.{scope_parameters}
 use Rattle.oe_shape.specs.Checked.{CheckedGraph, operation_of_node}
 use Rattle.oe_shape.specs.Labels.{differ_along}
 use Rattle.oe_shape.specs.Meaning.{value_on_list}
 use Rattle.oe_shape.specs.Operations.{Operation, keep, each_cell, convolve, reduce, aggregate, merge, cover, give_back, Outline, no_dimensions, first_or, second_or}
-use Rattle.oe_shape.specs.Requests.{request_at}
+use Rattle.oe_shape.specs.Requests.{cube_request_at}
 use Rattle.oe_shape.specs.SoundNodes.{input_outlines}
 
 abbrev pub same_kind : Kind → Kind → Bool
@@ -40,16 +40,16 @@ is_wrap _ = false
 
 -- It needs the whole side: a reduction along the dimension, an aggregation along t, a kernel whose border wraps along x
 -- and y, and a merge along a dimension that both cubes have with other label sets.
-abbrev pub is_whole : Operation → List Dimensions → Kind → Bool
-is_whole (keep restriction) shapes along = false
-is_whole (each_cell c) shapes along = false
-is_whole (convolve kernel factor border replace) shapes along = is_wrap border && is_spatial along
-is_whole (reduce kind c) shapes along = same_kind kind along
-is_whole (aggregate intervals c) shapes along = same_kind Time along
-is_whole (merge resolver) shapes along =
+abbrev pub needs_whole : Operation → List Dimensions → Kind → Bool
+needs_whole (keep restriction) shapes along = false
+needs_whole (each_cell c) shapes along = false
+needs_whole (convolve kernel factor border replace) shapes along = is_wrap border && is_spatial along
+needs_whole (reduce kind c) shapes along = same_kind kind along
+needs_whole (aggregate intervals c) shapes along = same_kind Time along
+needs_whole (merge resolver) shapes along =
     differ_along along (first_or no_dimensions shapes) (second_or no_dimensions shapes)
-is_whole (cover replacement) shapes along = false
-is_whole give_back shapes along = false
+needs_whole (cover replacement) shapes along = false
+needs_whole give_back shapes along = false
 
 -- by how many pixels a kernel reaches to each side
 abbrev pub halo_of : Operation → Kind → ℕ
@@ -63,12 +63,13 @@ halo_of _ along = 0
 abbrev pub input_shapes : CheckedGraph → ℕ → Option (List Dimensions)
 input_shapes c index =
     option_map (λ r. map (λ (o : Outline). o.shape) (input_outlines c.rows c.nodes r))
-    (option_and_then request_at (slice_get (each_node c.nodes) index))
+    (option_and_then cube_request_at (slice_get (each_node c.nodes) index))
 
 -- whether a node needs the whole side along a dimension
 abbrev pub whole_of_node : CheckedGraph → ℕ → Kind → Option Bool
 whole_of_node c index along =
-    with_both (λ operation shapes. is_whole operation shapes along) (operation_of_node c index) (input_shapes c index)
+    with_both (λ operation shapes. needs_whole operation shapes along) (operation_of_node c index)
+    (input_shapes c index)
 
 -- the node merges two cubes
 abbrev pub IsMerge : CheckedGraph → ℕ → Type 0
@@ -92,5 +93,5 @@ time_fold_of_node c index = option_and_then time_fold (operation_of_node c index
 -- a resolved callback of such a reduction has the value of its reducer on the cells, whatever their labels
 pub record FoldDateByDate : Type 0 where
   pub each : (c : Callback) (reducer : Reducer) (ignore : Bool)
-      → IsResolvedUnder true (parameter_names c.scope) c.graph → time_fold (reduce Time c) ≡ Some (reducer, ignore)
+      → IsResolvedUnder true (scope_parameters c.scope) c.graph → time_fold (reduce Time c) ≡ Some (reducer, ignore)
       → (labels : PlainLabels) (cells : List Cell) → value_on_list c labels cells ≡ reduction_of reducer ignore cells

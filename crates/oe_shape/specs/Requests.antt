@@ -54,29 +54,29 @@ abbrev pub called : PlainGraph → Cell → Called
 called graph context = record { graph = graph; context = context }
 
 -- what each process asks for; the cubes come first
-pub data Request : Type 0 where
+pub data CubeRequest : Type 0 where
   -- a collection by its id
-  load_collection : List ℕ → Option BoundingBox → Option TemporalExtent → Option (List (List ℕ)) → Request
-  filter_bbox : List ℕ → BoundingBox → Request
+  load_collection : List ℕ → Option BoundingBox → Option TemporalExtent → Option (List (List ℕ)) → CubeRequest
+  filter_bbox : List ℕ → BoundingBox → CubeRequest
   -- perhaps with the name of the dimension
-  filter_temporal : List ℕ → TemporalExtent → Option (List ℕ) → Request
-  filter_bands : List ℕ → List (List ℕ) → Request
-  apply : List ℕ → Called → Request
+  filter_temporal : List ℕ → TemporalExtent → Option (List ℕ) → CubeRequest
+  filter_bands : List ℕ → List (List ℕ) → CubeRequest
+  apply : List ℕ → Called → CubeRequest
   -- kernel, factor, border, and what counts for null
-  apply_kernel : List ℕ → KernelValues → Fraction → Border → Fraction → Request
+  apply_kernel : List ℕ → KernelValues → Fraction → Border → Fraction → CubeRequest
   -- by the name of the dimension
-  reduce_dimension : List ℕ → List ℕ → Called → Request
+  reduce_dimension : List ℕ → List ℕ → Called → CubeRequest
   -- perhaps with the name of the dimension
-  aggregate_temporal : List ℕ → List Interval → Option (List ℕ) → Called → Request
+  aggregate_temporal : List ℕ → List Interval → Option (List ℕ) → Called → CubeRequest
   -- perhaps with a resolver
-  merge_cubes : List ℕ → List ℕ → Option Called → Request
+  merge_cubes : List ℕ → List ℕ → Option Called → CubeRequest
   -- data, mask and replacement
-  mask : List ℕ → List ℕ → Cell → Request
+  mask : List ℕ → List ℕ → Cell → CubeRequest
   -- the format
-  save_result : List ℕ → List ℕ → Request
+  save_result : List ℕ → List ℕ → CubeRequest
 
 -- the nodes whose cubes a request works on, in their order
-abbrev pub cube_ids : Request → List (List ℕ)
+abbrev pub cube_ids : CubeRequest → List (List ℕ)
 cube_ids (load_collection id box time bands) = []
 cube_ids (filter_bbox data_id box) = data_id ∷ []
 cube_ids (filter_temporal data_id time dimension) = data_id ∷ []
@@ -92,7 +92,7 @@ cube_ids (save_result data_id format) = data_id ∷ []
 -- ---- from the arguments of a node
 
 -- `load_collection`: `properties` is null or empty
-abbrev pub load_request : Named → Option Request
+abbrev pub load_request : Named → Option CubeRequest
 load_request arguments =
     where_passed (passes is_null_or_empty_object (codes "properties") arguments)
     (option_and_then (λ id. option_and_then (λ box. with_both (load_collection id box)
@@ -100,18 +100,18 @@ load_request arguments =
     (read (null_or some_bands_in) (codes "bands") arguments))
     (read (null_or box_in) (codes "spatial_extent") arguments)) (read text_in (codes "id") arguments))
 
-abbrev pub filter_bbox_request : Named → Option Request
+abbrev pub filter_bbox_request : Named → Option CubeRequest
 filter_bbox_request arguments =
     with_both filter_bbox (read cube_in (codes "data") arguments) (read box_in (codes "extent") arguments)
 
-abbrev pub filter_temporal_request : Named → Option Request
+abbrev pub filter_temporal_request : Named → Option CubeRequest
 filter_temporal_request arguments =
     option_and_then (λ data_id. with_both (filter_temporal data_id)
     (read extent_in (codes "extent") arguments) (read (null_or text_in) (codes "dimension") arguments))
     (read cube_in (codes "data") arguments)
 
 -- `filter_bands`: `wavelengths` is the empty list
-abbrev pub filter_bands_request : Named → Option Request
+abbrev pub filter_bands_request : Named → Option CubeRequest
 filter_bands_request arguments =
     where_passed (passes is_empty_list (codes "wavelengths") arguments)
     (with_both filter_bands (read cube_in (codes "data") arguments) (read bands_in (codes "bands") arguments))
@@ -121,23 +121,23 @@ abbrev pub called_in : List ℕ → Named → Option Called
 called_in name arguments =
     with_both called (read callback_in name arguments) (read literal_in (codes "context") arguments)
 
-abbrev pub apply_request : Named → Option Request
+abbrev pub apply_request : Named → Option CubeRequest
 apply_request arguments =
     with_both apply (read cube_in (codes "data") arguments) (called_in (codes "process") arguments)
 
 -- with the cube and the kernel
-abbrev pub convolution_request : List ℕ → KernelValues → Named → Option Request
+abbrev pub convolution_request : List ℕ → KernelValues → Named → Option CubeRequest
 convolution_request data_id kernel arguments =
     option_and_then (λ factor. with_both (apply_kernel data_id kernel factor)
     (read border_in (codes "border") arguments) (read number_in (codes "replace_invalid") arguments))
     (read number_in (codes "factor") arguments)
 
-abbrev pub apply_kernel_request : Named → Option Request
+abbrev pub apply_kernel_request : Named → Option CubeRequest
 apply_kernel_request arguments =
     option_and_then (λ data_id. option_and_then (λ kernel. convolution_request data_id kernel arguments)
     (read kernel_in (codes "kernel") arguments)) (read cube_in (codes "data") arguments)
 
-abbrev pub reduce_request : Named → Option Request
+abbrev pub reduce_request : Named → Option CubeRequest
 reduce_request arguments =
     option_and_then (λ data_id. with_both (reduce_dimension data_id)
     (read text_in (codes "dimension") arguments) (called_in (codes "reducer") arguments))
@@ -150,7 +150,7 @@ intervals_in arguments =
     (read (list_in instant_in) (codes "labels") arguments))
     (read (list_in extent_in) (codes "intervals") arguments)
 
-abbrev pub aggregate_request : Named → Option Request
+abbrev pub aggregate_request : Named → Option CubeRequest
 aggregate_request arguments =
     option_and_then (λ data_id. option_and_then (λ intervals. with_both (aggregate_temporal data_id intervals)
     (read (null_or text_in) (codes "dimension") arguments) (called_in (codes "reducer") arguments))
@@ -162,36 +162,36 @@ resolver_in arguments =
     with_both (λ resolver context. option_map (λ graph. called graph context) resolver)
     (read (null_or callback_in) (codes "overlap_resolver") arguments) (read literal_in (codes "context") arguments)
 
-abbrev pub merge_request : Named → Option Request
+abbrev pub merge_request : Named → Option CubeRequest
 merge_request arguments =
     option_and_then (λ one. with_both (merge_cubes one)
     (read cube_in (codes "cube2") arguments) (resolver_in arguments)) (read cube_in (codes "cube1") arguments)
 
-abbrev pub mask_request : Named → Option Request
+abbrev pub mask_request : Named → Option CubeRequest
 mask_request arguments =
     option_and_then (λ data_id. with_both (mask data_id)
     (read cube_in (codes "mask") arguments) (read literal_in (codes "replacement") arguments))
     (read cube_in (codes "data") arguments)
 
 -- `save_result`: `options` is the empty object
-abbrev pub save_request : Named → Option Request
+abbrev pub save_request : Named → Option CubeRequest
 save_request arguments =
     where_passed (passes is_empty_object (codes "options") arguments)
     (with_both save_result (read cube_in (codes "data") arguments) (read text_in (codes "format") arguments))
 
-abbrev pub request_of : CubeProcess → Named → Option Request
-request_of AggregateTemporal arguments = aggregate_request arguments
-request_of Apply arguments = apply_request arguments
-request_of ApplyKernel arguments = apply_kernel_request arguments
-request_of FilterBands arguments = filter_bands_request arguments
-request_of FilterBbox arguments = filter_bbox_request arguments
-request_of FilterTemporal arguments = filter_temporal_request arguments
-request_of LoadCollection arguments = load_request arguments
-request_of Mask arguments = mask_request arguments
-request_of MergeCubes arguments = merge_request arguments
-request_of ReduceDimension arguments = reduce_request arguments
-request_of SaveResult arguments = save_request arguments
+abbrev pub cube_request_of : CubeProcess → Named → Option CubeRequest
+cube_request_of AggregateTemporal arguments = aggregate_request arguments
+cube_request_of Apply arguments = apply_request arguments
+cube_request_of ApplyKernel arguments = apply_kernel_request arguments
+cube_request_of FilterBands arguments = filter_bands_request arguments
+cube_request_of FilterBbox arguments = filter_bbox_request arguments
+cube_request_of FilterTemporal arguments = filter_temporal_request arguments
+cube_request_of LoadCollection arguments = load_request arguments
+cube_request_of Mask arguments = mask_request arguments
+cube_request_of MergeCubes arguments = merge_request arguments
+cube_request_of ReduceDimension arguments = reduce_request arguments
+cube_request_of SaveResult arguments = save_request arguments
 
 -- what a node asks for: none where an argument is not what its parameter may hold
-abbrev pub request_at : PlainNode → Option Request
-request_at n = option_and_then (λ process. request_of process n.arguments) (cube_process_named n.process_id)
+abbrev pub cube_request_at : PlainNode → Option CubeRequest
+cube_request_at n = option_and_then (λ process. cube_request_of process n.arguments) (cube_process_named n.process_id)

@@ -7,13 +7,13 @@ use Rattle.oe_dims.specs.declared.kind.Kind.{Kind}
 use Rattle.oe_dims.specs.declared.kind.Kind.TheVariants.{Time, Bands, Y, X}
 use Rattle.oe_expr.specs.Callback.{Callback, callback_kind}
 use Rattle.oe_shape.specs.Operations.{Operation, keep, each_cell, convolve, reduce, aggregate, merge, cover, give_back, Outline, operation_of, shape_of}
-use Rattle.oe_shape.specs.Requests.{Request, load_collection, filter_bbox, filter_temporal, filter_bands, apply, apply_kernel, reduce_dimension, aggregate_temporal, merge_cubes, mask, save_result}
+use Rattle.oe_shape.specs.Requests.{CubeRequest, load_collection, filter_bbox, filter_temporal, filter_bands, apply, apply_kernel, reduce_dimension, aggregate_temporal, merge_cubes, mask, save_result}
 use Rattle.oe_shape.specs.Rows.{is_of_another}
 use Rattle.oe_shape.specs.ValidShapes.{AreBands, AreIntervalLabels, labels_of, is_within_limits}
 use Rattle.oe_shape.specs.Words.{same_cell_kind}
 
 -- both cubes where a request takes two, and else the first alone
-abbrev pub cubes_among : Request → Outline → Outline → List Outline
+abbrev pub cubes_among : CubeRequest → Outline → Outline → List Outline
 cubes_among (merge_cubes one_id two_id resolver) one two = one ∷ two ∷ []
 cubes_among (mask data_id mask_id replacement) one two = one ∷ two ∷ []
 cubes_among _ one two = one ∷ []
@@ -40,7 +40,7 @@ where_within_limits d = if is_within_limits d then Some d else None
 
 -- the bands that a request brings with it are valid names, none of them twice, and the labels of its intervals are
 -- instants, none of them twice
-abbrev pub HasValidLabels : Request → Type 0
+abbrev pub HasValidLabels : CubeRequest → Type 0
 HasValidLabels (load_collection id box time bands) = IfSome bands AreBands
 HasValidLabels (filter_bbox data_id box) = ⊤
 HasValidLabels (filter_temporal data_id time name) = ⊤
@@ -53,8 +53,9 @@ HasValidLabels (merge_cubes one two resolver) = ⊤
 HasValidLabels (mask data_id mask_id replacement) = ⊤
 HasValidLabels (save_result data_id format) = ⊤
 
--- the shape of what a request gives on cubes of these shapes, whatever the kinds of their cells, where it is not too large
-abbrev pub IsResultShape : Request → Dimensions → Dimensions → Option Dimensions → Type 0
+-- the shape of what a request gives on cubes of these shapes, whatever the kinds of their cells, where it is not too
+-- large
+abbrev pub IsResultShape : CubeRequest → Dimensions → Dimensions → Option Dimensions → Type 0
 IsResultShape r one two found =
     (kind other_kind : CellKind) (operation : Operation)
     → operation_of r

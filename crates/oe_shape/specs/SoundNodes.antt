@@ -8,29 +8,29 @@ use Rattle.oe_expr.specs.Nodes.{node_named}
 use Rattle.oe_graph.specs.References.{references_named, Leads}
 use Rattle.oe_graph.specs.Tree.{Nodes, PlainNode}
 use Rattle.oe_shape.specs.CellKinds.{HasCellsOfKind, IsSoundOn}
-use Rattle.oe_shape.specs.Graphs.{NamedCollection, Collections, collection_named, rows_of, inputs_of, outline_named, outline_at, node_meaning, node_outline, meaning_at, operation_at}
+use Rattle.oe_shape.specs.Graphs.{NamedCollection, Collections, collection_named, collection_rows, request_inputs, outline_named, outline_at, node_meaning, node_outline, meaning_at, operation_at}
 use Rattle.oe_shape.specs.Meaning.{operated}
 use Rattle.oe_shape.specs.Operations.{Operation, Outline, operation_of, shape_of}
-use Rattle.oe_shape.specs.Requests.{Request, request_at}
+use Rattle.oe_shape.specs.Requests.{CubeRequest, cube_request_at}
 use Rattle.oe_shape.specs.ValidShapes.{BringsLabels, is_within_limits}
 
 -- no references lead from a node back to itself
-abbrev pub IsAcyclic : Nodes → Type 0
-IsAcyclic nodes = (id : List ℕ) → ¬ Leads nodes id id
+abbrev pub AreAcyclic : Nodes → Type 0
+AreAcyclic nodes = (id : List ℕ) → ¬ Leads nodes id id
 
 -- the meaning of a node is its operation on the meanings of the nodes that it refers to, and so with outlines;
 -- `operated` says it of the operation itself, which is found by outlines alone
 pub record UnfoldAtNodes : Type 0 where
-  pub meaning : (collections : Collections) (nodes : Nodes) → IsAcyclic nodes → (name : List ℕ) (n : PlainNode)
+  pub meaning : (collections : Collections) (nodes : Nodes) → AreAcyclic nodes → (name : List ℕ) (n : PlainNode)
       → node_named name nodes ≡ Some n
       → meaning_at collections nodes name ≡ node_meaning collections (meaning_at collections nodes) n
-  pub outline : (rows : List DimsRow) (nodes : Nodes) → IsAcyclic nodes → (name : List ℕ) (n : PlainNode)
+  pub outline : (rows : List DimsRow) (nodes : Nodes) → AreAcyclic nodes → (name : List ℕ) (n : PlainNode)
       → node_named name nodes ≡ Some n → outline_at rows nodes name ≡ node_outline rows (outline_at rows nodes) n
-  pub operated : (collections : Collections) (nodes : Nodes) → IsAcyclic nodes → (name : List ℕ) (n : PlainNode)
-      → node_named name nodes ≡ Some n → (r : Request) (operation : Operation) → request_at n ≡ Some r
-      → operation_at (rows_of collections) nodes n ≡ Some operation
+  pub operated : (collections : Collections) (nodes : Nodes) → AreAcyclic nodes → (name : List ℕ) (n : PlainNode)
+      → node_named name nodes ≡ Some n → (r : CubeRequest) (operation : Operation) → cube_request_at n ≡ Some r
+      → operation_at (collection_rows collections) nodes n ≡ Some operation
       → meaning_at collections nodes name
-      ≡ operated operation (inputs_of (collection_named collections) (meaning_at collections nodes) r)
+      ≡ operated operation (request_inputs (collection_named collections) (meaning_at collections nodes) r)
 
 -- what a check has seen of an operation on cubes of these outlines that has no fault: kinds, labels and limits together
 pub record IsSoundOperation (operation : Operation) (cubes : List Outline) : Type 0 where
@@ -40,13 +40,14 @@ pub record IsSoundOperation (operation : Operation) (cubes : List Outline) : Typ
 
 module _ (rows : List DimsRow) (nodes : Nodes) where
   -- the outlines of the cubes that a request works on
-  abbrev pub input_outlines : Request → List Outline
-  input_outlines r = inputs_of (outline_named rows) (outline_at rows nodes) r
+  abbrev pub input_outlines : CubeRequest → List Outline
+  input_outlines r = request_inputs (outline_named rows) (outline_at rows nodes) r
 
   -- the operation of a node has no fault
   abbrev pub HasSoundOperation : PlainNode → Type 0
   HasSoundOperation n =
-      (r : Request) (operation : Operation) → request_at n ≡ Some r → operation_of r (input_outlines r) ≡ Some operation
+      (r : CubeRequest) (operation : Operation) → cube_request_at n ≡ Some r → operation_of r (input_outlines r)
+      ≡ Some operation
       → IsSoundOperation operation (input_outlines r)
 
   -- no fault at the node of a name or below it
@@ -61,15 +62,15 @@ abbrev pub AreCollections : Collections → Type 0
 AreCollections collections = All (λ (c : NamedCollection). IsCollection c.1) collections
 
 -- In a graph without a cycle over collections, the cube of a node that has no fault at or below it has a valid shape,
--- one cell for each tuple of labels, and cells of its kind: null, Over, numbers in a cube of numbers and flags in one of
--- flags.
+-- one cell for each tuple of labels, and cells of its kind: null, Over, numbers in a cube of numbers and flags in one
+-- of flags.
 pub record AreSound : Type 0 where
-  pub cells : (collections : Collections) (nodes : Nodes) → AreCollections collections → IsAcyclic nodes
-      → (name : List ℕ) → IsSoundNode (rows_of collections) nodes name
+  pub cells : (collections : Collections) (nodes : Nodes) → AreCollections collections → AreAcyclic nodes
+      → (name : List ℕ) → IsSoundNode (collection_rows collections) nodes name
       → HasCellsOfKind (meaning_at collections nodes name)
-  pub shape : (collections : Collections) (nodes : Nodes) → AreCollections collections → IsAcyclic nodes
-      → (name : List ℕ) → IsSoundNode (rows_of collections) nodes name
+  pub shape : (collections : Collections) (nodes : Nodes) → AreCollections collections → AreAcyclic nodes
+      → (name : List ℕ) → IsSoundNode (collection_rows collections) nodes name
       → IsShape (meaning_at collections nodes name).cube.shape
-  pub counted : (collections : Collections) (nodes : Nodes) → AreCollections collections → IsAcyclic nodes
-      → (name : List ℕ) → IsSoundNode (rows_of collections) nodes name
+  pub counted : (collections : Collections) (nodes : Nodes) → AreCollections collections → AreAcyclic nodes
+      → (name : List ℕ) → IsSoundNode (collection_rows collections) nodes name
       → IsCube (meaning_at collections nodes name).cube

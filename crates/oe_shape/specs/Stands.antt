@@ -6,18 +6,18 @@ use Rattle.oe_graph.specs.References.{references_named}
 use Rattle.oe_graph.specs.Tree.{Nodes, PlainNode}
 use Rattle.oe_graph.specs.declared.code.Code.{Code}
 use Rattle.oe_graph.specs.declared.code.Code.TheVariants.{ProcessParameterInvalid, CollectionNotFound, CrsUnsupported, FormatUnsupported, DimensionNotAvailable, TemporalExtentEmpty, BandFilterParameterMissing, BandNotAvailable, KernelDimensionsUneven, KernelTooLarge, DistinctDimensionLabelsRequired, MergeDimensionsDiffer, OverlapResolverMissing, MaskDimensionsDiffer, CellKindInvalid, CubeTooLarge}
-use Rattle.oe_expr.specs.Callback.{Callback, StandsIn, IsFaultless}
+use Rattle.oe_expr.specs.Callback.{Callback, StandsInCallbackAt, IsFaultlessCallback}
 use Rattle.oe_expr.specs.Nodes.{node_named}
-use Rattle.oe_expr.specs.Rows.{Row, first_row}
-use Rattle.oe_shape.specs.Graphs.{inputs_of, outline_named, outline_at}
+use Rattle.oe_expr.specs.Rows.{JudgedRow, first_row}
+use Rattle.oe_shape.specs.Graphs.{request_inputs, outline_named, outline_at}
 use Rattle.oe_shape.specs.Operations.{Operation, each_cell, reduce, aggregate, merge, Outline, operation_of}
-use Rattle.oe_shape.specs.Requests.{Request, request_at}
+use Rattle.oe_shape.specs.Requests.{CubeRequest, cube_request_at}
 use Rattle.oe_shape.specs.Rows.{collection_not_found, crs_unsupported, format_unsupported, dimension_not_available, temporal_extent_empty, band_filter_parameter_missing, band_not_available, kernel_dimensions_uneven, kernel_too_large, distinct_labels_required, merge_dimensions_differ, overlap_resolver_missing, mask_dimensions_differ, cell_kind_invalid, cube_too_large}
 
 -- ---- the table
 
 -- the rows that the faults of a callback wait for, by their numbers
-abbrev pub early_rows : List DimsRow → Request → List Outline → List Row
+abbrev pub early_rows : List DimsRow → CubeRequest → List Outline → List JudgedRow
 early_rows rows r cubes =
     (CollectionNotFound, collection_not_found rows r)
     ∷ (CrsUnsupported, crs_unsupported r cubes)
@@ -43,39 +43,39 @@ callback_in (merge resolver) = option_map (λ c. (codes "overlap_resolver", c)) 
 callback_in _ = None
 
 -- that of a request, under the scope that the cubes give it
-abbrev pub callback_on : Request → List Outline → Option (List ℕ × Callback)
+abbrev pub callback_on : CubeRequest → List Outline → Option (List ℕ × Callback)
 callback_on r cubes = option_and_then callback_in (operation_of r cubes)
 
 -- ---- one node, where `at` has the outlines of the nodes that it refers to
 
 module _ (rows : List DimsRow) (at : List ℕ → Outline) where
   -- the outlines of the cubes that a request works on
-  abbrev pub cubes_of : Request → List Outline
-  cubes_of r = inputs_of (outline_named rows) at r
+  abbrev pub cubes_of : CubeRequest → List Outline
+  cubes_of r = request_inputs (outline_named rows) at r
 
   -- this is what the node asks for, and none of the rows holds that the faults of its callback wait for
-  pub record Passes (n : PlainNode) (r : Request) : Type 0 where
-    pub asks : request_at n ≡ Some r
+  pub record Passes (n : PlainNode) (r : CubeRequest) : Type 0 where
+    pub asks : cube_request_at n ≡ Some r
     pub none_holds : first_row (early_rows rows r (cubes_of r)) ≡ None
 
   -- no fault stands in the callback, where there is one
-  abbrev pub HasFaultlessCallback : Request → Type 0
-  HasFaultlessCallback r = IfSome (callback_on r (cubes_of r)) (λ c. IsFaultless c.1)
+  abbrev pub HasFaultlessCallback : CubeRequest → Type 0
+  HasFaultlessCallback r = IfSome (callback_on r (cubes_of r)) (λ c. IsFaultlessCallback c.1)
 
-  -- A fault stands at a node or in its callback. At the node it is the first row that holds; of kinds a row holds only where
-  -- the callback has no fault, while the size of the cube does not wait for the callback.
+  -- A fault stands at a node or in its callback. At the node it is the first row that holds; of kinds a row holds only
+  -- where the callback has no fault, while the size of the cube does not wait for the callback.
   pub data StandsHere (n : PlainNode) : Code → List ℕ → Type 0 where
     -- an argument is not what its parameter may hold
-    asks_for_nothing : request_at n ≡ None → StandsHere n ProcessParameterInvalid n.id
-    early : {r : Request} {code : Code}
-        → request_at n ≡ Some r → first_row (early_rows rows r (cubes_of r)) ≡ Some code → StandsHere n code n.id
-    inside : {r : Request} {argument : List ℕ} {c : Callback} {code : Code} {name : List ℕ}
+    asks_for_nothing : cube_request_at n ≡ None → StandsHere n ProcessParameterInvalid n.id
+    early : {r : CubeRequest} {code : Code}
+        → cube_request_at n ≡ Some r → first_row (early_rows rows r (cubes_of r)) ≡ Some code → StandsHere n code n.id
+    inside : {r : CubeRequest} {argument : List ℕ} {c : Callback} {code : Code} {name : List ℕ}
         → Passes n r → callback_on r (cubes_of r) ≡ Some (argument, c)
-        → StandsIn c (callback_name n.id argument) code name → StandsHere n code name
-    of_kind : {r : Request}
+        → StandsInCallbackAt c (callback_name n.id argument) code name → StandsHere n code name
+    of_kind : {r : CubeRequest}
         → Passes n r → HasFaultlessCallback r → cell_kind_invalid r (cubes_of r) ≡ true
         → StandsHere n CellKindInvalid n.id
-    of_size : {r : Request}
+    of_size : {r : CubeRequest}
         → Passes n r → (HasFaultlessCallback r → cell_kind_invalid r (cubes_of r) ≡ false)
         → cube_too_large r (cubes_of r) ≡ true → StandsHere n CubeTooLarge n.id
 
@@ -93,7 +93,8 @@ module _ (rows : List DimsRow) (nodes : Nodes) where
         → ((other : List ℕ) → Contains (references_named n.arguments) other → IsSound other)
         → HasNoFault rows (outline_at rows nodes) n → IsSound name
 
-  -- a fault stands at the node of an id or in its callback, where the nodes that it refers to have none at or below them
+  -- a fault stands at the node of an id or in its callback, where the nodes that it refers to have none at or below
+  -- them
   pub record StandsAt (id : List ℕ) (code : Code) (name : List ℕ) : Type 0 where
     pub node : PlainNode
     pub is_node : node_named id nodes ≡ Some node
@@ -101,11 +102,11 @@ module _ (rows : List DimsRow) (nodes : Nodes) where
     pub here : StandsHere rows (outline_at rows nodes) node code name
 
   -- a fault stands in the graph
-  pub record Stands (code : Code) (name : List ℕ) : Type 0 where
+  pub record StandsInGraph (code : Code) (name : List ℕ) : Type 0 where
     pub id : List ℕ
     pub at : StandsAt id code name
 
-  -- that a fault stands only where none stands at or below the nodes that its node refers to: a node without a fault at or
-  -- below it has none itself
+  -- that a fault stands only where none stands at or below the nodes that its node refers to: a node without a fault at
+  -- or below it has none itself
   abbrev pub HasNoneAtOrBelow : Type 0
   HasNoneAtOrBelow = (id : List ℕ) → IsSound id → (code : Code) (name : List ℕ) → ¬ StandsAt id code name

@@ -8,12 +8,12 @@ use Rattle.oe_graph.specs.Tree.{Nodes, PlainNode}
 use Rattle.oe_graph.specs.declared.fault.Fault.{Fault}
 use Rattle.oe_expr.specs.Nodes.{node_named}
 use Rattle.oe_shape.specs.Graphs.{outline_at, node_outline, operation_at}
-use Rattle.oe_shape.specs.Links.{collection_of, index_referred}
+use Rattle.oe_shape.specs.Links.{loaded_collection, index_referred}
 use Rattle.oe_shape.specs.Operations.{Operation, Outline, operation_of}
 use Rattle.oe_shape.specs.PlainRequests.{plain_operation}
-use Rattle.oe_shape.specs.Requests.{Request, request_at}
+use Rattle.oe_shape.specs.Requests.{CubeRequest, cube_request_at}
 use Rattle.oe_shape.specs.SoundNodes.{IsSoundOperation, IsSoundNode}
-use Rattle.oe_shape.specs.Stands.{cubes_of, HasNoFault, StandsHere, IsSound, StandsAt, Stands}
+use Rattle.oe_shape.specs.Stands.{cubes_of, HasNoFault, StandsHere, IsSound, StandsAt, StandsInGraph}
 use Rattle.oe_shape.specs.declared.checked.CheckedNode.{CheckedNode}
 use Rattle.oe_shape.specs.declared.checked.State.{State}
 use Rattle.oe_shape.specs.declared.checked.State.TheVariants.{Unseen, Faulty, Sound}
@@ -83,15 +83,18 @@ AreKnown nodes states at n =
     (name : List ℕ) → Contains (references_named n.arguments) name → IsKnown nodes states at name
 
 module _ (rows : List DimsRow) (at : List ℕ → Outline) (n : PlainNode) where
-  -- no fault stands at the node, and this is its operation, with the collection that it loads and the outline of its cube
+  -- no fault stands at the node, and this is its operation, with the collection that it loads and the outline of its
+  -- cube
   pub record IsJudgedSound (kept : CheckedNode) : Type 0 where
     pub no_fault : HasNoFault rows at n
     pub operation_is :
-        option_and_then (λ r. operation_of r (cubes_of rows at r)) (request_at n) ≡ Some (plain_operation kept.operation)
+        option_and_then (λ r. operation_of r (cubes_of rows at r)) (cube_request_at n)
+        ≡ Some (plain_operation kept.operation)
     pub sound_operation :
-        (r : Request) (operation : Operation) → request_at n ≡ Some r → operation_of r (cubes_of rows at r) ≡ Some operation
+        (r : CubeRequest) (operation : Operation) → cube_request_at n ≡ Some r → operation_of r (cubes_of rows at r)
+        ≡ Some operation
         → IsSoundOperation operation (cubes_of rows at r)
-    pub collection_is : collection_of n ≡ kept.collection
+    pub collection_is : loaded_collection n ≡ kept.collection
     pub outline_is : node_outline rows at n ≡ outline_kept kept
 
   -- or this is the least fault that stands at it or in its callback
@@ -109,7 +112,7 @@ module _ (rows : List DimsRow) (nodes : Nodes) where
     pub outline_is : outline_at rows nodes name ≡ outline_kept kept
     pub operation_is : (n : PlainNode) → node_named name nodes ≡ Some n
         → operation_at rows nodes n ≡ Some (plain_operation kept.operation)
-    pub collection_is : (n : PlainNode) → node_named name nodes ≡ Some n → collection_of n ≡ kept.collection
+    pub collection_is : (n : PlainNode) → node_named name nodes ≡ Some n → loaded_collection n ≡ kept.collection
 
   -- the state of the node of a name is right
   abbrev pub IsState : List ℕ → State → Type 0
@@ -147,7 +150,7 @@ module _ (rows : List DimsRow) (nodes : Nodes) where
   -- the least fault where one stands
   abbrev pub IsChecked : List State → Option Fault → Type 0
   IsChecked states None = AreSound states
-  IsChecked states (Some fault) = IsLeast (Stands rows nodes) fault
+  IsChecked states (Some fault) = IsLeast (StandsInGraph rows nodes) fault
 
 -- ---- rounds
 

@@ -14,19 +14,19 @@ use Rattle.oe_shape.specs.Operations.{dimension_named}
 -- ---- dimensions of one cube
 
 -- the cube lacks the dimension
-abbrev pub lacks : Kind → Dimensions → Bool
-lacks Time d = is_none d.t
-lacks Bands d = is_none d.bands
-lacks Y d = is_none d.y
-lacks X d = is_none d.x
+abbrev pub lacks_dimension : Kind → Dimensions → Bool
+lacks_dimension Time d = is_none d.t
+lacks_dimension Bands d = is_none d.bands
+lacks_dimension Y d = is_none d.y
+lacks_dimension X d = is_none d.x
 
 -- it lacks x or y
 abbrev pub lacks_plane : Dimensions → Bool
-lacks_plane d = lacks Y d || lacks X d
+lacks_plane d = lacks_dimension Y d || lacks_dimension X d
 
 -- it lacks the dimension of a name, as every cube does where the name is not that of a dimension
 abbrev pub lacks_named : List ℕ → Dimensions → Bool
-lacks_named name d = option_map_or (λ along. lacks along d) (dimension_named name) true
+lacks_named name d = option_map_or (λ along. lacks_dimension along d) (dimension_named name) true
 
 -- a name is given, and is not that of t
 abbrev pub names_other : Option (List ℕ) → Bool
@@ -53,8 +53,8 @@ abbrev pub has_label : {L : Type 0} → List L → Bool
 has_label [] = false
 has_label (label ∷ labels) = true
 
--- along one dimension, a label is in both cubes: where both have it a common one; where one has it any, since the other is
--- repeated over it; and where neither has it nothing is asked
+-- along one dimension, a label is in both cubes: where both have it a common one; where one has it any, since the other
+-- is repeated over it; and where neither has it nothing is asked
 abbrev pub meet_in : {L : Type 0} → (L → L → Bool) → Option (List L) → Option (List L) → Bool
 meet_in same None None = true
 meet_in same (Some one) None = has_label one

@@ -224,8 +224,8 @@ impl Checked {
         differ_along(along, one, two, self.shape(node))
     }
 
-    /// By how many pixels the operation of a node reaches to each side along x and along y, 0 to 15: as far as the kernel
-    /// of `apply_kernel` does, and 0 for each other process.
+    /// By how many pixels the operation of a node reaches to each side along x and along y, 0 to 15: as far as the
+    /// kernel of `apply_kernel` does, and 0 for each other process.
     pub fn halo(&self, node: u32) -> (u32, u32)
         requires { node < node_count self.now.nodes }
         ensures x { halo_of_node self.now node X ≡ Some result.0 }

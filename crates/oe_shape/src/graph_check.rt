@@ -6,7 +6,7 @@ ghost use Rattle.oe_graph.specs.Printed.{ids_of};
 ghost use Rattle.oe_graph.specs.Read.{IsFault, IsFaultless};
 ghost use Rattle.oe_graph.specs.Resolved.{IsResolved};
 ghost use Rattle.oe_shape.specs.Checked.{AreFaultless};
-ghost use Rattle.oe_shape.specs.Stands.{Stands};
+ghost use Rattle.oe_shape.specs.Stands.{StandsInGraph};
 
 use crate::checked::Checked;
 use crate::links::links_between;
@@ -29,9 +29,9 @@ pub fn check(alloc: Global, graph: &Graph, dims: &Dims) -> Result<Checked, Refus
       rows = plain_rows dims.now;
     }) }
     ensures faultless { IfOk result AreFaultless }
-    ensures none { IfOk result (λ checked. IsFaultless (Stands checked.rows checked.nodes)) }
+    ensures none { IfOk result (λ checked. IsFaultless (StandsInGraph checked.rows checked.nodes)) }
     ensures refused { IfErr result
-        (IsFault (Stands (plain_rows dims.now) (plain_graph graph.now).nodes)) }
+        (IsFault (StandsInGraph (plain_rows dims.now) (plain_graph graph.now).nodes)) }
 {
     let links = links_between(alloc, &graph.nodes)?;
     let Walk { states, found } = walk_nodes(alloc, &graph.nodes, &links, dims)?;

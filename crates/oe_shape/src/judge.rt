@@ -5,7 +5,7 @@ ghost use Rattle.std.specs.Option.{option_map};
 ghost use Rattle.oe_dims.specs.Dimensions.{Dimensions, IsShape};
 ghost use Rattle.oe_dims.specs.Plain.{plain_rows};
 ghost use Rattle.oe_dims.specs.declared.dims.DimsRow.{DimsRow};
-ghost use Rattle.oe_expr.specs.Callback.{IsFaultless};
+ghost use Rattle.oe_expr.specs.Callback.{IsFaultlessCallback};
 ghost use Rattle.oe_graph.specs.Faults.{IsLeast};
 ghost use Rattle.oe_graph.specs.Plain.{plain_node, plain_nodes};
 ghost use Rattle.oe_shape.specs.Callbacks.{IsBuildable, StandsInCallback};
@@ -13,7 +13,7 @@ ghost use Rattle.oe_shape.specs.Inputs.{HasFewIntervals, WorksOn, outline_in};
 ghost use Rattle.oe_shape.specs.Links.{loaded_by};
 ghost use Rattle.oe_shape.specs.Operations as operations;
 ghost use Rattle.oe_shape.specs.Operations.{Outline};
-ghost use Rattle.oe_shape.specs.PlainRequests.{plain_operation, plain_request};
+ghost use Rattle.oe_shape.specs.PlainRequests.{plain_operation, plain_cube_request};
 ghost use Rattle.oe_shape.specs.Requests as spec;
 ghost use Rattle.oe_shape.specs.Results.{HasValidLabels, IsResultShape};
 ghost use Rattle.oe_shape.specs.Stands.{Passes, callback_on};
@@ -65,7 +65,7 @@ pub(crate) fn judge_node(
 
 /// The intervals of a request can be counted.
 fn has_few_intervals(request: &Request<'_>) -> bool
-    ensures { IsTrue result ↔ HasFewIntervals (plain_request request.now) }
+    ensures { IsTrue result ↔ HasFewIntervals (plain_cube_request request.now) }
 {
     match request {
         Request::AggregateTemporal { intervals, .. } => intervals.len() <= u32::MAX as usize,
@@ -92,11 +92,11 @@ fn judge_request(
     one: Input<'_>,
     two: Input<'_>,
 ) -> Result<Verdict, OutOfMemory>
-    requires buildable { IsBuildable (plain_request request.now) }
-    requires labels { HasValidLabels (plain_request request.now) }
+    requires buildable { IsBuildable (plain_cube_request request.now) }
+    requires labels { HasValidLabels (plain_cube_request request.now) }
     ensures { IfOk result (λ verdict. (rows : List DimsRow) (at : List ℕ → Outline)
-        → Passes rows at (plain_node node.now) (plain_request request.now)
-        → WorksOn rows at (plain_request request.now) (outline_in one.entry) (outline_in two.entry)
+        → Passes rows at (plain_node node.now) (plain_cube_request request.now)
+        → WorksOn rows at (plain_cube_request request.now) (outline_in one.entry) (outline_in two.entry)
         → IsVerdict rows at (plain_node node.now) verdict) }
 {
     let shape = result_shape(alloc, request, one.shape, two.shape)?;
@@ -111,7 +111,7 @@ fn judge_request(
 
 /// The least of a callback's fault and that of a cube that is too large, which does not wait for the callback.
 fn least_with_size(node: &Node, is_too_large: bool, fault: Fault) -> Result<Verdict, OutOfMemory>
-    ensures { (request : spec.Request) (found : Option Dimensions) (one two : Outline)
+    ensures { (request : spec.CubeRequest) (found : Option Dimensions) (one two : Outline)
         → IsLeast (StandsInCallback (plain_node node.now).id request one) fault
         → IsResultShape request one.shape two.shape found → is_too_large ≡ is_none found
         → IfOk result (λ verdict. (rows : List DimsRow) (at : List ℕ → Outline)
@@ -142,17 +142,17 @@ fn judge_operation(
     one: Input<'_>,
     two: Input<'_>,
 ) -> Result<Verdict, OutOfMemory>
-    requires buildable { IsBuildable (plain_request request.now) }
-    requires labels { HasValidLabels (plain_request request.now) }
-    requires shape { IsResultShape (plain_request request.now) one.shape.now two.shape.now shape }
+    requires buildable { IsBuildable (plain_cube_request request.now) }
+    requires labels { HasValidLabels (plain_cube_request request.now) }
+    requires shape { IsResultShape (plain_cube_request request.now) one.shape.now two.shape.now shape }
     requires operation { (others : List Outline) → Some (plain_operation operation)
-        ≡ operations.operation_of (plain_request request.now) (outline_in one ∷ others) }
+        ≡ operations.operation_of (plain_cube_request request.now) (outline_in one ∷ others) }
     requires faultless { (others : List Outline) → IfSome
-        (callback_on (plain_request request.now) (outline_in one ∷ others))
-        (λ c. IsFaultless c.1) }
+        (callback_on (plain_cube_request request.now) (outline_in one ∷ others))
+        (λ c. IsFaultlessCallback c.1) }
     ensures { IfOk result (λ verdict. (rows : List DimsRow) (at : List ℕ → Outline)
-        → Passes rows at (plain_node node.now) (plain_request request.now)
-        → WorksOn rows at (plain_request request.now) (outline_in one.entry) (outline_in two.entry)
+        → Passes rows at (plain_node node.now) (plain_cube_request request.now)
+        → WorksOn rows at (plain_cube_request request.now) (outline_in one.entry) (outline_in two.entry)
         → IsVerdict rows at (plain_node node.now) verdict) }
 {
     if takes_other_kinds(&operation, one.kind, two.kind) {
@@ -180,7 +180,7 @@ fn recall_rules(shape: &Shape)
 
 /// The collection that a request loads.
 fn collection_of(alloc: Global, request: &Request<'_>) -> Result<Option<Text>, OutOfMemory>
-    ensures { IfOk result (λ id. id ≡ loaded_by (plain_request request.now)) }
+    ensures { IfOk result (λ id. id ≡ loaded_by (plain_cube_request request.now)) }
 {
     match request {
         Request::LoadCollection { id, .. } => Ok(Some(Text::of(alloc, id)?)),

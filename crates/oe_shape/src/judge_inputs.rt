@@ -9,7 +9,7 @@ ghost use Rattle.oe_shape.specs.Graphs.{row_outline};
 ghost use Rattle.oe_shape.specs.Inputs.{AreInputs, AreNamed, both_outlines, outline_in, outline_sound};
 ghost use Rattle.oe_shape.specs.Links.{index_referred};
 ghost use Rattle.oe_shape.specs.Operations.{Outline};
-ghost use Rattle.oe_shape.specs.PlainRequests.{plain_request};
+ghost use Rattle.oe_shape.specs.PlainRequests.{plain_cube_request};
 ghost use Rattle.oe_shape.specs.Requests.{cube_ids};
 ghost use Rattle.oe_shape.specs.Walked.{AreResolved, IsKnown, state_at};
 ghost use Rattle.oe_expr.specs.Requests.{with_both};
@@ -37,11 +37,11 @@ pub(crate) fn inputs_of<'a>(
 ) -> Option<(Input<'a>, Input<'a>)>
     requires resolved { AreResolved (plain_nodes nodes.now) }
     requires states { length states.now ≡ length nodes.now }
-    requires named { AreNamed (plain_nodes nodes.now) (cube_ids (plain_request request.now)) }
+    requires named { AreNamed (plain_nodes nodes.now) (cube_ids (plain_cube_request request.now)) }
     ensures { (at : List ℕ → Outline)
-        → ((name : List ℕ) → Contains (cube_ids (plain_request request.now)) name
+        → ((name : List ℕ) → Contains (cube_ids (plain_cube_request request.now)) name
         → IsKnown (plain_nodes nodes.now) states.now at name)
-        → AreInputs (plain_rows dims.now) at (plain_request request.now)
+        → AreInputs (plain_rows dims.now) at (plain_cube_request request.now)
         (option_map both_outlines result) }
 {
     match request {

@@ -4,13 +4,13 @@ ghost use Rattle.std.specs.Option.{option_map};
 ghost use Rattle.oe_dims.specs.Dimensions.{Dimensions};
 ghost use Rattle.oe_graph.specs.Form.{callback_name};
 ghost use Rattle.oe_graph.specs.Read.{IsFault};
-ghost use Rattle.oe_expr.specs.Callback.{IsFaultless, StandsIn};
-ghost use Rattle.oe_expr.specs.Scope.{IsScope, parameter_names, plain_scope};
+ghost use Rattle.oe_expr.specs.Callback.{IsFaultlessCallback, StandsInCallbackAt};
+ghost use Rattle.oe_expr.specs.Scope.{IsScope, scope_parameters, plain_scope};
 ghost use Rattle.oe_kernel.specs.Kernels.{IsKernel};
 ghost use Rattle.oe_shape.specs.Callbacks.{AreIntervals, IsBuildable, IsBuilt, IsResolvedCallback, StandsInCallback};
 ghost use Rattle.oe_shape.specs.Operations as spec;
 ghost use Rattle.oe_shape.specs.Operations.{Outline};
-ghost use Rattle.oe_shape.specs.PlainRequests.{plain_called, plain_kernel, plain_operation, plain_request, plain_restriction};
+ghost use Rattle.oe_shape.specs.PlainRequests.{plain_called, plain_kernel, plain_operation, plain_cube_request, plain_restriction};
 ghost use Rattle.oe_shape.specs.Requests as request;
 ghost use Rattle.oe_shape.specs.Stands.{callback_on};
 
@@ -45,12 +45,12 @@ fn callback_under(
     argument: &str,
 ) -> Result<Expr, Refusal>
     requires scope { IsScope (plain_scope scope.now) }
-    requires resolved { IsResolvedCallback (parameter_names (plain_scope scope.now))
+    requires resolved { IsResolvedCallback (scope_parameters (plain_scope scope.now))
         (plain_called called.now) }
     ensures built { IfOk result (λ callback. callback
         ≡ spec.callback_under (plain_scope scope.now) (plain_called called.now)) }
-    ensures faultless { IfOk result IsFaultless }
-    ensures refused { IfErr result (IsFault (StandsIn
+    ensures faultless { IfOk result IsFaultlessCallback }
+    ensures refused { IfErr result (IsFault (StandsInCallbackAt
         (spec.callback_under (plain_scope scope.now) (plain_called called.now))
         (callback_name id.now argument.now))) }
 {
@@ -69,16 +69,16 @@ pub fn operation_for(
     kind: CellKind,
     id: &str,
 ) -> Result<Option<Operation>, Refusal>
-    requires { IsBuildable (plain_request request.now) }
+    requires { IsBuildable (plain_cube_request request.now) }
     ensures built { IfOk result (λ r. (others : List Outline) → option_map plain_operation r
-        ≡ spec.operation_of (plain_request request.now)
+        ≡ spec.operation_of (plain_cube_request request.now)
         (record { shape = shape.now; kind = kind } ∷ others)) }
     // no fault stands in its callback
     ensures faultless { IfOk result (λ r. (others : List Outline) → IfSome
-        (callback_on (plain_request request.now) (record { shape = shape.now; kind = kind } ∷ others))
-        (λ c. IsFaultless c.1)) }
+        (callback_on (plain_cube_request request.now) (record { shape = shape.now; kind = kind } ∷ others))
+        (λ c. IsFaultlessCallback c.1)) }
     // or the least of those that stand there
-    ensures refused { IfErr result (IsFault (StandsInCallback id.now (plain_request request.now)
+    ensures refused { IfErr result (IsFault (StandsInCallback id.now (plain_cube_request request.now)
         (record { shape = shape.now; kind = kind }))) }
 {
     match request {

@@ -2,7 +2,7 @@
 ghost use Rattle.std.specs.Prelude.{◌≡◌, ◌≤◌, true, not, IfOk, length, map, count_by};
 ghost use Rattle.oe_dims.specs.Dimensions.{IsShape, most_labels, rises};
 ghost use Rattle.oe_dims.specs.Plain.{plain_labels};
-ghost use Rattle.oe_expr.specs.Scope.{IsScope, label_count, plain_scope};
+ghost use Rattle.oe_expr.specs.Scope.{IsScope, count_labels, plain_scope};
 ghost use Rattle.oe_shape.specs.Callbacks.{AreIntervals};
 ghost use Rattle.oe_shape.specs.Extents as extent;
 ghost use Rattle.oe_shape.specs.Operations as spec;
@@ -28,7 +28,7 @@ fn labels_along(alloc: Global, along: Kind, shape: &Shape) -> Result<Labels, Out
 
 /// How many labels a dimension has.
 fn label_count(along: Kind, shape: &Shape) -> u32
-    ensures count { result ≡ label_count (spec.labels_along along shape.now) }
+    ensures count { result ≡ count_labels (spec.labels_along along shape.now) }
     ensures valid { IsShape shape.now }
 {
     match along {

@@ -219,7 +219,7 @@ fn side_of(members: &Vec<(Text, Arg)>, name: &str) -> Option<i64>
 
 /// The box of its members.
 fn box_of(members: &Vec<(Text, Arg)>) -> Option<BoundingBox>
-    ensures { result ≡ spec.box_of (plain_named members.now.items) }
+    ensures { result ≡ spec.bounding_box_of (plain_named members.now.items) }
 {
     let west = side_of(members, "west")?;
     let south = side_of(members, "south")?;

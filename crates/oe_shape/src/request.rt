@@ -2,7 +2,7 @@
 ghost use Rattle.std.specs.Prelude.{◌≡◌, IfOk, codes};
 ghost use Rattle.std.specs.Option.{option_map};
 ghost use Rattle.oe_graph.specs.Plain.{plain_named, plain_node};
-ghost use Rattle.oe_shape.specs.PlainRequests.{plain_called, plain_kernel, plain_request};
+ghost use Rattle.oe_shape.specs.PlainRequests.{plain_called, plain_kernel, plain_cube_request};
 ghost use Rattle.oe_shape.specs.Requests as spec;
 
 use crate::extent::{BoundingBox, Interval, TemporalExtent};
@@ -106,7 +106,7 @@ pub enum Request<'a> {
 /// hold, or where no such process stands in the main graph. Refuses: out of memory.
 pub fn read_request(alloc: Global, node: &Node) -> Result<Option<Request<'_>>, OutOfMemory>
     ensures { IfOk result
-        (λ r. option_map plain_request r ≡ spec.request_at (plain_node node.now)) }
+        (λ r. option_map plain_cube_request r ≡ spec.cube_request_at (plain_node node.now)) }
 {
     match process_of(node.process_id.as_str()) {
         Some(process) => request_of(alloc, process, &node.arguments),
@@ -120,8 +120,8 @@ fn request_of(
     process: CubeProcess,
     arguments: &Vec<(Text, Arg)>,
 ) -> Result<Option<Request<'_>>, OutOfMemory>
-    ensures { IfOk result (λ r. option_map plain_request r
-        ≡ spec.request_of process (plain_named arguments.now.items)) }
+    ensures { IfOk result (λ r. option_map plain_cube_request r
+        ≡ spec.cube_request_of process (plain_named arguments.now.items)) }
 {
     match process {
         CubeProcess::AggregateTemporal => aggregate_request(alloc, arguments),
@@ -143,7 +143,7 @@ fn load_request(
     alloc: Global,
     arguments: &Vec<(Text, Arg)>,
 ) -> Result<Option<Request<'_>>, OutOfMemory>
-    ensures { IfOk result (λ r. option_map plain_request r
+    ensures { IfOk result (λ r. option_map plain_cube_request r
         ≡ spec.load_request (plain_named arguments.now.items)) }
 {
     if !has_null_or_empty_object(arguments, "properties") {
@@ -170,7 +170,7 @@ fn load_request(
 }
 
 fn filter_bbox_request(arguments: &Vec<(Text, Arg)>) -> Option<Request<'_>>
-    ensures { option_map plain_request result
+    ensures { option_map plain_cube_request result
         ≡ spec.filter_bbox_request (plain_named arguments.now.items) }
 {
     let cube = cube_at(arguments, "data")?;
@@ -179,7 +179,7 @@ fn filter_bbox_request(arguments: &Vec<(Text, Arg)>) -> Option<Request<'_>>
 }
 
 fn filter_temporal_request(arguments: &Vec<(Text, Arg)>) -> Option<Request<'_>>
-    ensures { option_map plain_request result
+    ensures { option_map plain_cube_request result
         ≡ spec.filter_temporal_request (plain_named arguments.now.items) }
 {
     let cube = cube_at(arguments, "data")?;
@@ -197,7 +197,7 @@ fn filter_bands_request(
     alloc: Global,
     arguments: &Vec<(Text, Arg)>,
 ) -> Result<Option<Request<'_>>, OutOfMemory>
-    ensures { IfOk result (λ r. option_map plain_request r
+    ensures { IfOk result (λ r. option_map plain_cube_request r
         ≡ spec.filter_bands_request (plain_named arguments.now.items)) }
 {
     if !has_empty_list(arguments, "wavelengths") {
@@ -223,7 +223,7 @@ fn called_at<'a>(arguments: &'a Vec<(Text, Arg)>, name: &str) -> Option<Called<'
 }
 
 fn apply_request(arguments: &Vec<(Text, Arg)>) -> Option<Request<'_>>
-    ensures { option_map plain_request result
+    ensures { option_map plain_cube_request result
         ≡ spec.apply_request (plain_named arguments.now.items) }
 {
     let cube = cube_at(arguments, "data")?;
@@ -237,7 +237,7 @@ fn apply_kernel_request(
     alloc: Global,
     arguments: &Vec<(Text, Arg)>,
 ) -> Result<Option<Request<'_>>, OutOfMemory>
-    ensures { IfOk result (λ r. option_map plain_request r
+    ensures { IfOk result (λ r. option_map plain_cube_request r
         ≡ spec.apply_kernel_request (plain_named arguments.now.items)) }
 {
     let Some(cube) = cube_at(arguments, "data") else {
@@ -255,7 +255,7 @@ fn convolution_request<'a>(
     kernel: KernelRows,
     arguments: &'a Vec<(Text, Arg)>,
 ) -> Option<Request<'a>>
-    ensures { option_map plain_request result ≡ spec.convolution_request cube.now
+    ensures { option_map plain_cube_request result ≡ spec.convolution_request cube.now
         (plain_kernel kernel) (plain_named arguments.now.items) }
 {
     let factor = number_at(arguments, "factor")?;
@@ -271,7 +271,7 @@ fn convolution_request<'a>(
 }
 
 fn reduce_request(arguments: &Vec<(Text, Arg)>) -> Option<Request<'_>>
-    ensures { option_map plain_request result
+    ensures { option_map plain_cube_request result
         ≡ spec.reduce_request (plain_named arguments.now.items) }
 {
     let cube = cube_at(arguments, "data")?;
@@ -290,7 +290,7 @@ fn aggregate_request(
     alloc: Global,
     arguments: &Vec<(Text, Arg)>,
 ) -> Result<Option<Request<'_>>, OutOfMemory>
-    ensures { IfOk result (λ r. option_map plain_request r
+    ensures { IfOk result (λ r. option_map plain_cube_request r
         ≡ spec.aggregate_request (plain_named arguments.now.items)) }
 {
     let Some(cube) = cube_at(arguments, "data") else {
@@ -327,7 +327,7 @@ fn resolver_at(arguments: &Vec<(Text, Arg)>) -> Option<Option<Called<'_>>>
 }
 
 fn merge_request(arguments: &Vec<(Text, Arg)>) -> Option<Request<'_>>
-    ensures { option_map plain_request result
+    ensures { option_map plain_cube_request result
         ≡ spec.merge_request (plain_named arguments.now.items) }
 {
     let one = cube_at(arguments, "cube1")?;
@@ -339,7 +339,7 @@ fn merge_request(arguments: &Vec<(Text, Arg)>) -> Option<Request<'_>>
 }
 
 fn mask_request(arguments: &Vec<(Text, Arg)>) -> Option<Request<'_>>
-    ensures { option_map plain_request result
+    ensures { option_map plain_cube_request result
         ≡ spec.mask_request (plain_named arguments.now.items) }
 {
     let cube = cube_at(arguments, "data")?;
@@ -354,7 +354,7 @@ fn mask_request(arguments: &Vec<(Text, Arg)>) -> Option<Request<'_>>
 
 /// `options` is the empty object.
 fn save_request(arguments: &Vec<(Text, Arg)>) -> Option<Request<'_>>
-    ensures { option_map plain_request result
+    ensures { option_map plain_cube_request result
         ≡ spec.save_request (plain_named arguments.now.items) }
 {
     if !has_empty_object(arguments, "options") {

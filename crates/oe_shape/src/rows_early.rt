@@ -8,7 +8,7 @@ ghost use Rattle.oe_dims.specs.declared.kind.Kind.TheVariants.{Time, Bands};
 ghost use Rattle.oe_kernel.specs.declared.border.Border.{Border};
 ghost use Rattle.oe_shape.specs.Early.{IsEarlyFault};
 ghost use Rattle.oe_shape.specs.Extents as extents;
-ghost use Rattle.oe_shape.specs.PlainRequests.{plain_kernel, plain_request};
+ghost use Rattle.oe_shape.specs.PlainRequests.{plain_kernel, plain_cube_request};
 ghost use Rattle.oe_shape.specs.Requests as request;
 ghost use Rattle.oe_shape.specs.Rows as row;
 ghost use Rattle.oe_shape.specs.Words as word;
@@ -70,8 +70,8 @@ fn lacks_needed(
     shape: &Shape,
 ) -> bool
     ensures { result ≡ ((is_some area && word.lacks_plane shape.now)
-        || (is_some time && word.lacks Time shape.now)
-        || (is_some bands.now && word.lacks Bands shape.now)) }
+        || (is_some time && word.lacks_dimension Time shape.now)
+        || (is_some bands.now && word.lacks_dimension Bands shape.now)) }
 {
     (area.is_some() && lacks_plane(shape))
         || (time.is_some() && lacks(Kind::Time, shape))
@@ -277,7 +277,7 @@ pub fn early_fault(
     two: &Shape,
 ) -> Result<Option<Code>, OutOfMemory>
     ensures { IfOk result
-        (IsEarlyFault (plain_request request.now) one.now two.now) }
+        (IsEarlyFault (plain_cube_request request.now) one.now two.now) }
 {
     match request {
         Request::LoadCollection {

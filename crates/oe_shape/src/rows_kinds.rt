@@ -51,7 +51,7 @@ pub fn takes_other_kinds(operation: &Operation, first: CellKind, second: CellKin
 /// and else that of the cube.
 pub fn kind_given(operation: &Operation, kind: CellKind) -> CellKind
     ensures { (others : List CellKind)
-        → result ≡ operations.kind_of (plain_operation operation.now) (kind ∷ others) }
+        → result ≡ operations.operation_kind (plain_operation operation.now) (kind ∷ others) }
 {
     match operation {
         Operation::EachCell(callback) => callback.kind(),

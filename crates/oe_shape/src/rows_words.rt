@@ -25,7 +25,7 @@ pub fn dimension_named(name: &str) -> Option<Kind>
 
 /// The cube lacks the dimension.
 pub fn lacks(kind: Kind, shape: &Shape) -> bool
-    ensures { result ≡ spec.lacks kind shape.now }
+    ensures { result ≡ spec.lacks_dimension kind shape.now }
 {
     shape.count(kind).is_none()
 }
@@ -59,7 +59,7 @@ pub fn names_other(name: Option<&str>) -> bool
 
 /// The first cube has this dimension, and the second lacks it.
 fn has_alone(kind: Kind, one: &Shape, two: &Shape) -> bool
-    ensures { result ≡ (not (spec.lacks kind one.now) && spec.lacks kind two.now) }
+    ensures { result ≡ (not (spec.lacks_dimension kind one.now) && spec.lacks_dimension kind two.now) }
 {
     !lacks(kind, one) && lacks(kind, two)
 }

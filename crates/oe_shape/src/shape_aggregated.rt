@@ -1,7 +1,7 @@
 // The shape of a cube with one label of t for each interval, and labels put into their order.
 ghost use Rattle.std.specs.Prelude.{◌≡◌, true, IfOk};
 ghost use Rattle.oe_dims.specs.Indices.{same_number};
-ghost use Rattle.oe_shape.specs.Labels.{is_below, is_above, in_order, are_distinct};
+ghost use Rattle.oe_shape.specs.Labels.{is_below, is_above, sorted_labels, are_distinct};
 ghost use Rattle.oe_shape.specs.Operations.{aggregated_shape};
 ghost use Rattle.oe_shape.specs.Results.{where_within_limits};
 ghost use Rattle.oe_shape.specs.ValidShapes.{AreIntervalLabels, labels_of};
@@ -15,7 +15,7 @@ use std::alloc::Global;
 /// Sorts labels that differ, so that they rise.
 pub fn sort_rising(labels: &mut [i64])
     requires differ { are_distinct same_number labels.old ≡ true }
-    ensures { labels.new ≡ in_order is_below labels.old }
+    ensures { labels.new ≡ sorted_labels is_below labels.old }
 {
     labels.sort_unstable_by(|a, b| a.cmp(b));
 }
@@ -23,7 +23,7 @@ pub fn sort_rising(labels: &mut [i64])
 /// Sorts labels that differ, so that they fall.
 pub fn sort_falling(labels: &mut [i64])
     requires differ { are_distinct same_number labels.old ≡ true }
-    ensures { labels.new ≡ in_order is_above labels.old }
+    ensures { labels.new ≡ sorted_labels is_above labels.old }
 {
     labels.sort_unstable_by(|a, b| b.cmp(a));
 }
@@ -42,7 +42,7 @@ pub fn interval_labels(alloc: Global, intervals: &[Interval]) -> Result<Vec<i64>
 /// The labels of intervals, which differ, in the order of time.
 fn labels_in_order(alloc: Global, intervals: &[Interval]) -> Result<Vec<i64>, OutOfMemory>
     requires differ { are_distinct same_number (labels_of intervals.now) ≡ true }
-    ensures { IfOk result (λ labels. labels.items ≡ in_order is_below (labels_of intervals.now)) }
+    ensures { IfOk result (λ labels. labels.items ≡ sorted_labels is_below (labels_of intervals.now)) }
 {
     let mut labels = interval_labels(alloc, intervals)?;
     sort_rising(labels.as_mut_slice());

@@ -113,8 +113,8 @@ fn kept_bands(
     }
 }
 
-/// The shape of what is kept of a cube (`load_collection` and the filters of openEO Processes), `None` where it has over
-/// 65536 bands or over 2^40 cells. Refuses: out of memory.
+/// The shape of what is kept of a cube (`load_collection` and the filters of openEO Processes), `None` where it has
+/// over 65536 bands or over 2^40 cells. Refuses: out of memory.
 pub fn kept_shape(
     alloc: Global,
     restriction: &Restriction,

@@ -5,7 +5,7 @@ ghost use Rattle.oe_dims.specs.Dimensions.{IsShape, number_labels, band_names};
 ghost use Rattle.oe_dims.specs.Indices.{same_number};
 ghost use Rattle.oe_dims.specs.Lists.{items_of};
 ghost use Rattle.oe_dims.specs.Names.{same_name};
-ghost use Rattle.oe_shape.specs.Labels.{is_below, is_above, in_order, new_among, all_in_order, all_bands, either_epsg, merged_shape};
+ghost use Rattle.oe_shape.specs.Labels.{is_below, is_above, sorted_labels, new_among, all_in_order, all_bands, either_epsg, merged_shape};
 ghost use Rattle.oe_shape.specs.Results.{numbers_along, IsRisingKind, where_within_limits};
 
 use crate::shape_aggregated::{sort_falling, sort_rising};
@@ -130,8 +130,8 @@ fn epsg_of_either(one: &Shape, two: &Shape) -> u32
     if first == 0 { second } else { first }
 }
 
-/// The shape with the labels of both cubes (`merge_cubes` of openEO Processes), `None` where it has over 65536 labels along
-/// a dimension or over 2^40 cells. Refuses: out of memory.
+/// The shape with the labels of both cubes (`merge_cubes` of openEO Processes), `None` where it has over 65536 labels
+/// along a dimension or over 2^40 cells. Refuses: out of memory.
 pub fn merged_shape(alloc: Global, one: &Shape, two: &Shape) -> Result<Option<Shape>, OutOfMemory>
     ensures { IfOk result (λ found. found ≡ where_within_limits (merged_shape one.now two.now)) }
 {

@@ -48,8 +48,8 @@ pub fn copy_bands(alloc: Global, shape: &Shape) -> Result<Option<Vec<Text>>, Out
     }
 }
 
-/// The shape of these labels, which keep every rule of a shape but its limits, `None` where there are over 65536 along a
-/// dimension or over 2^40 cells.
+/// The shape of these labels, which keep every rule of a shape but its limits, `None` where there are over 65536 along
+/// a dimension or over 2^40 cells.
 pub fn shape_within(
     epsg: u32,
     t: Option<Vec<i64>>,

@@ -2,7 +2,7 @@
 ghost use Rattle.std.specs.Prelude.{◌≡◌, Some, None, map, IfOk, IfSome};
 ghost use Rattle.std.specs.Option.{option_map};
 ghost use Rattle.oe_shape.specs.Extents as extents;
-ghost use Rattle.oe_shape.specs.PlainRequests.{plain_request};
+ghost use Rattle.oe_shape.specs.PlainRequests.{plain_cube_request};
 ghost use Rattle.oe_shape.specs.Results.{HasValidLabels, IsResultShape, where_within_limits};
 ghost use Rattle.oe_shape.specs.ValidShapes.{AreBands};
 
@@ -111,8 +111,8 @@ pub fn result_shape(
     one: &Shape,
     two: &Shape,
 ) -> Result<Option<Shape>, OutOfMemory>
-    requires labels { HasValidLabels (plain_request request.now) }
-    ensures { IfOk result (IsResultShape (plain_request request.now) one.now two.now) }
+    requires labels { HasValidLabels (plain_cube_request request.now) }
+    ensures { IfOk result (IsResultShape (plain_cube_request request.now) one.now two.now) }
 {
     match request {
         Request::LoadCollection {

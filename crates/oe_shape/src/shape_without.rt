@@ -3,7 +3,7 @@ ghost use Rattle.std.specs.Prelude.{◌≡◌, IfOk};
 ghost use Rattle.std.specs.Option.{option_map};
 ghost use Rattle.oe_dims.specs.Dimensions.{IsShape};
 ghost use Rattle.oe_dims.specs.Lists.{items_of};
-ghost use Rattle.oe_shape.specs.Operations.{without};
+ghost use Rattle.oe_shape.specs.Operations.{without_dimension};
 ghost use Rattle.oe_shape.specs.Results.{numbers_along, where_within_limits};
 
 use crate::shape_parts::{copy_bands, copy_numbers, shape_within};
@@ -19,7 +19,7 @@ fn other_numbers(
     reduced: Kind,
 ) -> Result<Option<Vec<i64>>, OutOfMemory>
     ensures { IfOk result (λ copy. option_map items_of copy
-        ≡ numbers_along kind (without reduced shape.now)) }
+        ≡ numbers_along kind (without_dimension reduced shape.now)) }
 {
     if kind == reduced {
         Ok(None)
@@ -34,7 +34,7 @@ fn other_bands(
     shape: &Shape,
     reduced: Kind,
 ) -> Result<Option<Vec<Text>>, OutOfMemory>
-    ensures { IfOk result (λ copy. option_map items_of copy ≡ (without reduced shape.now).bands) }
+    ensures { IfOk result (λ copy. option_map items_of copy ≡ (without_dimension reduced shape.now).bands) }
 {
     if reduced == Kind::Bands {
         Ok(None)
@@ -45,7 +45,7 @@ fn other_bands(
 
 /// The EPSG code of what is left, 0 where neither y nor x is.
 fn other_epsg(shape: &Shape, reduced: Kind) -> u32
-    ensures value { result ≡ (without reduced shape.now).epsg }
+    ensures value { result ≡ (without_dimension reduced shape.now).epsg }
     ensures valid { IsShape shape.now }
 {
     let epsg = shape.epsg();
@@ -58,10 +58,10 @@ fn other_epsg(shape: &Shape, reduced: Kind) -> u32
     if has_side { epsg } else { 0 }
 }
 
-/// The shape without a dimension (`reduce_dimension` of openEO Processes), `None` where it has over 2^40 cells, as one may
-/// that had a dimension without labels. Refuses: out of memory.
+/// The shape without a dimension (`reduce_dimension` of openEO Processes), `None` where it has over 2^40 cells, as one
+/// may that had a dimension without labels. Refuses: out of memory.
 pub fn without(alloc: Global, kind: Kind, shape: &Shape) -> Result<Option<Shape>, OutOfMemory>
-    ensures { IfOk result (λ found. found ≡ where_within_limits (without kind shape.now)) }
+    ensures { IfOk result (λ found. found ≡ where_within_limits (without_dimension kind shape.now)) }
 {
     let t = other_numbers(alloc, shape, Kind::Time, kind)?;
     let bands = other_bands(alloc, shape, kind)?;

@@ -12,7 +12,8 @@ use Rattle.oe_window.specs.declared.window.Window.{Window}
 abbrev pub AfterReads : (List Row → Window → List Row → Type 0) → Type 0
 AfterReads property =
     (before : List Row) (index : ℕ) (window : Window) (cells : List Cell) (after : List Row)
-    (result : Result (Unit {0}) SourceFail) → index < length before → ReadsRow before index window cells after result → property before window after
+    (result : Result (Unit {0}) SourceFail) → index < length before → ReadsRow before index window cells after result
+    → property before window after
 
 -- the number of cells asked of the catalogue rises by the size of the window at most
 abbrev pub AskNoMoreThanRead : Type 0

@@ -17,7 +17,7 @@ rows_in seen catalogue = rows_shown seen catalogue.rows.items
 abbrev pub rows_of : {X : Type 0} {F : X → Type 0} → ((x : X) × F x → Source) → Catalogue X F → List Row
 rows_of seen catalogue = rows_in (λ cube. seen (cube.vtable, cube.value)) catalogue
 
--- the reason of a refusal, none where it is want of memory
+-- the reason of a refusal, none where it is out of memory
 abbrev pub refusal_of : {X : Type 0} {F : X → Type 0} → MountFail X F → Option MountRefusal
 refusal_of (IdInvalid cube) = Some id_invalid
 refusal_of (IdTaken cube) = Some id_taken

@@ -31,7 +31,8 @@ pub record Opens (bytes : List ℕ) (file : FileState) : Type 0 where
   pub contents_are : file.source.contents ≡ Some (contents_of head bytes)
 
 -- the file has the id, the shape, the kind and the cells of a cube, and no damage
-pub record HasCube (file : FileState) (id : List ℕ) (shape : Dimensions) (kind : CellKind) (cells : List Cell) : Type 0 where
+pub record HasCube (file : FileState) (id : List ℕ) (shape : Dimensions) (kind : CellKind)
+    (cells : List Cell) : Type 0 where
   pub id_is : file.id ≡ id
   pub shape_is : file.source.shape ≡ shape
   pub kind_is : file.source.kind ≡ kind

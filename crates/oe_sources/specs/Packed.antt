@@ -29,7 +29,8 @@ abbrev pub packed_head : List ℕ → Dimensions → CellKind → List Width →
 packed_head id shape kind widths = record { id = id; kind = kind; widths = Some widths; shape = shape }
 
 -- the bytes are the packed file of a cube: a valid head with least widths, and the records of the cells
-pub record IsPacked (id : List ℕ) (shape : Dimensions) (kind : CellKind) (cells : List Cell) (bytes : List ℕ) : Type 0 where
+pub record IsPacked (id : List ℕ) (shape : Dimensions) (kind : CellKind) (cells : List Cell)
+    (bytes : List ℕ) : Type 0 where
   pub widths : List Width
   pub least : AreLeastWidths (plane_size shape) widths cells
   pub valid : IsHead (packed_head id shape kind widths)

@@ -27,8 +27,8 @@ AppendsPartOfRepacked id source before after =
     IfSome source.contents (λ c. (bytes : List ℕ)
     × IsPacked id source.shape source.kind c.cells bytes × AppendsPrefix before bytes after)
 
--- what a refusal leaves: after a failed read nothing or a prefix of the file was written, after a failed write a prefix;
--- else nothing, where the cells are visible or memory was wanting
+-- what a refusal leaves: after a failed read nothing or a prefix of the file was written, after a failed write a
+-- prefix; else nothing, where the cells are visible or memory was wanting
 abbrev pub LeavesWritten : List ℕ → Source → Option (List ℕ) → Option (List ℕ) → RepackFail → Type 0
 LeavesWritten id source before after SourceFailed = (after ≡ before) ⊎ AppendsPartOfRepacked id source before after
 LeavesWritten id source before after (SourceDamaged number) = IfSome source.contents (λ c. after ≡ before)

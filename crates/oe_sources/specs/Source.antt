@@ -65,7 +65,8 @@ TellsDamage shape contents window Failed = Unit {0}
 TellsDamage shape contents window (Damaged number) = IsDamagedIn shape contents window number
 
 -- A read of a window: what it gives, what it refuses and why, and that it changes the two counters alone.
-pub record Reads (before : Source) (window : Window) (cells : List Cell) (after : Source) (result : Result (Unit {0}) SourceFail) : Type 0 where
+pub record Reads (before : Source) (window : Window) (cells : List Cell) (after : Source)
+    (result : Result (Unit {0}) SourceFail) : Type 0 where
   pub given : OnOk result (IfSome before.contents (λ c. AreCellsOf before.shape c window cells))
   pub of_kind : OnOk result (list_all (is_null_or_of before.kind) cells ≡ true)
   pub damage : IfErr result (TellsDamage before.shape before.contents window)

@@ -331,8 +331,8 @@ impl Catalogue {
         kind_of(&self.rows[place as usize].cube)
     }
 
-    /// Does nothing. Its contract says that no read of the collection of a row has failed, where it is a generated cube:
-    /// its fault counter is 0.
+    /// Does nothing. Its contract says that no read of the collection of a row has failed, where it is a generated
+    /// cube: its fault counter is 0.
     pub fn generated_never_failed(&self, place: u32)
         requires mounted { place < length (rows_in seen self.now) }
         ensures { NeverFailed (rows_in seen self.now) place }

@@ -53,8 +53,8 @@ impl From<OutOfMemory> for RepackFail {
 /// all its cells. It reads the collection twice: once for the widths, before anything is written.
 ///
 /// Refuses: `SourceFailed` only where the collection's fault counter rose; then nothing or a prefix of the file was
-/// written. `SinkFailed` only where the output's fault counter rose; then a prefix was written. `SourceDamaged` only with
-/// a damaged position, and `OutOfMemory` where an allocation was refused; then nothing was written.
+/// written. `SinkFailed` only where the output's fault counter rose; then a prefix was written. `SourceDamaged` only
+/// with a damaged position, and `OutOfMemory` where an allocation was refused; then nothing was written.
 pub fn repack<O: Sink>(
     alloc: Global,
     catalogue: &mut Catalogue,
@@ -394,8 +394,8 @@ fn number_of_row(sides: Sides, section: u32, row: u64) -> u64 {
         .saturating_mul(sides.x)
 }
 
-/// The part of a section that is read after so many of its rows: whole planes, or rows of one plane, as many as there is
-/// room for.
+/// The part of a section that is read after so many of its rows: whole planes, or rows of one plane, as many as there
+/// is room for.
 fn part_from(sides: Sides, section: u32, done: u64) -> Part
     requires section { section < 2 ^ 32 - 1 }
     requires inside { done < sides.bands * sides.y }

@@ -20,7 +20,7 @@ use Rattle.oe_shape.specs.Stands as cubes
 use Rattle.oe_sources.specs.Catalogue.{Row}
 use Rattle.oe_sources.specs.CatalogueDims.{AreDimsOf}
 use Rattle.oe_top.proofs.Inputs.{read_whole, sizes, whole_same, within}
-use Rattle.oe_top.specs.Faults.{Stands, of_form, of_names, of_cubes}
+use Rattle.oe_top.specs.Faults.{StandsOver, of_form, of_names, of_cubes}
 use Rattle.oe_top.specs.Judged.{IsCheckedText, JudgeEnds, JudgesBytes}
 use Rattle.oe_top.specs.declared.refusal.Refusal.{Refusal}
 use Rattle.oe_top.specs.declared.refusal.Refusal.TheVariants.{Usage, Graph, NoCubeText, NotMounted, TooLarge, Overflow, ReadFault, Damaged, SpoolFault, WriteFault, OutOfMemory, SpoolDamaged}
@@ -35,25 +35,25 @@ reads_one bytes g h one two =
     cc (nodes, one.is_graph.built, two.is_graph.built)
 
 module _ (rows : List DimsRow) (bytes : List ℕ) where
-  form_only : (fault : Fault) → IsLeast (form.Stands bytes) fault → (code : Code) (node : List ℕ) → Stands rows bytes code node
+  form_only : (fault : Fault) → IsLeast (form.Stands bytes) fault → (code : Code) (node : List ℕ) → StandsOver rows bytes code node
       → is_before (record { code = code; node = node }) fault ≡ false
   form_only fault l code node (of_form s) = l.least (record { code = code; node = node }) s
   form_only fault l code node (of_names reads s) = absurd (reads.valid fault.code fault.node l.stands)
   form_only fault l code node (of_cubes reads valid s) = absurd (reads.valid fault.code fault.node l.stands)
 
   -- a fault of the form comes first
-  pub form_first : (r : graph.Refusal) → IsFault (form.Stands bytes) r → IsFault (Stands rows bytes) r
+  pub form_first : (r : graph.Refusal) → IsFault (form.Stands bytes) r → IsFault (StandsOver rows bytes) r
   form_first (refusal.Fault fault) l = record { stands = of_form l.stands; least = λ g s. form_only fault l g.code g.node s }
   form_first refusal.OutOfMemory l = tt
 
   module _ (g : PlainGraph) (reads : Reads bytes g) where
-    same_names : (h : PlainGraph) → Reads bytes h → (code : Code) (node : List ℕ) → names.Stands [] h code node → names.Stands [] g code node
-    same_names h other code node s = subst (λ k. names.Stands [] k code node) (reads_one bytes h g other reads) s
+    same_names : (h : PlainGraph) → Reads bytes h → (code : Code) (node : List ℕ) → names.StandsWithStored [] h code node → names.StandsWithStored [] g code node
+    same_names h other code node s = subst (λ k. names.StandsWithStored [] k code node) (reads_one bytes h g other reads) s
 
-    other_names : (h : PlainGraph) → Reads bytes h → (code : Code) (node : List ℕ) → names.Stands [] g code node → names.Stands [] h code node
-    other_names h other code node s = subst (λ k. names.Stands [] k code node) (reads_one bytes g h reads other) s
+    other_names : (h : PlainGraph) → Reads bytes h → (code : Code) (node : List ℕ) → names.StandsWithStored [] g code node → names.StandsWithStored [] h code node
+    other_names h other code node s = subst (λ k. names.StandsWithStored [] k code node) (reads_one bytes g h reads other) s
 
-    names_only : (fault : Fault) → IsLeast (names.Stands [] g) fault → (code : Code) (node : List ℕ) → Stands rows bytes code node
+    names_only : (fault : Fault) → IsLeast (names.StandsWithStored [] g) fault → (code : Code) (node : List ℕ) → StandsOver rows bytes code node
         → is_before (record { code = code; node = node }) fault ≡ false
     names_only fault l code node (of_form s) = absurd (reads.valid code node s)
     names_only fault l code node (of_names {g = h} other s) = l.least (record { code = code; node = node }) (same_names h other code node s)
@@ -61,48 +61,48 @@ module _ (rows : List DimsRow) (bytes : List ℕ) where
         absurd (valid fault.code fault.node (other_names h other fault.code fault.node l.stands))
 
     -- without one of the form, a fault of what it calls and names
-    pub names_next : (r : graph.Refusal) → IsFault (names.Stands [] g) r → IsFault (Stands rows bytes) r
+    pub names_next : (r : graph.Refusal) → IsFault (names.StandsWithStored [] g) r → IsFault (StandsOver rows bytes) r
     names_next (refusal.Fault fault) l = record { stands = of_names reads l.stands; least = λ f s. names_only fault l f.code f.node s }
     names_next refusal.OutOfMemory l = tt
 
-    module _ (valid : IsFaultless (names.Stands [] g)) where
-      same_cubes : (h : PlainGraph) → Reads bytes h → (code : Code) (node : List ℕ) → cubes.Stands rows (resolved [] h).nodes code node
-          → cubes.Stands rows (resolved [] g).nodes code node
+    module _ (valid : IsFaultless (names.StandsWithStored [] g)) where
+      same_cubes : (h : PlainGraph) → Reads bytes h → (code : Code) (node : List ℕ) → cubes.StandsInGraph rows (resolved [] h).nodes code node
+          → cubes.StandsInGraph rows (resolved [] g).nodes code node
       same_cubes h other code node s =
-          subst (λ k. cubes.Stands rows (resolved [] k).nodes code node) (reads_one bytes h g other reads) s
+          subst (λ k. cubes.StandsInGraph rows (resolved [] k).nodes code node) (reads_one bytes h g other reads) s
 
-      cubes_only : (fault : Fault) → IsLeast (cubes.Stands rows (resolved [] g).nodes) fault → (code : Code) (node : List ℕ)
-          → Stands rows bytes code node → is_before (record { code = code; node = node }) fault ≡ false
+      cubes_only : (fault : Fault) → IsLeast (cubes.StandsInGraph rows (resolved [] g).nodes) fault → (code : Code) (node : List ℕ)
+          → StandsOver rows bytes code node → is_before (record { code = code; node = node }) fault ≡ false
       cubes_only fault l code node (of_form s) = absurd (reads.valid code node s)
       cubes_only fault l code node (of_names {g = h} other s) = absurd (valid code node (same_names h other code node s))
       cubes_only fault l code node (of_cubes {g = h} other v s) =
           l.least (record { code = code; node = node }) (same_cubes h other code node s)
 
       -- and then one of arguments and cubes
-      pub cubes_last : (r : graph.Refusal) → IsFault (cubes.Stands rows (resolved [] g).nodes) r → IsFault (Stands rows bytes) r
+      pub cubes_last : (r : graph.Refusal) → IsFault (cubes.StandsInGraph rows (resolved [] g).nodes) r → IsFault (StandsOver rows bytes) r
       cubes_last (refusal.Fault fault) l =
           record { stands = of_cubes reads valid l.stands; least = λ f s. cubes_only fault l f.code f.node s }
       cubes_last refusal.OutOfMemory l = tt
 
       -- or none at all
-      pub none_stands : IsFaultless (cubes.Stands rows (resolved [] g).nodes) → IsFaultless (Stands rows bytes)
+      pub none_stands : IsFaultless (cubes.StandsInGraph rows (resolved [] g).nodes) → IsFaultless (StandsOver rows bytes)
       none_stands none code node (of_form s) = reads.valid code node s
       none_stands none code node (of_names {g = h} other s) = valid code node (same_names h other code node s)
       none_stands none code node (of_cubes {g = h} other v s) = none code node (same_cubes h other code node s)
 
 -- what the check of a resolved graph says of the bytes
-module _ (rows : List DimsRow) (bytes : List ℕ) (g h : PlainGraph) (reads : Reads bytes g) (valid : IsFaultless (names.Stands [] g)) (same : h ≡ resolved [] g) where
+module _ (rows : List DimsRow) (bytes : List ℕ) (g h : PlainGraph) (reads : Reads bytes g) (valid : IsFaultless (names.StandsWithStored [] g)) (same : h ≡ resolved [] g) where
   checked_valid : (result : Result CheckedGraph graph.Refusal)
       → IfOk result (λ c. c ≡ record { nodes = h.nodes; result = h.result; rows = rows })
-      → IfOk result (λ c. IsFaultless (cubes.Stands c.rows c.nodes)) → IfOk result (λ c. IsFaultless (Stands rows bytes))
+      → IfOk result (λ c. IsFaultless (cubes.StandsInGraph c.rows c.nodes)) → IfOk result (λ c. IsFaultless (StandsOver rows bytes))
   checked_valid (Err e) is none = tt
   checked_valid (Ok c) is none =
-      let here : IsFaultless (cubes.Stands rows h.nodes) = subst (λ (k : CheckedGraph). IsFaultless (cubes.Stands k.rows k.nodes)) is none in
-      none_stands rows bytes g reads valid (subst (λ (k : PlainGraph). IsFaultless (cubes.Stands rows k.nodes)) same here)
+      let here : IsFaultless (cubes.StandsInGraph rows h.nodes) = subst (λ (k : CheckedGraph). IsFaultless (cubes.StandsInGraph k.rows k.nodes)) is none in
+      none_stands rows bytes g reads valid (subst (λ (k : PlainGraph). IsFaultless (cubes.StandsInGraph rows k.nodes)) same here)
 
   pub checked_text : (result : Result CheckedGraph graph.Refusal)
       → IfOk result (λ c. c ≡ record { nodes = h.nodes; result = h.result; rows = rows })
-      → IfOk result (λ c. IsFaultless (cubes.Stands c.rows c.nodes)) → IfOk result (IsCheckedText rows bytes)
+      → IfOk result (λ c. IsFaultless (cubes.StandsInGraph c.rows c.nodes)) → IfOk result (IsCheckedText rows bytes)
   checked_text (Err e) is none = tt
   checked_text (Ok c) is none = record {
     graph = g;
@@ -111,11 +111,11 @@ module _ (rows : List DimsRow) (bytes : List ℕ) (g h : PlainGraph) (reads : Re
     checked_is = is ∙ ap (λ (k : PlainGraph). record { nodes = k.nodes; result = k.result; rows = rows }) same;
   }
 
-  pub checked_refused : (result : Result CheckedGraph graph.Refusal) → IfErr result (IsFault (cubes.Stands rows h.nodes))
-      → IfErr result (IsFault (Stands rows bytes))
+  pub checked_refused : (result : Result CheckedGraph graph.Refusal) → IfErr result (IsFault (cubes.StandsInGraph rows h.nodes))
+      → IfErr result (IsFault (StandsOver rows bytes))
   checked_refused (Ok c) refused = tt
   checked_refused (Err e) refused =
-      cubes_last rows bytes g reads valid e (subst (λ (k : PlainGraph). IsFault (cubes.Stands rows k.nodes) e) same refused)
+      cubes_last rows bytes g reads valid e (subst (λ (k : PlainGraph). IsFault (cubes.StandsInGraph rows k.nodes) e) same refused)
 
 -- ---- an input over the limit
 
@@ -131,7 +131,7 @@ count_after [] = refl
 count_after (b ∷ name) = refl
 
 module _ (rows : List DimsRow) (bytes : List ℕ) (long : most_input < length bytes) where
-  long_only : (code : Code) (node : List ℕ) → Stands rows bytes code node
+  long_only : (code : Code) (node : List ℕ) → StandsOver rows bytes code node
       → is_before (record { code = code; node = node }) too_long ≡ false
   long_only code node (of_form (form.input_too_long _)) = refl
   long_only code node (of_form (form.graph_unreadable _)) = refl
@@ -143,21 +143,21 @@ module _ (rows : List DimsRow) (bytes : List ℕ) (long : most_input < length by
   long_only code node (of_names reads s) = absurd (reads.valid InputTooLong [] (form.input_too_long long))
   long_only code node (of_cubes reads valid s) = absurd (reads.valid InputTooLong [] (form.input_too_long long))
 
-  long_least : IsLeast (Stands rows bytes) too_long
+  long_least : IsLeast (StandsOver rows bytes) too_long
   long_least = record { stands = of_form (form.input_too_long long); least = λ f s. long_only f.code f.node s }
 
 -- ---- the input
 
 fault_of_all : (rows : List DimsRow) (before : Option (List ℕ)) (bytes : List ℕ) (after : Option (List ℕ)) (fault : Fault)
-    → ReadsUpTo most_input before bytes after → IsLeast (Stands rows bytes) fault
-    → IfSome before (λ all. IsLeast (Stands rows all) fault)
+    → ReadsUpTo most_input before bytes after → IsLeast (StandsOver rows bytes) fault
+    → IfSome before (λ all. IsLeast (StandsOver rows all) fault)
 fault_of_all rows None bytes after fault read l = tt
 fault_of_all rows (Some visible) bytes after fault read l = elim (sizes (length bytes) most_input) [
-  | inl short ↦ subst (λ b. IsLeast (Stands rows b) fault) (whole_same visible bytes after read short) l
+  | inl short ↦ subst (λ b. IsLeast (StandsOver rows b) fault) (whole_same visible bytes after read short) l
   | inr long ↦
       let further : length bytes ≤ length visible = within visible bytes after read in
-      let same : fault ≡ too_long = IsLeast-unique (Stands rows bytes) fault too_long l (long_least rows bytes long) in
-      subst (IsLeast (Stands rows visible)) (sym same) (long_least rows visible (omega arith))
+      let same : fault ≡ too_long = IsLeast-unique (StandsOver rows bytes) fault too_long l (long_least rows bytes long) in
+      subst (IsLeast (StandsOver rows visible)) (sym same) (long_least rows visible (omega arith))
 ]
 
 -- what judging the bytes that were read says of the input

@@ -1,7 +1,7 @@
 -- Words spell one command alone.
 use Rattle.std.proofs.Common.{◌≡◌, ℕ, ◌^◌, ◌<◌, List, [], ◌∷◌, get_or, refl, sym, ap, ◌∙◌, codes, arith}
 use Rattle.oe_top.proofs.Numbers.{one_number}
-use Rattle.oe_top.specs.Words.{AreNumbers, IsNumberWord, Spells, SpellsDemo, SpellsId, SpellsNumbers}
+use Rattle.oe_top.specs.Words.{AreRunNumbers, IsNumberWord, Spells, SpellsDemo, SpellsId, SpellsNumbers}
 use Rattle.oe_top.specs.declared.words.Command.{Command}
 use Rattle.oe_top.specs.declared.words.Command.TheVariants.{Run, Plan, Demo, Check, Pack, Repack}
 use Rattle.oe_window.specs.declared.grid.ChunkSize.{ChunkSize}

@@ -16,7 +16,7 @@ use Rattle.oe_dims.proofs.CubeLemmas.{position_there}
 use Rattle.oe_engine.specs.Collections.{AreRead, LoadRose, without_counts}
 use Rattle.oe_engine.specs.Laws.{BeginAndEnd, GivesCollections, LoadsVisible}
 use Rattle.oe_engine.specs.Rounds.{KeepsDamage}
-use Rattle.oe_engine.specs.Runs.{HasDone, HasRecords, IsHiddenDamage, RunOf, ShowsDone, chunk_total, chunks_from, result_cube, result_shape}
+use Rattle.oe_engine.specs.Runs.{HasDone, HasRunRecords, IsHiddenDamage, RunOf, ShowsDone, chunk_total, chunks_from, result_cube, result_shape}
 use Rattle.oe_engine.specs.declared.rounds.RunFail.{RunFail}
 use Rattle.oe_engine.specs.declared.rounds.RunFail.TheVariants as run
 use Rattle.oe_engine.proofs.GridLemmas.{all_inside}
@@ -26,7 +26,7 @@ use Rattle.oe_outside.specs.Stored.{HoldsAt, StoreHolds}
 use Rattle.oe_outside.specs.Visible.{Appends, AppendsPrefix}
 use Rattle.oe_outside.proofs.Causes.{NeverFalls-refl, NeverFalls-trans, then-Rose}
 use Rattle.oe_outside.proofs.Stores.{HoldsAt-inside}
-use Rattle.oe_plan.specs.Figures.{bound_of, most_cells}
+use Rattle.oe_plan.specs.Figures.{bound_of, most_held_cells}
 use Rattle.oe_plan.specs.Plans.{IsPlan, PlanOf}
 use Rattle.oe_window.specs.declared.grid.ChunkSize.{ChunkSize}
 use Rattle.oe_render.specs.declared.rendering.RenderFail.{RenderFail}
@@ -89,7 +89,7 @@ module _ (r : RunOf) (is : IsPlan r.plan) (complete : r.done ≡ chunk_total r.p
   in_chunks q h = subst (λ n. IsInSome (chunks_from r.plan 0 n) q) (sym complete) (all_inside r.plan is q h)
 
   -- each number has a cell in the spool
-  pub spooled : (store : Option (List ℕ)) → r.over ≡ None → HasRecords r store → (number : ℕ)
+  pub spooled : (store : Option (List ℕ)) → r.over ≡ None → HasRunRecords r store → (number : ℕ)
       → HasSpooled store (cell_count (result_shape r.plan)) number
   spooled store numbers records number = elim (sizes (cell_count (result_shape r.plan)) number) [
     | inl past ↦ (Empty, record { valid = tt; numbered = λ e. cc; held = λ below. absurd (omega (arith, past, below)); missing = λ more. refl })
@@ -436,14 +436,14 @@ module _ (seed side : ℕ) (size : ChunkSize) (workers : ℕ) (graph : CheckedGr
         by (Err (SpoolDamaged line)) e = demonstrated (Err (SpoolDamaged line)) e
 
   -- and where it would hold too many cells
-  pub too_large : (line : Vec ℕ Global) (cells : ℕ) → (cells ≡ bound_of graph size workers) × (most_cells < cells)
+  pub too_large : (line : Vec ℕ Global) (cells : ℕ) → (cells ≡ bound_of graph size workers) × (most_held_cells < cells)
       → line.items ≡ number_line (codes "PlanTooLarge") cells
       → DemoAnswers seed side size workers first first (Err (TooLarge line))
   too_large line cells (is, over) said = record {
     ends = record {
       graph = graph;
       text = checked;
-      over = subst (λ n. most_cells < n) is over;
+      over = subst (λ n. most_held_cells < n) is over;
       line_is = said ∙ ap (number_line (codes "PlanTooLarge")) is;
       unwritten = record { out = refl; faults = refl };
     };

@@ -9,7 +9,7 @@ use Rattle.oe_top.specs.PackAnswer.{PackAnswers, PackEnds}
 use Rattle.oe_top.specs.PlanAnswer.{PlanEnds}
 use Rattle.oe_top.specs.RepackAnswer.{RepackAnswers, RepackEnds}
 use Rattle.oe_top.specs.RunAnswer.{RunEnds}
-use Rattle.oe_top.specs.Words.{IsCommand, Spells, SpellsId, id_in}
+use Rattle.oe_top.specs.Words.{SpellsCommand, Spells, SpellsId, id_in}
 use Rattle.oe_top.specs.declared.refusal.Refusal.{Refusal}
 use Rattle.oe_top.specs.declared.refusal.Refusal.TheVariants.{Usage}
 use Rattle.oe_top.specs.declared.words.Command.{Command}
@@ -57,7 +57,7 @@ ends_repack words word before after ending spells is answers =
 
 -- ---- no command
 
-pub ends_usage : (words : List (List ℕ)) (here : Objects) → ¬ IsCommand words → Ends words here here (Err Usage)
+pub ends_usage : (words : List (List ℕ)) (here : Objects) → ¬ SpellsCommand words → Ends words here here (Err Usage)
 ends_usage words here denied = record {
   usage = (λ _. denied, λ _. refl);
   usage_keeps = λ _. refl;

@@ -15,7 +15,7 @@ use Rattle.oe_graph.specs.Tree.{PlainNode}
 use Rattle.oe_render.specs.declared.rendering.RenderFail.{RenderFail}
 use Rattle.oe_render.specs.declared.rendering.RenderFail.TheVariants as text
 use Rattle.oe_shape.specs.Checked.{CheckedGraph, collection_of_node}
-use Rattle.oe_shape.specs.Links.{collection_of}
+use Rattle.oe_shape.specs.Links.{loaded_collection}
 use Rattle.oe_shape.proofs.LinkLemmas.{each_count}
 use Rattle.oe_sources.specs.Catalogue.{Row}
 use Rattle.oe_sources.specs.CatalogueLaws.{HaveValidIds}
@@ -54,7 +54,7 @@ short_name id valid =
 node_there : (c : CheckedGraph) (node : ℕ) (id : List ℕ) → collection_of_node c node ≡ Some id → node < node_count c.nodes
 node_there c node id loads = by (slice_get (each_node c.nodes) node) refl loads
   where
-    by : (o : Option PlainNode) → slice_get (each_node c.nodes) node ≡ o → option_and_then collection_of o ≡ Some id → node < node_count c.nodes
+    by : (o : Option PlainNode) → slice_get (each_node c.nodes) node ≡ o → option_and_then loaded_collection o ≡ Some id → node < node_count c.nodes
     by None is e = absurd cc
     by (Some n) is e = subst (λ (count : ℕ). node < count) (each_count c.nodes) (slice_get_within (each_node c.nodes) node n is)
 

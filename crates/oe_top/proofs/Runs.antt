@@ -4,7 +4,7 @@ use Rattle.std.specs.declared.alloc.Global.{Global}
 use Rattle.oe_graph.specs.Form.{most_input}
 use Rattle.oe_outside.specs.Faults.{NeverFalls}
 use Rattle.oe_outside.specs.Input.{TakesAtMost}
-use Rattle.oe_plan.specs.Figures.{bound_of, most_cells}
+use Rattle.oe_plan.specs.Figures.{bound_of, most_held_cells}
 use Rattle.oe_plan.specs.Plans.{PlanOf}
 use Rattle.oe_shape.specs.Checked.{CheckedGraph}
 use Rattle.oe_sources.specs.CatalogueDims.{dims_of}
@@ -50,7 +50,7 @@ module _ (size : ChunkSize) (workers : ℕ) (before after : Objects) (graph : Ch
     }
 
   -- the line of a bound that is too large
-  pub run_too_large : (cells : ℕ) (line : Vec ℕ Global) → (cells ≡ bound_of graph size workers) × (most_cells < cells)
+  pub run_too_large : (cells : ℕ) (line : Vec ℕ Global) → (cells ≡ bound_of graph size workers) × (most_held_cells < cells)
       → line.items ≡ number_line (codes "PlanTooLarge") cells → IsUntouched before after
       → TakesAtMost before.input (most_input + 1) after.input → NeverFalls before.input_faults after.input_faults
       → NeverFalls before.out_faults after.out_faults → NeverFalls before.spool_faults after.spool_faults
@@ -59,7 +59,7 @@ module _ (size : ChunkSize) (workers : ℕ) (before after : Objects) (graph : Ch
     ends = record {
       graph = graph;
       input = input;
-      over = subst (λ (n : ℕ). most_cells < n) large.0 large.1;
+      over = subst (λ (n : ℕ). most_held_cells < n) large.0 large.1;
       line_is = said ∙ ap (number_line (codes "PlanTooLarge")) large.0;
       untouched = untouched;
     };

@@ -8,7 +8,7 @@ use Rattle.oe_top.specs.PackAnswer.{PackAnswers}
 use Rattle.oe_top.specs.PlanAnswer.{PlanAnswers}
 use Rattle.oe_top.specs.RepackAnswer.{RepackAnswers}
 use Rattle.oe_top.specs.RunAnswer.{RunAnswers}
-use Rattle.oe_top.specs.Words.{IsCommand, Spells, id_in}
+use Rattle.oe_top.specs.Words.{SpellsCommand, Spells, id_in}
 use Rattle.oe_top.specs.declared.refusal.Refusal.{Refusal}
 use Rattle.oe_top.specs.declared.refusal.Refusal.TheVariants.{Usage}
 use Rattle.oe_top.specs.declared.words.Command.{Command}
@@ -18,15 +18,16 @@ use Rattle.oe_top.specs.declared.words.Command.TheVariants.{Run, Plan, Demo, Che
 abbrev pub CommandEnds : List (List ℕ) → Command → Objects → Objects → Result (Unit {0}) Refusal → Type 0
 CommandEnds words (Run size workers) before after ending = RunAnswers size workers before after ending
 CommandEnds words (Plan size workers) before after ending = PlanAnswers size workers before after ending
-CommandEnds words (Demo seed side size workers) before after ending = DemoAnswers seed side size workers before after ending
+CommandEnds words (Demo seed side size workers) before after ending =
+    DemoAnswers seed side size workers before after ending
 CommandEnds words Check before after ending = CheckAnswers before after ending
 CommandEnds words Pack before after ending = PackAnswers (id_in words) before after ending
 CommandEnds words Repack before after ending = RepackAnswers (id_in words) before after ending
 
--- How a call ends: by the table of the command that the words spell. `Usage` comes exactly where they spell none, before
--- anything is read or allocated, and leaves all as it was.
+-- How a call ends: by the table of the command that the words spell. `Usage` comes exactly where they spell none,
+-- before anything is read or allocated, and leaves all as it was.
 pub record Ends (words : List (List ℕ)) (before after : Objects) (ending : Result (Unit {0}) Refusal) : Type 0 where
-  pub usage : (ending ≡ Err Usage) ↔ ¬ IsCommand words
+  pub usage : (ending ≡ Err Usage) ↔ ¬ SpellsCommand words
   pub usage_keeps : ending ≡ Err Usage → after ≡ before
   pub answers : (command : Command) → Spells words command → CommandEnds words command before after ending
 

@@ -2,14 +2,14 @@
 use Rattle.std.specs.Prelude.{◌≡◌, ◌<◌, ℕ, List, None, Result, Ok, Err, codes}
 use Rattle.oe_outside.specs.Faults.{NeverFalls, Rose}
 use Rattle.oe_outside.specs.Visible.{Appends, AppendsPrefix}
-use Rattle.oe_plan.specs.Figures.{bound_of, most_cells}
+use Rattle.oe_plan.specs.Figures.{bound_of, most_held_cells}
 use Rattle.oe_plan.specs.Plans.{PlanOf}
 use Rattle.oe_shape.specs.Checked.{CheckedGraph}
 use Rattle.oe_sources.specs.Catalogue.{Row, demonstration}
 use Rattle.oe_sources.specs.CatalogueDims.{dims_of}
 use Rattle.oe_window.specs.declared.grid.ChunkSize.{ChunkSize}
 use Rattle.oe_top.specs.Demonstration.{demo_graph, demo_text}
-use Rattle.oe_top.specs.Evaluated.{HasNoOver, IsOverFirst, IsPlanOf, IsVisible, result_of}
+use Rattle.oe_top.specs.Evaluated.{IsWithoutOver, IsOverFirst, IsPlanOf, IsVisible, result_of}
 use Rattle.oe_top.specs.Judged.{IsCheckedText, NamesFaultOf}
 use Rattle.oe_top.specs.Lines.{number_line}
 use Rattle.oe_top.specs.Objects.{Objects}
@@ -28,7 +28,7 @@ pub record IsDemonstration (rows : List Row) : Type 0 where
 module _ (rows : List Row) (p : PlanOf) (before after : Objects) where
   -- 0: no cell of the result is Over, and its figures follow what the output held
   pub record WritesFigures : Type 0 where
-    pub numbers : HasNoOver (result_of rows p.graph)
+    pub numbers : IsWithoutOver (result_of rows p.graph)
     pub text : IsVisible before.spool → Appends before.out (demo_text (result_of rows p.graph)) after.out
 
   -- 4: this is the least number of a cell of the result that is Over
@@ -100,7 +100,7 @@ module _ (seed side : ℕ) (size : ChunkSize) (workers : ℕ) where
     pub record IsTooLarge (line : List ℕ) : Type 0 where
       pub graph : CheckedGraph
       pub text : IsDemoGraph graph
-      pub over : most_cells < bound_of graph size workers
+      pub over : most_held_cells < bound_of graph size workers
       pub line_is : line ≡ number_line (codes "PlanTooLarge") (bound_of graph size workers)
       pub unwritten : IsUnwritten before after
 

@@ -7,8 +7,8 @@ use Rattle.oe_cell.specs.declared.cell.Cell.TheVariants.{Empty, Over}
 use Rattle.oe_dims.specs.Cube.{Cube}
 use Rattle.oe_spool.specs.Spooled.{HoldsRecord}
 
--- the collection `demo` whole, then a kernel of 3 × 3 ones whose border repeats the nearest pixel, then the greatest cell
--- of the bands
+-- the collection `demo` whole, then a kernel of 3 × 3 ones whose border repeats the nearest pixel, then the greatest
+-- cell of the bands
 abbrev pub demo_graph : List ℕ
 demo_graph =
     codes "{\"process_graph\":{\"load\":{\"process_id\":\"load_collection\",\"arguments\":{\"id\":\"demo\",\"spatial_extent\":null,\"temporal_extent\":null}},"
@@ -19,7 +19,8 @@ demo_graph =
 -- so many cells, and the first and the last of them
 abbrev pub figures_text : ℕ → Cell → Cell → List ℕ
 figures_text count first last =
-    codes "cells " ++ decimal count ++ codes " first " ++ cell_text first ++ codes " last " ++ cell_text last ++ codes "\n"
+    codes "cells " ++ decimal count ++ codes " first " ++ cell_text first ++ codes " last " ++ cell_text last ++ codes
+    "\n"
 
 -- how many cells a cube has, and its first and its last cell; null where it has none
 abbrev pub demo_text : Cube Cell → List ℕ
@@ -27,8 +28,8 @@ demo_text cube =
     let count = length cube.cells in
     figures_text count (slice_index_or cube.cells 0 Empty) (slice_index_or cube.cells (count - 1) Empty)
 
--- the cell of a number among so many whose records a spool has from its first byte on, a valid one that is not Over; null
--- where there are not so many
+-- the cell of a number among so many whose records a spool has from its first byte on, a valid one that is not Over;
+-- null where there are not so many
 pub record IsSpooled (store : Option (List ℕ)) (count number : ℕ) (cell : Cell) : Type 0 where
   pub valid : IsCell cell
   pub numbered : cell ≢ Over

@@ -6,7 +6,7 @@ use Rattle.oe_dims.specs.Cube.{Cube}
 use Rattle.oe_engine.specs.Collections.{AreRead, LoadRose, Shows}
 use Rattle.oe_engine.specs.Laws.{LoadsVisible, collections_of}
 use Rattle.oe_engine.specs.Rounds.{KeepsDamage}
-use Rattle.oe_engine.specs.Runs.{HasDone, HasRecords, RunOf, chunk_total, load_count, result_cube}
+use Rattle.oe_engine.specs.Runs.{HasDone, HasRunRecords, RunOf, chunk_total, load_count, result_cube}
 use Rattle.oe_engine.specs.declared.rounds.RunFail.{RunFail}
 use Rattle.oe_engine.specs.declared.rounds.RunFail.TheVariants as run
 use Rattle.oe_graph.specs.Printed.{node_count}
@@ -36,8 +36,8 @@ abbrev pub OfMeaning : List Row → CheckedGraph → (Cube Cell → Type 0) → 
 OfMeaning rows c Holds = LoadsVisible c rows → Holds (result_of rows c)
 
 -- no cell is Over
-abbrev pub HasNoOver : Cube Cell → Type 0
-HasNoOver cube = least_over_of cube.cells ≡ None
+abbrev pub IsWithoutOver : Cube Cell → Type 0
+IsWithoutOver cube = least_over_of cube.cells ≡ None
 
 -- this is the least row-major number of a cell that is Over
 abbrev pub IsOverFirst : ℕ → Cube Cell → Type 0
@@ -50,8 +50,8 @@ IsVisible (Some bytes) = ⊤
 
 -- ---- plans and rounds
 
--- this is the plan of a graph, in chunks of a size and with so many workers; that it is a plan has that its run holds no
--- more cells than are allowed
+-- this is the plan of a graph, in chunks of a size and with so many workers; that it is a plan has that its run holds
+-- no more cells than are allowed
 pub record IsPlanOf (c : CheckedGraph) (size : ChunkSize) (workers : ℕ) (p : PlanOf) : Type 0 where
   pub graph_is : p.graph ≡ c
   pub planned : IsPlan p
@@ -78,7 +78,7 @@ pub record Goes (before after : RunOf) (rows rows_after : List Row) (store store
   pub plan : after.plan ≡ before.plan
   pub base : after.base ≡ before.base
   pub within : after.done ≤ chunk_total before.plan
-  pub records : HasRecords after store_after
+  pub records : HasRunRecords after store_after
   pub values : (collections : Collections) → AreCollectionsOf before.plan.graph collections
       → Shows before.plan.graph rows collections → HasDone after store_after (result_cube collections before.plan)
   pub read : AreRead rows rows_after
@@ -91,7 +91,8 @@ pub record GoesThrough (before after : RunOf) (rows rows_after : List Row) (stor
   pub reads : ReadsForPlan before.plan rows rows_after
   pub done : OnOk result (after.done ≡ chunk_total before.plan)
   pub read_cause : IsErrOf result run.SourceFailed → LoadRose before.plan.graph rows rows_after
-  pub says : (load number : ℕ) → IsErrOf result (run.SourceDamaged load number) → KeepsDamage before.plan.graph rows load number
+  pub says : (load number : ℕ) → IsErrOf result (run.SourceDamaged load number)
+      → KeepsDamage before.plan.graph rows load number
   pub spool_cause : HasCauseOf run.SpoolFailed faults faults_after result
 
 -- and then the look for a cell that is Over

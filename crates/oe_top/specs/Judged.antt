@@ -9,7 +9,7 @@ use Rattle.oe_outside.specs.Faults.{NeverFalls, Rose}
 use Rattle.oe_outside.specs.Input.{ReadsUpTo, TakesAtMost}
 use Rattle.oe_resolve.specs.Filled.{resolved}
 use Rattle.oe_shape.specs.Checked.{CheckedGraph}
-use Rattle.oe_top.specs.Faults.{Stands, fault_line}
+use Rattle.oe_top.specs.Faults.{StandsOver, fault_line}
 use Rattle.oe_graph.specs.Form.{most_input}
 use Rattle.oe_top.specs.Objects.{IsReadWhole}
 use Rattle.oe_top.specs.declared.refusal.Refusal.{Refusal}
@@ -24,7 +24,7 @@ module _ (rows : List DimsRow) where
   pub record IsCheckedText (bytes : List ℕ) (c : CheckedGraph) : Type 0 where
     pub graph : PlainGraph
     pub reads : Reads bytes graph
-    pub valid : IsFaultless (Stands rows bytes)
+    pub valid : IsFaultless (StandsOver rows bytes)
     pub checked_is : c ≡ checked_over rows graph
 
   -- the whole input was read, and it is such a text
@@ -37,7 +37,7 @@ module _ (rows : List DimsRow) where
   pub record NamesFaultOf (bytes line : List ℕ) : Type 0 where
     pub fault : Fault
     pub line_is : line ≡ fault_line fault
-    pub least : IsLeast (Stands rows bytes) fault
+    pub least : IsLeast (StandsOver rows bytes) fault
 
   -- The line names the least fault of the input. Over the limit one byte more was read; the fault is that of all of it,
   -- where it is visible.
@@ -45,7 +45,7 @@ module _ (rows : List DimsRow) where
     pub bytes : List ℕ
     pub was_read : ReadsUpTo most_input before bytes after
     pub names : NamesFaultOf bytes line
-    pub of_all : IfSome before (λ all. IsLeast (Stands rows all) names.fault)
+    pub of_all : IfSome before (λ all. IsLeast (StandsOver rows all) names.fault)
 
 -- what reading and judging an input answers
 abbrev pub JudgeEnds : List DimsRow → Option (List ℕ) → ℕ → Option (List ℕ) → ℕ → Result CheckedGraph Refusal → Type 0
@@ -63,7 +63,8 @@ JudgeEnds rows before before_faults after after_faults (Err WriteFault) = ⊥
 JudgeEnds rows before before_faults after after_faults (Err OutOfMemory) = ⊤
 JudgeEnds rows before before_faults after after_faults (Err (SpoolDamaged line)) = ⊥
 
-pub record JudgesInput (before : Option (List ℕ)) (before_faults : ℕ) (rows : List DimsRow) (after : Option (List ℕ)) (after_faults : ℕ) (result : Result CheckedGraph Refusal) : Type 0 where
+pub record JudgesInput (before : Option (List ℕ)) (before_faults : ℕ) (rows : List DimsRow) (after : Option (List ℕ))
+    (after_faults : ℕ) (result : Result CheckedGraph Refusal) : Type 0 where
   pub ends : JudgeEnds rows before before_faults after after_faults result
   pub taken : TakesAtMost before (most_input + 1) after
   pub count : NeverFalls before_faults after_faults

@@ -14,7 +14,8 @@ use Rattle.oe_top.specs.declared.refusal.Refusal.{Refusal}
 use Rattle.oe_top.specs.declared.refusal.Refusal.TheVariants.{Usage, Graph, NoCubeText, NotMounted, TooLarge, Overflow, ReadFault, Damaged, SpoolFault, WriteFault, OutOfMemory, SpoolDamaged}
 
 -- the whole input was read, and it is the text of this cube
-pub record IsTextInput (before after : Objects) (shape : Dimensions) (kind : CellKind) (cells : List Cell) : Type 0 where
+pub record IsTextInput (before after : Objects) (shape : Dimensions) (kind : CellKind)
+    (cells : List Cell) : Type 0 where
   pub bytes : List ℕ
   pub read_whole : IsReadWhole before.input after.input bytes
   pub text : IsCubeText bytes shape kind cells

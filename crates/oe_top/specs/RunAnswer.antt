@@ -6,13 +6,13 @@ use Rattle.oe_graph.specs.Form.{most_input}
 use Rattle.oe_outside.specs.Faults.{NeverFalls, Rose}
 use Rattle.oe_outside.specs.Input.{TakesAtMost}
 use Rattle.oe_outside.specs.Visible.{Appends, AppendsPrefix}
-use Rattle.oe_plan.specs.Figures.{bound_of, most_cells}
+use Rattle.oe_plan.specs.Figures.{bound_of, most_held_cells}
 use Rattle.oe_plan.specs.Plans.{PlanOf}
 use Rattle.oe_render.specs.Text.{cube_text}
 use Rattle.oe_shape.specs.Checked.{CheckedGraph, collection_of_node}
 use Rattle.oe_sources.specs.CatalogueDims.{dims_of}
 use Rattle.oe_window.specs.declared.grid.ChunkSize.{ChunkSize}
-use Rattle.oe_top.specs.Evaluated.{HasNoOver, IsOverFirst, IsPlanOf, IsVisible, OfMeaning, ReadsForPlan}
+use Rattle.oe_top.specs.Evaluated.{IsWithoutOver, IsOverFirst, IsPlanOf, IsVisible, OfMeaning, ReadsForPlan}
 use Rattle.oe_top.specs.Judged.{IsCheckedInput, NamesFault}
 use Rattle.oe_top.specs.Lines.{damage_line, number_line}
 use Rattle.oe_top.specs.Objects.{Objects, IsUntouched}
@@ -25,7 +25,7 @@ use Rattle.oe_top.specs.declared.refusal.Refusal.TheVariants.{Usage, Graph, NoCu
 module _ (p : PlanOf) (before after : Objects) where
   -- 0: no cell of the result is Over, and the text of what the graph means follows what the output held
   pub record WritesText : Type 0 where
-    pub numbers : OfMeaning before.collections p.graph HasNoOver
+    pub numbers : OfMeaning before.collections p.graph IsWithoutOver
     pub text : IsVisible before.spool → OfMeaning before.collections p.graph
         (λ cube. Appends before.out (cube_text cube) after.out)
 
@@ -95,7 +95,7 @@ module _ (size : ChunkSize) (workers : ℕ) (before after : Objects) where
   pub record IsTooLarge (line : List ℕ) : Type 0 where
     pub graph : CheckedGraph
     pub input : IsCheckedInput (dims_of before.collections) before.input after.input graph
-    pub over : most_cells < bound_of graph size workers
+    pub over : most_held_cells < bound_of graph size workers
     pub line_is : line ≡ number_line (codes "PlanTooLarge") (bound_of graph size workers)
     pub untouched : IsUntouched before after
 

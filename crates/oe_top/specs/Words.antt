@@ -18,8 +18,8 @@ pub record AreSides (cx cy ct : List ℕ) (size : ChunkSize) : Type 0 where
   pub t : IsNumberWord 1 4096 ct size.t
 
 -- four words that spell the sides of a chunk and a number of workers, from 1 to 64
-abbrev pub AreNumbers : List ℕ → List ℕ → List ℕ → List ℕ → ChunkSize → ℕ → Type 0
-AreNumbers cx cy ct w size workers = AreSides cx cy ct size × IsNumberWord 1 64 w workers
+abbrev pub AreRunNumbers : List ℕ → List ℕ → List ℕ → List ℕ → ChunkSize → ℕ → Type 0
+AreRunNumbers cx cy ct w size workers = AreSides cx cy ct size × IsNumberWord 1 64 w workers
 
 -- `VERB CX CY CT W`: a verb, the sides of a chunk and a number of workers
 pub record SpellsNumbers (verb : List ℕ) (words : List (List ℕ)) (size : ChunkSize) (workers : ℕ) : Type 0 where
@@ -28,7 +28,7 @@ pub record SpellsNumbers (verb : List ℕ) (words : List (List ℕ)) (size : Chu
   pub ct : List ℕ
   pub w : List ℕ
   pub words_are : words ≡ verb ∷ cx ∷ cy ∷ ct ∷ w ∷ []
-  pub numbers : AreNumbers cx cy ct w size workers
+  pub numbers : AreRunNumbers cx cy ct w size workers
 
 -- `demo SEED SIDE CX CY CT W`: a seed, a side in pixels, the sides of a chunk and a number of workers
 pub record SpellsDemo (words : List (List ℕ)) (seed side : ℕ) (size : ChunkSize) (workers : ℕ) : Type 0 where
@@ -41,7 +41,7 @@ pub record SpellsDemo (words : List (List ℕ)) (seed side : ℕ) (size : ChunkS
   pub words_are : words ≡ codes "demo" ∷ seed_word ∷ side_word ∷ cx ∷ cy ∷ ct ∷ w ∷ []
   pub seed_is : IsNumberWord 0 1000000000 seed_word seed
   pub side_is : IsNumberWord 1 1024 side_word side
-  pub numbers : AreNumbers cx cy ct w size workers
+  pub numbers : AreRunNumbers cx cy ct w size workers
 
 -- `VERB ID`: a verb and the id of a collection
 pub record SpellsId (verb : List ℕ) (words : List (List ℕ)) : Type 0 where
@@ -63,5 +63,5 @@ Spells words Pack = SpellsId (codes "pack") words
 Spells words Repack = SpellsId (codes "repack") words
 
 -- the words spell a command
-abbrev pub IsCommand : List (List ℕ) → Type 0
-IsCommand words = (command : Command) × Spells words command
+abbrev pub SpellsCommand : List (List ℕ) → Type 0
+SpellsCommand words = (command : Command) × Spells words command

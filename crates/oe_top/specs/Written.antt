@@ -12,7 +12,8 @@ pub record IsUnwritten (before after : Objects) : Type 0 where
   pub faults : after.out_faults ≡ before.out_faults
 
 -- the fault counter of the output rose, and a prefix of the text stands there
-pub record StopsWriting (text : List ℕ) (before : Option (List ℕ)) (before_faults : ℕ) (after : Option (List ℕ)) (after_faults : ℕ) : Type 0 where
+pub record StopsWriting (text : List ℕ) (before : Option (List ℕ)) (before_faults : ℕ) (after : Option (List ℕ))
+    (after_faults : ℕ) : Type 0 where
   pub rose : Rose before_faults after_faults
   pub prefix : AppendsPrefix before text after
 
@@ -28,10 +29,12 @@ WriteEnds text before before_faults after after_faults (Err (Overflow line)) = �
 WriteEnds text before before_faults after after_faults (Err ReadFault) = ⊥
 WriteEnds text before before_faults after after_faults (Err (Damaged line)) = ⊥
 WriteEnds text before before_faults after after_faults (Err SpoolFault) = ⊥
-WriteEnds text before before_faults after after_faults (Err WriteFault) = StopsWriting text before before_faults after after_faults
+WriteEnds text before before_faults after after_faults (Err WriteFault) =
+    StopsWriting text before before_faults after after_faults
 WriteEnds text before before_faults after after_faults (Err OutOfMemory) = ⊥
 WriteEnds text before before_faults after after_faults (Err (SpoolDamaged line)) = ⊥
 
-pub record Writes (text : List ℕ) (before : Option (List ℕ)) (before_faults : ℕ) (after : Option (List ℕ)) (after_faults : ℕ) (result : Result (Unit {0}) Refusal) : Type 0 where
+pub record Writes (text : List ℕ) (before : Option (List ℕ)) (before_faults : ℕ) (after : Option (List ℕ))
+    (after_faults : ℕ) (result : Result (Unit {0}) Refusal) : Type 0 where
   pub ends : WriteEnds text before before_faults after after_faults result
   pub count : NeverFalls before_faults after_faults

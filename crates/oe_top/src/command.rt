@@ -46,8 +46,8 @@ use std::alloc::Global;
 /// | 8 | `openeo: WriteFault` | only where the fault counter of `out` rose |
 /// | 9 | `openeo: OutOfMemory` | an allocation was refused |
 ///
-/// A fault of `err` changes nothing. In statuses 1 to 6 and 9 of `run` nothing is written to `out`, and in 7, 8 and 15 a
-/// prefix of the text stands there.
+/// A fault of `err` changes nothing. In statuses 1 to 6 and 9 of `run` nothing is written to `out`, and in 7, 8 and 15
+/// a prefix of the text stands there.
 pub fn openeo<I: Source, O: Sink, E: Sink, P: Store, G: Gate>(
     alloc: Global,
     words: &[Text],

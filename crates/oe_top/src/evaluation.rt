@@ -2,7 +2,7 @@
 ghost use Rattle.std.specs.Prelude.{◌≡◌, ◌<◌, ℕ, [], IfErr, IfOk, IsErrOf};
 ghost use Rattle.oe_engine.specs.Collections.{HasCollections};
 ghost use Rattle.oe_engine.specs.Runs.{chunk_total};
-ghost use Rattle.oe_plan.specs.Figures.{bound_of, most_cells};
+ghost use Rattle.oe_plan.specs.Figures.{bound_of, most_held_cells};
 ghost use Rattle.oe_plan.specs.Ranges.{IsWithinRanges};
 ghost use Rattle.oe_sources.specs.CatalogueRows.{rows_of};
 ghost use Rattle.oe_top.specs.Evaluated.{CanBeNamed, Completes, GoesThrough, IsBegun, IsPlanOf, IsRefusalOfRun, IsRefusalOfText};
@@ -33,7 +33,7 @@ pub(crate) fn begin(
     ensures chunks { IfOk result (λ r. r.1 ≡ chunk_total r.0.plan) }
     ensures front { IfOk result (λ r. r.0.base ≡ 0) }
     ensures too_large { (cells : ℕ) → IsErrOf result (PlanFail.TooLarge cells)
-        → (cells ≡ bound_of checked size workers) × (most_cells < cells) }
+        → (cells ≡ bound_of checked size workers) × (most_held_cells < cells) }
 {
     let plan = Plan::new(alloc, checked, size, workers)?;
     let chunks = plan.chunks();
@@ -43,7 +43,8 @@ pub(crate) fn begin(
 
 /// All rounds of a run, which has so many chunks, and whether no cell of its result is out of the range of numbers.
 ///
-/// Refuses: as a round does; `Overflow` exactly where all rounds were made and such a cell was found, with the first one.
+/// Refuses: as a round does; `Overflow` exactly where all rounds were made and such a cell was found, with the first
+/// one.
 pub(crate) fn complete<P: Store, G: Gate>(
     run: &mut Run,
     chunks: u64,

@@ -2,7 +2,7 @@
 ghost use Rattle.std.specs.Prelude.{◌≡◌, IfOk, IfErr, OnOk};
 ghost use Rattle.oe_dims.specs.Plain.{plain_rows};
 ghost use Rattle.oe_graph.specs.Read.{IsFault};
-ghost use Rattle.oe_top.specs.Faults.{Stands, fault_line};
+ghost use Rattle.oe_top.specs.Faults.{StandsOver, fault_line};
 ghost use Rattle.oe_top.specs.Judged.{IsCheckedText, JudgesBytes, JudgesInput};
 ghost use Rattle.oe_engine.specs.Laws.{GivesCollections};
 ghost use Rattle.oe_sources.specs.CatalogueDims.{AreDimsOf, dims_of};
@@ -65,7 +65,7 @@ pub(crate) fn judge_bytes(alloc: Global, bytes: &[u8], dims: &Dims) -> Result<Ch
 /// Refuses: the least fault, exactly where one stands; out of memory.
 fn checked_graph(alloc: Global, bytes: &[u8], dims: &Dims) -> Result<Checked, oe_graph::Refusal>
     ensures checked { IfOk result (IsCheckedText (plain_rows dims.now) bytes.now) }
-    ensures refused { IfErr result (IsFault (Stands (plain_rows dims.now) bytes.now)) }
+    ensures refused { IfErr result (IsFault (StandsOver (plain_rows dims.now) bytes.now)) }
 {
     let graph = match read_graph(alloc, bytes) {
         Ok(graph) => graph,

@@ -1,9 +1,9 @@
 //! The top call of the program.
 //!
 //! [`openeo`] takes the words of a command, the bytes of its input and a catalogue of collections, and writes what the
-//! command gives: of `run` the text of what a process graph means. It answers a status, and says on `err` in one line why
-//! a command did not finish. The table of statuses with the cause of each is the contract of [`openeo`] itself: a record
-//! for each command.
+//! command gives: of `run` the text of what a process graph means. It answers a status, and says on `err` in one line
+//! why a command did not finish. The table of statuses with the cause of each is the contract of [`openeo`] itself: a
+//! record for each command.
 #![tactic(auto)]
 
 mod check;

@@ -1,7 +1,7 @@
 // The words of a command.
 ghost use Rattle.std.specs.Prelude.{ℕ, ◌≡◌, ◌≤◌, ◌↔◌, ◌∷◌, [], IsTrue, IfSome, IfNone, codes, decimal};
 ghost use Rattle.oe_window.specs.declared.grid.ChunkSize.{ChunkSize as Size};
-ghost use Rattle.oe_top.specs.Words.{AreNumbers, AreSides, IsCommand, IsNumberWord, Spells};
+ghost use Rattle.oe_top.specs.Words.{AreRunNumbers, AreSides, SpellsCommand, IsNumberWord, Spells};
 
 use itoa::Buffer;
 use oe_dims::{Text, is_name};
@@ -38,7 +38,7 @@ pub enum Command {
 /// The command that the words spell, `None` exactly where they spell none.
 pub fn read_command(words: &[Text]) -> Option<Command>
     ensures some { IfSome result (Spells words.now) }
-    ensures none { IfNone result (¬ IsCommand words.now) }
+    ensures none { IfNone result (¬ SpellsCommand words.now) }
 {
     match words {
         [verb] => read_alone(verb),
@@ -54,7 +54,7 @@ pub fn read_command(words: &[Text]) -> Option<Command>
 /// The command of one word.
 fn read_alone(verb: &Text) -> Option<Command>
     ensures some { IfSome result (Spells (verb.now ∷ [])) }
-    ensures none { IfNone result (¬ IsCommand (verb.now ∷ [])) }
+    ensures none { IfNone result (¬ SpellsCommand (verb.now ∷ [])) }
 {
     if is_word(verb, "check") {
         Some(Command::Check)
@@ -66,7 +66,7 @@ fn read_alone(verb: &Text) -> Option<Command>
 /// The command of a verb and an id.
 fn read_with_id(verb: &Text, id: &Text) -> Option<Command>
     ensures some { IfSome result (Spells (verb.now ∷ id.now ∷ [])) }
-    ensures none { IfNone result (¬ IsCommand (verb.now ∷ id.now ∷ [])) }
+    ensures none { IfNone result (¬ SpellsCommand (verb.now ∷ id.now ∷ [])) }
 {
     if !is_name(id.as_str()) {
         return None;
@@ -92,7 +92,7 @@ fn read_demo(
 ) -> Option<Command>
     ensures some { IfSome result (Spells (verb.now ∷ seed.now ∷ side.now ∷ cx.now ∷ cy.now
         ∷ ct.now ∷ workers.now ∷ [])) }
-    ensures none { IfNone result (¬ IsCommand (verb.now ∷ seed.now ∷ side.now ∷ cx.now ∷ cy.now
+    ensures none { IfNone result (¬ SpellsCommand (verb.now ∷ seed.now ∷ side.now ∷ cx.now ∷ cy.now
         ∷ ct.now ∷ workers.now ∷ [])) }
 {
     if !is_word(verb, "demo") {
@@ -121,7 +121,7 @@ fn read_numbered(verb: &Text, cx: &Text, cy: &Text, ct: &Text, workers: &Text) -
     ensures some { IfSome result
         (Spells (verb.now ∷ cx.now ∷ cy.now ∷ ct.now ∷ workers.now ∷ [])) }
     ensures none { IfNone result
-        (¬ IsCommand (verb.now ∷ cx.now ∷ cy.now ∷ ct.now ∷ workers.now ∷ [])) }
+        (¬ SpellsCommand (verb.now ∷ cx.now ∷ cy.now ∷ ct.now ∷ workers.now ∷ [])) }
 {
     let (size, workers) = read_numbers(cx, cy, ct, workers)?;
     if is_word(verb, "run") {
@@ -135,9 +135,9 @@ fn read_numbered(verb: &Text, cx: &Text, cy: &Text, ct: &Text, workers: &Text) -
 
 /// These chunk sides and this number of workers, `None` exactly where a word is no such number.
 fn read_numbers(cx: &Text, cy: &Text, ct: &Text, workers: &Text) -> Option<(ChunkSize, u32)>
-    ensures some { IfSome result (λ r. AreNumbers cx.now cy.now ct.now workers.now r.0 r.1) }
+    ensures some { IfSome result (λ r. AreRunNumbers cx.now cy.now ct.now workers.now r.0 r.1) }
     ensures none { IfNone result ((size : Size) (number : ℕ) →
-        ¬ AreNumbers cx.now cy.now ct.now workers.now size number) }
+        ¬ AreRunNumbers cx.now cy.now ct.now workers.now size number) }
 {
     let size = read_size(cx, cy, ct)?;
     let workers = read_number(workers, 1, 64)?;

@@ -11,10 +11,10 @@ fault_status Write = 8
 fault_status OutOfMemory = 9
 
 -- and its line on standard error
-abbrev pub fault_line : Fault → List ℕ
-fault_line (Setup line) = line.items
-fault_line Write = codes "openeo: WriteFault\n"
-fault_line OutOfMemory = codes "openeo: OutOfMemory\n"
+abbrev pub program_fault_line : Fault → List ℕ
+program_fault_line (Setup line) = line.items
+program_fault_line Write = codes "openeo: WriteFault\n"
+program_fault_line OutOfMemory = codes "openeo: OutOfMemory\n"
 
 -- the line that names a file which could not be set up
 abbrev pub setup_line : List ℕ → List ℕ
@@ -22,7 +22,7 @@ setup_line name = codes "openeo: Setup " ++ name ++ codes "\n"
 
 -- the fault says that the file of this name could not be set up
 abbrev pub IsSetupOf : List ℕ → Fault → Type 0
-IsSetupOf name fault = (fault_status fault ≡ 14) × (fault_line fault ≡ setup_line name)
+IsSetupOf name fault = (fault_status fault ≡ 14) × (program_fault_line fault ≡ setup_line name)
 
 -- it says that, or that memory was refused
 abbrev pub IsSetupFault : List ℕ → Fault → Type 0
@@ -45,6 +45,6 @@ AsksForText (verb ∷ word ∷ []) = IsVerb verb × IsTextWord word
 AsksForText (verb ∷ word ∷ next ∷ rest) = ⊥
 
 -- the program ends by a fault of its own: its status, and its line on the error output
-pub record Ends (fault : Fault) (status : ℕ) (err : ErrorOutput) : Type 0 where
+pub record EndsByFault (fault : Fault) (status : ℕ) (err : ErrorOutput) : Type 0 where
   pub status_is : status ≡ fault_status fault
-  pub line : Says (fault_line fault) err
+  pub line : Says (program_fault_line fault) err

@@ -1,6 +1,6 @@
 // Why the program ended before its command began.
 ghost use Rattle.std.specs.Prelude.{◌≡◌, IfOk};
-ghost use Rattle.openeo.specs.Ends.{IsSetupFault, fault_line, fault_status, setup_line};
+ghost use Rattle.openeo.specs.Ends.{IsSetupFault, program_fault_line, fault_status, setup_line};
 ghost use Rattle.openeo.specs.declared.fault.Fault.TheVariants as variant;
 
 use oe_memory::OutOfMemory;
@@ -54,7 +54,7 @@ impl Fault {
 
     /// The line that goes to standard error, with its line feed.
     pub fn line(&self) -> &[u8]
-        ensures { result.now ≡ fault_line self.now }
+        ensures { result.now ≡ program_fault_line self.now }
     {
         match self {
             Fault::Setup(line) => line.as_slice(),

@@ -1,7 +1,7 @@
 // What the program does before its command, over any files and streams.
 ghost use Rattle.std.specs.Prelude.{◌≡◌, ◌↔◌, IfErr, IfOk, IsErrOf, IsNone};
 ghost use Rattle.oe_top.specs.Lines.{error_output};
-ghost use Rattle.openeo.specs.Ends.{AsksForText, Ends};
+ghost use Rattle.openeo.specs.Ends.{AsksForText, EndsByFault};
 
 use crate::collections::cube_files;
 use crate::fault::Fault;
@@ -49,7 +49,7 @@ pub fn set_up<R: Files, O: Sink>(
 
 /// Says why the program ended, and answers its exit status.
 pub fn end<E: Sink>(fault: &Fault, err: &mut E) -> u8
-    ensures { Ends fault.now result (error_output E.written E.faults err.old err.new) }
+    ensures { EndsByFault fault.now result (error_output E.written E.faults err.old err.new) }
 {
     // Where the line can't be written, the status alone tells.
     let _ = err.write(fault.line());

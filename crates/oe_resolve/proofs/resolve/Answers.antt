@@ -3,7 +3,7 @@ use Rattle.oe_graph.specs.Plain.{plain_graph, plain_stored}
 use Rattle.oe_graph.specs.Resolved.{IsResolved}
 use Rattle.oe_graph.specs.Tree.{PlainGraph}
 use Rattle.oe_graph.specs.declared.code.Code.TheVariants.{GraphTooLarge}
-use Rattle.oe_resolve.specs.Faults.{Stands}
+use Rattle.oe_resolve.specs.Faults.{StandsWithStored}
 use Rattle.oe_resolve.specs.Filled.{filled_graph}
 use Rattle.oe_resolve.proofs.ExpansionLemmas.{resolved-without_fault}
 use Rattle.oe_resolve.proofs.RefusalLemmas.{of_calls_least, of_size_least, of_names_least, without_fault}

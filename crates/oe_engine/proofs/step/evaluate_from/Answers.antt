@@ -1,10 +1,10 @@
 use Rattle.std.proofs.Common.{◌≡◌, ◌∙◌, refl, sym, ap, subst, Some}
-use Rattle.oe_ops.specs.Nodes.{HasRoom}
+use Rattle.oe_ops.specs.Nodes.{HasScratch}
 use Rattle.oe_plan.specs.Windows.{window_at}
 use Rattle.oe_shape.specs.Checked.{CheckedGraph, operation_of_node}
 use Rattle.oe_shape.specs.Laws.{meaning_of_node}
 use Rattle.oe_shape.specs.PlainRequests.{plain_operation}
-use Rattle.oe_engine.specs.Benches.{kind_at, node_at}
+use Rattle.oe_engine.specs.Benches.{cell_kind_at, node_at}
 use Rattle.oe_engine.proofs.EvalLemmas.{cube_at, cube_shape_at, fits_goal, inside_at, kinds_goal, means_goal, need_goal, room_at, second_goal, shape_goal, takes_goal}
 use Rattle.oe_engine.proofs.step.evaluate_from.Goals as goal
 
@@ -62,12 +62,12 @@ eval_node-requires-clause-two_need c =
 
 pub eval_node-requires-clause-room : goal.eval_node-requires-clause-room
 eval_node-requires-clause-room c =
-    subst (HasRoom c.shape_of.result.now) (sym c.requires.scratch)
+    subst (HasScratch c.shape_of.result.now) (sym c.requires.scratch)
     (room_at c.args.plan.now c.node.ensures.valid c.args.arguments.0 c.shape_of.result.now c.requires.first.within c.shape_of.ensures.value)
 
 pub eval_node-requires-clause-shape_room : goal.eval_node-requires-clause-shape_room
 eval_node-requires-clause-shape_room c =
-    subst (HasRoom c.shape_of-3.result.now) (sym c.requires.scratch)
+    subst (HasScratch c.shape_of-3.result.now) (sym c.requires.scratch)
     (room_at c.args.plan.now c.node.ensures.valid c.args.step c.shape_of-3.result.now c.requires.step c.shape_of-3.ensures.value)
 
 pub returns-clause-kinds : goal.returns-clause-kinds
@@ -82,7 +82,7 @@ returns-clause-kinds c =
     c.requires.arguments operation operates c.args.second.now c.requires.second.of_kind in
     kinds_goal p is c.args.step c.requires.step c.requires.works c.args.arguments.0 c.args.arguments.1 c.requires.arguments
     operation operates c.eval_node.new.out
-    (c.eval_node.ensures.kinds (kind_at p c.args.arguments.0) c.requires.first.of_kind fits)
+    (c.eval_node.ensures.kinds (cell_kind_at p c.args.arguments.0) c.requires.first.of_kind fits)
 
 pub returns-clause-value : goal.returns-clause-value
 returns-clause-value c = λ collections has one two.

@@ -3,7 +3,7 @@ use Rattle.std.specs.List.{All}
 use Rattle.oe_cube.specs.Kinds.{IsOfKind}
 use Rattle.oe_plan.specs.Windows.{window_at}
 use Rattle.oe_window.specs.Windows.{position_count}
-use Rattle.oe_engine.specs.Benches.{cells_at, kind_at}
+use Rattle.oe_engine.specs.Benches.{buffer_cells_at, cell_kind_at}
 use Rattle.oe_engine.specs.Buffers.{buffer_at, lists_of}
 use Rattle.oe_engine.proofs.BufferLemmas.{AreParts, beside_long, others_stay, own_after, own_items, part_beside, part_own, size_after}
 use Rattle.oe_engine.proofs.PlanLemmas.{few, few_positions, is_input, second_takes, slot_below, step_of_windows, taken_apart}
@@ -143,7 +143,7 @@ evaluate_into-requires-clause-first c =
     let a_other : a_slot ≢ slot = λ e. taken_apart p is step c.requires.step c.requires.works 0 a takes (e ∙ c.slot.ensures.value) in
     let b_other : b_slot ≢ slot = λ e. taken_apart p is step c.requires.step c.requires.works second.0 b second.1 (e ∙ c.slot.ensures.value) in
     let n = position_count (window_at c.args.windows.now a) in
-    let is_one : c.front_beside-one.result.now ≡ cells_at p c.args.windows.now (lists_of buffers) a =
+    let is_one : c.front_beside-one.result.now ≡ buffer_cells_at p c.args.windows.now (lists_of buffers) a =
     c.front_beside-one.ensures ∙ ap (take n) (part_beside buffers before own after slot parts a_slot a_other) in
     is_input p is c.requires.windows.0 c.args.windows.now c.requires.windows.1 (lists_of buffers) c.requires.room a a_in c.front_beside-one.result.now is_one (c.requires.kinds 0 a takes)
 
@@ -173,7 +173,7 @@ evaluate_into-requires-clause-second c =
     let a_other : a_slot ≢ slot = λ e. taken_apart p is step c.requires.step c.requires.works 0 a takes (e ∙ c.slot.ensures.value) in
     let b_other : b_slot ≢ slot = λ e. taken_apart p is step c.requires.step c.requires.works second.0 b second.1 (e ∙ c.slot.ensures.value) in
     let m = position_count (window_at c.args.windows.now b) in
-    let is_two : c.front_beside-two.result.now ≡ cells_at p c.args.windows.now (lists_of buffers) b =
+    let is_two : c.front_beside-two.result.now ≡ buffer_cells_at p c.args.windows.now (lists_of buffers) b =
     c.front_beside-two.ensures ∙ ap (take m) (part_beside buffers before own after slot parts b_slot b_other) in
     is_input p is c.requires.windows.0 c.args.windows.now c.requires.windows.1 (lists_of buffers) c.requires.room b b_in c.front_beside-two.result.now is_two (c.requires.kinds second.0 b second.1)
 
@@ -307,7 +307,7 @@ returns-clause-kinds c =
     let held = ap length (part_own buffers before own after slot parts ∙ own_items own c.index-own-0.result c.split_at_mut-own.ensures.front_len ∙ sym c.as_mut_slice-buffer.ensures.value) in
     let long : length out ≡ length w.items = omega (arith, ap length c.as_mut_slice-buffer.ensures.value) in
     let same = ap (take (position_count (window_at c.args.windows.now step))) (ap (buffer_at _) (sym c.slot.ensures.value) ∙ own_after buffers before own after slot parts w out long) in
-    subst (All (IsOfKind (kind_at p step))) (sym same) c.evaluate_into.ensures.kinds
+    subst (All (IsOfKind (cell_kind_at p step))) (sym same) c.evaluate_into.ensures.kinds
 
 pub returns-clause-value : goal.returns-clause-value
 returns-clause-value c =
@@ -336,10 +336,10 @@ returns-clause-value c =
     let a_other : a_slot ≢ slot = λ e. taken_apart p is step c.requires.step c.requires.works 0 a takes (e ∙ c.slot.ensures.value) in
     let b_other : b_slot ≢ slot = λ e. taken_apart p is step c.requires.step c.requires.works second.0 b second.1 (e ∙ c.slot.ensures.value) in
     let n = position_count (window_at c.args.windows.now a) in
-    let is_one : c.front_beside-one.result.now ≡ cells_at p c.args.windows.now (lists_of buffers) a =
+    let is_one : c.front_beside-one.result.now ≡ buffer_cells_at p c.args.windows.now (lists_of buffers) a =
     c.front_beside-one.ensures ∙ ap (take n) (part_beside buffers before own after slot parts a_slot a_other) in
     let m = position_count (window_at c.args.windows.now b) in
-    let is_two : c.front_beside-two.result.now ≡ cells_at p c.args.windows.now (lists_of buffers) b =
+    let is_two : c.front_beside-two.result.now ≡ buffer_cells_at p c.args.windows.now (lists_of buffers) b =
     c.front_beside-two.ensures ∙ ap (take m) (part_beside buffers before own after slot parts b_slot b_other) in
     let w = get_or own 0 c.index-own-0.result in
     let out = c.evaluate_into.new.buffer in

@@ -3,7 +3,7 @@ use Rattle.std.proofs.lemmas.List.{get_or_read}
 use Rattle.std.proofs.lemmas.Option.{slice_get_read}
 use Rattle.oe_expr.specs.Placed.{AreMarked, IsNeeded}
 use Rattle.oe_expr.specs.Places.{request_names}
-use Rattle.oe_expr.specs.PlainRequests.{plain_request}
+use Rattle.oe_expr.specs.PlainRequests.{plain_cell_request}
 use Rattle.oe_expr.proofs.MarkLemmas.{entry_within, marked_step, unmarked_step, names_kept, names_long}
 use Rattle.oe_expr.proofs.compile.needed_nodes.Goals as goal
 
@@ -48,7 +48,7 @@ loop-left-preserved-then-index c =
     let needed = c.loop-left.needed.items in
     let k : ℕ = c.loop-left.left - 1 in
     let entry = c.index-judged.result.now in
-    let names = request_names (plain_request entry.request) in
+    let names = request_names (plain_cell_request entry.request) in
     let long = c.loop-left.invariant.long in
     let below : k < length order = let within = c.loop-left.invariant.within in omega arith in
     let at : slice_get order k ≡ Some entry = slice_get_read order (length order) k entry (omega arith) below c.index-judged.ensures in

@@ -1,7 +1,7 @@
 use Rattle.std.proofs.Common.{sym, subst}
 use Rattle.oe_graph.specs.declared.tree.Graph.{out-Graph}
 use Rattle.oe_graph.specs.Plain.{plain_graph}
-use Rattle.oe_expr.specs.Callback.{IsFaultless, KeepsKind, callback_of}
+use Rattle.oe_expr.specs.Callback.{IsFaultlessCallback, KeepsKind, callback_of}
 use Rattle.oe_expr.specs.Scope.{plain_scope}
 use Rattle.oe_expr.specs.Walked.{IsChecked}
 use Rattle.oe_expr.proofs.BuildLemmas.{are_resolved, faultless, least_in}
@@ -36,7 +36,7 @@ returns-in-Some c = record {
 
 pub returns-clause-valid : goal.returns-clause-valid
 returns-clause-valid c =
-    subst IsFaultless (sym c.in_ok-sound_expr-in-None.ensures.built)
+    subst IsFaultlessCallback (sym c.in_ok-sound_expr-in-None.ensures.built)
     (faultless (plain_scope c.args.scope.now) c.args.context c.args.graph.now c.in_ok-walk.walk.states.items c.in_ok-walk.walk.order.items c.requires.resolved
     (subst (IsChecked (plain_scope c.args.scope.now) c.args.context (out-Graph c.args.graph.now).nodes.items c.args.path.now c.in_ok-walk.walk.states.items c.in_ok-walk.walk.order.items)
     c.in-None.is c.in_ok-walk.ensures))

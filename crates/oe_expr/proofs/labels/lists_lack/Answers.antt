@@ -2,7 +2,7 @@ use Rattle.std.proofs.Common.{◌≡◌, not, refl, Some, None, Option, ℕ, Lis
 use Rattle.std.specs.List.{list_any}
 use Rattle.oe_dims.specs.Plain.{PlainLabels, plain_labels}
 use Rattle.oe_expr.specs.PlainRequests.{plain_label}
-use Rattle.oe_expr.specs.Rows.{lacks, labelled}
+use Rattle.oe_expr.specs.Rows.{has_no_element, listing_of_labels}
 use Rattle.oe_expr.specs.Scope.{Label, labels_in}
 use Rattle.oe_expr.specs.declared.scope.ListPart.{ListPart}
 use Rattle.oe_expr.proofs.LackLemmas.{any_lacks_index, any_lacks_label, any_lacks_both, any_true, is_outside}
@@ -10,8 +10,8 @@ use Rattle.oe_expr.proofs.labels.lists_lack.Goals as goal
 
 -- what the arguments are
 restated : (labels : PlainLabels) (lists : List ListPart) (i j : Option ℕ) (l m : Option Label) → i ≡ j → l ≡ m
-    → list_any (lacks j m) (map (λ (part : ListPart). labelled (labels_in labels part)) lists)
-    ≡ list_any (lacks i l) (map (λ (part : ListPart). labelled (labels_in labels part)) lists)
+    → list_any (has_no_element j m) (map (λ (part : ListPart). listing_of_labels (labels_in labels part)) lists)
+    ≡ list_any (has_no_element i l) (map (λ (part : ListPart). listing_of_labels (labels_in labels part)) lists)
 restated labels lists i j l m same_index same_label = rw (same_index, same_label) refl
 
 pub returns-in-Some : goal.returns-in-Some
@@ -20,7 +20,7 @@ returns-in-Some c =
     let lists = c.args.lists.now in
     c.any_list_ends_before.ensures
     ∙ (sym (any_lacks_index labels lists c.requires c.in-Some.index (option_map plain_label c.args.label))
-    ∙ ap (λ i. list_any (lacks i (option_map plain_label c.args.label)) (map (λ (part : ListPart). labelled (labels_in labels part)) lists)) (sym c.in-Some.is))
+    ∙ ap (λ i. list_any (has_no_element i (option_map plain_label c.args.label)) (map (λ (part : ListPart). listing_of_labels (labels_in labels part)) lists)) (sym c.in-Some.is))
 
 pub returns-in-Some-label_index : goal.returns-in-Some-label_index
 returns-in-Some-label_index c =

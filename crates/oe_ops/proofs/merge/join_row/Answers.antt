@@ -4,7 +4,7 @@ use Rattle.oe_cell.specs.declared.cell.Cell.{Cell}
 use Rattle.oe_cell.specs.declared.cell.Cell.TheVariants.{Empty}
 use Rattle.oe_dims.specs.declared.kind.Kind.TheVariants.{X}
 use Rattle.oe_shape.specs.Meaning.{joined}
-use Rattle.oe_ops.specs.Indices.{index_in, position_on}
+use Rattle.oe_ops.specs.Indices.{index_in_argument, position_on}
 use Rattle.oe_ops.specs.Joins.{where_found}
 use Rattle.oe_ops.specs.Slices.{cell_of}
 use Rattle.oe_ops.proofs.MergeLemmas.{joined_where, pairs_taken, row_fits}
@@ -15,8 +15,8 @@ resolve_row-requires-clause-takes c =
     let one = c.args.one.now in
     let two = c.args.two.now in
     pairs_taken c.args.resolver.now one.slice.cells.now two.slice.cells.now _ _
-    (λ k all. row_fits k one.slice c.args.rows.0 (λ i. index_in X one.shape.now one.argument.now (c.args.x + i)) _ (λ i lt. c.found_on-has_ones.ensures.value i (omega arith)) all)
-    (λ k all. row_fits k two.slice c.args.rows.1 (λ i. index_in X one.shape.now two.argument.now (c.args.x + i)) _ (λ i lt. c.found_on-has_twos.ensures.value i (omega arith)) all)
+    (λ k all. row_fits k one.slice c.args.rows.0 (λ i. index_in_argument X one.shape.now one.argument.now (c.args.x + i)) _ (λ i lt. c.found_on-has_ones.ensures.value i (omega arith)) all)
+    (λ k all. row_fits k two.slice c.args.rows.1 (λ i. index_in_argument X one.shape.now two.argument.now (c.args.x + i)) _ (λ i lt. c.found_on-has_twos.ensures.value i (omega arith)) all)
     c.requires.takes
 
 pub returns : goal.returns
@@ -26,8 +26,8 @@ returns c = λ k lt.
     let r = c.args.resolver.now in
     let f : ℕ → Cell = λ i. cell_of one.slice (position_on c.args.rows.0 i) in
     let g : ℕ → Cell = λ i. cell_of two.slice (position_on c.args.rows.1 i) in
-    let i = index_in X one.shape.now one.argument.now (c.args.x + k) in
-    let j = index_in X one.shape.now two.argument.now (c.args.x + k) in
+    let i = index_in_argument X one.shape.now one.argument.now (c.args.x + k) in
+    let j = index_in_argument X one.shape.now two.argument.now (c.args.x + k) in
     let a : Cell = slice_index_or c.found_on-has_ones.new.out k Empty in
     let b : Cell = slice_index_or c.found_on-has_twos.new.out k Empty in
     c.mend_row.ensures k (omega arith)

@@ -5,7 +5,7 @@ use Rattle.oe_cell.specs.declared.cell.Cell.{Cell}
 use Rattle.oe_cell.specs.declared.cell.Cell.TheVariants.{Empty}
 use Rattle.oe_dims.specs.declared.kind.Kind.TheVariants.{X}
 use Rattle.oe_dims.proofs.ShapeLemmas.{extents_of_shape}
-use Rattle.oe_ops.specs.Indices.{index_in}
+use Rattle.oe_ops.specs.Indices.{index_in_argument}
 use Rattle.oe_ops.specs.Joins.{where_found}
 use Rattle.oe_ops.proofs.MergeLemmas.{where_both}
 use Rattle.oe_ops.proofs.merge.mend_row.Goals as goal
@@ -17,8 +17,8 @@ overflow_cast-k c =
 
 pub loop-k-preserved : goal.loop-k-preserved
 loop-k-preserved c =
-    let i = λ (k : ℕ). index_in X c.args.one.now.shape.now c.args.one.now.argument.now (c.args.x + k) in
-    let j = λ (k : ℕ). index_in X c.args.one.now.shape.now c.args.two.now.argument.now (c.args.x + k) in
+    let i = λ (k : ℕ). index_in_argument X c.args.one.now.shape.now c.args.one.now.argument.now (c.args.x + k) in
+    let j = λ (k : ℕ). index_in_argument X c.args.one.now.shape.now c.args.two.now.argument.now (c.args.x + k) in
     let f : ℕ → Cell = λ k. where_found (i k) (j k) (slice_index_or c.args.ones.now k Empty) (slice_index_or c.args.twos.now k Empty) (slice_index_or c.args.out.now k Empty) in
     let n = c.loop-k.k in
     let here : slice_index_or c.loop-k.out n Empty ≡ slice_index_or c.args.out.now n Empty = c.loop-k.invariant.1 n (omega arith) in

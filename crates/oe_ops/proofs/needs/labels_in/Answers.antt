@@ -1,6 +1,6 @@
 use Rattle.std.proofs.Common.{◌≡◌, arith, subst, sym}
 use Rattle.oe_window.specs.declared.window.Span.{Span}
-use Rattle.oe_ops.specs.Indices.{index_in}
+use Rattle.oe_ops.specs.Indices.{index_in_argument}
 use Rattle.oe_ops.specs.Spans.{IsLabelAt, IsSpanOf}
 use Rattle.oe_ops.proofs.SpanLemmas.{span_more, span_none}
 use Rattle.oe_ops.proofs.needs.labels_in.Goals as goal
@@ -11,7 +11,7 @@ loop-index-init c = subst (λ (s : Span). IsSpanOf (IsLabelAt c.args.along c.arg
 pub loop-index-preserved : goal.loop-index-preserved
 loop-index-preserved c =
     rw c.with_label-found.ensures
-    (span_more (IsLabelAt c.args.along c.args.shape.now c.args.argument.now) c.args.span.from c.loop-index.index (omega arith) (index_in c.args.along c.args.shape.now c.args.argument.now c.loop-index.index) c.loop-index.found
+    (span_more (IsLabelAt c.args.along c.args.shape.now c.args.argument.now) c.args.span.from c.loop-index.index (omega arith) (index_in_argument c.args.along c.args.shape.now c.args.argument.now c.loop-index.index) c.loop-index.found
     (λ j e. e) (λ j e. e) c.loop-index.invariant)
 
 pub returns : goal.returns

@@ -5,14 +5,14 @@ use Rattle.oe_cube.specs.Kinds.{IsOfKind}
 use Rattle.oe_dims.specs.Dimensions.{Dimensions}
 use Rattle.oe_dims.specs.declared.kind.Kind.TheVariants.{Time}
 use Rattle.oe_shape.specs.Meaning.{aggregated, cube_of}
-use Rattle.oe_shape.specs.Operations.{aggregated_shape, kind_of}
+use Rattle.oe_shape.specs.Operations.{aggregated_shape, operation_kind}
 use Rattle.oe_shape.specs.PlainRequests.{plain_operation, plain_restriction}
 use Rattle.oe_shape.specs.declared.extent.Interval.{Interval}
 use Rattle.oe_shape.specs.declared.operation.Operation.{Operation}
 use Rattle.oe_window.specs.Cells.{cells_on}
 use Rattle.oe_window.specs.Windows.{Holds, whole_window}
 use Rattle.oe_ops.specs.Lists.{TakesIntervals}
-use Rattle.oe_ops.specs.Nodes.{FitsKind}
+use Rattle.oe_ops.specs.Nodes.{FitsFirstKind}
 use Rattle.oe_ops.proofs.NodeLemmas.{all_of_none, apply_need, aggregate_need, convolve_need, cover_need, cover_two_need, give_back_need, keep_need, list_room, merge_need, merge_two_need, node_as, nothing_there, reduce_need, resolver_keeps, resolver_takes, row_room}
 use Rattle.oe_ops.proofs.node.eval_node.Goals as goal
 
@@ -21,7 +21,7 @@ returns-then-is_empty c =
     let none : length c.args.out.now ≡ 0 = search rules in
     record {
       value = λ first second whole same on two_whole two_same two_on. nothing_there (cube_of (plain_operation c.args.operation.now) (first ∷ second ∷ [])) c.args.window.now c.args.out.now none c.requires.length;
-      kinds = λ kind h fits. all_of_none (IsOfKind (kind_of (plain_operation c.args.operation.now) (kind ∷ []))) c.args.out.now none;
+      kinds = λ kind h fits. all_of_none (IsOfKind (operation_kind (plain_operation c.args.operation.now) (kind ∷ []))) c.args.out.now none;
     }
 
 pub eval_keep-requires : goal.eval_keep-requires
@@ -45,7 +45,7 @@ returns-in-Keep c =
           subst (λ (o : Operation). c.eval_keep.new.out ≡ cells_on Empty (cube_of (plain_operation o) (first ∷ second ∷ [])) c.args.window.now) (sym k.is)
           (c.eval_keep.ensures.value first (plain_restriction k.field-0) whole same (sym here.shape_is) on);
       kinds = λ kind h fits.
-          subst (λ (o : Operation). All (IsOfKind (kind_of (plain_operation o) (kind ∷ []))) c.eval_keep.new.out) (sym k.is)
+          subst (λ (o : Operation). All (IsOfKind (operation_kind (plain_operation o) (kind ∷ []))) c.eval_keep.new.out) (sym k.is)
           (c.eval_keep.ensures.kinds kind h);
     }
 
@@ -74,7 +74,7 @@ returns-in-EachCell c =
           subst (λ (o : Operation). c.eval_apply.new.out ≡ cells_on Empty (cube_of (plain_operation o) (first ∷ second ∷ [])) c.args.window.now) (sym k.is)
           (c.eval_apply.ensures.value first whole (same ∙ sym here.shape_is) on);
       kinds = λ kind h fits.
-          subst (λ (o : Operation). All (IsOfKind (kind_of (plain_operation o) (kind ∷ []))) c.eval_apply.new.out) (sym k.is)
+          subst (λ (o : Operation). All (IsOfKind (operation_kind (plain_operation o) (kind ∷ []))) c.eval_apply.new.out) (sym k.is)
           (c.eval_apply.ensures.kinds);
     }
 
@@ -100,7 +100,7 @@ returns-in-Convolve c =
           subst (λ (o : Operation). c.eval_convolve.new.out ≡ cells_on Empty (cube_of (plain_operation o) (first ∷ second ∷ [])) c.args.window.now) (sym k.is)
           (c.eval_convolve.ensures.value first whole (same ∙ sym here.shape_is) on);
       kinds = λ kind h fits.
-          subst (λ (o : Operation). All (IsOfKind (kind_of (plain_operation o) (kind ∷ []))) c.eval_convolve.new.out) (sym k.is)
+          subst (λ (o : Operation). All (IsOfKind (operation_kind (plain_operation o) (kind ∷ []))) c.eval_convolve.new.out) (sym k.is)
           (c.eval_convolve.ensures.kinds);
     }
 
@@ -129,7 +129,7 @@ returns-in-Reduce c =
           subst (λ (o : Operation). c.eval_reduce.new.out ≡ cells_on Empty (cube_of (plain_operation o) (first ∷ second ∷ [])) c.args.window.now) (sym k.is)
           (c.eval_reduce.ensures.value first whole same on);
       kinds = λ kind h fits.
-          subst (λ (o : Operation). All (IsOfKind (kind_of (plain_operation o) (kind ∷ []))) c.eval_reduce.new.out) (sym k.is)
+          subst (λ (o : Operation). All (IsOfKind (operation_kind (plain_operation o) (kind ∷ []))) c.eval_reduce.new.out) (sym k.is)
           (c.eval_reduce.ensures.kinds);
     }
 
@@ -159,7 +159,7 @@ returns-in-Aggregate c =
           subst (λ (o : Operation). c.eval_aggregate.new.out ≡ cells_on Empty (cube_of (plain_operation o) (first ∷ second ∷ [])) c.args.window.now) (sym k.is)
           (subst (λ (l : List Interval). c.eval_aggregate.new.out ≡ cells_on Empty (aggregated l k.expr first) c.args.window.now) c.deref.ensures.value (c.eval_aggregate.ensures.value first whole same on));
       kinds = λ kind h fits.
-          subst (λ (o : Operation). All (IsOfKind (kind_of (plain_operation o) (kind ∷ []))) c.eval_aggregate.new.out) (sym k.is)
+          subst (λ (o : Operation). All (IsOfKind (operation_kind (plain_operation o) (kind ∷ []))) c.eval_aggregate.new.out) (sym k.is)
           (c.eval_aggregate.ensures.kinds);
     }
 
@@ -192,8 +192,8 @@ returns-in-Merge c =
           subst (λ (o : Operation). c.eval_merge.new.out ≡ cells_on Empty (cube_of (plain_operation o) (first ∷ second ∷ [])) c.args.window.now) (sym k.is)
           (c.eval_merge.ensures.value first second whole same on two_whole two_same two_on);
       kinds = λ kind h fits.
-          subst (λ (o : Operation). All (IsOfKind (kind_of (plain_operation o) (kind ∷ []))) c.eval_merge.new.out) (sym k.is)
-          (let f = subst (λ (o : Operation). FitsKind (plain_operation o) kind c.args.two.slice.cells.now) k.is fits in c.eval_merge.ensures.kinds kind h f.0 f.1);
+          subst (λ (o : Operation). All (IsOfKind (operation_kind (plain_operation o) (kind ∷ []))) c.eval_merge.new.out) (sym k.is)
+          (let f = subst (λ (o : Operation). FitsFirstKind (plain_operation o) kind c.args.two.slice.cells.now) k.is fits in c.eval_merge.ensures.kinds kind h f.0 f.1);
     }
 
 pub eval_cover-requires : goal.eval_cover-requires
@@ -220,8 +220,8 @@ returns-in-Cover c =
           subst (λ (o : Operation). c.eval_cover.new.out ≡ cells_on Empty (cube_of (plain_operation o) (first ∷ second ∷ [])) c.args.window.now) (sym k.is)
           (c.eval_cover.ensures.value first second whole (same ∙ sym here.shape_is) on two_whole two_same two_on);
       kinds = λ kind h fits.
-          subst (λ (o : Operation). All (IsOfKind (kind_of (plain_operation o) (kind ∷ []))) c.eval_cover.new.out) (sym k.is)
-          (c.eval_cover.ensures.kinds kind h (subst (λ (o : Operation). FitsKind (plain_operation o) kind c.args.two.slice.cells.now) k.is fits));
+          subst (λ (o : Operation). All (IsOfKind (operation_kind (plain_operation o) (kind ∷ []))) c.eval_cover.new.out) (sym k.is)
+          (c.eval_cover.ensures.kinds kind h (subst (λ (o : Operation). FitsFirstKind (plain_operation o) kind c.args.two.slice.cells.now) k.is fits));
     }
 
 pub eval_give_back-requires : goal.eval_give_back-requires
@@ -245,6 +245,6 @@ returns-in-GiveBack c =
           subst (λ (o : Operation). c.eval_give_back.new.out ≡ cells_on Empty (cube_of (plain_operation o) (first ∷ second ∷ [])) c.args.window.now) (sym k.is)
           (c.eval_give_back.ensures.value first whole (same ∙ sym here.shape_is) on);
       kinds = λ kind h fits.
-          subst (λ (o : Operation). All (IsOfKind (kind_of (plain_operation o) (kind ∷ []))) c.eval_give_back.new.out) (sym k.is)
+          subst (λ (o : Operation). All (IsOfKind (operation_kind (plain_operation o) (kind ∷ []))) c.eval_give_back.new.out) (sym k.is)
           (c.eval_give_back.ensures.kinds kind h);
     }

@@ -4,7 +4,7 @@ use Rattle.std.proofs.lemmas.List.Edits.{fill_by_more}
 use Rattle.oe_cell.specs.declared.cell.Cell.{Cell}
 use Rattle.oe_cell.specs.declared.cell.Cell.TheVariants.{Empty}
 use Rattle.oe_dims.specs.declared.kind.Kind.TheVariants.{X}
-use Rattle.oe_ops.specs.Indices.{index_in, position_on}
+use Rattle.oe_ops.specs.Indices.{index_in_argument, position_on}
 use Rattle.oe_ops.specs.Slices.{cell_of}
 use Rattle.oe_dims.proofs.ShapeLemmas.{extents_of_shape}
 use Rattle.oe_ops.proofs.source.found_each.Goals as goal
@@ -21,6 +21,6 @@ overflow_add-x c =
 
 pub loop-k-preserved : goal.loop-k-preserved
 loop-k-preserved c =
-    let f : ℕ → Cell = λ k. unwrap_or (option_map (λ i. cell_of c.args.source.now.slice (position_on c.args.row i)) (index_in X c.args.source.now.shape.now c.args.source.now.argument.now (c.args.x + k))) Empty in
+    let f : ℕ → Cell = λ k. unwrap_or (option_map (λ i. cell_of c.args.source.now.slice (position_on c.args.row i)) (index_in_argument X c.args.source.now.shape.now c.args.source.now.argument.now (c.args.x + k))) Empty in
     let value : c.found_at.result ≡ f c.loop-k.k = c.found_at.ensures in
     rw value (fill_by_more f c.loop-k.out c.loop-k.k Empty (omega arith) c.loop-k.invariant)

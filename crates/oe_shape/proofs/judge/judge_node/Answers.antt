@@ -5,8 +5,8 @@ use Rattle.oe_graph.specs.Plain.{plain_node, plain_nodes}
 use Rattle.oe_shape.specs.Early.{IsEarlyFault}
 use Rattle.oe_shape.specs.Inputs.{AreInputs, both_outlines, outline_in}
 use Rattle.oe_shape.specs.Operations.{Outline}
-use Rattle.oe_shape.specs.PlainRequests.{plain_request}
-use Rattle.oe_shape.specs.Requests.{request_at}
+use Rattle.oe_shape.specs.PlainRequests.{plain_cube_request}
+use Rattle.oe_shape.specs.Requests.{cube_request_at}
 use Rattle.oe_shape.specs.Walked.{AreKnown, IsVerdict}
 use Rattle.oe_shape.specs.declared.walk.Verdict.{Verdict}
 use Rattle.oe_shape.proofs.BuildableLemmas.{buildable, valid_labels}
@@ -19,23 +19,23 @@ pub returns-in_default : goal.returns-in_default
 returns-in_default c =
     let n = plain_node c.args.node.now in
     let rows = plain_rows c.args.dims.now in
-    let none : request_at n ≡ None = sym c.in_ok-request.ensures ∙ ap (option_map plain_request) c.in_default.is in
+    let none : cube_request_at n ≡ None = sym c.in_ok-request.ensures ∙ ap (option_map plain_cube_request) c.in_default.is in
     IfOk-weaker c.stands.result _ _ (λ (verdict : Verdict) is. λ (at : List ℕ → Outline) (known : AreKnown (plain_nodes c.args.nodes.now) c.args.states.now at n).
     subst (IsVerdict rows at n) (sym is) (nothing_asked rows at n none))
     c.stands.ensures
 
 pub inputs_of-requires-clause-named : goal.inputs_of-requires-clause-named
 inputs_of-requires-clause-named c =
-    cubes_are_nodes (plain_nodes c.args.nodes.now) c.requires.resolved (plain_node c.args.node.now) (plain_request c.in-Some.request) c.requires.node
-    (sym c.in_ok-request.ensures ∙ ap (option_map plain_request) c.in-Some.is)
+    cubes_are_nodes (plain_nodes c.args.nodes.now) c.requires.resolved (plain_node c.args.node.now) (plain_cube_request c.in-Some.request) c.requires.node
+    (sym c.in_ok-request.ensures ∙ ap (option_map plain_cube_request) c.in-Some.is)
 
 pub returns-in_default-inputs_of : goal.returns-in_default-inputs_of
 returns-in_default-inputs_of c =
     let n = plain_node c.args.node.now in
     let nodes = plain_nodes c.args.nodes.now in
     let rows = plain_rows c.args.dims.now in
-    let r = plain_request c.in-Some.request in
-    let asks : request_at n ≡ Some r = sym c.in_ok-request.ensures ∙ ap (option_map plain_request) c.in-Some.is in
+    let r = plain_cube_request c.in-Some.request in
+    let asks : cube_request_at n ≡ Some r = sym c.in_ok-request.ensures ∙ ap (option_map plain_cube_request) c.in-Some.is in
     IfOk-weaker c.stands-in_default-inputs_of.result _ _ (λ (verdict : Verdict) is. λ (at : List ℕ → Outline) (known : AreKnown nodes c.args.states.now at n).
     subst (IsVerdict rows at n) (sym is) (not_found rows at n r asks
     (subst (λ o. AreInputs rows at r (option_map both_outlines o)) c.in_default-inputs_of.is
@@ -47,10 +47,10 @@ returns-in-Some-2 c =
     let n = plain_node c.args.node.now in
     let nodes = plain_nodes c.args.nodes.now in
     let rows = plain_rows c.args.dims.now in
-    let r = plain_request c.in-Some.request in
+    let r = plain_cube_request c.in-Some.request in
     let one = outline_in c.in-Some-inputs_of.one in
     let two = outline_in c.in-Some-inputs_of.two in
-    let asks : request_at n ≡ Some r = sym c.in_ok-request.ensures ∙ ap (option_map plain_request) c.in-Some.is in
+    let asks : cube_request_at n ≡ Some r = sym c.in_ok-request.ensures ∙ ap (option_map plain_cube_request) c.in-Some.is in
     let early : IsEarlyFault r one.shape two.shape (Some c.in-Some-2.code) =
     subst (IsEarlyFault r one.shape two.shape) c.in-Some-2.is c.in_ok-code.ensures in
     IfOk-weaker c.stands-in-Some-2.result _ _ (λ (verdict : Verdict) is. λ (at : List ℕ → Outline) (known : AreKnown nodes c.args.states.now at n).
@@ -64,8 +64,8 @@ returns-in-Some-2 c =
 pub judge_request-requires-clause-buildable : goal.judge_request-requires-clause-buildable
 judge_request-requires-clause-buildable c =
     let n = plain_node c.args.node.now in
-    let r = plain_request c.in-Some.request in
-    let asks : request_at n ≡ Some r = sym c.in_ok-request.ensures ∙ ap (option_map plain_request) c.in-Some.is in
+    let r = plain_cube_request c.in-Some.request in
+    let asks : cube_request_at n ≡ Some r = sym c.in_ok-request.ensures ∙ ap (option_map plain_cube_request) c.in-Some.is in
     buildable (plain_nodes c.args.nodes.now) c.requires.resolved n c.requires.node r _ asks
     (none_early r c.in-Some-inputs_of.one.shape.now c.in-Some-inputs_of.two.shape.now
     (subst (IsEarlyFault r c.in-Some-inputs_of.one.shape.now c.in-Some-inputs_of.two.shape.now) c.in-None-2.is c.in_ok-code.ensures))
@@ -74,8 +74,8 @@ judge_request-requires-clause-buildable c =
 pub judge_request-requires-clause-labels : goal.judge_request-requires-clause-labels
 judge_request-requires-clause-labels c =
     let n = plain_node c.args.node.now in
-    let r = plain_request c.in-Some.request in
-    let asks : request_at n ≡ Some r = sym c.in_ok-request.ensures ∙ ap (option_map plain_request) c.in-Some.is in
+    let r = plain_cube_request c.in-Some.request in
+    let asks : cube_request_at n ≡ Some r = sym c.in_ok-request.ensures ∙ ap (option_map plain_cube_request) c.in-Some.is in
     valid_labels n r _ asks
     (none_early r c.in-Some-inputs_of.one.shape.now c.in-Some-inputs_of.two.shape.now
     (subst (IsEarlyFault r c.in-Some-inputs_of.one.shape.now c.in-Some-inputs_of.two.shape.now) c.in-None-2.is c.in_ok-code.ensures))
@@ -85,10 +85,10 @@ returns c =
     let n = plain_node c.args.node.now in
     let nodes = plain_nodes c.args.nodes.now in
     let rows = plain_rows c.args.dims.now in
-    let r = plain_request c.in-Some.request in
+    let r = plain_cube_request c.in-Some.request in
     let one = outline_in c.in-Some-inputs_of.one in
     let two = outline_in c.in-Some-inputs_of.two in
-    let asks : request_at n ≡ Some r = sym c.in_ok-request.ensures ∙ ap (option_map plain_request) c.in-Some.is in
+    let asks : cube_request_at n ≡ Some r = sym c.in_ok-request.ensures ∙ ap (option_map plain_cube_request) c.in-Some.is in
     IfOk-weaker c.judge_request.result _ _ (λ (verdict : Verdict) judged. λ (at : List ℕ → Outline) (known : AreKnown nodes c.args.states.now at n).
     let inputs : AreInputs rows at r (Some (one, two)) =
     subst (λ o. AreInputs rows at r (option_map both_outlines o)) c.in-Some-inputs_of.is

@@ -4,7 +4,7 @@ use Rattle.oe_dims.specs.declared.dims.DimsRow.{DimsRow}
 use Rattle.oe_graph.specs.Plain.{plain_node}
 use Rattle.oe_shape.specs.Inputs.{WorksOn, outline_in}
 use Rattle.oe_shape.specs.Operations.{Outline}
-use Rattle.oe_shape.specs.PlainRequests.{plain_operation, plain_request}
+use Rattle.oe_shape.specs.PlainRequests.{plain_operation, plain_cube_request}
 use Rattle.oe_shape.specs.Stands.{Passes}
 use Rattle.oe_shape.specs.Walked.{IsVerdict}
 use Rattle.oe_shape.specs.declared.walk.Verdict.{Verdict}
@@ -14,7 +14,7 @@ use Rattle.oe_shape.proofs.judge.judge_operation.Goals as goal
 pub returns-then-takes_other_kinds : goal.returns-then-takes_other_kinds
 returns-then-takes_other_kinds c =
     let n = plain_node c.args.node.now in
-    let r = plain_request c.args.request.now in
+    let r = plain_cube_request c.args.request.now in
     let one = outline_in c.args.one in
     let two = outline_in c.args.two in
     IfOk-weaker c.stands.result _ _ (λ (verdict : Verdict) is. λ (rows : List DimsRow) (at : List ℕ → Outline) (p : Passes rows at n r) (works : WorksOn rows at r one two).
@@ -26,7 +26,7 @@ returns-then-takes_other_kinds c =
 pub returns-in_default : goal.returns-in_default
 returns-in_default c =
     let n = plain_node c.args.node.now in
-    let r = plain_request c.args.request.now in
+    let r = plain_cube_request c.args.request.now in
     let one = outline_in c.args.one in
     let two = outline_in c.args.two in
     IfOk-weaker c.stands-in_default.result _ _ (λ (verdict : Verdict) is. λ (rows : List DimsRow) (at : List ℕ → Outline) (p : Passes rows at n r) (works : WorksOn rows at r one two).
@@ -37,7 +37,7 @@ returns-in_default c =
 
 pub returns : goal.returns
 returns c = λ rows at p works.
-    judged_sound rows at (plain_node c.args.node.now) (plain_request c.args.request.now) p (outline_in c.args.one) (outline_in c.args.two) works
+    judged_sound rows at (plain_node c.args.node.now) (plain_cube_request c.args.request.now) p (outline_in c.args.one) (outline_in c.args.two) works
     (plain_operation c.args.operation) c.requires.operation c.requires.faultless
     (sym c.takes_other_kinds.ensures ∙ c.if-takes_other_kinds.false) c.args.shape c.requires.shape c.requires.buildable c.requires.labels
     c.recall_rules.ensures _ c.in-Some.is refl c.kind_given-kind.ensures c.in_ok-collection_of.ensures

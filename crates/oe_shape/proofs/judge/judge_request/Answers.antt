@@ -8,7 +8,7 @@ use Rattle.oe_graph.specs.Read.{IsFault}
 use Rattle.oe_shape.specs.Callbacks.{StandsInCallback}
 use Rattle.oe_shape.specs.Inputs.{WorksOn, outline_in}
 use Rattle.oe_shape.specs.Operations.{Outline, operation_of}
-use Rattle.oe_shape.specs.PlainRequests.{plain_operation, plain_request}
+use Rattle.oe_shape.specs.PlainRequests.{plain_operation, plain_cube_request}
 use Rattle.oe_shape.specs.Stands.{Passes}
 use Rattle.oe_shape.specs.declared.walk.Verdict.{Verdict}
 use Rattle.oe_shape.proofs.JudgeLemmas.{has_operation}
@@ -21,7 +21,7 @@ not_twice false = refl
 pub returns-in-Ok-None : goal.returns-in-Ok-None
 returns-in-Ok-None c =
     let n = plain_node c.args.node.now in
-    let r = plain_request c.args.request.now in
+    let r = plain_cube_request c.args.request.now in
     let one = outline_in c.args.one in
     let two = outline_in c.args.two in
     let none : (others : List Outline) → None ≡ operation_of r (one ∷ others) =
@@ -33,7 +33,7 @@ returns-in-Ok-None c =
 pub returns-in-Err-Fault : goal.returns-in-Err-Fault
 returns-in-Err-Fault c =
     let n = plain_node c.args.node.now in
-    let r = plain_request c.args.request.now in
+    let r = plain_cube_request c.args.request.now in
     let one = outline_in c.args.one in
     let two = outline_in c.args.two in
     let id : c.as_str.result.now ≡ n.id = c.as_str.ensures ∙ sym (plain_id c.args.node.now) in

@@ -2,7 +2,7 @@ use Rattle.std.proofs.Common.{◌≡◌, ◌∙◌, sym, ap, subst, refl, Some}
 use Rattle.std.specs.Prelude.{codes}
 use Rattle.oe_graph.specs.Form.{callback_name}
 use Rattle.oe_graph.specs.Read.{IsFault}
-use Rattle.oe_expr.specs.Callback.{StandsIn}
+use Rattle.oe_expr.specs.Callback.{StandsInCallbackAt}
 use Rattle.oe_expr.specs.Scope as scope
 use Rattle.oe_shape.specs.Callbacks.{IsBuilt}
 use Rattle.oe_shape.specs.Operations as spec
@@ -20,8 +20,8 @@ returns-in_err-callback c = λ data_id name.
     let e = c.in_err-callback in
     let path = callback_name c.args.id.now (codes "reducer") in
     let value = c.in_ok-scope.ensures.value ∙ ap (λ l. spec.interval_scope l one) c.deref.ensures.value in
-    let refused : IsFault (StandsIn (spec.callback_under (spec.interval_scope intervals one) called) path) e.field-0.0 =
-    subst (λ s. IsFault (StandsIn (spec.callback_under s called) path) e.field-0.0) value e.ensures.refused in
+    let refused : IsFault (StandsInCallbackAt (spec.callback_under (spec.interval_scope intervals one) called) path) e.field-0.0 =
+    subst (λ s. IsFault (StandsInCallbackAt (spec.callback_under s called) path) e.field-0.0) value e.ensures.refused in
     refused_by c.args.id.now (request.aggregate_temporal data_id intervals name called) one (codes "reducer")
     (spec.callback_under (spec.interval_scope intervals one) called) (λ others. refl)
     e.field-0.0 refused c.from_residual-in_err-callback.result c.from_residual-in_err-callback.ensures.1

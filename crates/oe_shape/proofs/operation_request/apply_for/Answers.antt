@@ -2,7 +2,7 @@ use Rattle.std.proofs.Common.{sym, ap, refl, Some}
 use Rattle.std.specs.Prelude.{codes}
 use Rattle.oe_graph.specs.Form.{callback_name}
 use Rattle.oe_graph.specs.Read.{IsFault}
-use Rattle.oe_expr.specs.Callback.{StandsIn}
+use Rattle.oe_expr.specs.Callback.{StandsInCallbackAt}
 use Rattle.oe_expr.specs.Scope as scope
 use Rattle.oe_shape.specs.Callbacks.{IsBuilt}
 use Rattle.oe_shape.specs.Operations as spec

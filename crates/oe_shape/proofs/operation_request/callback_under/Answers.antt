@@ -1,7 +1,7 @@
 use Rattle.std.proofs.Common.{List, ℕ, subst, ◌∙◌}
 use Rattle.std.specs.Prelude.{IfErr}
 use Rattle.oe_graph.specs.Read.{IsFault}
-use Rattle.oe_expr.specs.Callback.{StandsIn}
+use Rattle.oe_expr.specs.Callback.{StandsInCallbackAt}
 use Rattle.oe_expr.specs.Scope.{plain_scope}
 use Rattle.oe_shape.specs.Operations as spec
 use Rattle.oe_shape.specs.PlainRequests.{plain_called}
@@ -13,4 +13,4 @@ build-requires c = record { resolved = c.requires.resolved.resolved; scope = c.r
 pub returns-clause-refused : goal.returns-clause-refused
 returns-clause-refused c =
     let callback = spec.callback_under (plain_scope c.args.scope.now) (plain_called c.args.called.now) in
-    subst (λ (name : List ℕ). IfErr c.build.result (IsFault (StandsIn callback name))) (c.as_str.ensures ∙ c.in_ok-path.ensures) c.build.ensures.refused
+    subst (λ (name : List ℕ). IfErr c.build.result (IsFault (StandsInCallbackAt callback name))) (c.as_str.ensures ∙ c.in_ok-path.ensures) c.build.ensures.refused

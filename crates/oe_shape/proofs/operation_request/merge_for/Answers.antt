@@ -3,7 +3,7 @@ use Rattle.std.specs.Prelude.{codes}
 use Rattle.std.specs.Option.{option_map}
 use Rattle.oe_graph.specs.Form.{callback_name}
 use Rattle.oe_graph.specs.Read.{IsFault}
-use Rattle.oe_expr.specs.Callback.{StandsIn}
+use Rattle.oe_expr.specs.Callback.{StandsInCallbackAt}
 use Rattle.oe_expr.specs.Scope as scope
 use Rattle.oe_shape.specs.Callbacks.{IsBuilt}
 use Rattle.oe_shape.specs.Operations as spec

@@ -4,7 +4,7 @@ use Rattle.std.specs.Option.{option_and_then}
 use Rattle.oe_shape.specs.Stands.{callback_in}
 use Rattle.oe_graph.specs.Form.{callback_name}
 use Rattle.oe_graph.specs.Read.{IsFault}
-use Rattle.oe_expr.specs.Callback.{StandsIn}
+use Rattle.oe_expr.specs.Callback.{StandsInCallbackAt}
 use Rattle.oe_expr.specs.Scope as scope
 use Rattle.oe_shape.specs.Callbacks.{IsBuilt}
 use Rattle.oe_shape.specs.Operations as spec
@@ -21,8 +21,8 @@ returns-in_err-callback-in-Some c = λ data_id.
     let along = c.in-Some.along in
     let e = c.in_err-callback-in-Some in
     let path = callback_name c.args.id.now (codes "reducer") in
-    let refused : IsFault (StandsIn (spec.callback_under (spec.reduction_scope along one) called) path) e.field-0.0 =
-    subst (λ s. IsFault (StandsIn (spec.callback_under s called) path) e.field-0.0) c.in_ok-scope-in-Some.ensures.value e.ensures.refused in
+    let refused : IsFault (StandsInCallbackAt (spec.callback_under (spec.reduction_scope along one) called) path) e.field-0.0 =
+    subst (λ s. IsFault (StandsInCallbackAt (spec.callback_under s called) path) e.field-0.0) c.in_ok-scope-in-Some.ensures.value e.ensures.refused in
     refused_by c.args.id.now (request.reduce_dimension data_id c.args.dimension.now called) one (codes "reducer")
     (spec.callback_under (spec.reduction_scope along one) called)
     (λ others. ap (option_and_then callback_in) (reduces data_id c.args.dimension.now called one along (sym c.in-Some.ensures) others))

@@ -1,6 +1,6 @@
 use Rattle.std.proofs.Common.{◌≡◌, ◌∙◌, sym, ap, subst}
 use Rattle.oe_plan.proofs.RunLemmas.{only_step}
-use Rattle.oe_engine.specs.Benches.{BenchOf, cells_at}
+use Rattle.oe_engine.specs.Benches.{BenchOf, buffer_cells_at}
 use Rattle.oe_engine.specs.Buffers.{lists_of}
 use Rattle.oe_engine.proofs.bench.Bench.result_cells.Goals as goal
 
@@ -12,8 +12,8 @@ returns-in-Done-clause-done c = λ k done step within result.
     let one : found ≡ step =
     only_step p.order.steps c.step_of_result.ensures.valid.listing.once found step c.step_of_result.ensures.within within
     (c.step_of_result.ensures.is ∙ sym result) in
-    subst (λ (b : BenchOf). c.front.result.now ≡ cells_at p b.windows b.buffers step) c.self.view_is
+    subst (λ (b : BenchOf). c.front.result.now ≡ buffer_cells_at p b.windows b.buffers step) c.self.view_is
     (c.front.ensures
-    ∙ ap (λ w. cells_at p w (lists_of c.deref-in-Done.result.now) found) c.deref.ensures.value
-    ∙ ap (λ bs. cells_at p inside.windows.items (lists_of bs) found) c.deref-in-Done.ensures.value
-    ∙ ap (cells_at p inside.windows.items (lists_of inside.buffers.items)) one)
+    ∙ ap (λ w. buffer_cells_at p w (lists_of c.deref-in-Done.result.now) found) c.deref.ensures.value
+    ∙ ap (λ bs. buffer_cells_at p inside.windows.items (lists_of bs) found) c.deref-in-Done.ensures.value
+    ∙ ap (buffer_cells_at p inside.windows.items (lists_of inside.buffers.items)) one)

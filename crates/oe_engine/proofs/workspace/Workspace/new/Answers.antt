@@ -1,5 +1,5 @@
 use Rattle.std.proofs.Common.{◌≡◌, ◌+◌, ◌*◌, ◌≤◌, ◌∙◌, ◌++◌, ◌∷◌, [], List, ℕ, subst, sym, arith}
-use Rattle.oe_plan.specs.Figures.{most_cells}
+use Rattle.oe_plan.specs.Figures.{most_held_cells}
 use Rattle.oe_plan.specs.Fits.{bench_cells}
 use Rattle.oe_engine.specs.Benches.{BenchOf, held_cells}
 use Rattle.oe_engine.proofs.WorkspaceLemmas.{AreSome, one_more, room}
@@ -10,7 +10,7 @@ overflow_add-cells c =
     let p = c.args.plan.now in
     let total = c.loop.invariant.total in
     let held = c.in_ok-bench.ensures.cells in
-    let most : c.loop.counter * bench_cells p + bench_cells p ≤ most_cells =
+    let most : c.loop.counter * bench_cells p + bench_cells p ≤ most_held_cells =
     room p c.workers-count.ensures.valid c.loop.counter (omega (arith, c.loop-test.true, c.workers-count.ensures.value)) in
     omega (arith, total, held, most, c.cells-cells.ensures)
 
