@@ -144,7 +144,7 @@ pub(crate) fn judge(
             judge_reduction(scope, context, nodes, states, *reducer, items)
         }
         Request::Element(items, index, label, return_nodata) => {
-            let (none, both) = given(*index, *label);
+            let (none, both) = presence_of(*index, *label);
             if none {
                 return Err(Code::ArrayElementParameterMissing);
             }
@@ -160,7 +160,7 @@ pub(crate) fn judge(
 }
 
 /// Whether neither an index nor a label is given, and whether both are.
-fn given(index: Option<u64>, label: Option<Label<'_>>) -> (bool, bool)
+fn presence_of(index: Option<u64>, label: Option<Label<'_>>) -> (bool, bool)
     ensures none { result.0 ≡ (is_none index && is_none (option_map plain_label label.entry)) }
     ensures both { result.1 ≡ (is_some index && is_some (option_map plain_label label.entry)) }
 {

@@ -15,6 +15,7 @@ mod judge;
 mod kinds;
 mod labels;
 mod operation;
+mod operators;
 mod program;
 mod references;
 mod request;

@@ -13,7 +13,11 @@ ghost use Rattle.oe_fold.specs.Value.{reduction_of};
 
 use crate::evaluate::{element, list_start};
 use crate::expr::Expr;
-use crate::operation::{Binary, Unary, on_one, on_two};
+use crate::operation::{Binary, Unary};
+use crate::operators::{
+    Absolute, Add, And, Ceil, Divide, Equal, Floor, Greater, GreaterOrEqual, Int, Less,
+    LessOrEqual, Modulo, Multiply, Not, NotEqual, OnOne, OnTwo, Or, Sgn, Subtract, Xor, store,
+};
 use crate::program::{Operand, Program, Step};
 use crate::request::MOST_ELEMENTS;
 use oe_cell::{Cell, choose};
@@ -456,46 +460,46 @@ fn accept_each(values: &[Cell], accepts: &[Cell], out: &mut [Cell])
     }
 }
 
-/// An operation on one cell along a strip, by a loop of its own for each.
+/// An operation on one cell along a strip.
 fn unary_row(f: Unary, x: &Source<'_>, out: &mut [Cell])
     requires { IsAsLong x.now (length out.old) }
     ensures { (j : ℕ) → j < length out.old
         → slice_index_or out.new j Empty ≡ unary_of f (strip_cell_at x.now j) }
 {
-    match x {
-        Source::All(x) => fill(&on_one(f, *x), out),
-        Source::Each(xs) => unary_cells(f, xs, out),
-    }
-}
-
-fn unary_cells(f: Unary, xs: &[Cell], out: &mut [Cell])
-    requires { length out.old ≤ length xs.now }
-    ensures { (j : ℕ) → j < length out.old → slice_index_or out.new j Empty
-        ≡ unary_of f (slice_index_or xs.now j Empty) }
-{
     match f {
-        Unary::Absolute => unary_each(Unary::Absolute, xs, out),
-        Unary::Sgn => unary_each(Unary::Sgn, xs, out),
-        Unary::Floor => unary_each(Unary::Floor, xs, out),
-        Unary::Ceil => unary_each(Unary::Ceil, xs, out),
-        Unary::Int => unary_each(Unary::Int, xs, out),
-        Unary::Not => unary_each(Unary::Not, xs, out),
+        Unary::Absolute => unary_with::<Absolute>(x, out),
+        Unary::Sgn => unary_with::<Sgn>(x, out),
+        Unary::Floor => unary_with::<Floor>(x, out),
+        Unary::Ceil => unary_with::<Ceil>(x, out),
+        Unary::Int => unary_with::<Int>(x, out),
+        Unary::Not => unary_with::<Not>(x, out),
     }
 }
 
-/// It stands inline in its callers, which each name one operation.
-#[inline(always)]
-fn unary_each(f: Unary, xs: &[Cell], out: &mut [Cell])
+fn unary_with<O: OnOne>(x: &Source<'_>, out: &mut [Cell])
+    requires { IsAsLong x.now (length out.old) }
+    ensures { (j : ℕ) → j < length out.old
+        → slice_index_or out.new j Empty ≡ unary_of O.operation (strip_cell_at x.now j) }
+{
+    match x {
+        Source::All(x) => fill(&O::on(*x), out),
+        Source::Each(xs) => unary_each::<O>(xs, out),
+    }
+}
+
+fn unary_each<O: OnOne>(xs: &[Cell], out: &mut [Cell])
     requires { length out.old ≤ length xs.now }
     ensures { (j : ℕ) → j < length out.old → slice_index_or out.new j Empty
-        ≡ unary_of f (slice_index_or xs.now j Empty) }
+        ≡ unary_of O.operation (slice_index_or xs.now j Empty) }
 {
     for k in 0..out.len() {
-        out[k] = on_one(f, xs[k]);
+        let x = xs[k];
+        let cell = O::on(x);
+        store(&cell, &mut out[k]);
     }
 }
 
-/// An operation on two cells along a strip, by a loop of its own for each.
+/// An operation on two cells along a strip.
 fn binary_row(f: Binary, x: &Source<'_>, y: &Source<'_>, out: &mut [Cell])
     requires x { IsAsLong x.now (length out.old) }
     requires y { IsAsLong y.now (length out.old) }
@@ -503,92 +507,92 @@ fn binary_row(f: Binary, x: &Source<'_>, y: &Source<'_>, out: &mut [Cell])
         ≡ binary_of f (strip_cell_at x.now j) (strip_cell_at y.now j) }
 {
     match f {
-        Binary::Add => binary_each(Binary::Add, x, y, out),
-        Binary::Subtract => binary_each(Binary::Subtract, x, y, out),
-        Binary::Multiply => binary_each(Binary::Multiply, x, y, out),
-        Binary::Divide => binary_each(Binary::Divide, x, y, out),
-        Binary::Modulo => binary_each(Binary::Modulo, x, y, out),
-        Binary::Equal => binary_each(Binary::Equal, x, y, out),
-        Binary::NotEqual => binary_each(Binary::NotEqual, x, y, out),
-        Binary::Greater => binary_each(Binary::Greater, x, y, out),
-        Binary::GreaterOrEqual => binary_each(Binary::GreaterOrEqual, x, y, out),
-        Binary::Less => binary_each(Binary::Less, x, y, out),
-        Binary::LessOrEqual => binary_each(Binary::LessOrEqual, x, y, out),
-        Binary::And => binary_each(Binary::And, x, y, out),
-        Binary::Or => binary_each(Binary::Or, x, y, out),
-        Binary::Xor => binary_each(Binary::Xor, x, y, out),
+        Binary::Add => binary_with::<Add>(x, y, out),
+        Binary::Subtract => binary_with::<Subtract>(x, y, out),
+        Binary::Multiply => binary_with::<Multiply>(x, y, out),
+        Binary::Divide => binary_with::<Divide>(x, y, out),
+        Binary::Modulo => binary_with::<Modulo>(x, y, out),
+        Binary::Equal => binary_with::<Equal>(x, y, out),
+        Binary::NotEqual => binary_with::<NotEqual>(x, y, out),
+        Binary::Greater => binary_with::<Greater>(x, y, out),
+        Binary::GreaterOrEqual => binary_with::<GreaterOrEqual>(x, y, out),
+        Binary::Less => binary_with::<Less>(x, y, out),
+        Binary::LessOrEqual => binary_with::<LessOrEqual>(x, y, out),
+        Binary::And => binary_with::<And>(x, y, out),
+        Binary::Or => binary_with::<Or>(x, y, out),
+        Binary::Xor => binary_with::<Xor>(x, y, out),
     }
 }
 
-/// It stands inline in its callers, which each name one operation, and so do the loops for one cell or one each.
-#[inline(always)]
-fn binary_each(f: Binary, x: &Source<'_>, y: &Source<'_>, out: &mut [Cell])
+fn binary_with<O: OnTwo>(x: &Source<'_>, y: &Source<'_>, out: &mut [Cell])
     requires x { IsAsLong x.now (length out.old) }
     requires y { IsAsLong y.now (length out.old) }
     ensures { (j : ℕ) → j < length out.old → slice_index_or out.new j Empty
-        ≡ binary_of f (strip_cell_at x.now j) (strip_cell_at y.now j) }
+        ≡ binary_of O.operation (strip_cell_at x.now j) (strip_cell_at y.now j) }
 {
     match x {
-        Source::All(x) => one_with(f, x, y, out),
-        Source::Each(xs) => each_with(f, xs, y, out),
+        Source::All(x) => one_with::<O>(x, y, out),
+        Source::Each(xs) => each_with::<O>(xs, y, out),
     }
 }
 
-#[inline(always)]
-fn one_with(f: Binary, x: &Cell, y: &Source<'_>, out: &mut [Cell])
+fn one_with<O: OnTwo>(x: &Cell, y: &Source<'_>, out: &mut [Cell])
     requires { IsAsLong y.now (length out.old) }
     ensures { (j : ℕ) → j < length out.old → slice_index_or out.new j Empty
-        ≡ binary_of f x.now (strip_cell_at y.now j) }
+        ≡ binary_of O.operation x.now (strip_cell_at y.now j) }
 {
     match y {
-        Source::All(y) => fill(&on_two(f, *x, *y), out),
-        Source::Each(ys) => one_with_each(f, x, ys, out),
+        Source::All(y) => fill(&O::on(*x, *y), out),
+        Source::Each(ys) => one_with_each::<O>(x, ys, out),
     }
 }
 
-#[inline(always)]
-fn each_with(f: Binary, xs: &[Cell], y: &Source<'_>, out: &mut [Cell])
+fn each_with<O: OnTwo>(xs: &[Cell], y: &Source<'_>, out: &mut [Cell])
     requires x { length out.old ≤ length xs.now }
     requires y { IsAsLong y.now (length out.old) }
     ensures { (j : ℕ) → j < length out.old → slice_index_or out.new j Empty
-        ≡ binary_of f (slice_index_or xs.now j Empty) (strip_cell_at y.now j) }
+        ≡ binary_of O.operation (slice_index_or xs.now j Empty) (strip_cell_at y.now j) }
 {
     match y {
-        Source::All(y) => each_with_one(f, xs, y, out),
-        Source::Each(ys) => each_with_each(f, xs, ys, out),
+        Source::All(y) => each_with_one::<O>(xs, y, out),
+        Source::Each(ys) => each_with_each::<O>(xs, ys, out),
     }
 }
 
-#[inline(always)]
-fn one_with_each(f: Binary, x: &Cell, ys: &[Cell], out: &mut [Cell])
+fn one_with_each<O: OnTwo>(x: &Cell, ys: &[Cell], out: &mut [Cell])
     requires { length out.old ≤ length ys.now }
     ensures { (j : ℕ) → j < length out.old → slice_index_or out.new j Empty
-        ≡ binary_of f x.now (slice_index_or ys.now j Empty) }
+        ≡ binary_of O.operation x.now (slice_index_or ys.now j Empty) }
 {
     for k in 0..out.len() {
-        out[k] = on_two(f, *x, ys[k]);
+        let y = ys[k];
+        let cell = O::on(*x, y);
+        store(&cell, &mut out[k]);
     }
 }
 
-#[inline(always)]
-fn each_with_one(f: Binary, xs: &[Cell], y: &Cell, out: &mut [Cell])
+fn each_with_one<O: OnTwo>(xs: &[Cell], y: &Cell, out: &mut [Cell])
     requires { length out.old ≤ length xs.now }
     ensures { (j : ℕ) → j < length out.old → slice_index_or out.new j Empty
-        ≡ binary_of f (slice_index_or xs.now j Empty) y.now }
+        ≡ binary_of O.operation (slice_index_or xs.now j Empty) y.now }
 {
     for k in 0..out.len() {
-        out[k] = on_two(f, xs[k], *y);
+        let x = xs[k];
+        let cell = O::on(x, *y);
+        store(&cell, &mut out[k]);
     }
 }
 
-#[inline(always)]
-fn each_with_each(f: Binary, xs: &[Cell], ys: &[Cell], out: &mut [Cell])
+fn each_with_each<O: OnTwo>(xs: &[Cell], ys: &[Cell], out: &mut [Cell])
     requires xs { length out.old ≤ length xs.now }
     requires ys { length out.old ≤ length ys.now }
     ensures { (j : ℕ) → j < length out.old → slice_index_or out.new j Empty
-        ≡ binary_of f (slice_index_or xs.now j Empty) (slice_index_or ys.now j Empty) }
+        ≡ binary_of O.operation (slice_index_or xs.now j Empty) (slice_index_or ys.now j Empty) }
 {
     for k in 0..out.len() {
-        out[k] = on_two(f, xs[k], ys[k]);
+        let x = xs[k];
+        let y = ys[k];
+        let cell = O::on(x, y);
+        store(&cell, &mut out[k]);
     }
 }

@@ -30,7 +30,7 @@ returns-else-not-return_nodata c =
     let e = c.in-Element in
     c.judge_elements.ensures
     ∙ (judged_element scope c.args.context.now at (plain_items e.items) e.index (option_map plain_label e.label) e.return_nodata
-    (sym c.given-none.ensures.none ∙ c.if-none.false) (sym c.given-none.ensures.both ∙ c.if-both.false)
+    (sym c.presence_of-none.ensures.none ∙ c.if-none.false) (sym c.presence_of-none.ensures.both ∙ c.if-both.false)
     (λ null. elim c.else-not-return_nodata.branch [
       | else-not-return_nodata-via-then-not-return_nodata+else-lacks_element w ↦ sym w.lacks_element.ensures ∙ w.if-lacks_element.false
       | else-not-return_nodata-via-else-not-return_nodata w ↦ absurd (true≢false (sym w.if-not-return_nodata.false ∙ null))

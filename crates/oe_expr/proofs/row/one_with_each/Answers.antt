@@ -6,6 +6,6 @@ use Rattle.oe_expr.proofs.StripLemmas.{written}
 use Rattle.oe_expr.proofs.row.one_with_each.Goals as goal
 
 pub loop-k-preserved : goal.loop-k-preserved
-loop-k-preserved c =
-    written (λ (j : ℕ). binary_of c.args.f c.args.x.now (get_or c.args.ys.now j Empty)) c.loop-k.out c.loop-k.k c.on_two.result (omega arith) c.loop-k.invariant
-    (c.on_two.ensures ∙ ap (binary_of c.args.f c.args.x.now) (get_or_read c.args.ys.now c.loop-k.k c.index-ys-k.result (omega arith) c.index-ys-k.is Empty))
+loop-k-preserved g c =
+    written (λ (j : ℕ). binary_of g.O.OnTwo.operation c.args.x.now (get_or c.args.ys.now j Empty)) c.loop-k.out c.loop-k.k c.store.new.to (omega arith) c.loop-k.invariant
+    (c.store.ensures ∙ c.on-cell.ensures ∙ ap (binary_of g.O.OnTwo.operation c.args.x.now) (get_or_read c.args.ys.now c.loop-k.k c.index-ys-k.result (omega arith) c.index-ys-k.is Empty))

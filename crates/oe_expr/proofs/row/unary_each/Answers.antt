@@ -6,6 +6,6 @@ use Rattle.oe_expr.proofs.StripLemmas.{written}
 use Rattle.oe_expr.proofs.row.unary_each.Goals as goal
 
 pub loop-k-preserved : goal.loop-k-preserved
-loop-k-preserved c =
-    written (λ (j : ℕ). unary_of c.args.f (get_or c.args.xs.now j Empty)) c.loop-k.out c.loop-k.k c.on_one.result (omega arith) c.loop-k.invariant
-    (c.on_one.ensures ∙ ap (unary_of c.args.f) (get_or_read c.args.xs.now c.loop-k.k c.index-xs-k.result (omega arith) c.index-xs-k.is Empty))
+loop-k-preserved g c =
+    written (λ (j : ℕ). unary_of g.O.OnOne.operation (get_or c.args.xs.now j Empty)) c.loop-k.out c.loop-k.k c.store.new.to (omega arith) c.loop-k.invariant
+    (c.store.ensures ∙ c.on-cell.ensures ∙ ap (unary_of g.O.OnOne.operation) (get_or_read c.args.xs.now c.loop-k.k c.index-xs-k.result (omega arith) c.index-xs-k.is Empty))
