@@ -78,7 +78,7 @@ not_true false is = refl
 false_not : (b : Bool) → b ≡ false → not b ≡ true
 false_not b is = ap not is
 
-by_bool : (b : Bool) → (b ≡ true) ⊎ (b ≡ false)
+pub by_bool : (b : Bool) → (b ≡ true) ⊎ (b ≡ false)
 by_bool true = inl refl
 by_bool false = inr refl
 
@@ -99,7 +99,7 @@ in_named names name is =
 pub among : (names : List (List ℕ)) (name : List ℕ) → Contains names name → list_any (same_name name) names ≡ true
 among names name there = any_there (same_name name) names name there (same_name_refl name)
 
-in_among : (names : List (List ℕ)) (name : List ℕ) → list_any (same_name name) names ≡ true → Contains names name
+pub in_among : (names : List (List ℕ)) (name : List ℕ) → list_any (same_name name) names ≡ true → Contains names name
 in_among names name is =
     let p = any_one (same_name name) names is in
     subst (λ n. Contains names n) (same_name_is name p.one p.is) p.is_there
@@ -187,11 +187,11 @@ missing_there arguments p default optional absent =
 
 -- ---- references and parameters
 
-abbrev all_in : List (List ℕ) → List (List ℕ) → Bool
+abbrev pub all_in : List (List ℕ) → List (List ℕ) → Bool
 all_in scope names = list_all (λ name. list_any (same_name name) scope) names
 
 module _ (scope : List (List ℕ)) where
-  joined : (a b : Bool) (xs ys : List (List ℕ)) → a ≡ all_in scope xs → b ≡ all_in scope ys → (a && b) ≡ all_in scope (xs ++ ys)
+  pub joined : (a b : Bool) (xs ys : List (List ℕ)) → a ≡ all_in scope xs → b ≡ all_in scope ys → (a && b) ≡ all_in scope (xs ++ ys)
   joined a b xs ys p q =
       ap (λ c. c && b) p ∙ ap (λ c. all_in scope xs && c) q ∙ sym (all_append (λ name. list_any (same_name name) scope) xs ys)
 
@@ -219,7 +219,7 @@ module _ (scope : List (List ℕ)) where
         joined (sees scope a) (see_named scope rest) (parameters_in a) (parameters_named rest) (sees_all a) (sees_all_named rest)
 
   mutual
-    knows_all : (a : Argument) → knows scope a ≡ all_in scope (references_in a)
+    pub knows_all : (a : Argument) → knows scope a ≡ all_in scope (references_in a)
     knows_all null = refl
     knows_all (flag b) = refl
     knows_all (whole z) = refl
@@ -231,12 +231,12 @@ module _ (scope : List (List ℕ)) where
     knows_all (from_parameter name) = refl
     knows_all (callback ns result) = refl
 
-    knows_all_each : (xs : ListValues) → know_each scope xs ≡ all_in scope (references_each xs)
+    pub knows_all_each : (xs : ListValues) → know_each scope xs ≡ all_in scope (references_each xs)
     knows_all_each no_arguments = refl
     knows_all_each (argument a rest) =
         joined (knows scope a) (know_each scope rest) (references_in a) (references_each rest) (knows_all a) (knows_all_each rest)
 
-    knows_all_named : (ms : Named) → know_named scope ms ≡ all_in scope (references_named ms)
+    pub knows_all_named : (ms : Named) → know_named scope ms ≡ all_in scope (references_named ms)
     knows_all_named no_named = refl
     knows_all_named (named name a rest) =
         joined (knows scope a) (know_named scope rest) (references_in a) (references_named rest) (knows_all a) (knows_all_named rest)
@@ -385,12 +385,12 @@ module _ (stored : List PlainStored) (last : Bool) (scope : List (List ℕ)) (no
 pub own_least : (stored : List PlainStored) (last : Bool) (scope : List (List ℕ)) (nodes : Nodes) (n : PlainNode) (mark : Bool)
     (at : List ℕ) → IsMark last nodes n mark
     → IsLeastOf (OfItself stored last at scope nodes n)
-    (option_map (λ code. record { code = code; node = at }) (node_code stored last scope (ids_of nodes) n mark))
+    (option_map (λ code. record { code = code; node = at }) (node_code stored last scope n (know_named (ids_of nodes) n.arguments) mark))
 own_least stored last scope nodes n mark at marked =
     IsLeastOf-iff
     (λ f. TestRow stored last scope nodes n mark f.code × (f.node ≡ at))
     (OfItself stored last at scope nodes n)
-    (option_map (λ code. record { code = code; node = at }) (node_code stored last scope (ids_of nodes) n mark))
+    (option_map (λ code. record { code = code; node = at }) (node_code stored last scope n (know_named (ids_of nodes) n.arguments) mark))
     (λ f has. record { at = has.1; has = from_row stored last scope nodes n mark marked f.code has.0 })
     (λ f has. (to_row stored last scope nodes n mark marked f.code has.has, has.at))
     (rows_least at (has_unknown_argument (parameters_of stored n) n.arguments) (lacks_parameter (parameters_of stored n) n.arguments)

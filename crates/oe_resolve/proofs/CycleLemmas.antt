@@ -173,7 +173,7 @@ get_contains [] i x is = absurd cc
 get_contains (y ∷ xs) zero x is = let same : y ≡ x = cc in same
 get_contains (y ∷ xs) (suc i) x is = get_contains xs i x is
 
-there_at : {X : Type 0} (xs : List X) (i : ℕ) (x : X) → slice_get xs i ≡ Some x → Contains xs x
+pub there_at : {X : Type 0} (xs : List X) (i : ℕ) (x : X) → slice_get xs i ≡ Some x → Contains xs x
 there_at xs i x is = (i, get_below xs i x is, get_contains xs i x is)
 
 pub indexed_within : (ids : List (List ℕ)) (ns : List PlainNode) (xs : List order.Node) → IsIndexed ids ns xs
@@ -191,13 +191,13 @@ lt_is Ordering.Less is = refl
 lt_is Ordering.Equal is = absurd (true≢false (sym is))
 lt_is Ordering.Greater is = absurd (true≢false (sym is))
 
-before_trans : (a b c : List ℕ) → is_name_before a b ≡ true → is_name_before b c ≡ true → is_name_before a c ≡ true
+pub before_trans : (a b c : List ℕ) → is_name_before a b ≡ true → is_name_before b c ≡ true → is_name_before a c ≡ true
 before_trans a b c ab bc = ap is_lt (nat_list_cmp_total.trans a b c (lt_is _ ab) (lt_is _ bc))
 
 pub not_before_itself : (a : List ℕ) → is_name_before a a ≡ false
 not_before_itself a = ap is_lt (tied_itself nat_list_cmp_total a)
 
-head_before : (a : List ℕ) (names : List (List ℕ)) → names_rise (a ∷ names) ≡ true → (j : ℕ) (n : List ℕ)
+pub head_before : (a : List ℕ) (names : List (List ℕ)) → names_rise (a ∷ names) ≡ true → (j : ℕ) (n : List ℕ)
     → slice_get names j ≡ Some n → is_name_before a n ≡ true
 head_before a [] rise j n is = absurd cc
 head_before a (b ∷ names) rise zero n is =
@@ -254,7 +254,7 @@ pub ids_length : (nodes : Nodes) → length (ids_of nodes) ≡ length (each_node
 ids_length no_nodes = refl
 ids_length (node id p s args rest) = let longer : length (ids_of rest) ≡ length (each_node rest) = ids_length rest in omega arith
 
-same_some : {X : Type 0} (x y : X) (o : Option X) → o ≡ Some x → o ≡ Some y → x ≡ y
+pub same_some : {X : Type 0} (x y : X) (o : Option X) → o ≡ Some x → o ≡ Some y → x ≡ y
 same_some x y o a b = let both : Some x ≡ Some y = sym a ∙ b in cc
 
 -- ---- where references lead

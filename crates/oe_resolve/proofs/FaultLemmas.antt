@@ -26,7 +26,7 @@ use Rattle.oe_graph.specs.declared.tree.Graph.{Graph, out-Graph}
 use Rattle.oe_graph.specs.declared.tree.Node.{Node}
 use Rattle.oe_graph.proofs.LeastLemmas.{IsLeastOf, IsLeastOf-iff, IsLeastOf-least, OneOf}
 use Rattle.oe_resolve.specs.Faults.{each_argument}
-use Rattle.oe_resolve.specs.Judged.{AreMarks, IsMark, IdsRise, IdsRiseIn, itself, deeper, OfArgument, OfArguments, OfItself, OfNode, OfObject, by_itself, inside, node_code}
+use Rattle.oe_resolve.specs.Judged.{AreMarks, IsMark, IdsRise, IdsRiseIn, itself, deeper, OfArgument, OfArguments, OfItself, OfNode, OfObject, by_itself, inside, know_named, node_code}
 use Rattle.oe_resolve.proofs.Along.{first_there, later_there, none_there, there_cases, map_there, map_back, one_mapped, one_back}
 use Rattle.oe_resolve.proofs.CodeLemmas.{own_least}
 use Rattle.oe_resolve.proofs.CycleLemmas.{each_nodes}
@@ -133,6 +133,12 @@ get_mapped f [] i x below is = absurd (omega arith)
 get_mapped f (y ∷ xs) zero x below is = ap (λ z. Some (f z)) (sym is)
 get_mapped f (y ∷ xs) (suc i) x below is = get_mapped f xs i x (omega arith) is
 
+pub mapped_at : {X Y : Type 0} (f : X → Y) (xs : List X) (i : ℕ) (x : X) (y : Y) → i < length xs → x ≡ get_or xs i x
+    → y ≡ get_or (map f xs) i y → y ≡ f x
+mapped_at f [] i x y below is at = absurd (omega arith)
+mapped_at f (z ∷ xs) zero x y below is at = at ∙ ap f (sym is)
+mapped_at f (z ∷ xs) (suc i) x y below is at = mapped_at f xs i x y (omega arith) is at
+
 pub node_there : (ns : List Node) (i : ℕ) (n : Node) → i < length ns → n ≡ get_or ns i n
     → slice_get (each_node (plain_nodes ns)) i ≡ Some (plain_node n)
 node_there ns i n below is =
@@ -152,6 +158,10 @@ mark_there last ns i n marks mark below is marked same =
     (marked.exact i (plain_node n) (node_there ns i n below is))
 
 -- ---- faults
+
+pub least-none : (o : Option Fault) → least o None ≡ o
+least-none None = refl
+least-none (Some f) = refl
 
 each_named : (ms : List (List ℕ × Argument)) → each_argument (named_from_list ms) ≡ ms
 each_named [] = refl
@@ -283,20 +293,22 @@ module _ (stored : List PlainStored) (last : Bool) where
       (subst (λ n. IsLeastOf (λ f. OfObject stored last f n scope ns) o) same (found inner)))
 
   -- of a node
-  pub node_least : (name : List ℕ) (scope : List (List ℕ)) (nodes : Nodes) (n : Node) (mark : Bool) (own inner : Option Fault)
+  pub node_least : (name : List ℕ) (scope : List (List ℕ)) (nodes : Nodes) (n : Node) (known mark : Bool) (own inner : Option Fault)
       (at : List ℕ) (inner_scope : List (List ℕ))
       → at ≡ node_name name n.id → inner_scope ≡ scope_inside (plain_node n) scope
-      → own ≡ option_map (λ code. record { code = code; node = at }) (node_code stored last scope (ids_of nodes) (plain_node n) mark)
-      → IsMark last nodes (plain_node n) mark
+      → own ≡ option_map (λ code. record { code = code; node = at }) (node_code stored last scope (plain_node n) known mark)
+      → known ≡ know_named (ids_of nodes) (plain_node n).arguments → IsMark last nodes (plain_node n) mark
       → IsLeastOf (OfArguments stored last at inner_scope (plain_named n.arguments.items)) inner
       → IsLeastOf (OfNode stored last name scope nodes (plain_node n)) (least own inner)
-  node_least name scope nodes n mark own inner at inner_scope called_at scoped is marked found =
+  node_least name scope nodes n known mark own inner at inner_scope called_at scoped is knows marked found =
       let m = plain_node n in
       let called : at ≡ node_name name m.id = called_at ∙ ap (λ (k : PlainNode). node_name name k.id) (sym (node_is n)) in
       IsLeastOf-least (OfItself stored last (node_name name m.id) scope nodes m)
       (OfArguments stored last (node_name name m.id) (scope_inside m scope) m.arguments) own inner
       (subst (λ a. IsLeastOf (OfItself stored last a scope nodes m) own) called
-      (subst (IsLeastOf (OfItself stored last at scope nodes m)) (sym is) (own_least stored last scope nodes m mark at marked)))
+      (subst (IsLeastOf (OfItself stored last at scope nodes m))
+      (sym (is ∙ ap (λ b. option_map (λ code. record { code = code; node = at }) (node_code stored last scope m b mark)) knows))
+      (own_least stored last scope nodes m mark at marked)))
       (subst (λ a. IsLeastOf (OfArguments stored last a (scope_inside m scope) m.arguments) inner) called
       (subst (λ sc. IsLeastOf (OfArguments stored last at sc m.arguments) inner) scoped
       (subst (λ (k : PlainNode). IsLeastOf (OfArguments stored last at inner_scope k.arguments) inner) (sym (node_is n)) found)))

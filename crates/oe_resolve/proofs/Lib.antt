@@ -7,6 +7,7 @@ pub mod PlaceLemmas
 pub mod IdLemmas
 pub mod OrderLemmas
 pub mod ExpansionLemmas
+pub mod UncalledLemmas
 pub mod ValueLemmas
 pub mod StoredLemmas
 pub mod InsertLemmas
@@ -17,6 +18,7 @@ pub mod Along
 pub mod CycleLemmas
 pub mod CodeLemmas
 pub mod KnownLemmas
+pub mod KnowsLemmas
 pub mod FaultLemmas
 pub mod FindLemmas
 pub mod CountLemmas

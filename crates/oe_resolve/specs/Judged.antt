@@ -92,11 +92,11 @@ first_code unknown missing unseen unnamed cyclic =
     else if cyclic then Some GraphCycle else None
 
 -- parameters and cycles are judged in the last round alone
-abbrev pub node_code : List PlainStored → Bool → List (List ℕ) → List (List ℕ) → PlainNode → Bool → Option Code
-node_code stored last scope ids n cyclic =
+abbrev pub node_code : List PlainStored → Bool → List (List ℕ) → PlainNode → Bool → Bool → Option Code
+node_code stored last scope n known cyclic =
     first_code (has_unknown_argument (parameters_of stored n) n.arguments)
     (lacks_parameter (parameters_of stored n) n.arguments) (last && not (see_named scope n.arguments))
-    (not (know_named ids n.arguments)) cyclic
+    (not known) cyclic
 
 -- a fault that a node has by itself
 pub data HasFault (stored : List PlainStored) (last : Bool) (scope : List (List ℕ)) (nodes : Nodes) (n : PlainNode)

@@ -1,9 +1,13 @@
--- What the code keeps of the values of parameters: those of the call, and in a callback which of them are hidden.
-use Rattle.std.specs.Prelude.{ℕ, List, map, if◌then◌else◌}
+-- What the code keeps of the values of parameters: those of the call, and in a callback which of them are hidden; and
+-- what it keeps to find the nodes of a graph object.
+use Rattle.std.specs.Prelude.{◌≡◌, ℕ, List, map, if◌then◌else◌}
 use denote.Bor.{Bor}
-use Rattle.oe_graph.specs.Plain.{plain_named}
+use Rattle.oe_dims.specs.Names.{names_rise}
+use Rattle.oe_graph.specs.Plain.{plain_named, plain_nodes}
+use Rattle.oe_graph.specs.Printed.{ids_of}
 use Rattle.oe_graph.specs.Tree.{Named}
 use Rattle.oe_resolve.specs.Replaced.{inside}
+use Rattle.oe_resolve.specs.declared.find.Beside.{Beside}
 use Rattle.oe_resolve.specs.declared.values.Values.{Values}
 
 -- the names behind references
@@ -15,3 +19,7 @@ abbrev pub seen : Values → Named
 seen values =
     if values.carried then inside (names_behind values.hidden.items) (plain_named values.given.now.items)
     else plain_named values.given.now.items
+
+-- it is noted whether the ids of the nodes rise
+abbrev pub NotesRise : Beside → Type 0
+NotesRise beside = beside.guesses.now.rising ≡ names_rise (ids_of (plain_nodes beside.nodes.now.items))

@@ -12,7 +12,7 @@ ghost use Rattle.oe_resolve.specs.Reached.{IsCallGraph};
 ghost use Rattle.oe_graph.specs.Valid.{AreValidStored};
 
 use crate::calls::callee_index;
-use crate::reach::{CallGraph, reached};
+use crate::reach::{CallGraph, reach};
 use oe_dims::Text;
 use oe_graph::{Arg, Graph, Node, StoredProcess};
 use oe_memory::OutOfMemory;
@@ -117,7 +117,7 @@ pub fn is_too_large(
         return Ok(true);
     }
     for node in &graph.nodes {
-        let found = reached(alloc, stored, calls, node)?;
+        let found = reach(alloc, stored, calls, node)?;
         for index in &found {
             let process = &stored[(*index / 2) as usize];
             if !fit_nodes(stored, counts.as_slice(), &process.graph.nodes) {

@@ -1,39 +1,87 @@
 // Nodes and arguments by their names.
-ghost use Rattle.std.specs.Prelude.{◌≡◌, IsTrue, IfSome, IsNone, Some, Contains, map, option_map, slice_get};
+ghost use Rattle.std.specs.Prelude.{◌≡◌, ◌≢◌, ℕ, true, false, IsTrue, IfOk, IfSome, IsNone, Some, Contains, map, option_map, slice_get};
 ghost use Rattle.std.specs.List.{list_any};
-ghost use Rattle.oe_dims.specs.Names.{same_name};
+ghost use Rattle.oe_dims.specs.Names.{same_name, names_rise};
 ghost use Rattle.oe_graph.specs.Plain.{plain_arg, plain_graph, plain_named, plain_nodes};
 ghost use Rattle.oe_graph.specs.Printed.{ids_of};
 ghost use Rattle.oe_graph.specs.References.{argument_named};
 ghost use Rattle.oe_resolve.specs.Rounds as spec;
+ghost use Rattle.oe_resolve.specs.Seen.{NotesRise};
 
 use crate::names::{is_before, same_text};
 use oe_dims::Text;
 use oe_graph::{Arg, Graph, Node};
+use oe_memory::OutOfMemory;
+use std::alloc::Global;
 
-/// Whether a node has this id. Where ids rise, as they mostly do, a node that has it is found by halves.
-pub fn has_id(nodes: &Vec<Node>, id: &str) -> bool
-    ensures { result ≡ list_any (same_name id.now) (ids_of (plain_nodes nodes.now.items)) }
-{
-    is_id_at(nodes, guess_index(nodes, id), id) || index_of(nodes, id) < nodes.len()
+/// So many hashes make two of the same rare, at 32 to 64 bytes a node.
+const HASHES_PER_NODE: usize = 4;
+
+/// Bytes at the end of an id by which it is hashed.
+const HASHED_BYTES: usize = 8;
+
+/// Of ids that end in a number, hashes by this factor mostly differ.
+const HASH_FACTOR: usize = 37;
+
+/// Where the nodes of a graph object are looked for by their ids.
+#[derive(Drop)]
+pub struct Guesses {
+    /// Whether the ids rise, as they mostly do.
+    rising: bool,
+    /// For each hash the index of a node whose id has it, if one has.
+    indices: Vec<usize>,
 }
 
-/// The index of a node of an id, by halves where ids rise.
-pub fn find_index(nodes: &Vec<Node>, id: &str) -> Option<usize>
-    ensures found { IfSome result
-        (λ index. slice_get (ids_of (plain_nodes nodes.now.items)) index ≡ Some id.now) }
-    ensures none { IsNone result → ¬ Contains (ids_of (plain_nodes nodes.now.items)) id.now }
+/// The nodes of a graph object, and where they are looked for.
+#[derive(Clone, Copy)]
+pub struct Beside<'a> {
+    pub nodes: &'a Vec<Node>,
+    pub guesses: &'a Guesses,
+}
+
+/// Whether a node has this id.
+pub fn has_id(beside: &Beside, id: &str) -> bool
+    requires rise { NotesRise beside.now }
+    ensures { result
+        ≡ list_any (same_name id.now) (ids_of (plain_nodes beside.now.nodes.now.items)) }
 {
-    let guess = guess_index(nodes, id);
-    if guess < nodes.len() && same_text(nodes[guess].id.as_str(), id) {
-        return Some(guess);
-    }
-    let index = index_of(nodes, id);
-    if index < nodes.len() {
+    index_beside(beside, id) < beside.nodes.len()
+}
+
+/// The index of the first node of an id.
+pub fn find_index(beside: &Beside, id: &str) -> Option<usize>
+    requires rise { NotesRise beside.now }
+    ensures found { IfSome result
+        (λ index. slice_get (ids_of (plain_nodes beside.now.nodes.now.items)) index ≡ Some id.now) }
+    ensures none { IsNone result
+        → ¬ Contains (ids_of (plain_nodes beside.now.nodes.now.items)) id.now }
+{
+    let index = index_beside(beside, id);
+    if index < beside.nodes.len() {
         Some(index)
     } else {
         None
     }
+}
+
+/// The index of the first node of an id, or as many as there are where no node has it. Where ids rise, it is guessed by
+/// its hash, or found by halves where another id has the same hash.
+pub fn index_beside(beside: &Beside, id: &str) -> usize
+    requires rise { NotesRise beside.now }
+    ensures { result ≡ spec.index_of id.now (plain_nodes beside.now.nodes.now.items) }
+{
+    if !beside.guesses.rising {
+        return index_of(beside.nodes, id);
+    }
+    let guess = guess_index(beside.guesses.indices.as_slice(), id);
+    if is_id_at(beside.nodes, guess, id) {
+        return guess;
+    }
+    let index = index_by_halves(beside.nodes, id);
+    if is_id_at(beside.nodes, index, id) {
+        return index;
+    }
+    beside.nodes.len()
 }
 
 /// The index of the first node of an id, or as many as there are where no node has it.
@@ -60,8 +108,11 @@ pub fn id_at(graph: &Graph) -> &str
     }
 }
 
-/// Where the node of an id stands if ids rise.
-fn guess_index(nodes: &Vec<Node>, id: &str) -> usize {
+/// Where the node of an id stands, if ids rise and a node has it.
+fn index_by_halves(nodes: &Vec<Node>, id: &str) -> usize
+    ensures { names_rise (ids_of (plain_nodes nodes.now.items)) ≡ true → (index : ℕ)
+        → slice_get (ids_of (plain_nodes nodes.now.items)) index ≡ Some id.now → result ≡ index }
+{
     let mut low = 0;
     let mut high = nodes.len();
     while low < high {
@@ -76,10 +127,69 @@ fn guess_index(nodes: &Vec<Node>, id: &str) -> usize {
 }
 
 fn is_id_at(nodes: &Vec<Node>, index: usize, id: &str) -> bool
-    ensures { IsTrue result
-        → IsTrue (list_any (same_name id.now) (ids_of (plain_nodes nodes.now.items))) }
+    ensures found { IsTrue result
+        → slice_get (ids_of (plain_nodes nodes.now.items)) index ≡ Some id.now }
+    ensures missed { result ≡ false
+        → slice_get (ids_of (plain_nodes nodes.now.items)) index ≢ Some id.now }
 {
-    index < nodes.len() && same_text(id, nodes[index].id.as_str())
+    index < nodes.len() && same_text(nodes[index].id.as_str(), id)
+}
+
+/// Where to look for nodes. A caller sees there whether it is the node that it asks for.
+pub fn guesses_of(alloc: Global, nodes: &Vec<Node>) -> Result<Guesses, OutOfMemory>
+    ensures { IfOk result (λ g. g.rising ≡ names_rise (ids_of (plain_nodes nodes.now.items))) }
+{
+    Ok(Guesses {
+        rising: ids_rise(nodes),
+        indices: hashed_indices(alloc, nodes)?,
+    })
+}
+
+fn hashed_indices(alloc: Global, nodes: &Vec<Node>) -> Result<Vec<usize>, OutOfMemory> {
+    let Some(size) = nodes
+        .len()
+        .saturating_mul(HASHES_PER_NODE)
+        .checked_next_power_of_two()
+    else {
+        return Err(OutOfMemory);
+    };
+    let mut indices = vec![in alloc; nodes.len(); size]?;
+    for index in 0..nodes.len() {
+        let hash = hash_below(nodes[index].id.as_str(), indices.len());
+        if hash < indices.len() {
+            indices[hash] = index;
+        }
+    }
+    Ok(indices)
+}
+
+fn guess_index(indices: &[usize], id: &str) -> usize {
+    match indices.get(hash_below(id, indices.len())) {
+        Some(index) => *index,
+        None => 0,
+    }
+}
+
+/// A number below a power of two, by the length of a text and its last bytes.
+fn hash_below(text: &str, power: usize) -> usize {
+    let bytes = text.as_bytes();
+    let mut hash = bytes.len();
+    for byte in &bytes[bytes.len().saturating_sub(HASHED_BYTES)..] {
+        hash = hash.wrapping_mul(HASH_FACTOR).wrapping_add(*byte as usize);
+    }
+    hash & power.wrapping_sub(1)
+}
+
+/// Whether ids rise in byte order.
+fn ids_rise(nodes: &Vec<Node>) -> bool
+    ensures { result ≡ names_rise (ids_of (plain_nodes nodes.now.items)) }
+{
+    for index in 1..nodes.len() {
+        if !is_before(nodes[index - 1].id.as_str(), nodes[index].id.as_str()) {
+            return false;
+        }
+    }
+    true
 }
 
 /// The argument of a name.

@@ -1,23 +1,24 @@
 // Faults of the names of arguments, parameters and nodes.
-ghost use Rattle.std.specs.Prelude.{◌≡◌, true, length, IfOk, [], map, option_map};
+ghost use Rattle.std.specs.Prelude.{◌≡◌, ◌<◌, ◌^◌, true, false, length, IfOk, [], map, option_map};
 ghost use Rattle.std.specs.List.{list_any};
 ghost use Rattle.oe_dims.specs.Names.{same_name, names_rise};
 ghost use Rattle.oe_graph.specs.Catalogue.{parameter_of, plain_parameter as plain_of};
 ghost use Rattle.oe_graph.specs.Form as form;
 ghost use Rattle.oe_graph.specs.Plain.{plain_arg, plain_args, plain_graph, plain_named, plain_node, plain_nodes, plain_parameter, plain_stored};
 ghost use Rattle.oe_graph.specs.Printed.{ids_of};
-ghost use Rattle.oe_graph.specs.References.{callbacks_in, callbacks_named};
+ghost use Rattle.oe_graph.specs.References.{callbacks_in, callbacks_named, each_node};
 ghost use Rattle.oe_graph.specs.Resolved as resolved;
 ghost use Rattle.oe_graph.specs.Tree as tree;
+ghost use Rattle.oe_order.specs.Graph.{graph_of};
 ghost use Rattle.oe_resolve.specs.Calls.{parameters_of, row_meant};
 ghost use Rattle.oe_resolve.specs.Faults.{names_among};
 ghost use Rattle.oe_resolve.specs.Judged as spec;
-ghost use Rattle.oe_resolve.specs.Judged.{AreMarks, IsMark, IdsRise, IdsRiseIn, IsLeastFault, OfArgument, OfArguments, OfNode, OfObject};
+ghost use Rattle.oe_resolve.specs.Judged.{AreMarks, IsIndexed, IsMark, IdsRise, IdsRiseIn, IsLeastFault, OfArgument, OfArguments, OfNode, OfObject};
 ghost use Rattle.oe_resolve.specs.Seen.{names_behind};
 
 use crate::calls::{callee, means_catalogue};
-use crate::cycle::cyclic_marks;
-use crate::find::{argument_named, has_id};
+use crate::cycle::{cyclic_marks, read_references};
+use crate::find::argument_named;
 use crate::names::{is_among, names_of_both};
 use oe_dims::Text;
 use oe_graph::{
@@ -25,6 +26,7 @@ use oe_graph::{
     process_entry,
 };
 use oe_memory::OutOfMemory;
+use oe_order::Links;
 use std::alloc::Global;
 
 /// What judging looks at: the stored processes, and whether parameters and cycles are judged, which is done in the last
@@ -62,8 +64,8 @@ fn object_fault(
         (λ f. OfObject (map plain_stored judge.now.stored.now) judge.now.last f name.now
         (names_behind scope.now) (plain_nodes nodes.now.items)) o) }
 {
-    let cyclic = marks_of(alloc, judge.last, nodes)?;
-    let beside = Beside { nodes };
+    let references = read_references(alloc, nodes)?;
+    let cyclic = marks_of(alloc, judge.last, nodes, references.links.as_slice())?;
     let mut fault = None;
     for index in 0..nodes.len() {
         let found = node_faults(
@@ -71,8 +73,8 @@ fn object_fault(
             judge,
             name,
             scope,
-            &beside,
             &nodes[index],
+            references.known[index],
             cyclic[index],
         )?;
         fault = least(fault, found);
@@ -81,13 +83,21 @@ fn object_fault(
 }
 
 /// For each node, whether references lead from it back to itself; in no round but the last is it asked.
-fn marks_of(alloc: Global, last: bool, nodes: &Vec<Node>) -> Result<Vec<bool>, OutOfMemory>
+fn marks_of(
+    alloc: Global,
+    last: bool,
+    nodes: &Vec<Node>,
+    links: &[Links],
+) -> Result<Vec<bool>, OutOfMemory>
+    requires few { length nodes.now.items < 2 ^ 32 }
+    requires indexed { IsIndexed (ids_of (plain_nodes nodes.now.items))
+        (each_node (plain_nodes nodes.now.items)) (graph_of links.now) }
     ensures len { IfOk result (λ marks. length marks.items ≡ length nodes.now.items) }
     ensures exact { IfOk result (λ marks. names_rise (ids_of (plain_nodes nodes.now.items)) ≡ true
         → AreMarks last (plain_nodes nodes.now.items) marks.items) }
 {
     if last {
-        return cyclic_marks(alloc, nodes);
+        return cyclic_marks(alloc, nodes, links);
     }
     Ok(vec![in alloc; false; nodes.len()]?)
 }
@@ -99,16 +109,16 @@ fn node_faults(
     judge: &Judge,
     name: &str,
     scope: &[&'static str],
-    beside: &Beside,
     node: &Node,
+    is_known: bool,
     is_cyclic: bool,
 ) -> Result<Option<Fault>, OutOfMemory>
-    ensures { IfOk result (λ o. IdsRiseIn (callbacks_named (plain_node node.now).arguments)
-        → IsMark judge.now.last (plain_nodes beside.now.nodes.now.items) (plain_node node.now)
-        is_cyclic
+    ensures { IfOk result (λ o. (nodes : tree.Nodes)
+        → IdsRiseIn (callbacks_named (plain_node node.now).arguments)
+        → is_known ≡ spec.know_named (ids_of nodes) (plain_node node.now).arguments
+        → IsMark judge.now.last nodes (plain_node node.now) is_cyclic
         → IsLeastFault (OfNode (map plain_stored judge.now.stored.now) judge.now.last name.now
-        (names_behind scope.now) (plain_nodes beside.now.nodes.now.items)
-        (plain_node node.now)) o) }
+        (names_behind scope.now) nodes (plain_node node.now)) o) }
 {
     let name = node_name(alloc, name, node.id.as_str())?;
     let own = node_fault(
@@ -116,8 +126,8 @@ fn node_faults(
         judge,
         name.as_str(),
         scope,
-        beside.nodes,
         node,
+        is_known,
         is_cyclic,
     )?;
     let scope = scope_inside(alloc, node, scope)?;
@@ -184,6 +194,18 @@ fn argument_fault(
     }
 }
 
+/// Whether an argument may hold a callback. Of the many that do not, as references, no fault is made and compared.
+fn may_hold_callback(arg: &Arg) -> bool
+    ensures { result ≡ false → callbacks_in (plain_arg arg.now) ≡ [] }
+{
+    match arg {
+        Arg::List(_) => true,
+        Arg::Object(_) => true,
+        Arg::Callback(_) => true,
+        _ => false,
+    }
+}
+
 #[cycle(judge)]
 fn items_fault(
     alloc: Global,
@@ -199,8 +221,10 @@ fn items_fault(
 {
     let mut fault = None;
     for item in items {
-        let found = argument_fault(alloc, judge, node_name, argument, scope, item)?;
-        fault = least(fault, found);
+        if may_hold_callback(item) {
+            let found = argument_fault(alloc, judge, node_name, argument, scope, item)?;
+            fault = least(fault, found);
+        }
     }
     Ok(fault)
 }
@@ -220,8 +244,10 @@ fn members_fault(
 {
     let mut fault = None;
     for member in members {
-        let found = argument_fault(alloc, judge, node_name, argument, scope, &member.1)?;
-        fault = least(fault, found);
+        if may_hold_callback(&member.1) {
+            let found = argument_fault(alloc, judge, node_name, argument, scope, &member.1)?;
+            fault = least(fault, found);
+        }
     }
     Ok(fault)
 }
@@ -267,16 +293,15 @@ fn node_fault(
     judge: &Judge,
     name: &str,
     scope: &[&'static str],
-    nodes: &Vec<Node>,
     node: &Node,
+    is_known: bool,
     is_cyclic: bool,
 ) -> Result<Option<Fault>, OutOfMemory>
     ensures { IfOk result (λ f. f ≡ option_map (λ code. record { code = code; node = name.now })
         (spec.node_code (map plain_stored judge.now.stored.now) judge.now.last
-        (names_behind scope.now) (ids_of (plain_nodes nodes.now.items)) (plain_node node.now)
-        is_cyclic)) }
+        (names_behind scope.now) (plain_node node.now) is_known is_cyclic)) }
 {
-    match node_code(judge, scope, nodes, node, is_cyclic) {
+    match node_code(judge, scope, node, is_known, is_cyclic) {
         Some(code) => Ok(Some(Fault {
             code,
             node: Text::of(alloc, name)?,
@@ -289,13 +314,12 @@ fn node_fault(
 fn node_code(
     judge: &Judge,
     scope: &[&'static str],
-    nodes: &Vec<Node>,
     node: &Node,
+    is_known: bool,
     is_cyclic: bool,
 ) -> Option<Code>
     ensures { result ≡ spec.node_code (map plain_stored judge.now.stored.now) judge.now.last
-        (names_behind scope.now) (ids_of (plain_nodes nodes.now.items)) (plain_node node.now)
-        is_cyclic }
+        (names_behind scope.now) (plain_node node.now) is_known is_cyclic }
 {
     if has_unknown_argument(judge.stored, node) {
         Some(Code::ArgumentUnknown)
@@ -303,7 +327,7 @@ fn node_code(
         Some(Code::ProcessParameterMissing)
     } else if judge.last && !sees_named(scope, &node.arguments) {
         Some(Code::ParameterUnknown)
-    } else if !knows_named(&Beside { nodes }, &node.arguments) {
+    } else if !is_known {
         Some(Code::NodeUnknown)
     } else if is_cyclic {
         Some(Code::GraphCycle)
@@ -466,54 +490,6 @@ fn sees_arg(scope: &[&'static str], arg: &Arg) -> bool
         Arg::List(items) => sees_args(scope, items),
         Arg::Object(members) => sees_named(scope, members),
         Arg::FromParameter(name) => is_among(scope, name.as_str()),
-        _ => true,
-    }
-}
-
-/// The nodes of the graph object in which an argument stands.
-#[derive(Clone, Copy)]
-struct Beside<'a> {
-    nodes: &'a Vec<Node>,
-}
-
-/// Whether each reference names a node of the graph object.
-#[cycle(knows)]
-fn knows_named(beside: &Beside, members: &Vec<(Text, Arg)>) -> bool
-    ensures { result
-        ≡ spec.know_named (ids_of (plain_nodes beside.now.nodes.now.items))
-        (plain_named members.now.items) }
-{
-    for member in members {
-        if !knows_arg(beside, &member.1) {
-            return false;
-        }
-    }
-    true
-}
-
-#[cycle(knows)]
-fn knows_args(beside: &Beside, items: &Vec<Arg>) -> bool
-    ensures { result
-        ≡ spec.know_each (ids_of (plain_nodes beside.now.nodes.now.items))
-        (plain_args items.now.items) }
-{
-    for item in items {
-        if !knows_arg(beside, item) {
-            return false;
-        }
-    }
-    true
-}
-
-#[cycle(knows)]
-fn knows_arg(beside: &Beside, arg: &Arg) -> bool
-    ensures { result
-        ≡ spec.knows (ids_of (plain_nodes beside.now.nodes.now.items)) (plain_arg arg.now) }
-{
-    match arg {
-        Arg::List(items) => knows_args(beside, items),
-        Arg::Object(members) => knows_named(beside, members),
-        Arg::FromNode(id) => has_id(beside.nodes, id.as_str()),
         _ => true,
     }
 }

@@ -3,8 +3,9 @@ ghost use Rattle.std.specs.Prelude.{◌≡◌, IfOk, map};
 ghost use Rattle.oe_graph.specs.Plain.{plain_arg, plain_args, plain_named, plain_nodes, plain_node, plain_graph};
 ghost use Rattle.oe_graph.specs.Printed.{ids_of};
 ghost use Rattle.oe_resolve.specs.Rounds as spec;
+ghost use Rattle.oe_resolve.specs.Seen.{NotesRise};
 
-use crate::find::has_id;
+use crate::find::{Beside, guesses_of, has_id};
 use oe_dims::Text;
 use oe_graph::{Arg, Graph, Node, StoredProcess};
 use oe_memory::OutOfMemory;
@@ -15,7 +16,12 @@ use std::alloc::Global;
 pub fn known_graph(alloc: Global, graph: &Graph) -> Result<Graph, OutOfMemory>
     ensures { IfOk result (λ g. plain_graph g ≡ spec.known_graph (plain_graph graph.now)) }
 {
-    let nodes = known_nodes(alloc, &graph.nodes, &graph.nodes)?;
+    let guesses = guesses_of(alloc, &graph.nodes)?;
+    let beside = Beside {
+        nodes: &graph.nodes,
+        guesses: &guesses,
+    };
+    let nodes = known_nodes(alloc, &graph.nodes, &beside)?;
     Ok(Graph {
         nodes,
         result: graph.result,
@@ -23,30 +29,34 @@ pub fn known_graph(alloc: Global, graph: &Graph) -> Result<Graph, OutOfMemory>
 }
 
 #[cycle(known)]
-fn known_nodes(alloc: Global, nodes: &Vec<Node>, all: &Vec<Node>) -> Result<Vec<Node>, OutOfMemory>
+fn known_nodes(alloc: Global, nodes: &Vec<Node>, beside: &Beside) -> Result<Vec<Node>, OutOfMemory>
+    requires rise { NotesRise beside.now }
     ensures { IfOk result (λ v. plain_nodes v.items
-        ≡ spec.known_nodes (ids_of (plain_nodes all.now.items)) (plain_nodes nodes.now.items)) }
+        ≡ spec.known_nodes (ids_of (plain_nodes beside.now.nodes.now.items))
+        (plain_nodes nodes.now.items)) }
 {
     let mut copy = Vec::with_capacity(alloc, nodes.len())?;
     for node in nodes {
-        copy.push(known_node(alloc, node, all)?)?;
+        copy.push(known_node(alloc, node, beside)?)?;
     }
     Ok(copy)
 }
 
 #[cycle(known)]
-fn known_node(alloc: Global, node: &Node, all: &Vec<Node>) -> Result<Node, OutOfMemory>
+fn known_node(alloc: Global, node: &Node, beside: &Beside) -> Result<Node, OutOfMemory>
+    requires rise { NotesRise beside.now }
     ensures { IfOk result (λ n. plain_node n
-        ≡ spec.known_node (ids_of (plain_nodes all.now.items)) (plain_node node.now)) }
+        ≡ spec.known_node (ids_of (plain_nodes beside.now.nodes.now.items)) (plain_node node.now)) }
 {
     Ok(Node {
         id: node.id.copy()?,
         process_id: node.process_id.copy()?,
         namespace: copy_namespace(&node.namespace)?,
-        arguments: known_named(alloc, &node.arguments, all)?,
+        arguments: known_named(alloc, &node.arguments, beside)?,
     })
 }
 
+/// A copy of a namespace. Refuses: out of memory.
 pub fn copy_namespace(namespace: &Option<Text>) -> Result<Option<Text>, OutOfMemory>
     ensures { IfOk result (λ copy. copy ≡ namespace.now) }
 {
@@ -60,35 +70,40 @@ pub fn copy_namespace(namespace: &Option<Text>) -> Result<Option<Text>, OutOfMem
 fn known_named(
     alloc: Global,
     members: &Vec<(Text, Arg)>,
-    all: &Vec<Node>,
+    beside: &Beside,
 ) -> Result<Vec<(Text, Arg)>, OutOfMemory>
+    requires rise { NotesRise beside.now }
     ensures { IfOk result (λ v. plain_named v.items
-        ≡ spec.known_named (ids_of (plain_nodes all.now.items)) (plain_named members.now.items)) }
+        ≡ spec.known_named (ids_of (plain_nodes beside.now.nodes.now.items))
+        (plain_named members.now.items)) }
 {
     let mut copy = Vec::with_capacity(alloc, members.len())?;
     for member in members {
         let name = member.0.copy()?;
-        copy.push((name, known_arg(alloc, &member.1, all)?))?;
+        copy.push((name, known_arg(alloc, &member.1, beside)?))?;
     }
     Ok(copy)
 }
 
 #[cycle(known)]
-fn known_args(alloc: Global, items: &Vec<Arg>, all: &Vec<Node>) -> Result<Vec<Arg>, OutOfMemory>
+fn known_args(alloc: Global, items: &Vec<Arg>, beside: &Beside) -> Result<Vec<Arg>, OutOfMemory>
+    requires rise { NotesRise beside.now }
     ensures { IfOk result (λ v. plain_args v.items
-        ≡ spec.known_each (ids_of (plain_nodes all.now.items)) (plain_args items.now.items)) }
+        ≡ spec.known_each (ids_of (plain_nodes beside.now.nodes.now.items))
+        (plain_args items.now.items)) }
 {
     let mut copy = Vec::with_capacity(alloc, items.len())?;
     for item in items {
-        copy.push(known_arg(alloc, item, all)?)?;
+        copy.push(known_arg(alloc, item, beside)?)?;
     }
     Ok(copy)
 }
 
 #[cycle(known)]
-fn known_arg(alloc: Global, arg: &Arg, all: &Vec<Node>) -> Result<Arg, OutOfMemory>
+fn known_arg(alloc: Global, arg: &Arg, beside: &Beside) -> Result<Arg, OutOfMemory>
+    requires rise { NotesRise beside.now }
     ensures { IfOk result (λ a. plain_arg a
-        ≡ spec.known (ids_of (plain_nodes all.now.items)) (plain_arg arg.now)) }
+        ≡ spec.known (ids_of (plain_nodes beside.now.nodes.now.items)) (plain_arg arg.now)) }
 {
     match arg {
         Arg::Null => Ok(Arg::Null),
@@ -96,19 +111,20 @@ fn known_arg(alloc: Global, arg: &Arg, all: &Vec<Node>) -> Result<Arg, OutOfMemo
         Arg::Whole(whole) => Ok(Arg::Whole(*whole)),
         Arg::Inexact => Ok(Arg::Inexact),
         Arg::Str(text) => Ok(Arg::Str(text.copy()?)),
-        Arg::List(items) => Ok(Arg::List(known_args(alloc, items, all)?)),
-        Arg::Object(members) => Ok(Arg::Object(known_named(alloc, members, all)?)),
-        Arg::FromNode(id) => Ok(Arg::FromNode(known_id(alloc, all, id)?)),
+        Arg::List(items) => Ok(Arg::List(known_args(alloc, items, beside)?)),
+        Arg::Object(members) => Ok(Arg::Object(known_named(alloc, members, beside)?)),
+        Arg::FromNode(id) => Ok(Arg::FromNode(known_id(alloc, beside, id)?)),
         Arg::FromParameter(name) => Ok(Arg::FromParameter(name.copy()?)),
         Arg::Callback(graph) => Ok(Arg::Callback(known_graph(alloc, graph)?)),
     }
 }
 
-fn known_id(alloc: Global, all: &Vec<Node>, id: &Text) -> Result<Text, OutOfMemory>
+fn known_id(alloc: Global, beside: &Beside, id: &Text) -> Result<Text, OutOfMemory>
+    requires rise { NotesRise beside.now }
     ensures { IfOk result (λ text. text
-        ≡ spec.known_id (ids_of (plain_nodes all.now.items)) id.now) }
+        ≡ spec.known_id (ids_of (plain_nodes beside.now.nodes.now.items)) id.now) }
 {
-    if has_id(all, id.as_str()) {
+    if has_id(beside, id.as_str()) {
         id.copy()
     } else {
         Text::of(alloc, "")

@@ -112,11 +112,11 @@ fn expand(
         expanded = next_round(alloc, known.as_slice(), &expanded)?;
         times += 1;
     }
-    last_judged(alloc, stored, expanded, fault)
+    judge_last(alloc, stored, expanded, fault)
 }
 
 /// The graph after all rounds with the least fault of names, where this was the least before the last round.
-fn last_judged(
+fn judge_last(
     alloc: Global,
     stored: &[StoredProcess],
     expanded: Graph,

@@ -78,7 +78,7 @@ fn add_nodes(
     Ok(())
 }
 
-/// Adds the calls of a node and of its callbacks.
+/// Adds the calls of a node and of its callbacks; without stored processes there are none.
 #[cycle(calls)]
 pub fn add_node(
     stored: &[StoredProcess],
@@ -90,6 +90,9 @@ pub fn add_node(
         (reached.held_by in_callback (plain_node node.now))
         found.old.items found.new.items) }
 {
+    if stored.is_empty() {
+        return Ok(());
+    }
     add_call(stored, node, in_callback, found)?;
     add_named(stored, &node.arguments, found)
 }
@@ -257,7 +260,7 @@ fn find(named: &[u32], marks: &mut Vec<bool>, found: &mut Vec<u32>) -> Result<()
 }
 
 /// The stored processes that the calls of a node of the main graph reach.
-pub fn reached(
+pub fn reach(
     alloc: Global,
     stored: &[StoredProcess],
     calls: &CallGraph,
@@ -320,7 +323,7 @@ fn node_code(
     ensures { IfOk result
         (reached.IsCodeOf (map plain_stored stored.now) (plain_node node.now)) }
 {
-    let found = reached(alloc, stored, calls, node)?;
+    let found = reach(alloc, stored, calls, node)?;
     if !is_supported(stored, node, false) || !are_marked(found.as_slice(), &calls.supported) {
         return Ok(Some(Code::ProcessUnsupported));
     }
@@ -359,12 +362,12 @@ fn are_marked(found: &[u32], marks: &Vec<bool>) -> bool
     true
 }
 
-/// Whether a node of a graph calls a stored process, at any depth of callbacks.
+/// Whether a node of a graph calls a stored process, at any depth of callbacks; without stored processes none does.
 pub fn has_call(stored: &[StoredProcess], graph: &Graph) -> bool
     ensures { result
         ≡ spec.nodes_call (map plain_stored stored.now) (plain_graph graph.now).nodes }
 {
-    nodes_call(stored, &graph.nodes)
+    !stored.is_empty() && nodes_call(stored, &graph.nodes)
 }
 
 #[cycle(called)]

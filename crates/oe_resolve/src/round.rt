@@ -5,9 +5,10 @@ ghost use Rattle.oe_graph.specs.Printed.{ids_of};
 ghost use Rattle.oe_graph.specs.Tree.{PlainNode, no_nodes};
 ghost use Rattle.oe_resolve.specs.Calls.{callee};
 ghost use Rattle.oe_resolve.specs.Rounds as spec;
+ghost use Rattle.oe_resolve.specs.Seen.{NotesRise};
 
 use crate::calls::callee;
-use crate::find::{id_at, index_of};
+use crate::find::{Beside, guesses_of, id_at, index_beside, index_of};
 use crate::known::copy_namespace;
 use crate::names::is_before;
 use crate::under::{under_id, under_nodes};
@@ -32,7 +33,9 @@ fn round_graph(alloc: Global, graph: &Graph, stored: &[StoredProcess]) -> Result
         ≡ spec.round (map plain_stored stored.now) (plain_graph graph.now)) }
 {
     let nodes = round_nodes(alloc, &graph.nodes, stored)?;
-    let id = landed(alloc, stored, &graph.nodes, id_at(graph))?;
+    let target = id_at(graph);
+    let index = index_of(&graph.nodes, target);
+    let id = landing(alloc, stored, &graph.nodes, index, target)?;
     let result = index_of(&nodes, id.as_str());
     // As many nodes as do not fit this type do not fit the memory either.
     match u32::try_from(result) {
@@ -50,17 +53,22 @@ fn round_nodes(
     ensures { IfOk result (λ v. let all = plain_nodes all.now.items in plain_nodes v.items
         ≡ spec.round_nodes (map plain_stored stored.now) all all no_nodes) }
 {
+    let guesses = guesses_of(alloc, all)?;
+    let beside = Beside {
+        nodes: all,
+        guesses: &guesses,
+    };
     let mut found = Vec::with_capacity(alloc, all.len())?;
     for node in all {
-        let arguments = round_named(alloc, &node.arguments, stored, all)?;
-        let more = opened(alloc, stored, node, arguments)?;
+        let arguments = round_named(alloc, &node.arguments, stored, &beside)?;
+        let more = expand_node(alloc, stored, node, arguments)?;
         put_nodes(&mut found, more)?;
     }
     Ok(found)
 }
 
 /// A node, or in place of a call the nodes of the process that it calls.
-fn opened(
+fn expand_node(
     alloc: Global,
     stored: &[StoredProcess],
     node: &Node,
@@ -72,7 +80,7 @@ fn opened(
         (callee (map plain_stored stored.now) node.now.namespace node.now.process_id)) }
 {
     match callee(stored, node) {
-        Some(process) => open(alloc, stored, node, &arguments, process),
+        Some(process) => expand_call(alloc, stored, node, &arguments, process),
         None => {
             let mut one = Vec::with_capacity(alloc, 1)?;
             one.push(Node {
@@ -86,7 +94,8 @@ fn opened(
     }
 }
 
-fn open(
+/// The nodes of the process that a node calls.
+fn expand_call(
     alloc: Global,
     stored: &[StoredProcess],
     node: &Node,
@@ -141,17 +150,18 @@ fn index_among(nodes: &Vec<Node>, id: &str) -> usize
     nodes.len()
 }
 
-/// What a reference means after the round: the result node of a call's graph in place of the call.
-fn landed(
+/// What the id of a node at this index means after the round: the result node of a call's graph in place of the call.
+fn landing(
     alloc: Global,
     stored: &[StoredProcess],
     all: &Vec<Node>,
+    index: usize,
     id: &str,
 ) -> Result<Text, OutOfMemory>
+    requires { index ≡ spec.index_of id.now (plain_nodes all.now.items) }
     ensures { IfOk result (λ text. text
         ≡ spec.landed (map plain_stored stored.now) (plain_nodes all.now.items) id.now) }
 {
-    let index = index_of(all, id);
     if index == all.len() {
         return Text::of(alloc, id);
     }
@@ -161,21 +171,37 @@ fn landed(
     }
 }
 
+/// What a reference means after the round.
+fn landing_beside(
+    alloc: Global,
+    stored: &[StoredProcess],
+    beside: &Beside,
+    id: &str,
+) -> Result<Text, OutOfMemory>
+    requires rise { NotesRise beside.now }
+    ensures { IfOk result (λ text. text
+        ≡ spec.landed (map plain_stored stored.now) (plain_nodes beside.now.nodes.now.items)
+        id.now) }
+{
+    landing(alloc, stored, beside.nodes, index_beside(beside, id), id)
+}
+
 #[cycle(round)]
 fn round_named(
     alloc: Global,
     members: &Vec<(Text, Arg)>,
     stored: &[StoredProcess],
-    all: &Vec<Node>,
+    beside: &Beside,
 ) -> Result<Vec<(Text, Arg)>, OutOfMemory>
+    requires rise { NotesRise beside.now }
     ensures { IfOk result (λ v. plain_named v.items
-        ≡ spec.round_named (map plain_stored stored.now) (plain_nodes all.now.items)
+        ≡ spec.round_named (map plain_stored stored.now) (plain_nodes beside.now.nodes.now.items)
         (plain_named members.now.items)) }
 {
     let mut copy = Vec::with_capacity(alloc, members.len())?;
     for member in members {
         let name = member.0.copy()?;
-        copy.push((name, round_arg(alloc, &member.1, stored, all)?))?;
+        copy.push((name, round_arg(alloc, &member.1, stored, beside)?))?;
     }
     Ok(copy)
 }
@@ -185,15 +211,16 @@ fn round_args(
     alloc: Global,
     items: &Vec<Arg>,
     stored: &[StoredProcess],
-    all: &Vec<Node>,
+    beside: &Beside,
 ) -> Result<Vec<Arg>, OutOfMemory>
+    requires rise { NotesRise beside.now }
     ensures { IfOk result (λ v. plain_args v.items
-        ≡ spec.round_each (map plain_stored stored.now) (plain_nodes all.now.items)
+        ≡ spec.round_each (map plain_stored stored.now) (plain_nodes beside.now.nodes.now.items)
         (plain_args items.now.items)) }
 {
     let mut copy = Vec::with_capacity(alloc, items.len())?;
     for item in items {
-        copy.push(round_arg(alloc, item, stored, all)?)?;
+        copy.push(round_arg(alloc, item, stored, beside)?)?;
     }
     Ok(copy)
 }
@@ -203,10 +230,11 @@ fn round_arg(
     alloc: Global,
     arg: &Arg,
     stored: &[StoredProcess],
-    all: &Vec<Node>,
+    beside: &Beside,
 ) -> Result<Arg, OutOfMemory>
+    requires rise { NotesRise beside.now }
     ensures { IfOk result (λ a. plain_arg a
-        ≡ spec.round_argument (map plain_stored stored.now) (plain_nodes all.now.items)
+        ≡ spec.round_argument (map plain_stored stored.now) (plain_nodes beside.now.nodes.now.items)
         (plain_arg arg.now)) }
 {
     match arg {
@@ -215,9 +243,9 @@ fn round_arg(
         Arg::Whole(whole) => Ok(Arg::Whole(*whole)),
         Arg::Inexact => Ok(Arg::Inexact),
         Arg::Str(text) => Ok(Arg::Str(text.copy()?)),
-        Arg::List(items) => Ok(Arg::List(round_args(alloc, items, stored, all)?)),
-        Arg::Object(members) => Ok(Arg::Object(round_named(alloc, members, stored, all)?)),
-        Arg::FromNode(id) => Ok(Arg::FromNode(landed(alloc, stored, all, id.as_str())?)),
+        Arg::List(items) => Ok(Arg::List(round_args(alloc, items, stored, beside)?)),
+        Arg::Object(members) => Ok(Arg::Object(round_named(alloc, members, stored, beside)?)),
+        Arg::FromNode(id) => Ok(Arg::FromNode(landing_beside(alloc, stored, beside, id.as_str())?)),
         Arg::FromParameter(name) => Ok(Arg::FromParameter(name.copy()?)),
         Arg::Callback(graph) => Ok(Arg::Callback(round_graph(alloc, graph, stored)?)),
     }

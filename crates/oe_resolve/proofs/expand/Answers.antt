@@ -54,8 +54,8 @@ loop-times-preserved c =
       λ below. called,
     )
 
-pub last_judged-requires : goal.last_judged-requires
-last_judged-requires c =
+pub judge_last-requires : goal.judge_last-requires
+judge_last-requires c =
     let stored = map plain_stored c.args.stored.now in
     let g = plain_graph c.args.graph.now in
     record {
@@ -85,4 +85,4 @@ returns c =
       few = omega (arith, c.loop-times.invariant.0, length-map c.args.stored.now plain_stored);
       early = c.loop-times.invariant.2;
     } in
-    IfOk-weaker c.last_judged.result _ (IsExpansion stored g) (λ r each. each g is) c.last_judged.ensures
+    IfOk-weaker c.judge_last.result _ (IsExpansion stored g) (λ r each. each g is) c.judge_last.ensures

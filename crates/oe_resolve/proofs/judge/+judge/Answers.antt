@@ -1,5 +1,5 @@
-use Rattle.std.proofs.Common.{◌≡◌, ◌+◌, ◌<◌, ◌≤◌, ℕ, List, Bool, Option, Some, None, Ok, length, map, option_map, take, false, get_or, refl, sym, ap, ◌∙◌, subst, arith}
-use Rattle.std.proofs.lemmas.List.{take_all, get_or_read}
+use Rattle.std.proofs.Common.{◌≡◌, ◌+◌, ◌<◌, ◌≤◌, ℕ, List, Bool, None, length, map, option_map, take, false, get_or, sym, ap, ◌∙◌, subst, arith}
+use Rattle.std.proofs.lemmas.List.{take_all, get_or_read, length-map}
 use Rattle.std.proofs.lemmas.Result.{IfOk-weaker}
 use Rattle.std.specs.Result.{IfOk}
 use Rattle.oe_graph.proofs.LeastLemmas.{IsLeastOf, OneOf}
@@ -8,25 +8,36 @@ use Rattle.oe_graph.specs.References.{callbacks_in, callbacks_each, callbacks_na
 use Rattle.oe_graph.specs.Form.{node_name}
 use Rattle.oe_graph.specs.Printed.{ids_of}
 use Rattle.oe_graph.specs.Tree.{Argument, PlainNode}
-use Rattle.oe_graph.specs.declared.fault.Fault.{Fault}
 use Rattle.oe_graph.specs.declared.tree.Arg.{Arg}
 use Rattle.oe_graph.specs.declared.tree.Node.{Node}
-use Rattle.oe_resolve.specs.Judged.{IdsRise, IdsRiseIn, OfArgument, OfArguments, OfNode, node_code}
+use Rattle.oe_resolve.specs.Judged.{IdsRiseIn, OfArgument, OfArguments, OfNode, know_named, node_code}
 use Rattle.oe_resolve.specs.Seen.{names_behind}
 use Rattle.oe_resolve.proofs.Along.{least_more}
-use Rattle.oe_resolve.proofs.FaultLemmas.{there_by, rise_of_item, rise_of_member, rise_of_node, rise_of_object, arguments_least, items_least, members_least, object_least, node_least, mark_there, there_node, list_is, object_is, callback_argument}
+use Rattle.oe_resolve.proofs.FaultLemmas.{there_by, least-none, none_least, rise_of_item, rise_of_member, rise_of_node, rise_of_object, arguments_least, items_least, members_least, object_least, node_least, mapped_at, mark_there, there_node, list_is, object_is, callback_argument}
 use Rattle.oe_resolve.proofs.JudgeLemmas.{node_is}
 use Rattle.oe_resolve.proofs.judge.+judge.Goals as goal
+use Rattle.oe_resolve.proofs.judge.+judge.Goals.{items_fault-then-may_hold_callback+in_ok-found, items_fault-else-may_hold_callback, members_fault-then-may_hold_callback+in_ok-found, members_fault-else-may_hold_callback}
 
 pub items_fault-loop-item-preserved : goal.items_fault-loop-item-preserved
 items_fault-loop-item-preserved t c rise =
-    let Of = (λ (a : Arg). OfArgument (map plain_stored c.args.judge.now.stored.now) c.args.judge.now.last c.args.node_name.now c.args.argument.now (names_behind c.args.scope.now) (plain_arg a)) in
+    let stored = map plain_stored c.args.judge.now.stored.now in
+    let last = c.args.judge.now.last in
+    let scope = names_behind c.args.scope.now in
+    let Of = (λ (a : Arg). OfArgument stored last c.args.node_name.now c.args.argument.now scope (plain_arg a)) in
     let xs = c.deref-item-items.result.now in
     let i = c.loop-item.item-index in
     let x = c.item-item.result in
-    subst (IsLeastOf (OneOf Of (take (i + 1) xs))) (sym c.least-fault.ensures)
-    (least_more Of xs i x c.loop-item.fault c.in_ok-found.found c.loop-item-test.true c.item-item.is (c.loop-item.invariant rise)
-    (c.in_ok-found.ensures (rise_of_item xs x rise (there_by xs i x c.loop-item-test.true c.item-item.is))))
+    elim c.if-may_hold_callback.branch [
+      | items_fault-then-may_hold_callback+in_ok-found w ↦
+          subst (IsLeastOf (OneOf Of (take (i + 1) xs))) (sym (w.fault-is ∙ w.least-fault.ensures))
+          (least_more Of xs i x c.loop-item.fault w.in_ok-found.found c.loop-item-test.true c.item-item.is (c.loop-item.invariant rise)
+          (w.in_ok-found.ensures (rise_of_item xs x rise (there_by xs i x c.loop-item-test.true c.item-item.is))))
+      | items_fault-else-may_hold_callback w ↦
+          subst (IsLeastOf (OneOf Of (take (i + 1) xs))) (least-none c.loop-item.fault ∙ sym w.fault-is)
+          (least_more Of xs i x c.loop-item.fault None c.loop-item-test.true c.item-item.is (c.loop-item.invariant rise)
+          (none_least stored last c.args.node_name.now c.args.argument.now scope (plain_arg x)
+          (c.may_hold_callback.ensures w.if-may_hold_callback.false)))
+    ]
 
 pub items_fault-returns : goal.items_fault-returns
 items_fault-returns t c rise =
@@ -39,13 +50,24 @@ items_fault-returns t c rise =
 
 pub members_fault-loop-member-preserved : goal.members_fault-loop-member-preserved
 members_fault-loop-member-preserved t c rise =
-    let Of = (λ (m : List ℕ × Arg). OfArgument (map plain_stored c.args.judge.now.stored.now) c.args.judge.now.last c.args.node_name.now c.args.argument.now (names_behind c.args.scope.now) (plain_arg m.1)) in
+    let stored = map plain_stored c.args.judge.now.stored.now in
+    let last = c.args.judge.now.last in
+    let scope = names_behind c.args.scope.now in
+    let Of = (λ (m : List ℕ × Arg). OfArgument stored last c.args.node_name.now c.args.argument.now scope (plain_arg m.1)) in
     let xs = c.deref-member-items.result.now in
     let i = c.loop-member.member-index in
     let x = c.member-item.result in
-    subst (IsLeastOf (OneOf Of (take (i + 1) xs))) (sym c.least-fault.ensures)
-    (least_more Of xs i x c.loop-member.fault c.in_ok-found.found c.loop-member-test.true c.member-item.is (c.loop-member.invariant rise)
-    (c.in_ok-found.ensures (rise_of_member xs x rise (there_by xs i x c.loop-member-test.true c.member-item.is))))
+    elim c.if-may_hold_callback.branch [
+      | members_fault-then-may_hold_callback+in_ok-found w ↦
+          subst (IsLeastOf (OneOf Of (take (i + 1) xs))) (sym (w.fault-is ∙ w.least-fault.ensures))
+          (least_more Of xs i x c.loop-member.fault w.in_ok-found.found c.loop-member-test.true c.member-item.is (c.loop-member.invariant rise)
+          (w.in_ok-found.ensures (rise_of_member xs x rise (there_by xs i x c.loop-member-test.true c.member-item.is))))
+      | members_fault-else-may_hold_callback w ↦
+          subst (IsLeastOf (OneOf Of (take (i + 1) xs))) (least-none c.loop-member.fault ∙ sym w.fault-is)
+          (least_more Of xs i x c.loop-member.fault None c.loop-member-test.true c.member-item.is (c.loop-member.invariant rise)
+          (none_least stored last c.args.node_name.now c.args.argument.now scope (plain_arg x.1)
+          (c.may_hold_callback.ensures w.if-may_hold_callback.false)))
+    ]
 
 pub members_fault-returns : goal.members_fault-returns
 members_fault-returns t c rise =
@@ -99,13 +121,12 @@ argument_fault-returns-in_ok-name-in-Callback t c =
     c.object_fault.ensures
 
 pub node_faults-returns : goal.node_faults-returns
-node_faults-returns t c rise marked =
+node_faults-returns t c nodes rise known marked =
     let stored = map plain_stored c.args.judge.now.stored.now in
     let last = c.args.judge.now.last in
-    let nodes = plain_nodes c.args.beside.now.nodes.now.items in
     let n = c.args.node.now in
     let scope = names_behind c.args.scope.now in
-    let code = node_code stored last scope (ids_of nodes) (plain_node n) c.args.is_cyclic in
+    let code = node_code stored last scope (plain_node n) c.args.is_known c.args.is_cyclic in
     let arguments = plain_named n.arguments.items in
     let scoped = names_behind c.in_ok-scope.scope.items in
     let rises : IdsRiseIn (callbacks_named arguments) =
@@ -115,14 +136,28 @@ node_faults-returns t c rise marked =
     (subst (λ names. IsLeastOf (OfArguments stored last c.as_str-3.result.now (names_behind names) arguments) c.in_ok-inner.inner)
     c.as_slice.ensures.value (c.in_ok-inner.ensures rises)) in
     subst (IsLeastOf (OfNode stored last c.args.name.now scope nodes (plain_node n))) (sym c.least.ensures)
-    (node_least stored last c.args.name.now scope nodes n c.args.is_cyclic c.in_ok-own.own c.in_ok-inner.inner c.in_ok-name.name scoped
+    (node_least stored last c.args.name.now scope nodes n c.args.is_known c.args.is_cyclic c.in_ok-own.own c.in_ok-inner.inner c.in_ok-name.name scoped
     (c.in_ok-name.ensures ∙ ap (node_name c.args.name.now) c.as_str.ensures)
     c.in_ok-scope.ensures
     (c.in_ok-own.ensures ∙ ap (λ at. option_map (λ k. record { code = k; node = at }) code) c.as_str-2.ensures)
-    marked found)
+    known marked found)
 
 pub object_fault-index-requires-in-loop-index : goal.object_fault-index-requires-in-loop-index
 object_fault-index-requires-in-loop-index t c =
+    let ns = c.args.nodes.now.items in
+    let knows : Node → Bool = (λ (m : Node). know_named (ids_of (plain_nodes ns)) (plain_node m).arguments) in
+    omega (
+      arith,
+      ap (λ (ks : List Bool). length ks) c.in_ok-references.ensures.known,
+      length-map ns knows,
+      c.loop-index-test.true,
+      c.len-index-end.ensures,
+      c.in_ok-references.references.known.ok.0,
+      c.args.nodes.now.ok.0,
+    )
+
+pub object_fault-index-requires-in-loop-index-2 : goal.object_fault-index-requires-in-loop-index-2
+object_fault-index-requires-in-loop-index-2 t c =
     omega (arith, c.in_ok-cyclic.ensures.len, c.loop-index-test.true, c.len-index-end.ensures, c.in_ok-cyclic.cyclic.ok.0, c.args.nodes.now.ok.0)
 
 pub object_fault-loop-index-preserved : goal.object_fault-loop-index-preserved
@@ -135,15 +170,19 @@ object_fault-loop-index-preserved t c rise =
     let i = c.loop-index.index in
     let n = c.index.result.now in
     let marks = c.in_ok-cyclic.cyclic.items in
+    let knows : Node → Bool = (λ (m : Node). know_named (ids_of nodes) (plain_node m).arguments) in
     let Of = (λ (m : Node). OfNode stored last c.args.name.now scope nodes (plain_node m)) in
     let below : i < length ns = omega (arith, c.loop-index-test.true, c.len-index-end.ensures, c.args.nodes.now.ok.0) in
     let marked_below : i < length marks = omega (arith, c.in_ok-cyclic.ensures.len) in
-    let mark : c.index-in-loop-index.result.now ≡ get_or marks i false =
-    get_or_read marks i c.index-in-loop-index.result.now marked_below c.index-in-loop-index.ensures false in
+    let known : c.index-in-loop-index.result.now ≡ knows n =
+    mapped_at knows ns i n c.index-in-loop-index.result.now below c.index.ensures
+    (c.index-in-loop-index.ensures ∙ ap (λ (ks : List Bool). get_or ks i c.index-in-loop-index.result.now) c.in_ok-references.ensures.known) in
+    let mark : c.index-in-loop-index-2.result.now ≡ get_or marks i false =
+    get_or_read marks i c.index-in-loop-index-2.result.now marked_below c.index-in-loop-index-2.ensures false in
     subst (IsLeastOf (OneOf Of (take (i + 1) ns))) (sym c.least-fault.ensures)
     (least_more Of ns i n c.loop-index.fault c.in_ok-found.found below c.index.ensures (c.loop-index.invariant rise)
-    (c.in_ok-found.ensures (rise_of_node nodes (plain_node n) rise (there_node ns i n below c.index.ensures))
-    (mark_there last ns i n marks c.index-in-loop-index.result.now below c.index.ensures
+    (c.in_ok-found.ensures nodes (rise_of_node nodes (plain_node n) rise (there_node ns i n below c.index.ensures)) known
+    (mark_there last ns i n marks c.index-in-loop-index-2.result.now below c.index.ensures
     (c.in_ok-cyclic.ensures.exact (rise_of_object nodes rise)) mark)))
 
 pub object_fault-returns : goal.object_fault-returns

@@ -9,7 +9,7 @@ use Rattle.oe_resolve.proofs.known.+known.Goals as goal
 
 pub known_args-returns : goal.known_args-returns
 known_args-returns t c =
-    let ids = ids_of (plain_nodes c.args.all.now.items) in
+    let ids = ids_of (plain_nodes c.args.beside.now.nodes.now.items) in
     let full : take c.loop-item.item-index c.deref-item-items.result.now ≡ c.deref-item-items.result.now = take_all _ _ c.loop-item-test.false in
     let all : map plain_arg c.loop-item.copy.items ≡ map (λ a. known ids (plain_arg a)) c.args.items.now.items =
     rw (c.loop-item.invariant, full, c.deref-item-items.ensures.value) refl in
@@ -17,7 +17,7 @@ known_args-returns t c =
 
 pub known_named-returns : goal.known_named-returns
 known_named-returns t c =
-    let ids = ids_of (plain_nodes c.args.all.now.items) in
+    let ids = ids_of (plain_nodes c.args.beside.now.nodes.now.items) in
     let full : take c.loop-member.member-index c.deref-member-items.result.now ≡ c.deref-member-items.result.now = take_all _ _ c.loop-member-test.false in
     let all : map plain_pair c.loop-member.copy.items ≡ map (member_by (known ids)) c.args.members.now.items =
     rw (c.loop-member.invariant, full, c.deref-member-items.ensures.value) refl in
@@ -25,7 +25,7 @@ known_named-returns t c =
 
 pub known_nodes-returns : goal.known_nodes-returns
 known_nodes-returns t c =
-    let ids = ids_of (plain_nodes c.args.all.now.items) in
+    let ids = ids_of (plain_nodes c.args.beside.now.nodes.now.items) in
     let full : take c.loop-node.node-index c.deref-node-items.result.now ≡ c.deref-node-items.result.now = take_all _ _ c.loop-node-test.false in
     let all : map plain_node c.loop-node.copy.items ≡ map (λ n. known_node ids (plain_node n)) c.args.nodes.now.items =
     rw (c.loop-node.invariant, full, c.deref-node-items.ensures.value) refl in

@@ -8,14 +8,14 @@ use Rattle.oe_resolve.proofs.known.+known.Given as goal
 abbrev pub invariant-known_args-loop-item : goal.invariant-known_args-loop-item
 invariant-known_args-loop-item l =
     map plain_arg l.copy.items
-    ≡ map (λ a. known (ids_of (plain_nodes l.all.items)) (plain_arg a)) (take l.item-index l.item-items)
+    ≡ map (λ a. known (ids_of (plain_nodes l.beside.nodes.now.items)) (plain_arg a)) (take l.item-index l.item-items)
 
 abbrev pub invariant-known_named-loop-member : goal.invariant-known_named-loop-member
 invariant-known_named-loop-member l =
     map plain_pair l.copy.items
-    ≡ map (member_by (known (ids_of (plain_nodes l.all.items)))) (take l.member-index l.member-items)
+    ≡ map (member_by (known (ids_of (plain_nodes l.beside.nodes.now.items)))) (take l.member-index l.member-items)
 
 abbrev pub invariant-known_nodes-loop-node : goal.invariant-known_nodes-loop-node
 invariant-known_nodes-loop-node l =
     map plain_node l.copy.items
-    ≡ map (λ n. known_node (ids_of (plain_nodes l.all.items)) (plain_node n)) (take l.node-index l.node-items)
+    ≡ map (λ n. known_node (ids_of (plain_nodes l.beside.nodes.now.items)) (plain_node n)) (take l.node-index l.node-items)

@@ -1,10 +1,11 @@
-use Rattle.std.proofs.Common.{◌≡◌, List, ℕ, ◌∷◌, [], map, take, sym, subst}
+use Rattle.std.proofs.Common.{◌∷◌, [], map, take, sym, ◌∙◌, subst}
 use Rattle.std.proofs.lemmas.Result.{on_ok_weaker}
 use Rattle.oe_graph.specs.Plain.{plain_arg, plain_args, plain_named, plain_node, plain_nodes, plain_stored}
 use Rattle.oe_graph.specs.Tree.{PlainNode}
 use Rattle.oe_resolve.specs.Reached.{held_by, held_each, held_in, held_named, held_nodes, IsCalledBehind}
 use Rattle.oe_resolve.proofs.JudgeLemmas.{node_is}
 use Rattle.oe_resolve.proofs.ReachLemmas.{behind_more, each_next, held_next, named_next}
+use Rattle.oe_resolve.proofs.UncalledLemmas.{map_empty, uncalled_behind}
 use Rattle.oe_resolve.proofs.reach.+calls.Goals as goal
 
 pub add_args-loop-item-preserved : goal.add_args-loop-item-preserved
@@ -48,3 +49,10 @@ add_node-returns t c =
     (subst (λ (m : PlainNode). IsCalledBehind stored (held_named m.arguments) c.add_call.new.found.items c.add_named.new.found.items)
     (sym (node_is c.args.node.now)) more))
     c.add_named.ensures
+
+pub add_node-returns-then-is_empty : goal.add_node-returns-then-is_empty
+add_node-returns-then-is_empty t c =
+    let held = held_by c.args.in_callback (plain_node c.args.node.now) in
+    let old = c.args.found.now.items in
+    subst (λ stored. IsCalledBehind stored held old old)
+    (sym (map_empty plain_stored c.args.stored.now (sym c.is_empty.ensures ∙ c.if-is_empty.true))) (uncalled_behind held old)

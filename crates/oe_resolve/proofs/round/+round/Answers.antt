@@ -11,7 +11,7 @@ use Rattle.oe_resolve.proofs.round.+round.Goals as goal
 pub round_args-returns : goal.round_args-returns
 round_args-returns t c =
     let stored = map plain_stored c.args.stored.now in
-    let nodes = plain_nodes c.args.all.now.items in
+    let nodes = plain_nodes c.args.beside.now.nodes.now.items in
     let full : take c.loop-item.item-index c.deref-item-items.result.now ≡ c.deref-item-items.result.now = take_all _ _ c.loop-item-test.false in
     let all : map plain_arg c.loop-item.copy.items ≡ map (λ a. round_argument stored nodes (plain_arg a)) c.args.items.now.items =
     rw (c.loop-item.invariant, full, c.deref-item-items.ensures.value) refl in
@@ -20,7 +20,7 @@ round_args-returns t c =
 pub round_named-returns : goal.round_named-returns
 round_named-returns t c =
     let stored = map plain_stored c.args.stored.now in
-    let nodes = plain_nodes c.args.all.now.items in
+    let nodes = plain_nodes c.args.beside.now.nodes.now.items in
     let full : take c.loop-member.member-index c.deref-member-items.result.now ≡ c.deref-member-items.result.now = take_all _ _ c.loop-member-test.false in
     let all : map plain_pair c.loop-member.copy.items ≡ map (member_by (round_argument stored nodes)) c.args.members.now.items =
     rw (c.loop-member.invariant, full, c.deref-member-items.ensures.value) refl in

@@ -2,7 +2,7 @@ use Rattle.std.proofs.Common.{◌-◌, length, map}
 use Rattle.oe_graph.specs.Plain.{plain_node, plain_stored}
 use Rattle.oe_order.specs.Graph.{graph_of}
 use Rattle.oe_resolve.proofs.ReachingLemmas.{Reaching}
-use Rattle.oe_resolve.proofs.reach.reached.Given as goal
+use Rattle.oe_resolve.proofs.reach.reach.Given as goal
 
 abbrev pub invariant-loop-done : goal.invariant-loop-done
 invariant-loop-done l =

@@ -3,7 +3,7 @@ use Rattle.oe_graph.proofs.LeastLemmas.{IsLeastOf}
 use Rattle.oe_graph.specs.Plain.{plain_graph, plain_stored}
 use Rattle.oe_resolve.specs.Expansion.{IsNameFault}
 use Rattle.oe_resolve.proofs.ExpandLemmas.{all_rounds, all_faults}
-use Rattle.oe_resolve.proofs.last_judged.Goals as goal
+use Rattle.oe_resolve.proofs.judge_last.Goals as goal
 
 pub returns : goal.returns
 returns c g settled =

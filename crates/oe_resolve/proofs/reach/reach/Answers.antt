@@ -11,7 +11,7 @@ use Rattle.oe_order.proofs.Graphs.{length-graph_of, arguments-graph_of}
 use Rattle.oe_order.proofs.Lists.{contains-at, contains-to}
 use Rattle.oe_resolve.proofs.BringLemmas.{first_reached, next_reached, reached_within}
 use Rattle.oe_resolve.proofs.ReachingLemmas.{reaching_begin, reaching_more, reaching_all}
-use Rattle.oe_resolve.proofs.reach.reached.Goals as goal
+use Rattle.oe_resolve.proofs.reach.reach.Goals as goal
 
 first_behind : (stored : List StoredProcess) (n : PlainNode) (old new : List ℕ) → old ≡ []
     → IsCalledBehind (map plain_stored stored) (held_by false n) old new

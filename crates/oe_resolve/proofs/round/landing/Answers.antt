@@ -7,13 +7,13 @@ use Rattle.oe_graph.specs.declared.tree.Node.{Node}
 use Rattle.oe_resolve.specs.Calls.{callee}
 use Rattle.oe_resolve.specs.Rounds.{index_of, landed, landing, under_id}
 use Rattle.oe_resolve.proofs.RoundLemmas.{index_of-within, landed-none, landed-at}
-use Rattle.oe_resolve.proofs.round.landed.Goals as goal
+use Rattle.oe_resolve.proofs.round.landing.Goals as goal
 
 pub returns-then-index-len : goal.returns-then-index-len
 returns-then-index-len c =
     let ns : List Node = c.args.all.now.items in
     let id : List ℕ = c.args.id.now in
-    let at : c.index_of-index.result ≡ index_of id (plain_nodes ns) = c.index_of-index.ensures in
+    let at : c.args.index ≡ index_of id (plain_nodes ns) = c.requires in
     let count = c.args.all.now.ok.0 in
     let past : length ns ≤ index_of id (plain_nodes ns) = omega arith in
     IfOk-weaker c.of.result _ _
@@ -23,7 +23,7 @@ pub index-requires : goal.index-requires
 index-requires c =
     let ns : List Node = c.args.all.now.items in
     let id : List ℕ = c.args.id.now in
-    let at : c.index_of-index.result ≡ index_of id (plain_nodes ns) = c.index_of-index.ensures in
+    let at : c.args.index ≡ index_of id (plain_nodes ns) = c.requires in
     let count = c.args.all.now.ok.0 in
     let within = index_of-within id ns in
     omega arith
@@ -41,11 +41,11 @@ pub returns-in-Some : goal.returns-in-Some
 returns-in-Some c =
     let ns : List Node = c.args.all.now.items in
     let id : List ℕ = c.args.id.now in
-    let at : c.index_of-index.result ≡ index_of id (plain_nodes ns) = c.index_of-index.ensures in
+    let at : c.args.index ≡ index_of id (plain_nodes ns) = c.requires in
     let count = c.args.all.now.ok.0 in
     let within = index_of-within id ns in
-    let below : c.index_of-index.result < length ns = omega arith in
-    let is = means (map plain_stored c.args.stored.now) ns id c.index_of-index.result c.index.result.now c.callee.result
+    let below : c.args.index < length ns = omega arith in
+    let is = means (map plain_stored c.args.stored.now) ns id c.args.index c.index.result.now c.callee.result
     at below c.index.ensures c.callee.ensures
     ∙ ap (λ (o : Option (Bor StoredProcess)). landing id (option_map (λ (s : Bor StoredProcess). plain_stored s.now) o)) c.in-Some.is in
     IfOk-weaker c.under_id.result _ _
@@ -55,11 +55,11 @@ pub returns-in-None : goal.returns-in-None
 returns-in-None c =
     let ns : List Node = c.args.all.now.items in
     let id : List ℕ = c.args.id.now in
-    let at : c.index_of-index.result ≡ index_of id (plain_nodes ns) = c.index_of-index.ensures in
+    let at : c.args.index ≡ index_of id (plain_nodes ns) = c.requires in
     let count = c.args.all.now.ok.0 in
     let within = index_of-within id ns in
-    let below : c.index_of-index.result < length ns = omega arith in
-    let is = means (map plain_stored c.args.stored.now) ns id c.index_of-index.result c.index.result.now c.callee.result
+    let below : c.args.index < length ns = omega arith in
+    let is = means (map plain_stored c.args.stored.now) ns id c.args.index c.index.result.now c.callee.result
     at below c.index.ensures c.callee.ensures
     ∙ ap (λ (o : Option (Bor StoredProcess)). landing id (option_map (λ (s : Bor StoredProcess). plain_stored s.now) o)) c.in-None.is in
     IfOk-weaker c.of-in-None.result _ _ (λ text same. same ∙ sym is) c.of-in-None.ensures
