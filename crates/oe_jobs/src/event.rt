@@ -70,22 +70,22 @@ fn change_by(
     };
     match event {
         JobEvent::Start => Ok(Change::PutJob {
-            job: started(alloc, job, now)?,
+            job: start_job(alloc, job, now)?,
             next: book.next,
         }),
         JobEvent::Asset(asset) => add_asset(alloc, job, asset, now),
         JobEvent::Finish => Ok(Change::PutJob {
-            job: finished(alloc, job, now)?,
+            job: finish_job(alloc, job, now)?,
             next: book.next,
         }),
         JobEvent::Fail { code } => Ok(Change::PutJob {
-            job: failed(job, &code, now)?,
+            job: fail_job(job, &code, now)?,
             next: book.next,
         }),
     }
 }
 
-fn started(alloc: Global, job: &Job, now: i64) -> Result<Job, OutOfMemory>
+fn start_job(alloc: Global, job: &Job, now: i64) -> Result<Job, OutOfMemory>
     ensures { IfOk result (λ j. plain_job j
         ≡ machine.with_status Status.Running (machine.begins now (plain_job job.now))) }
 {
@@ -111,7 +111,7 @@ fn add_asset(alloc: Global, job: &Job, asset: Asset, now: i64) -> Result<Change,
     })
 }
 
-fn finished(alloc: Global, job: &Job, now: i64) -> Result<Job, OutOfMemory>
+fn finish_job(alloc: Global, job: &Job, now: i64) -> Result<Job, OutOfMemory>
     ensures { IfOk result (λ j. plain_job j
         ≡ machine.with_status Status.Finished (machine.ends now (plain_job job.now))) }
 {
@@ -122,7 +122,7 @@ fn finished(alloc: Global, job: &Job, now: i64) -> Result<Job, OutOfMemory>
     Ok(finished)
 }
 
-fn failed(job: &Job, code: &Text, now: i64) -> Result<Job, OutOfMemory>
+fn fail_job(job: &Job, code: &Text, now: i64) -> Result<Job, OutOfMemory>
     ensures { IfOk result (λ j. plain_job j
         ≡ machine.with_status Status.Error (machine.breaks now code.now (plain_job job.now))) }
 {
@@ -143,23 +143,23 @@ pub fn reopen(alloc: Global, book: &Book) -> Result<Option<Change>, OutOfMemory>
     ensures valid { IfOk result (λ change. IsBook (plain_book book.now)
         → IfSome change (λ c. IsBook (changed (plain_book book.now) (plain_change c)))) }
 {
-    reopening(alloc, book)
+    reopen_running(alloc, book)
 }
 
-fn reopening(alloc: Global, book: &Book) -> Result<Option<Change>, OutOfMemory>
+fn reopen_running(alloc: Global, book: &Book) -> Result<Option<Change>, OutOfMemory>
     ensures change { IfOk result
         (λ c. option_map plain_change c ≡ spec.reopen (plain_book book.now)) }
 {
     match running_job(book) {
         Some(job) => Ok(Some(Change::PutJob {
-            job: reopened(alloc, job)?,
+            job: reopen_job(alloc, job)?,
             next: book.next,
         })),
         None => Ok(None),
     }
 }
 
-fn reopened(alloc: Global, job: &Job) -> Result<Job, OutOfMemory>
+fn reopen_job(alloc: Global, job: &Job) -> Result<Job, OutOfMemory>
     ensures { IfOk result (λ j. plain_job j
         ≡ machine.with_status Status.Queued (machine.drops_assets (plain_job job.now))) }
 {

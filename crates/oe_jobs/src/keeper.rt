@@ -21,7 +21,7 @@ pub enum KeeperFail {
 /// What keeps a job book beyond the program's end.
 pub trait Keeper {
     /// The book that is kept, how many commits were begun and the book that the last of them makes, where they are
-    /// visible. A commit is begun where it is not refused for want of memory. A crash leaves the book that is kept, or
+    /// visible. A commit is begun unless it is out of memory. A crash leaves the book that is kept, or
     /// the one that the commit in progress makes.
     ghost kept: { Self → Option Kept };
 

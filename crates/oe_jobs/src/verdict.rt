@@ -78,26 +78,26 @@ fn verdict_on(
             level,
         } => match job_of(book, user, id) {
             Some(job) => patch(book, job, title, description, process, level, now),
-            None => Ok(refused(JobFault::JobNotFound)),
+            None => Ok(refusal(JobFault::JobNotFound)),
         },
         Command::Delete { id } => match job_of(book, user, id) {
-            Some(_) => Ok(done(Change::DropJob { id: id.copy()? })),
-            None => Ok(refused(JobFault::JobNotFound)),
+            Some(_) => Ok(acceptance(Change::DropJob { id: id.copy()? })),
+            None => Ok(refusal(JobFault::JobNotFound)),
         },
         Command::Queue { id } => match job_of(book, user, id) {
             Some(job) => queue(alloc, book, job, now),
-            None => Ok(refused(JobFault::JobNotFound)),
+            None => Ok(refusal(JobFault::JobNotFound)),
         },
         Command::Cancel { id } => match job_of(book, user, id) {
             Some(job) => cancel(alloc, book, job, now),
-            None => Ok(refused(JobFault::JobNotFound)),
+            None => Ok(refusal(JobFault::JobNotFound)),
         },
         Command::Store { process } => store(book, user, process),
         Command::Forget { id } => forget(book, user, id),
     }
 }
 
-fn refused(fault: JobFault) -> Verdict
+fn refusal(fault: JobFault) -> Verdict
     ensures { plain_verdict result ≡ spec.refused fault }
 {
     Verdict {
@@ -106,7 +106,7 @@ fn refused(fault: JobFault) -> Verdict
     }
 }
 
-fn done(change: Change) -> Verdict
+fn acceptance(change: Change) -> Verdict
     ensures { plain_verdict result ≡ spec.done (plain_change change) }
 {
     Verdict {
@@ -137,7 +137,7 @@ fn create(
         (spec.created (plain_book book.now) user.now title.now description.now process.now level now)) }
 {
     if count_jobs(book, user) >= MOST_JOBS || has_no_number(book) {
-        return Ok(refused(JobFault::JobLimit));
+        return Ok(refusal(JobFault::JobLimit));
     }
     let id = job_id(alloc, book.next)?;
     let job = Job {
@@ -186,16 +186,16 @@ fn patch(
         (spec.patched title.now description.now process.now level.now now (plain_job job.now))) }
 {
     if job.status.is_busy() {
-        return Ok(refused(JobFault::JobLocked));
+        return Ok(refusal(JobFault::JobLocked));
     }
-    Ok(done(Change::PutJob {
-        job: patched(job, title, description, process, level, now)?,
+    Ok(acceptance(Change::PutJob {
+        job: patch_job(job, title, description, process, level, now)?,
         next: book.next,
     }))
 }
 
 /// The job with what is given in place of what it has.
-fn patched(
+fn patch_job(
     job: &Job,
     title: &Option<Option<Text>>,
     description: &Option<Option<Text>>,
@@ -259,11 +259,11 @@ fn queue(alloc: Global, book: &Book, job: &Job, now: i64) -> Result<Verdict, Out
         });
     }
     if has_no_number(book) {
-        return Ok(refused(JobFault::JobLimit));
+        return Ok(refusal(JobFault::JobLimit));
     }
     Ok(Verdict {
         change: Some(Change::PutJob {
-            job: queued(alloc, book, job, now)?,
+            job: queue_job(alloc, book, job, now)?,
             next: book.next + 1,
         }),
         outcome: Outcome::Queued,
@@ -271,7 +271,7 @@ fn queue(alloc: Global, book: &Book, job: &Job, now: i64) -> Result<Verdict, Out
 }
 
 /// The job with the turn that it draws, its process and its user's stored processes to run.
-fn queued(alloc: Global, book: &Book, job: &Job, now: i64) -> Result<Job, OutOfMemory>
+fn queue_job(alloc: Global, book: &Book, job: &Job, now: i64) -> Result<Job, OutOfMemory>
     ensures { IfOk result (λ j. plain_job j
         ≡ machine.with_status Status.Queued (machine.draws now book.now.next
         (spec.to_run (plain_book book.now) (plain_job job.now)) (plain_job job.now))) }
@@ -306,12 +306,12 @@ fn cancel(alloc: Global, book: &Book, job: &Job, now: i64) -> Result<Verdict, Ou
         ≡ spec.cancel_verdict (plain_book book.now) (plain_job job.now) (machine.cancel now)) }
 {
     match job.status {
-        Status::Queued => Ok(done(Change::PutJob {
-            job: withdrawn(job, now)?,
+        Status::Queued => Ok(acceptance(Change::PutJob {
+            job: withdraw_job(job, now)?,
             next: book.next,
         })),
-        Status::Running => Ok(done(Change::PutJob {
-            job: stopped(alloc, job, now)?,
+        Status::Running => Ok(acceptance(Change::PutJob {
+            job: stop_job(alloc, job, now)?,
             next: book.next,
         })),
         Status::Created | Status::Canceled | Status::Finished | Status::Error => Ok(Verdict {
@@ -322,7 +322,7 @@ fn cancel(alloc: Global, book: &Book, job: &Job, now: i64) -> Result<Verdict, Ou
 }
 
 /// The job out of the queue.
-fn withdrawn(job: &Job, now: i64) -> Result<Job, OutOfMemory>
+fn withdraw_job(job: &Job, now: i64) -> Result<Job, OutOfMemory>
     ensures { IfOk result (λ j. plain_job j
         ≡ machine.with_status Status.Created (machine.at now (plain_job job.now))) }
 {
@@ -333,19 +333,19 @@ fn withdrawn(job: &Job, now: i64) -> Result<Job, OutOfMemory>
 }
 
 /// The job after its run was stopped: with assets it is canceled, without any it is created again.
-fn stopped(alloc: Global, job: &Job, now: i64) -> Result<Job, OutOfMemory>
+fn stop_job(alloc: Global, job: &Job, now: i64) -> Result<Job, OutOfMemory>
     ensures { IfOk result (λ j. plain_job j
         ≡ machine.with_status (if machine.has_assets (plain_job job.now) then Status.Canceled else Status.Created)
         (machine.stops now (plain_job job.now))) }
 {
     let mut stopped = job.copy()?;
-    stopped.status = status_stopped(job);
+    stopped.status = status_after_stop(job);
     stopped.updated = now;
     log(alloc, &mut stopped.logs, job.level, "canceled")?;
     Ok(stopped)
 }
 
-fn status_stopped(job: &Job) -> Status
+fn status_after_stop(job: &Job) -> Status
     ensures { result
         ≡ (if machine.has_assets (plain_job job.now) then Status.Canceled else Status.Created) }
 {
@@ -361,12 +361,12 @@ fn store(book: &Book, user: &Text, process: &StoredProcess) -> Result<Verdict, O
         ≡ spec.store_verdict (plain_book book.now) user.now (plain_stored process.now)) }
 {
     if process_entry(process.id.as_str()).is_some() {
-        return Ok(refused(JobFault::PredefinedProcessExists));
+        return Ok(refusal(JobFault::PredefinedProcessExists));
     }
     if !has_process(book, user, &process.id) && count_processes(book, user) >= MOST_PROCESSES {
-        return Ok(refused(JobFault::ProcessLimit));
+        return Ok(refusal(JobFault::ProcessLimit));
     }
-    Ok(done(Change::PutProcess {
+    Ok(acceptance(Change::PutProcess {
         owned: Owned {
             user: user.copy()?,
             process: process.copy()?,
@@ -379,9 +379,9 @@ fn forget(book: &Book, user: &Text, id: &Text) -> Result<Verdict, OutOfMemory>
         ≡ spec.forget_verdict (plain_book book.now) user.now id.now) }
 {
     if !has_process(book, user, id) {
-        return Ok(refused(JobFault::ProcessNotFound));
+        return Ok(refusal(JobFault::ProcessNotFound));
     }
-    Ok(done(Change::DropProcess {
+    Ok(acceptance(Change::DropProcess {
         user: user.copy()?,
         id: id.copy()?,
     }))

@@ -14,7 +14,7 @@ returns-clause-valid c =
     let book = plain_book c.args.book.now in
     if_ok (λ (x : Option Change). option_map plain_change x ≡ reopen book)
     (λ (x : Option Change). IsBook book → IfSome x (λ y. IsBook (changed book (plain_change y))))
-    c.reopening.result
+    c.reopen_running.result
     (λ x is valid. if_shown plain_change (λ y. IsBook (changed book y)) x
     (subst (λ (o : Option PlainChange). IfSome o (λ y. IsBook (changed book y))) (sym is) (reopen_keeps book valid)))
-    c.reopening.ensures.change
+    c.reopen_running.ensures.change
