@@ -1,1 +1,6 @@
+mod Entries
+mod FindLemmas
+mod ItemLemmas
 mod Memories
+mod OneLemmas
+mod Turns

@@ -1,2 +1,4 @@
 pub mod Scripts
 pub mod Memory
+pub mod Entry
+pub mod Reading

@@ -11,7 +11,7 @@ pub(crate) const PROCESS: &str =
 
 /// What a line asks for.
 #[derive(Drop)]
-pub(crate) enum Line {
+pub(crate) enum Line<'a> {
     /// A book without jobs and stored processes, and with this next number, begins.
     Book {
         next: u64,
@@ -37,9 +37,13 @@ pub(crate) enum Line {
         failing: Vec<u64>,
         stop: Option<(u64, bool)>,
     },
+    /// The entry of a job is read, and the entry of that job written.
+    Entry {
+        text: &'a str,
+    },
 }
 
-pub(crate) fn read_line(alloc: Global, line: &str) -> Result<Line, Fault> {
+pub(crate) fn read_line(alloc: Global, line: &str) -> Result<Line<'_>, Fault> {
     let (word, rest) = match line.split_once(' ') {
         Some((word, rest)) => (word, rest),
         None => (line, ""),
@@ -53,6 +57,7 @@ pub(crate) fn read_line(alloc: Global, line: &str) -> Result<Line, Fault> {
         }),
         "reopen" => Ok(Line::Reopen),
         "keeper" => keeper_line(alloc, rest),
+        "entry" => Ok(Line::Entry { text: rest }),
         "event" => event_line(alloc, rest),
         _ => Ok(Line::Ask {
             user: Text::of(alloc, word)?,
@@ -226,7 +231,7 @@ fn stored_of(alloc: Global, id: &str) -> Result<StoredProcess, Fault> {
 }
 
 /// An event of the job of an id: `start`, `asset NAME`, `finish` or `fail CODE`.
-fn event_line(alloc: Global, rest: &str) -> Result<Line, Fault> {
+fn event_line(alloc: Global, rest: &str) -> Result<Line<'_>, Fault> {
     let mut words = rest.split(' ');
     let (Some(id), Some(word)) = (words.next(), words.next()) else {
         return Err(Fault::Line);
@@ -251,7 +256,7 @@ fn event_line(alloc: Global, rest: &str) -> Result<Line, Fault> {
 
 /// The numbers of the calls that fail, with commas between them, or `-` for none; then the call in which the keeper
 /// stops with `kept` or `lost`, or `-` for none.
-fn keeper_line(alloc: Global, rest: &str) -> Result<Line, Fault> {
+fn keeper_line(alloc: Global, rest: &str) -> Result<Line<'_>, Fault> {
     let mut words = rest.split(' ');
     let (Some(failing), Some(stop)) = (words.next(), words.next()) else {
         return Err(Fault::Line);

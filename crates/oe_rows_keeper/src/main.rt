@@ -14,18 +14,21 @@
 //! | `event ID start`, `asset NAME`, `finish`, `fail CODE` | the event comes to a job at 60, where it may come |
 //! | `reopen` | the book is opened after a stop |
 //! | `keeper CALLS -`, `keeper CALLS N kept`, `keeper CALLS N lost` | a keeper in memory whose calls of these numbers fail (`-` for none), and which stops in the call N, where it keeps or loses what is committed, is asked to keep two stored processes and to load the book |
+//! | `entry TEXT` | reads the text as the entry of the job j-3, and writes the entry of that job |
 //!
 //! An answer to a command is its outcome, then the kind of the change, then the book: its next number, its jobs and its
 //! stored processes, with bars between them. An answer to an event has no outcome.
 #![tactic(auto)]
 
 mod book;
+mod entry;
 mod fault;
 mod keeper;
 mod line;
 mod spell;
 
 use book::{ask, empty_book, happen, open};
+use entry::read_entry;
 use fault::Fault;
 use keeper::keep_both;
 use line::{Line, read_line};
@@ -61,7 +64,7 @@ fn answer_lines(alloc: Global, text: &str) -> Result<String, Fault> {
 
 fn answer_line(
     alloc: Global,
-    line: Line,
+    line: Line<'_>,
     book: &mut Book,
     answers: &mut String,
 ) -> Result<(), Fault> {
@@ -72,6 +75,7 @@ fn answer_line(
         Line::Happen { id, event } => happen(alloc, book, &id, event, answers)?,
         Line::Reopen => open(alloc, book, answers)?,
         Line::Keep { failing, stop } => keep_both(alloc, failing, stop, answers)?,
+        Line::Entry { text } => read_entry(alloc, text, answers)?,
     }
     Ok(())
 }

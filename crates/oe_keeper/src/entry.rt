@@ -1,0 +1,204 @@
+// The entry that is kept of a job, as JSON text.
+ghost use Rattle.std.specs.Prelude.{◌≡◌, ◌<◌, ◌^◌, IfOk, OnOk, decimal, map};
+ghost use Rattle.std.specs.Option.{option_map};
+ghost use Rattle.serde_json.specs.Data.{string};
+ghost use Rattle.serde_json.specs.View.{items_of, items_view, view};
+ghost use Rattle.serde_json.specs.Written.{compact_text};
+ghost use Rattle.oe_graph.specs.Plain.{plain_stored};
+ghost use Rattle.oe_jobs.specs.Plain.{plain_job, plain_ran};
+ghost use Rattle.oe_keeper.specs.Entry as spec;
+ghost use Rattle.oe_keeper.specs.Reading.{IsRestorable, ReadsJob, without_assets};
+
+use oe_dims::Text;
+use oe_graph::StoredProcess;
+use oe_jobs::{Job, Level, LogEntry, Ran, Status};
+use oe_memory::OutOfMemory;
+use serde_json::{Map, Value, put};
+use std::alloc::Global;
+
+/// The entry that is kept of a job: the compact JSON text of an object with all of the job but its id and its assets,
+/// members in byte order. Statuses and levels are spelled as in the openEO API, moments are numbers of seconds since
+/// 1970-01-01T00:00:00Z, and the turn is a text in decimal.
+///
+/// [`read_job`](crate::read_job) gives the job again without its assets, where its moments are in the years 1 to 9999
+/// and each of its stored processes is what [`read_stored`](oe_graph::read_stored) gives of its id and text.
+/// Refuses: out of memory.
+pub fn job_text(alloc: Global, job: &Job) -> Result<Text, OutOfMemory>
+    ensures text { IfOk result (λ text. text ≡ compact_text (spec.job_data (plain_job job.now))) }
+    ensures reads_back { IfOk result (λ text. IsRestorable (plain_job job.now)
+        → ReadsJob job.now.id text (without_assets (plain_job job.now))) }
+{
+    let value = job_json(alloc, job)?;
+    let text = value.to_string(alloc)?;
+    Text::of(alloc, text.as_str())
+}
+
+fn job_json(alloc: Global, job: &Job) -> Result<Value, OutOfMemory>
+    ensures entry { IfOk result (λ v. view v ≡ spec.job_data (plain_job job.now)) }
+    ensures turn { OnOk result (job.now.turn < 2 ^ 64) }
+{
+    let mut entry = Map::new(alloc);
+    put(&mut entry, alloc, "created", Value::from(job.created))?;
+    put(
+        &mut entry,
+        alloc,
+        "description",
+        words_json(alloc, &job.description)?,
+    )?;
+    put(
+        &mut entry,
+        alloc,
+        "level",
+        str_json(alloc, level_text(job.level))?,
+    )?;
+    put(
+        &mut entry,
+        alloc,
+        "logs",
+        Value::Array(logs_json(alloc, &job.logs)?),
+    )?;
+    put(
+        &mut entry,
+        alloc,
+        "process",
+        text_json(alloc, &job.process)?,
+    )?;
+    put(&mut entry, alloc, "ran", ran_json(alloc, &job.ran)?)?;
+    put(
+        &mut entry,
+        alloc,
+        "status",
+        str_json(alloc, status_text(job.status))?,
+    )?;
+    put(&mut entry, alloc, "title", words_json(alloc, &job.title)?)?;
+    put(&mut entry, alloc, "turn", turn_json(alloc, job.turn)?)?;
+    put(&mut entry, alloc, "updated", Value::from(job.updated))?;
+    put(&mut entry, alloc, "user", text_json(alloc, &job.user)?)?;
+    Ok(Value::Object(entry))
+}
+
+fn logs_json(alloc: Global, logs: &Vec<LogEntry>) -> Result<Vec<Value>, OutOfMemory>
+    ensures { IfOk result (λ v. items_view v.items ≡ items_of (map spec.log_data logs.now.items)) }
+{
+    let mut values = Vec::with_capacity(alloc, logs.len())?;
+    for log in logs {
+        values.push(log_json(alloc, log)?)?;
+    }
+    Ok(values)
+}
+
+fn log_json(alloc: Global, log: &LogEntry) -> Result<Value, OutOfMemory>
+    ensures { IfOk result (λ v. view v ≡ spec.log_data log.now) }
+{
+    let mut entry = Map::new(alloc);
+    put(&mut entry, alloc, "code", words_json(alloc, &log.code)?)?;
+    put(
+        &mut entry,
+        alloc,
+        "level",
+        str_json(alloc, level_text(log.level))?,
+    )?;
+    put(
+        &mut entry,
+        alloc,
+        "message",
+        text_json(alloc, &log.message)?,
+    )?;
+    Ok(Value::Object(entry))
+}
+
+fn ran_json(alloc: Global, ran: &Option<Ran>) -> Result<Value, OutOfMemory>
+    ensures { IfOk result (λ v. view v ≡ spec.ran_data (option_map plain_ran ran.now)) }
+{
+    let Some(ran) = ran else {
+        return Ok(Value::Null);
+    };
+    let mut entry = Map::new(alloc);
+    put(
+        &mut entry,
+        alloc,
+        "process",
+        text_json(alloc, &ran.process)?,
+    )?;
+    put(
+        &mut entry,
+        alloc,
+        "stored",
+        Value::Array(processes_json(alloc, &ran.stored)?),
+    )?;
+    Ok(Value::Object(entry))
+}
+
+fn processes_json(alloc: Global, stored: &Vec<StoredProcess>) -> Result<Vec<Value>, OutOfMemory>
+    ensures { IfOk result (λ v. items_view v.items
+        ≡ items_of (map spec.stored_data (map plain_stored stored.now.items))) }
+{
+    let mut values = Vec::with_capacity(alloc, stored.len())?;
+    for process in stored {
+        values.push(process_json(alloc, process)?)?;
+    }
+    Ok(values)
+}
+
+fn process_json(alloc: Global, process: &StoredProcess) -> Result<Value, OutOfMemory>
+    ensures { IfOk result (λ v. view v ≡ spec.stored_data (plain_stored process.now)) }
+{
+    let mut entry = Map::new(alloc);
+    put(&mut entry, alloc, "id", text_json(alloc, &process.id)?)?;
+    put(&mut entry, alloc, "text", text_json(alloc, &process.text)?)?;
+    Ok(Value::Object(entry))
+}
+
+fn turn_json(alloc: Global, turn: u64) -> Result<Value, OutOfMemory>
+    ensures value { IfOk result (λ v. view v ≡ string (decimal turn)) }
+    ensures fits { OnOk result (turn < 2 ^ 64) }
+{
+    Ok(Value::String(format!(in alloc; "{turn}")?))
+}
+
+fn words_json(alloc: Global, words: &Option<Text>) -> Result<Value, OutOfMemory>
+    ensures { IfOk result (λ v. view v ≡ spec.text_data words.now) }
+{
+    match words {
+        Some(text) => text_json(alloc, text),
+        None => Ok(Value::Null),
+    }
+}
+
+fn text_json(alloc: Global, text: &Text) -> Result<Value, OutOfMemory>
+    ensures { IfOk result (λ v. view v ≡ string text.now) }
+{
+    str_json(alloc, text.as_str())
+}
+
+fn str_json(alloc: Global, text: &str) -> Result<Value, OutOfMemory>
+    ensures { IfOk result (λ v. view v ≡ string text.now) }
+{
+    Ok(Value::String(String::from_str(alloc, text)?))
+}
+
+/// A status, as the openEO API spells it.
+pub(crate) fn status_text(status: Status) -> &'static str
+    ensures { result.now ≡ spec.status_text status }
+{
+    match status {
+        Status::Created => "created",
+        Status::Queued => "queued",
+        Status::Running => "running",
+        Status::Canceled => "canceled",
+        Status::Finished => "finished",
+        Status::Error => "error",
+    }
+}
+
+/// A level, as the openEO API spells it.
+pub(crate) fn level_text(level: Level) -> &'static str
+    ensures { result.now ≡ spec.level_text level }
+{
+    match level {
+        Level::Error => "error",
+        Level::Warning => "warning",
+        Level::Info => "info",
+        Level::Debug => "debug",
+    }
+}
