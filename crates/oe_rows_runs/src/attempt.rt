@@ -1,0 +1,223 @@
+// A run that is taken up again after each refusal.
+ghost use Rattle.std.specs.Prelude.{◌≡◌, IfOk, IsTrue, None, Ok, Some};
+ghost use Rattle.oe_dims.specs.Plain.{plain_rows};
+ghost use Rattle.oe_engine.specs.Collections.{HasCollections};
+ghost use Rattle.oe_engine.specs.Runs.{HasRunRecords, chunk_total};
+ghost use Rattle.oe_plan.specs.Ranges.{IsWithinRanges};
+ghost use Rattle.oe_sources.specs.CatalogueRows.{rows_of};
+
+use crate::catalogue::cube_of;
+use crate::fault::Fault;
+use crate::line::Sizes;
+use oe_dims::Dims;
+use oe_engine::{
+    Progress, Run, RunFail, Workspace, collections_are_mounted, over_is_of_the_result,
+    reads_change_nothing,
+};
+use oe_graph::read_graph;
+use oe_outside::{MemorySink, MemoryStore, NoGate, Pending};
+use oe_plan::Plan;
+use oe_render::RenderFail;
+use oe_resolve::resolve;
+use oe_shape::{Checked, check};
+use oe_sources::Catalogue;
+use std::alloc::Global;
+
+/// What stands in the spool before a run, whose records follow it.
+const FRONT: &[u8] = b"front";
+
+/// How many bytes these are.
+const BASE: u64 = 5;
+
+/// How many bytes the spool and the output of a run have room for.
+const ROOM: usize = 65536;
+
+/// How many rounds a run has at most, with those that are refused.
+const MOST_ROUNDS: u32 = 10000;
+
+/// The numbers of the calls that fail, of each object from 0 on.
+#[derive(Clone, Copy)]
+pub(crate) struct Failing<'a> {
+    /// Of each collection its reads.
+    pub(crate) reads: &'a [u64],
+    /// The calls of the spool.
+    pub(crate) spool: &'a [u64],
+    /// The writes of the output.
+    pub(crate) writes: &'a [u64],
+}
+
+/// What a run gave.
+#[derive(Drop)]
+pub(crate) struct Ended {
+    /// How many chunks it has, and how many were evaluated.
+    pub(crate) chunks: u64,
+    pub(crate) evaluations: u64,
+    /// How often it was refused.
+    pub(crate) refusals: u64,
+    pub(crate) spool: MemoryStore,
+    pub(crate) text: MemorySink,
+}
+
+/// Evaluates a graph over collections, and takes it up again after each refusal.
+pub(crate) fn attempt(
+    alloc: Global,
+    cubes: &[(&str, &str)],
+    sizes: Sizes,
+    graph: &str,
+    failing: Failing<'_>,
+) -> Result<Ended, Fault>
+    requires { IsWithinRanges sizes.0 sizes.1 }
+{
+    // The boxes of collections stay in this function, which drops them.
+    let mut catalogue = Catalogue::new(alloc);
+    for (id, text) in cubes {
+        let cube = Box::new(alloc, cube_of(alloc, text, failing.reads)?)?;
+        if catalogue.mount(id, cube).is_err() {
+            return Err(Fault::Line);
+        }
+    }
+    carry_out(alloc, &mut catalogue, sizes, graph, failing)
+}
+
+/// Evaluates a graph over the collections of a catalogue, likewise.
+fn carry_out(
+    alloc: Global,
+    catalogue: &mut Catalogue,
+    sizes: Sizes,
+    graph: &str,
+    failing: Failing<'_>,
+) -> Result<Ended, Fault>
+    requires { IsWithinRanges sizes.0 sizes.1 }
+{
+    let mut spool = MemoryStore::new(FRONT.to_vec(alloc)?, ROOM, failing.spool.to_vec(alloc)?)?;
+    let (mut run, chunks) = begin(alloc, catalogue, sizes, graph)?;
+    over_is_of_the_result();
+    let stopped = complete(&mut run, catalogue, &mut spool)?;
+    let evaluations = run.evaluations();
+    match run.finish() {
+        Ok(()) => {
+            let (text, unwritten) = text_of(alloc, &mut run, &mut spool, failing.writes)?;
+            Ok(Ended {
+                chunks,
+                evaluations,
+                refusals: stopped.saturating_add(unwritten),
+                spool,
+                text,
+            })
+        }
+        Err(_) => Err(Fault::Run),
+    }
+}
+
+/// A run of a graph before its first round, whose records are to follow the front of a spool, and how many chunks it
+/// has.
+fn begin(
+    alloc: Global,
+    catalogue: &Catalogue,
+    sizes: Sizes,
+    graph: &str,
+) -> Result<(Run, u64), Fault>
+    requires { IsWithinRanges sizes.0 sizes.1 }
+    ensures mounted { IfOk result
+        (λ r. HasCollections r.0.plan.graph (rows_of seen catalogue.now)) }
+    ensures none_done { IfOk result (λ r. r.0.done ≡ 0) }
+    ensures none_over { IfOk result (λ r. r.0.over ≡ None) }
+{
+    let dims = catalogue.dims()?;
+    let checked = checked_of(alloc, graph, &dims)?;
+    let (size, workers) = sizes;
+    let Ok(plan) = Plan::new(alloc, checked, size, workers) else {
+        return Err(Fault::Run);
+    };
+    let chunks = plan.chunks();
+    let workspace = Workspace::new(alloc, &plan)?;
+    collections_are_mounted();
+    Ok((Run::start(plan, workspace, BASE), chunks))
+}
+
+/// The graph of a text, checked over the collections.
+fn checked_of(alloc: Global, graph: &str, dims: &Dims) -> Result<Checked, Fault>
+    ensures { IfOk result (λ checked. checked.rows ≡ plain_rows dims.now) }
+{
+    let Ok(graph) = read_graph(alloc, graph.as_bytes()) else {
+        return Err(Fault::Line);
+    };
+    let Ok(resolved) = resolve(alloc, &graph, &[]) else {
+        return Err(Fault::Line);
+    };
+    match check(alloc, &resolved, dims) {
+        Ok(checked) => Ok(checked),
+        Err(_) => Err(Fault::Line),
+    }
+}
+
+/// Makes rounds until no chunk is left. Answers how many were refused.
+fn complete(run: &mut Run, catalogue: &mut Catalogue, spool: &mut MemoryStore) -> Result<u64, Fault>
+    requires mounted { HasCollections run.old.plan.graph (rows_of seen catalogue.old) }
+    requires records { HasRunRecords run.old (Some spool.old.bytes) }
+    ensures complete { IfOk result (λ count. run.new.done ≡ chunk_total run.new.plan) }
+    ensures records { HasRunRecords run.new (Some spool.new.bytes) }
+{
+    reads_change_nothing();
+    let mut refused: u64 = 0;
+    for _ in 0..MOST_ROUNDS {
+        let answer = run.round(catalogue, spool, &NoGate);
+        if is_complete(&answer) {
+            return Ok(refused);
+        }
+        refused = refused.saturating_add(refusals_of(&answer)?);
+    }
+    Err(Fault::Run)
+}
+
+fn is_complete(answer: &Result<Progress, RunFail>) -> bool
+    ensures { IsTrue result → answer.now ≡ Ok Progress.Complete }
+{
+    match answer {
+        Ok(Progress::Complete) => true,
+        _ => false,
+    }
+}
+
+/// 1 for a refusal by a script, and 0 for none.
+fn refusals_of(answer: &Result<Progress, RunFail>) -> Result<u64, Fault> {
+    match answer {
+        Ok(_) => Ok(0),
+        Err(RunFail::SourceFailed | RunFail::SpoolFailed) => Ok(1),
+        Err(_) => Err(Fault::Run),
+    }
+}
+
+/// The text of a run that is complete, written again where that was refused, and how often it was.
+fn text_of(
+    alloc: Global,
+    run: &mut Run,
+    spool: &mut MemoryStore,
+    failing: &[u64],
+) -> Result<(MemorySink, u64), Fault>
+    requires complete { run.old.done ≡ chunk_total run.old.plan }
+    requires numbers { run.old.over ≡ None }
+    requires records { HasRunRecords run.old (Some spool.old.bytes) }
+{
+    let mut out = MemorySink::new(alloc, ROOM, failing.to_vec(alloc)?)?;
+    let mut pending = Pending::new(alloc)?;
+    match run.render(spool, &mut out, &mut pending) {
+        Ok(()) => Ok((out, 0)),
+        Err(RenderFail::SpoolDamaged(_)) => Err(Fault::Run),
+        Err(_) => Ok((text_at_last(alloc, run, spool)?, 1)),
+    }
+}
+
+/// The text of a run that is complete, where no call fails any more.
+fn text_at_last(alloc: Global, run: &mut Run, spool: &mut MemoryStore) -> Result<MemorySink, Fault>
+    requires complete { run.old.done ≡ chunk_total run.old.plan }
+    requires numbers { run.old.over ≡ None }
+    requires records { HasRunRecords run.old (Some spool.old.bytes) }
+{
+    let mut out = MemorySink::new(alloc, ROOM, Vec::new(alloc))?;
+    let mut pending = Pending::new(alloc)?;
+    match run.render(spool, &mut out, &mut pending) {
+        Ok(()) => Ok(out),
+        Err(_) => Err(Fault::Run),
+    }
+}
