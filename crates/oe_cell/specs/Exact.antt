@@ -19,7 +19,8 @@ unfoldable pub cell_of_lowest : ℤ → ℕ → Cell
 cell_of_lowest n d =
     if nat_lt (unsigned_abs n) (2 ^ 63) && nat_lt d (2 ^ 63) then Number (record { num = n; den = d }) else Over
 
--- the exact value of n / d for d above 0: both parts are divided by their greatest common divisor, and then it is seen whether they fit
+-- the exact value of n / d for d above 0: both parts are divided by their greatest common divisor, and then it is seen
+-- whether they fit
 unfoldable pub exact : ℤ → ℕ → Cell
 exact n d = let g = gcd_of (unsigned_abs n) d in cell_of_lowest (int_div n (pos g)) (d / g)
 
@@ -31,7 +32,8 @@ exact_value r = exact r.num r.den
 abbrev pub IsSameRational : Fraction → Fraction → Type 0
 IsSameRational p q = p.num *ℤ pos q.den ≡ q.num *ℤ pos p.den
 
--- what the exact value means: the number of a cell that is the same rational, or Over exactly where no number of a cell is
+-- what the exact value means: the number of a cell that is the same rational, or Over exactly where no number of a cell
+-- is
 abbrev pub IsExactValue : Fraction → Cell → Type 0
 IsExactValue r (Number q) = IsNumber q × IsSameRational q r
 IsExactValue r Over = (q : Fraction) → IsNumber q → ¬ (IsSameRational q r)

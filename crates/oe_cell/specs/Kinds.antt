@@ -44,4 +44,5 @@ IsLogical (Flag b) = ⊤
 -- the third cell passes every test that null, Over and the first two pass
 abbrev pub HasCommonFacts : Cell → Cell → Cell → Type 0
 HasCommonFacts x y result =
-    (test : Cell → Bool) → IsTrue (test Empty) → IsTrue (test Over) → IsTrue (test x) → IsTrue (test y) → IsTrue (test result)
+    (test : Cell → Bool) → IsTrue (test Empty) → IsTrue (test Over) → IsTrue (test x) → IsTrue (test y)
+    → IsTrue (test result)

@@ -1,4 +1,5 @@
--- The operations on cells, by the names that openEO Processes gives them. In each definition the first case that fits decides.
+-- The operations on cells, by the names that openEO Processes gives them. In each definition the first case that fits
+-- decides.
 use Rattle.std.specs.Prelude.{◌≡◌, ◌==◌, true, false, not, if◌then◌else◌, ℤ, pos, unsigned_abs}
 use Rattle.std.specs.Bool.{beq}
 use Rattle.std.specs.Int.{int_signum}

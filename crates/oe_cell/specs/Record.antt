@@ -1,4 +1,5 @@
--- A cell as a record of 17 bytes: a tag, the numerator in two's complement and the denominator, 8 bytes each with the highest first.
+-- A cell as a record of 17 bytes: a tag, the numerator in two's complement and the denominator, 8 bytes each with the
+-- highest first.
 use Rattle.std.specs.Prelude.{◌≡◌, ℕ, true, false, List, ◌∷◌, ◌++◌, ℤ, pos}
 use Rattle.std.specs.Int.{w64, to_be_bytes, cast_unsigned}
 use Rattle.std.specs.List.{flat_map}

@@ -12,7 +12,7 @@ ghost use Rattle.oe_cell.specs.LowestTerms.{floor_quotient};
 use crate::frac::lowest;
 use crate::gcd::{cancel, gcd, share};
 use crate::operands::{Operands, operands_of};
-use crate::wide::{floor_rest, product, scaled, wide_product, wide_quotient};
+use crate::wide::{floor_rest, product, scale, wide_product, wide_quotient};
 use crate::{Cell, Frac};
 
 /// `add` of openEO Processes: the exact sum, and Over where it does not fit. Over in an operand gives Over; otherwise
@@ -138,7 +138,7 @@ fn crossed_sum(a: i64, d: u64, c: i64, b: u64) -> i128
     requires b_fits { b < 2 ^ 63 }
     ensures { result ≡ a *ℤ pos d +ℤ c *ℤ pos b }
 {
-    scaled(a, d) + scaled(c, b)
+    scale(a, d) + scale(c, b)
 }
 
 #[inline(always)]
@@ -361,5 +361,5 @@ fn crossed_rest(a: i64, d: u64, c: i64, b: u64) -> i128
     requires some { 0 < unsigned_abs c * b }
     ensures { result ≡ a *ℤ pos d -ℤ floor_quotient (a *ℤ pos d) (c *ℤ pos b) *ℤ (c *ℤ pos b) }
 {
-    floor_rest(scaled(a, d), scaled(c, b))
+    floor_rest(scale(a, d), scale(c, b))
 }

@@ -8,7 +8,7 @@ ghost use Rattle.oe_cell.specs.Operations.{eq_of, neq_of, gt_of, gte_of, lt_of, 
 ghost use Rattle.oe_cell.specs.Order.{compare_of};
 
 use crate::operands::{Operands, operands_of};
-use crate::wide::scaled;
+use crate::wide::scale;
 use crate::{Cell, Frac, not};
 use std::cmp::Ordering;
 
@@ -24,7 +24,7 @@ pub fn compare(x: Frac, y: Frac) -> Ordering
     if b == 1 && d == 1 {
         return a.cmp(&c);
     }
-    scaled(a, d).cmp(&scaled(c, b))
+    scale(a, d).cmp(&scale(c, b))
 }
 
 /// Two numbers are the same rational exactly where they are the same pair.

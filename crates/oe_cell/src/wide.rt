@@ -3,7 +3,7 @@ ghost use Rattle.std.specs.Prelude.{◌≡◌, ◌*◌, ◌^◌, ◌<◌, ◌≤
 ghost use Rattle.std.specs.Int.{◌∣◌};
 ghost use Rattle.oe_cell.specs.LowestTerms.{floor_quotient};
 
-pub(crate) fn scaled(num: i64, by: u64) -> i128
+pub(crate) fn scale(num: i64, by: u64) -> i128
     requires num_fits { unsigned_abs num < 2 ^ 63 }
     requires by_fits { by < 2 ^ 63 }
     ensures value { result ≡ num *ℤ pos by }

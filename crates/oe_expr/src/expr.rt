@@ -115,7 +115,8 @@ pub fn build(
     ensures keeps_kind { IfOk result KeepsKind }
     // or the least of those that stand
     ensures refused { IfErr result (IsFault
-        (StandsInCallbackAt (callback_of (plain_graph graph.now) (plain_scope scope.now) context) path.now)) }
+        (StandsInCallbackAt (callback_of (plain_graph graph.now)
+        (plain_scope scope.now) context) path.now)) }
 {
     let walk = walk_nodes(alloc, scope, &context, &graph.nodes, path)?;
     let Walk {

@@ -97,7 +97,8 @@ fn lists_lack(
 ) -> bool
     requires { spec.AreLists (plain_labels labels.now) lists.now }
     ensures { result ≡ list_any (has_no_element index (option_map plain_label label.entry))
-        (map (λ part. listing_of_labels (spec.labels_in (plain_labels labels.now) part)) lists.now) }
+        (map (λ part. listing_of_labels (spec.labels_in (plain_labels labels.now) part))
+        lists.now) }
 {
     match index {
         Some(index) => any_list_ends_before(lists, index),

@@ -362,7 +362,8 @@ fn counter_at(arguments: &Vec<(Text, Arg)>) -> Option<Reducer>
 
 /// Null, or a whole number not below 0.
 fn index_at(arguments: &Vec<(Text, Arg)>) -> Option<Option<u64>>
-    ensures { result ≡ spec.read spec.list_index_in (codes "index") (plain_named arguments.now.items) }
+    ensures { result ≡ spec.read spec.list_index_in (codes "index")
+        (plain_named arguments.now.items) }
 {
     match argument(arguments, "index")? {
         Arg::Null => Some(None),

@@ -197,7 +197,8 @@ fn cells_of<'a>(
     requires { HasOperand row.now from n (length registers.now) operand }
     ensures each { IsAsLong result n }
     ensures value { (j : ℕ) → j < n → strip_cell_at result j
-        ≡ operand_value (row_inputs row.now start (from + j)) (register_at registers.now n j) operand }
+        ≡ operand_value (row_inputs row.now start (from + j))
+        (register_at registers.now n j) operand }
 {
     match operand {
         Operand::Constant(cell) => Source::All(cell),
@@ -219,7 +220,8 @@ fn cells_of<'a>(
 fn register_row(registers: &[Cell], register: usize, n: usize) -> Source<'_>
     requires { register * n + n ≤ length registers.now }
     ensures each { IsAsLong result n }
-    ensures value { (j : ℕ) → j < n → strip_cell_at result j ≡ register_at registers.now n j register }
+    ensures value { (j : ℕ) → j < n → strip_cell_at result j
+        ≡ register_at registers.now n j register }
 {
     let first = register * n;
     Source::Each(&registers[first..first + n])
@@ -406,7 +408,8 @@ fn choice_row(value: &Source<'_>, accept: &Source<'_>, reject: &Source<'_>, out:
     requires accept { IsAsLong accept.now (length out.old) }
     requires reject { IsAsLong reject.now (length out.old) }
     ensures { (j : ℕ) → j < length out.old → slice_index_or out.new j Empty
-        ≡ choose_of (strip_cell_at value.now j) (strip_cell_at accept.now j) (strip_cell_at reject.now j) }
+        ≡ choose_of (strip_cell_at value.now j) (strip_cell_at accept.now j)
+        (strip_cell_at reject.now j) }
 {
     match value {
         Source::All(value) => choice_by_one(value, accept, reject, out),
@@ -440,7 +443,8 @@ fn choice_by_one(value: &Cell, accept: &Source<'_>, reject: &Source<'_>, out: &m
 fn accept_one(values: &[Cell], accept: &Cell, out: &mut [Cell])
     requires { length out.old ≤ length values.now }
     ensures { (j : ℕ) → j < length out.old → slice_index_or out.new j Empty
-        ≡ choose_of (slice_index_or values.now j Empty) accept.now (slice_index_or out.old j Empty) }
+        ≡ choose_of (slice_index_or values.now j Empty) accept.now
+        (slice_index_or out.old j Empty) }
 {
     for k in 0..out.len() {
         out[k] = choose(values[k], *accept, out[k]);

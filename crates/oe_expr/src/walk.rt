@@ -113,7 +113,8 @@ fn visit_each<'a>(
     // a node that was not judged waits for one more
     ensures deeper { OnOk result ((count : ℕ)
         → AreDeep (plain_scope scope.now) context.now nodes.now.items count walk.old.states.items
-        → AreDeep (plain_scope scope.now) context.now nodes.now.items (suc count) walk.new.states.items) }
+        → AreDeep (plain_scope scope.now) context.now nodes.now.items
+        (suc count) walk.new.states.items) }
 {
     for index in 0..nodes.len() {
         if matches!(walk.states[index], State::Unseen) {

@@ -22,7 +22,7 @@ is_sound Empty = false
 is_sound (Flag b) = false
 is_sound Over = false
 
--- the code's sort order, in no definition of a reduction: numbers by value as in `is_below`, and every other cell before
--- them
+-- the code's sort order, in no definition of a reduction: numbers by value as in `is_below`, and every other cell
+-- before them
 abbrev pub is_before : Cell → Cell → Bool
 is_before x y = cond (is_sound x) (is_sound y && is_below x y) (is_sound y)

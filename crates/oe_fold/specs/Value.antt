@@ -1,5 +1,5 @@
--- The value of a reduction, as a function, for the definitions that go on from it. Where order counts, it takes the list
--- in order.
+-- The value of a reduction, as a function, for the definitions that go on from it. Where order counts, it takes the
+-- list in order.
 use Rattle.std.specs.Prelude.{◌-◌, Bool, cond, List, [], ◌∷◌, length, slice_index_or, unwrap_or, not, count_by}
 use Rattle.std.specs.List.{list_any, reduce}
 use Rattle.oe_cell.specs.Operations.{add_of, multiply_of, divide_of, or_of, and_of}

@@ -1,5 +1,5 @@
--- Values in the form that reading gives them: an object has its members in byte order of their names, each name once, and a
--- negative whole number fits 64 bits.
+-- Values in the form that reading gives them: an object has its members in byte order of their names, each name once,
+-- and a negative whole number fits 64 bits.
 use Rattle.std.specs.Prelude.{ℕ, ◌&&◌, ◌^◌, Bool, true, false, List, [], ◌∷◌, pos, negsuc, nat_lt}
 use Rattle.serde_json.specs.Data.{Num, unsigned, negative, float, Data, null, boolean, number, string, array, object, Items, no_items, item, Members, no_members, member}
 use Rattle.oe_dims.specs.Names.{names_rise}

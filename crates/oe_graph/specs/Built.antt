@@ -17,7 +17,8 @@ is_literal (negsuc n) = not (nat_eq n 9223372036854775807)
 
 -- a whole number that is a literal, or a number that is none
 abbrev pub number_argument : Num → Argument
-number_argument n = unwrap_or (option_map (λ z. if is_literal z then tree.whole z else tree.inexact) (as_i64 n)) tree.inexact
+number_argument n = unwrap_or (option_map (λ z. if is_literal z then tree.whole z else tree.inexact) (as_i64 n))
+    tree.inexact
 
 -- the name and the value of the member of an object that has just one
 abbrev pub the_member : Members → Option (List ℕ × Data)
@@ -83,7 +84,8 @@ result_index (member id d rest) = if is_result d then 0 else suc (result_index r
 abbrev mutual
   pub nodes_from_data : Members → Nodes
   nodes_from_data no_members = tree.no_nodes
-  nodes_from_data (member id d rest) = tree.node id (process_id_of d) (namespace_of d) (arguments_from_data d) (nodes_from_data rest)
+  nodes_from_data (member id d rest) =
+      tree.node id (process_id_of d) (namespace_of d) (arguments_from_data d) (nodes_from_data rest)
 
   -- the arguments of a node
   pub arguments_from_data : Data → Named
@@ -122,7 +124,8 @@ abbrev mutual
   -- the member `process_graph`
   pub callback_among : Members → Option Argument
   callback_among no_members = None
-  callback_among (member name d rest) = if same_name (codes "process_graph") name then callback_in d else callback_among rest
+  callback_among (member name d rest) =
+      if same_name (codes "process_graph") name then callback_in d else callback_among rest
 
   pub callback_in : Data → Option Argument
   callback_in null = None

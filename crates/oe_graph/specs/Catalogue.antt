@@ -46,12 +46,14 @@ abbrev pub parameter_of : ParameterEntry → Parameter
 parameter_of entry = parameter_from entry.0.now entry.1 entry.2
 
 abbrev pub process_of : ProcessEntry → Process
-process_of entry = process_from entry.0.now entry.1 (map parameter_of entry.2.now) (map (λ (name : Bor (List ℕ)). name.now) entry.3.now)
+process_of entry = process_from entry.0.now entry.1 (map parameter_of entry.2.now)
+    (map (λ (name : Bor (List ℕ)). name.now) entry.3.now)
 
 -- all rows
 abbrev pub catalogue : List Process
 catalogue = map (λ row.
-    process_from row.0.now row.1 (map (λ p. parameter_from p.0.now p.1 p.2) row.2.now) (map (λ name. name.now) row.3.now))
+    process_from row.0.now row.1 (map (λ p. parameter_from p.0.now p.1 p.2) row.2.now)
+    (map (λ name. name.now) row.3.now))
     PROCESSES
 
 -- the first of these rows with an id, and the row of an id in the catalogue

@@ -40,7 +40,8 @@ is_flag d = is_some (as_bool d)
 abbrev pub arguments_in : Data → Option Members
 arguments_in d = option_and_then as_object (get (codes "arguments") d)
 
--- a value that is a node, whatever its id: an object, which has a process and arguments and no other member in a wrong form
+-- a value that is a node, whatever its id: an object, which has a process and arguments and no other member in a wrong
+-- form
 abbrev pub is_node : Data → Bool
 is_node d =
     option_map_or is_process_id (get (codes "process_id") d) false
@@ -76,7 +77,8 @@ callback_name node argument = node ++ 47 ∷ argument
 -- an object has this member
 pub data IsMember (name : List ℕ) (value : Data) : Members → Type 0 where
   first : {rest : Members} → IsMember name value (member name value rest)
-  later : {other : List ℕ} {d : Data} {rest : Members} → IsMember name value rest → IsMember name value (member other d rest)
+  later : {other : List ℕ} {d : Data} {rest : Members} → IsMember name value rest
+      → IsMember name value (member other d rest)
 
 -- A graph object, by its nodes and its name, stands within one at a name: it is that one itself, or stands within the
 -- callback of a node of it. A node whose id is not valid has no name, and nor has what stands in it.

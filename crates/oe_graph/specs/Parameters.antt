@@ -1,4 +1,5 @@
--- The parameters of a stored process (openEO API, process metadata): the form of the member `parameters`, and what it says.
+-- The parameters of a stored process (openEO API, process metadata): the form of the member `parameters`, and what it
+-- says.
 use Rattle.std.specs.Prelude.{◌≡◌, ℕ, ◌&&◌, Bool, true, false, not, List, [], ◌∷◌, map, Option, Some, None, is_some, codes, unwrap_or, option_map, option_and_then, if◌then◌else◌}
 use Rattle.std.specs.List.{list_any}
 use Rattle.serde_json.specs.Data.{Data, null, boolean, number, string, array, object, Items, no_items, item}
@@ -63,7 +64,8 @@ listed_parameters (object ms) = []
 abbrev pub parameters_of : Data → List PlainParameter
 parameters_of d = unwrap_or (option_map listed_parameters (get (codes "parameters") d)) []
 
--- in bytes that were sent as a stored process: a fault of the graph, or the member `parameters` is there and not in form
+-- in bytes that were sent as a stored process: a fault of the graph, or the member `parameters` is there and not in
+-- form
 pub data StandsStored (bytes : List ℕ) : Code → List ℕ → Type 0 where
   of_graph : {code : Code} {name : List ℕ} → Stands bytes code name → StandsStored bytes code name
   parameters_invalid : {d : Data} → IsReading bytes d → is_absent_or are_parameters (codes "parameters") d ≡ false

@@ -27,7 +27,12 @@ abbrev pub graph_step : Graph-F Argument PlainGraph PlainNode → PlainGraph
 graph_step g = record { nodes = nodes_from_list g.nodes.items; result = g.result }
 
 abbrev pub node_step : Node-F Argument PlainGraph PlainNode → PlainNode
-node_step n = record { id = n.id; process_id = n.process_id; namespace = n.namespace; arguments = named_from_list n.arguments.items }
+node_step n = record {
+  id = n.id;
+  process_id = n.process_id;
+  namespace = n.namespace;
+  arguments = named_from_list n.arguments.items;
+}
 
 abbrev pub plain_arg : Arg → Argument
 plain_arg = fold-Arg Argument PlainGraph PlainNode arg_step graph_step node_step
@@ -59,4 +64,9 @@ abbrev pub plain_process : ProcessRow → PlainProcess
 plain_process p = record { id = p.id; parameters = map plain_parameter p.parameters.items; in_callback = p.in_callback }
 
 abbrev pub plain_stored : StoredProcess → PlainStored
-plain_stored p = record { id = p.id; parameters = map plain_parameter p.parameters.items; graph = plain_graph p.graph; text = p.text }
+plain_stored p = record {
+  id = p.id;
+  parameters = map plain_parameter p.parameters.items;
+  graph = plain_graph p.graph;
+  text = p.text;
+}

@@ -35,7 +35,8 @@ abbrev pub put_result : Bool → Members → Members
 put_result false found = found
 put_result true found = put (codes "result") (boolean true) found
 
--- A number that is no literal is written as 2^63. Members are put in byte order of their names; of equal names the last stays.
+-- A number that is no literal is written as 2^63. Members are put in byte order of their names; of equal names the last
+-- stays.
 abbrev mutual
   pub argument_data : Argument → Data
   argument_data tree.null = null

@@ -16,8 +16,8 @@ use Rattle.oe_graph.specs.declared.fault.Refusal.TheVariants as refusal
 abbrev pub IsFaultless : (Code → List ℕ → Type 0) → Type 0
 IsFaultless Stands = (code : Code) (node : List ℕ) → ¬ Stands code node
 
--- the value is an object whose member `process_graph` is an object, and this is the graph of its nodes, whether faults of
--- their form stand or not
+-- the value is an object whose member `process_graph` is an object, and this is the graph of its nodes, whether faults
+-- of their form stand or not
 pub record IsGraphOf (input : Data) (graph : PlainGraph) : Type 0 where
   pub nodes : Members
   pub is_main : nodes_in input ≡ Some nodes

@@ -14,7 +14,8 @@ abbrev pub argument_named : List ℕ → Named → Option Argument
 argument_named name no_named = None
 argument_named name (named k a rest) = if same_name k name then Some a else argument_named name rest
 
--- The ids of the nodes that an argument refers to, at any depth. The references in a callback are those of its own nodes.
+-- The ids of the nodes that an argument refers to, at any depth. The references in a callback are those of its own
+-- nodes.
 abbrev mutual
   pub references_in : Argument → List (List ℕ)
   references_in null = []

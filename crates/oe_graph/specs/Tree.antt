@@ -1,5 +1,5 @@
--- The plain value of a graph: a family of mutual types, in which no allocator and no capacity shows. `text` has the bytes
--- of a text, and each list of members stands in the order that the code has.
+-- The plain value of a graph: a family of mutual types, in which no allocator and no capacity shows. `text` has the
+-- bytes of a text, and each list of members stands in the order that the code has.
 use Rattle.std.specs.Prelude.{ℕ, ℤ, Bool, List, [], ◌∷◌, Option}
 
 mutual

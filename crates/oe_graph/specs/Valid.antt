@@ -64,4 +64,5 @@ pub record IsValidStored (s : PlainStored) : Type 0 where
 -- stored processes, no two of one id
 pub record AreValidStored (stored : List PlainStored) : Type 0 where
   pub each : (s : PlainStored) → Contains stored s → IsValidStored s
-  pub differ : (i j : ℕ) (a b : PlainStored) → i < j → slice_get stored i ≡ Some a → slice_get stored j ≡ Some b → a.id ≢ b.id
+  pub differ : (i j : ℕ) (a b : PlainStored) → i < j → slice_get stored i ≡ Some a → slice_get stored j ≡ Some b
+      → a.id ≢ b.id

@@ -1,5 +1,5 @@
--- The least fault of a graph object, as one pass over it finds it: the least of those found is handed along, from the fault
--- of the number of result nodes through the nodes. `proofs` ties it to where faults stand.
+-- The least fault of a graph object, as one pass over it finds it: the least of those found is handed along, from the
+-- fault of the number of result nodes through the nodes. `proofs` ties it to where faults stand.
 use Rattle.std.specs.Prelude.{ℕ, ◌==◌, List, [], ◌∷◌, ◌++◌, Bool, Option, Some, None, if◌then◌else◌, codes}
 use Rattle.serde_json.specs.Data.{Data, null, boolean, number, string, array, object, Members, no_members, member}
 use Rattle.oe_dims.specs.Names.{is_name, same_name}

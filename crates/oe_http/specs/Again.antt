@@ -31,8 +31,8 @@ pub record IsCredentials (value : List ℕ) : Type 0 where
   pub bytes : AllPass (λ b. b == blank || is_visible b) value
   pub trimmed : trim_ows value ≡ value
 
--- A request that is read again where it is written to a host: the method is a token, the path begins with a slash, path,
--- query and host are of visible bytes, the path has no question mark, and head and body are within their limits.
+-- A request that is read again where it is written to a host: the method is a token, the path begins with a slash,
+-- path, query and host are of visible bytes, the path has no question mark, and head and body are within their limits.
 pub record IsWritable (r : PlainRequest) (host : List ℕ) : Type 0 where
   pub method : IsToken r.method
   pub slash : slice_index r.path 0 ≡ slash

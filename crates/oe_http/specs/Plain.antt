@@ -11,4 +11,10 @@ pub record PlainRequest : Type 0 where
 
 -- the bytes of a request
 abbrev pub plain_request : Request → PlainRequest
-plain_request r = record { method = r.method; path = r.path; query = r.query; authorization = r.authorization; body = r.body.items }
+plain_request r = record {
+  method = r.method;
+  path = r.path;
+  query = r.query;
+  authorization = r.authorization;
+  body = r.body.items;
+}

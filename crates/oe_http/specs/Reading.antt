@@ -4,7 +4,8 @@ use Rattle.oe_outside.specs.Visible.{Gave}
 use Rattle.oe_http.specs.Front.{HasNoHead, IsHeadEnd, most_head}
 
 -- One read put these bytes behind those that were held, up to a limit, and none only where none was left.
-pub record ReadsMore (limit : ℕ) (before : Option (List ℕ)) (count : ℕ) (held bytes : List ℕ) (after : Option (List ℕ)) : Type 0 where
+pub record ReadsMore (limit : ℕ) (before : Option (List ℕ)) (count : ℕ) (held bytes : List ℕ)
+    (after : Option (List ℕ)) : Type 0 where
   pub given : List ℕ
   pub follows : bytes ≡ held ++ given
   pub gave : Gave before given after
@@ -18,13 +19,16 @@ IsAllOfFront bytes after = (length bytes ≡ most_head) ⊎ IfSome after (λ res
 
 -- These bytes were read, at most as many as the front has, and this is where the head ends in them. Without a head they
 -- are the whole front.
-pub record ReadsFront (before : Option (List ℕ)) (bytes : List ℕ) (end : Option ℕ) (after : Option (List ℕ)) : Type 0 where
+pub record ReadsFront (before : Option (List ℕ)) (bytes : List ℕ) (end : Option ℕ)
+    (after : Option (List ℕ)) : Type 0 where
   pub gave : Gave before bytes after
   pub most : length bytes ≤ most_head
   pub head : MatchOption end (HasNoHead bytes × IsAllOfFront bytes after) (λ n. IsHeadEnd bytes n)
 
--- These bytes were read behind those that were held, up to a number of bytes in all, and fewer only where none was left.
-pub record ReadsBody (number : ℕ) (before : Option (List ℕ)) (held bytes : List ℕ) (after : Option (List ℕ)) : Type 0 where
+-- These bytes were read behind those that were held, up to a number of bytes in all, and fewer only where none was
+-- left.
+pub record ReadsBody (number : ℕ) (before : Option (List ℕ)) (held bytes : List ℕ)
+    (after : Option (List ℕ)) : Type 0 where
   pub given : List ℕ
   pub follows : bytes ≡ held ++ given
   pub gave : Gave before given after

@@ -24,7 +24,13 @@ pub record PlainResponse : Type 0 where
   pub body : List ℕ
 
 abbrev pub plain_response : Response → PlainResponse
-plain_response r = record { status = r.status; location = r.location; identifier = r.identifier; json = r.json; body = r.body.items }
+plain_response r = record {
+  status = r.status;
+  location = r.location;
+  identifier = r.identifier;
+  json = r.json;
+  body = r.body.items;
+}
 
 -- replies of these statuses have no body; one of status 204 has no length either
 abbrev pub has_body : ℕ → Bool

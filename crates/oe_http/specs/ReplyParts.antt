@@ -48,7 +48,8 @@ RefusesReplyFields head refusal.OutOfMemory = ⊥
 -- the refusals by the head alone
 abbrev pub RefusesReplyHead : List ℕ → ResponseRefusal → Type 0
 RefusesReplyHead head refusal.Malformed = (line_ends head ≤ most_line_ends) × IsMalformedReply head
-RefusesReplyHead head refusal.TooLong = (most_line_ends < line_ends head) ⊎ ((line_ends head ≤ most_line_ends) × SaysLongReply head)
+RefusesReplyHead head refusal.TooLong =
+    (most_line_ends < line_ends head) ⊎ ((line_ends head ≤ most_line_ends) × SaysLongReply head)
 RefusesReplyHead head refusal.Truncated = ⊥
 RefusesReplyHead head refusal.LinkFailed = ⊥
 RefusesReplyHead head refusal.OutOfMemory = ⊥

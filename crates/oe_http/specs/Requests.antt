@@ -26,7 +26,13 @@ pub record HasHead (bytes head : List ℕ) : Type 0 where
 -- what a head and a body say: the query is what follows the first question mark of the target
 abbrev pub request_of : RequestHead → List ℕ → PlainRequest
 request_of h body =
-    record { method = h.method; path = before_first (λ b. b == question_mark) h.target; query = after_first (λ b. b == question_mark) h.target; authorization = first_value (values_of authorization (fields_of h)); body = body }
+    record {
+      method = h.method;
+      path = before_first (λ b. b == question_mark) h.target;
+      query = after_first (λ b. b == question_mark) h.target;
+      authorization = first_value (values_of authorization (fields_of h));
+      body = body;
+    }
 
 -- the request that stands at the front of the bytes
 pub record IsRequestOf (bytes : List ℕ) (request : PlainRequest) : Type 0 where

@@ -31,7 +31,8 @@ pub record IsHeadRead (before : Option (List ℕ)) (head : HeadRead) (after : Op
 -- the request is that of the head and of this body, which is as long as the head says
 pub record IsMadeOf (head : HeadRead) (body : List ℕ) (request : Request) : Type 0 where
   pub whole : head.parts.length ≤ length body
-  pub is : (found : HasParts (take head.end head.bytes.items) head.parts) → plain_request request ≡ request_of found.parts body
+  pub is : (found : HasParts (take head.end head.bytes.items) head.parts)
+      → plain_request request ≡ request_of found.parts body
 
 -- the body is shorter than the head says, or memory was refused
 abbrev pub IsCutOrOutOfMemory : HeadRead → List ℕ → RequestRefusal → Type 0

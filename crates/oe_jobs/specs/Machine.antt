@@ -1,5 +1,5 @@
--- The status machine of a batch job (openEO API, batch jobs): the table `step_of` has one line for each step, and beside
--- it stands what a step changes besides the status.
+-- The status machine of a batch job (openEO API, batch jobs): the table `step_of` has one line for each step, and
+-- beside it stands what a step changes besides the status.
 use Rattle.std.specs.Prelude.{ℕ, ℤ, Bool, true, false, List, [], ◌∷◌, ◌++◌, Option, Some, None, codes, nat_le, if◌then◌else◌, option_to_list}
 use Rattle.oe_jobs.specs.Plain.{PlainJob, PlainRan}
 use Rattle.oe_jobs.specs.declared.job.Asset.{Asset}

@@ -134,7 +134,8 @@ fn create(
 ) -> Result<Verdict, OutOfMemory>
     ensures { IfOk result (λ v. plain_verdict v
         ≡ spec.create_verdict (plain_book book.now) user.now
-        (spec.created (plain_book book.now) user.now title.now description.now process.now level now)) }
+        (spec.created (plain_book book.now) user.now title.now description.now process.now
+        level now)) }
 {
     if count_jobs(book, user) >= MOST_JOBS || has_no_number(book) {
         return Ok(refusal(JobFault::JobLimit));
@@ -335,7 +336,8 @@ fn withdraw_job(job: &Job, now: i64) -> Result<Job, OutOfMemory>
 /// The job after its run was stopped: with assets it is canceled, without any it is created again.
 fn stop_job(alloc: Global, job: &Job, now: i64) -> Result<Job, OutOfMemory>
     ensures { IfOk result (λ j. plain_job j
-        ≡ machine.with_status (if machine.has_assets (plain_job job.now) then Status.Canceled else Status.Created)
+        ≡ machine.with_status
+        (if machine.has_assets (plain_job job.now) then Status.Canceled else Status.Created)
         (machine.stops now (plain_job job.now))) }
 {
     let mut stopped = job.copy()?;

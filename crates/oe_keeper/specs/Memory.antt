@@ -25,11 +25,20 @@ pub record Memory : Type 0 where
 
 abbrev script_code : Coded Script
 script_code =
-    code_by (List ℕ × (Option (ℕ × Bool) × (ℕ × (ℕ × Bool)))) (coded× (coded_list coded_ℕ) (coded× (coded_option (coded× coded_ℕ coded_bool)) (coded× coded_ℕ (coded× coded_ℕ coded_bool)))) (λ s. (s.failing, (s.stop, (s.calls, (s.faults, s.has_failed))))) (λ p. record { failing = p.0; stop = p.1.0; calls = p.1.1.0; faults = p.1.1.1.0; has_failed = p.1.1.1.1 }) (λ _. refl)
+    code_by (List ℕ × (Option (ℕ × Bool) × (ℕ × (ℕ × Bool))))
+    (coded× (coded_list coded_ℕ) (coded× (coded_option (coded× coded_ℕ coded_bool))
+    (coded× coded_ℕ (coded× coded_ℕ coded_bool))))
+    (λ s. (s.failing, (s.stop, (s.calls, (s.faults, s.has_failed)))))
+    (λ p. record { failing = p.0; stop = p.1.0; calls = p.1.1.0; faults = p.1.1.1.0; has_failed = p.1.1.1.1 })
+    (λ _. refl)
 
 abbrev pub memory_code : Coded Memory
 memory_code =
-    code_by (Book × (Option Book × (Option Book × (ℕ × Script)))) (coded× book_row.coded (coded× (coded_option book_row.coded) (coded× (coded_option book_row.coded) (coded× coded_ℕ script_code)))) (λ m. (m.book, (m.made, (m.stopped, (m.begun, m.script))))) (λ p. record { book = p.0; made = p.1.0; stopped = p.1.1.0; begun = p.1.1.1.0; script = p.1.1.1.1 }) (λ _. refl)
+    code_by (Book × (Option Book × (Option Book × (ℕ × Script))))
+    (coded× book_row.coded (coded× (coded_option book_row.coded)
+    (coded× (coded_option book_row.coded) (coded× coded_ℕ script_code))))
+    (λ m. (m.book, (m.made, (m.stopped, (m.begun, m.script)))))
+    (λ p. record { book = p.0; made = p.1.0; stopped = p.1.1.0; begun = p.1.1.1.0; script = p.1.1.1.1 }) (λ _. refl)
 
 -- before the first call
 abbrev pub memory_of : Book → List ℕ → Option (ℕ × Bool) → Memory

@@ -118,7 +118,8 @@ pub record ReadsJob (id bytes : List ℕ) (job : PlainJob) : Type 0 where
 pub record IsRestorable (job : PlainJob) : Type 0 where
   pub created : IsInstant job.created
   pub updated : IsInstant job.updated
-  pub stored : IfSome job.ran (λ (ran : PlainRan). AllByRecursion (λ (p : PlainStored). ReadsStored p.id p.text p) ran.stored)
+  pub stored : IfSome job.ran
+      (λ (ran : PlainRan). AllByRecursion (λ (p : PlainStored). ReadsStored p.id p.text p) ran.stored)
 
 abbrev pub without_assets : PlainJob → PlainJob
 without_assets job = record job { assets = [] }

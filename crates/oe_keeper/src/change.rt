@@ -29,7 +29,8 @@ pub(crate) fn changed_copies(
     ensures first { IfOk result (λ copies. plain_book copies.0
         ≡ changed (plain_book book.now) (plain_change change.now)) }
     ensures second { IfOk result (λ copies. option_map plain_book copies.1
-        ≡ (if twice then Some (changed (plain_book book.now) (plain_change change.now)) else None)) }
+        ≡ (if twice then Some (changed (plain_book book.now) (plain_change change.now))
+        else None)) }
 {
     let copy = changed_copy(book, change)?;
     if twice {

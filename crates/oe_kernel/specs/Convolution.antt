@@ -55,7 +55,9 @@ kernel_value k i j = Number (slice_index_or k.values (i * k.width + j) (whole_of
 -- the kernel's value in row i and column j, times the pixel there
 abbrev pub weighted : KernelValues → Border → Fraction → WholePlane → ℕ → ℕ → ℕ → ℕ → Cell
 weighted k border replace plane y x i j =
-    multiply_of (kernel_value k i j) (pixel_of border replace plane.cell (border_position border (reach y i k.height) plane.side_y) (border_position border (reach x j k.width) plane.side_x))
+    multiply_of (kernel_value k i j) (pixel_of border replace plane.cell
+    (border_position border (reach y i k.height) plane.side_y)
+    (border_position border (reach x j k.width) plane.side_x))
 
 -- a total with the first n cells of a row added to it one by one
 unfoldable pub row_added : (ℕ → Cell) → ℕ → Cell → Cell
@@ -106,7 +108,8 @@ cell_in p row column =
 pub record IsPartOf (p : Plane) (whole : WholePlane) : Type 0 where
   pub side_y_same : p.side_y ≡ whole.side_y
   pub side_x_same : p.side_x ≡ whole.side_x
-  pub same : (row column : ℕ) → p.from_y ≤ row → row < p.to_y → p.from_x ≤ column → column < p.to_x → cell_in p row column ≡ whole.cell row column
+  pub same : (row column : ℕ) → p.from_y ≤ row → row < p.to_y → p.from_x ≤ column → column < p.to_x
+      → cell_in p row column ≡ whole.cell row column
 
 -- a position from a first one to before an end
 abbrev pub IsPositionIn : ℕ → ℕ → ℕ → Type 0

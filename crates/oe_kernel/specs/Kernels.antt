@@ -25,7 +25,8 @@ pub record IsKernel (k : KernelValues) : Type 0 where
 -- the first rule that is broken: as many values as rows times columns, odd sizes, and sizes of at most 31
 abbrev pub kernel_fault : ℕ → ℕ → ℕ → Option KernelFault
 kernel_fault width height count =
-    if count == width * height then (if width % 2 == 0 || height % 2 == 0 then Some Uneven else (if nat_lt largest_size width || nat_lt largest_size height then Some TooLarge else None))
+    if count == width * height then (if width % 2 == 0 || height % 2 == 0 then Some Uneven
+    else (if nat_lt largest_size width || nat_lt largest_size height then Some TooLarge else None))
     else Some LengthDiffers
 
 -- how far a window of an odd size reaches from its middle, to each side

@@ -37,4 +37,5 @@ pixel_in border replace pixels from None = border_number border
 -- a value times the pixel of its column, for a window around column x
 abbrev pub in_row : List Fraction → Border → Fraction → List Cell → ℕ → ℕ → ℕ → ℕ → Cell
 in_row values border replace pixels from side x j =
-    multiply_of (value_at values j) (pixel_in border replace pixels from (border_position border (reach x j (length values)) side))
+    multiply_of (value_at values j) (pixel_in border replace pixels from
+    (border_position border (reach x j (length values)) side))

@@ -29,13 +29,16 @@ weight_of values start (suc n) = weight_of values start n + unsigned_abs (num_at
 -- the pixel so many rows and columns after the first one of the window around row y and column x
 abbrev pub pixel_from : KernelValues → Border → Fraction → Plane → ℕ → ℕ → ℕ → ℕ → Cell
 pixel_from k border replace plane y x row column =
-    pixel_of border replace (cell_in plane) (border_position border (reach y row k.height) plane.side_y) (border_position border (reach x column k.width) plane.side_x)
+    pixel_of border replace (cell_in plane) (border_position border (reach y row k.height) plane.side_y)
+    (border_position border (reach x column k.width) plane.side_x)
 
--- each position that a border rule gives for the first `count` from the start of the window around a position on lies from a first one to before an end
+-- each position that a border rule gives for the first `count` from the start of the window around a position on lies
+-- from a first one to before an end
 pub record CoversPixels (border : Border) (at size count side first end : ℕ) : Type 0 where
   pub each : (k : ℕ) → k < count → IfSome (border_position border (reach at k size) side) (IsPositionIn first end)
 
--- the kernel's value in row i and column j, times the pixel there of the window whose first pixel stands at an index, in rows of `stride` pixels
+-- the kernel's value in row i and column j, times the pixel there of the window whose first pixel stands at an index,
+-- in rows of `stride` pixels
 abbrev pub unpacked : KernelValues → List ℤ → ℕ → ℕ → ℕ → ℕ → Cell
 unpacked k pixels stride first i j =
     multiply_of (kernel_value k i j) (Number (whole_of (at pixels (first + i * stride + j))))

@@ -12,7 +12,8 @@ taken_from nodes steps step n = list_any (λ user. contains (arguments nodes use
 -- consumer there or later
 unfoldable pub is_live : List Node → ℕ → List ℕ → ℕ → ℕ → Bool
 is_live nodes last steps step i =
-    nat_le i step && ((i == step) || ((slice_index steps i == last) || taken_from nodes steps step (slice_index steps i)))
+    nat_le i step
+    && ((i == step) || ((slice_index steps i == last) || taken_from nodes steps step (slice_index steps i)))
 
 -- how many nodes are live at a step
 unfoldable pub live_count : List Node → ℕ → List ℕ → ℕ → ℕ

@@ -10,7 +10,8 @@ pub record IsPool (held : List Bool) (slots free : List ℕ) (count : ℕ) : Typ
       slice_index slots i ≢ slice_index slots j
   pub free_below : (k : ℕ) → k < length free → slice_index free k < count
   pub free_apart : (k m : ℕ) → k < m → m < length free → slice_index free k ≢ slice_index free m
-  pub unused : (k i : ℕ) → k < length free → slice_index_or held i false ≡ true → slice_index free k ≢ slice_index slots i
+  pub unused : (k i : ℕ) → k < length free → slice_index_or held i false ≡ true
+      → slice_index free k ≢ slice_index slots i
   pub all : length free + count_by (λ b. b) held ≡ count
 
 -- whether step i is the step of one of these nodes

@@ -24,11 +24,13 @@ is_for None a = false
 is_for (Some b) a = b == a
 
 -- the nodes that are kept: each waits in the chain of the argument that it lacks, or else stands among the ready
-pub record IsKept (nodes : List Node) (kept : ℕ → Bool) (first next : List (Option ℕ)) (passed : List ℕ) (ready : List (Reverse ℕ)) : Type 0 where
+pub record IsKept (nodes : List Node) (kept : ℕ → Bool) (first next : List (Option ℕ)) (passed : List ℕ)
+    (ready : List (Reverse ℕ)) : Type 0 where
   pub chains : ℕ → List ℕ
   pub chained : (a : ℕ) → a < length nodes → IsChain next (slice_index_or first a None) (chains a)
   pub waiting : (n a : ℕ) → count_by (λ m. m == n) (chains a) ≡ cond (kept n && is_for (lacks nodes passed n) a) 1 0
-  pub queued : (n : ℕ) → count_by (λ (r : Reverse ℕ). r.0 == n) ready ≡ cond (kept n && is_none (lacks nodes passed n)) 1 0
+  pub queued : (n : ℕ) → count_by (λ (r : Reverse ℕ). r.0 == n) ready
+      ≡ cond (kept n && is_none (lacks nodes passed n)) 1 0
   pub least_first : IsHeap (λ (x y : Reverse ℕ). nat_cmp y.0 x.0) ready
   pub within : (n : ℕ) → kept n ≡ true → n < length nodes
   pub firsts : length first ≡ length nodes
@@ -53,7 +55,8 @@ pub record IsPartial (nodes : List Node) (members : List Bool) (steps : List ℕ
       contains (arguments nodes (slice_index steps j)) a ≡ true → (i : ℕ) × (i < j) × (slice_index steps i ≡ a)
 
 -- what holds between two steps: the marks say what stands, what is passed stands, and each kept node waits or is ready
-pub record IsQueue (nodes : List Node) (kept : ℕ → Bool) (members standing : List Bool) (steps : List ℕ) (first next : List (Option ℕ)) (passed : List ℕ) (ready : List (Reverse ℕ)) : Type 0 where
+pub record IsQueue (nodes : List Node) (kept : ℕ → Bool) (members standing : List Bool) (steps : List ℕ)
+    (first next : List (Option ℕ)) (passed : List ℕ) (ready : List (Reverse ℕ)) : Type 0 where
   pub marked : IsMarked standing steps
   pub partial : IsPartial nodes members steps
   pub passing : HasPassed nodes standing passed

@@ -14,7 +14,8 @@ pub record ReadsUpTo (limit : ℕ) (before : Option (List ℕ)) (bytes : List �
   pub whole : length bytes ≤ limit → IfSome after (λ rest. rest ≡ [])
 
 -- One read put these bytes behind those that were held, up to one over the limit, and none only where none was left.
-pub record ReadsMore (limit : ℕ) (before : Option (List ℕ)) (count : ℕ) (held bytes : List ℕ) (after : Option (List ℕ)) : Type 0 where
+pub record ReadsMore (limit : ℕ) (before : Option (List ℕ)) (count : ℕ) (held bytes : List ℕ)
+    (after : Option (List ℕ)) : Type 0 where
   pub given : List ℕ
   pub follows : bytes ≡ held ++ given
   pub gave : Gave before given after

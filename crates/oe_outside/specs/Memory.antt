@@ -12,7 +12,8 @@ pub record SourceState : Type 0 where
 
 abbrev pub source_code : Coded SourceState
 source_code =
-    code_by (List ℕ × (ScriptState × ℕ)) (coded× (coded_list coded_ℕ) (coded× script_code coded_ℕ)) (λ s. (s.left, (s.script, s.faults))) (λ p. record { left = p.0; script = p.1.0; faults = p.1.1 }) (λ _. refl)
+    code_by (List ℕ × (ScriptState × ℕ)) (coded× (coded_list coded_ℕ) (coded× script_code coded_ℕ))
+    (λ s. (s.left, (s.script, s.faults))) (λ p. record { left = p.0; script = p.1.0; faults = p.1.1 }) (λ _. refl)
 
 pub record SinkState : Type 0 where
   -- the bytes that were written, and how many there may be
@@ -23,7 +24,9 @@ pub record SinkState : Type 0 where
 
 abbrev pub sink_code : Coded SinkState
 sink_code =
-    code_by (List ℕ × (ℕ × (ScriptState × ℕ))) (coded× (coded_list coded_ℕ) (coded× coded_ℕ (coded× script_code coded_ℕ))) (λ s. (s.written, (s.capacity, (s.script, s.faults)))) (λ p. record { written = p.0; capacity = p.1.0; script = p.1.1.0; faults = p.1.1.1 }) (λ _. refl)
+    code_by (List ℕ × (ℕ × (ScriptState × ℕ))) (coded× (coded_list coded_ℕ)
+    (coded× coded_ℕ (coded× script_code coded_ℕ))) (λ s. (s.written, (s.capacity, (s.script, s.faults))))
+    (λ p. record { written = p.0; capacity = p.1.0; script = p.1.1.0; faults = p.1.1.1 }) (λ _. refl)
 
 pub record StoreState : Type 0 where
   -- the bytes, and the length that no write may pass
@@ -34,7 +37,9 @@ pub record StoreState : Type 0 where
 
 abbrev pub store_code : Coded StoreState
 store_code =
-    code_by (List ℕ × (ℕ × (ScriptState × ℕ))) (coded× (coded_list coded_ℕ) (coded× coded_ℕ (coded× script_code coded_ℕ))) (λ s. (s.bytes, (s.capacity, (s.script, s.faults)))) (λ p. record { bytes = p.0; capacity = p.1.0; script = p.1.1.0; faults = p.1.1.1 }) (λ _. refl)
+    code_by (List ℕ × (ℕ × (ScriptState × ℕ))) (coded× (coded_list coded_ℕ)
+    (coded× coded_ℕ (coded× script_code coded_ℕ))) (λ s. (s.bytes, (s.capacity, (s.script, s.faults))))
+    (λ p. record { bytes = p.0; capacity = p.1.0; script = p.1.1.0; faults = p.1.1.1 }) (λ _. refl)
 
 pub record LinkState : Type 0 where
   -- the bytes that are left to be read, and how many of them one read gives at most
@@ -48,7 +53,19 @@ pub record LinkState : Type 0 where
 
 abbrev pub link_code : Coded LinkState
 link_code =
-    code_by (List ℕ × (ℕ × (List ℕ × (ℕ × (ScriptState × ℕ))))) (coded× (coded_list coded_ℕ) (coded× coded_ℕ (coded× (coded_list coded_ℕ) (coded× coded_ℕ (coded× script_code coded_ℕ))))) (λ s. (s.left, (s.piece, (s.written, (s.capacity, (s.script, s.faults)))))) (λ p. record { left = p.0; piece = p.1.0; written = p.1.1.0; capacity = p.1.1.1.0; script = p.1.1.1.1.0; faults = p.1.1.1.1.1 }) (λ _. refl)
+    code_by (List ℕ × (ℕ × (List ℕ × (ℕ × (ScriptState × ℕ)))))
+    (coded× (coded_list coded_ℕ) (coded× coded_ℕ (coded× (coded_list coded_ℕ)
+    (coded× coded_ℕ (coded× script_code coded_ℕ)))))
+    (λ s. (s.left, (s.piece, (s.written, (s.capacity, (s.script, s.faults))))))
+    (λ p. record {
+      left = p.0;
+      piece = p.1.0;
+      written = p.1.1.0;
+      capacity = p.1.1.1.0;
+      script = p.1.1.1.1.0;
+      faults = p.1.1.1.1.1;
+    })
+    (λ _. refl)
 
 -- how many of the bytes that are left a read takes, for a buffer with this room: none where the script fails the call
 abbrev pub given_count : ScriptState → List ℕ → ℕ → ℕ

@@ -14,7 +14,8 @@ pub record ScriptState : Type 0 where
 
 abbrev pub script_code : Coded ScriptState
 script_code =
-    code_by (set.FinSet nat_cmp × ℕ) (coded× (set.code coded_ℕ) coded_ℕ) (λ s. (s.failing, s.calls)) (λ p. record { failing = p.0; calls = p.1 }) (λ _. refl)
+    code_by (set.FinSet nat_cmp × ℕ) (coded× (set.code coded_ℕ) coded_ℕ) (λ s. (s.failing, s.calls))
+    (λ p. record { failing = p.0; calls = p.1 }) (λ _. refl)
 
 -- before the first call
 abbrev pub script_of : List ℕ → ScriptState

@@ -19,22 +19,55 @@ Shown = List LinkState × (List LinkState × (ℕ × (List LinkState × (ℕ × 
 
 abbrev shown_code : Coded Shown
 shown_code =
-    coded× (coded_list link_code) (coded× (coded_list link_code) (coded× coded_ℕ (coded× (coded_list link_code) (coded× coded_ℕ (coded× coded_ℕ (coded_option (coded× (coded_list coded_ℕ) coded_ℕ)))))))
+    coded× (coded_list link_code) (coded× (coded_list link_code) (coded× coded_ℕ (coded× (coded_list link_code)
+    (coded× coded_ℕ (coded× coded_ℕ (coded_option (coded× (coded_list coded_ℕ) coded_ℕ)))))))
 
 abbrev shown : VisibleDoor LinkState → Shown
 shown d = (d.coming, (d.to_dial, (d.out, (d.given_back, (d.nexts, (d.dials, d.last_dial))))))
 
 abbrev visible_of : Shown → VisibleDoor LinkState
-visible_of p = record { coming = p.0; to_dial = p.1.0; out = p.1.1.0; given_back = p.1.1.1.0; nexts = p.1.1.1.1.0; dials = p.1.1.1.1.1.0; last_dial = p.1.1.1.1.1.1 }
+visible_of p = record {
+  coming = p.0;
+  to_dial = p.1.0;
+  out = p.1.1.0;
+  given_back = p.1.1.1.0;
+  nexts = p.1.1.1.1.0;
+  dials = p.1.1.1.1.1.0;
+  last_dial = p.1.1.1.1.1.1;
+}
 
 abbrev pub door_code : Coded DoorState
 door_code =
-    code_by (Shown × (ScriptState × (ℕ × (ℕ × ℕ)))) (coded× shown_code (coded× script_code (coded× coded_ℕ (coded× coded_ℕ coded_ℕ)))) (λ s. (shown s.visible, (s.script, (s.faults, (s.dial_faults, s.link_faults))))) (λ p. record { visible = visible_of p.0; script = p.1.0; faults = p.1.1.0; dial_faults = p.1.1.1.0; link_faults = p.1.1.1.1 }) (λ _. refl)
+    code_by (Shown × (ScriptState × (ℕ × (ℕ × ℕ)))) (coded× shown_code
+    (coded× script_code (coded× coded_ℕ (coded× coded_ℕ coded_ℕ))))
+    (λ s. (shown s.visible, (s.script, (s.faults, (s.dial_faults, s.link_faults)))))
+    (λ p. record {
+      visible = visible_of p.0;
+      script = p.1.0;
+      faults = p.1.1.0;
+      dial_faults = p.1.1.1.0;
+      link_faults = p.1.1.1.1;
+    })
+    (λ _. refl)
 
 -- a door that was not asked yet
 abbrev pub door_of : List LinkState → List LinkState → List ℕ → DoorState
 door_of links dialled failing =
-    record { visible = record { coming = links; to_dial = dialled; out = 0; given_back = []; nexts = 0; dials = 0; last_dial = None }; script = script_of failing; faults = 0; dial_faults = 0; link_faults = 0 }
+    record {
+      visible = record {
+        coming = links;
+        to_dial = dialled;
+        out = 0;
+        given_back = [];
+        nexts = 0;
+        dials = 0;
+        last_dial = None;
+      };
+      script = script_of failing;
+      faults = 0;
+      dial_faults = 0;
+      link_faults = 0;
+    }
 
 -- no call of the connection has failed
 abbrev pub IsSound : LinkState → Type 0

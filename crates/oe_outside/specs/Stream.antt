@@ -5,7 +5,8 @@ use Rattle.oe_outside.specs.Faults.{HasCause}
 
 -- A text was sent behind the bytes that were held: the front of both together follows what was written, where that is
 -- visible, and the others are held now.
-pub record Sends (before : Option (List ℕ)) (held text : List ℕ) (after : Option (List ℕ)) (left : List ℕ) : Type 0 where
+pub record Sends (before : Option (List ℕ)) (held text : List ℕ) (after : Option (List ℕ))
+    (left : List ℕ) : Type 0 where
   pub gone : List ℕ
   pub parts : held ++ text ≡ gone ++ left
   pub visible : after ≡ option_map (λ bytes. bytes ++ gone) before
@@ -18,7 +19,8 @@ pub record Stops (before : Option (List ℕ)) (held text : List ℕ) (after : Op
   pub visible : after ≡ option_map (λ bytes. bytes ++ gone) before
 
 -- What a call that sends a text to a sink of type O promises, by what was written to the sink and its fault counter.
-pub record HasSent {O T E : Type 0} (written : O → Option (List ℕ)) (faults : O → ℕ) (before : O) (held text : List ℕ) (after : O) (left : List ℕ) (result : Result T E) : Type 0 where
+pub record HasSent {O T E : Type 0} (written : O → Option (List ℕ)) (faults : O → ℕ) (before : O) (held text : List ℕ)
+    (after : O) (left : List ℕ) (result : Result T E) : Type 0 where
   pub sent : OnOk result (Sends (written before) held text (written after) left)
   pub stopped : OnErr result (Stops (written before) held text (written after))
   pub cause : HasCause (faults before) (faults after) result

@@ -232,7 +232,8 @@ impl Plan {
     pub fn windows_of(&self, chunk: &Window, windows: &mut [Window])
         requires each { length windows.old ≡ length self.now.order.steps }
         requires sides { FitsSides
-            (tiling_of (shape_of_node self.now.graph self.now.graph.result) self.now.size) chunk.now }
+            (tiling_of (shape_of_node self.now.graph self.now.graph.result) self.now.size)
+            chunk.now }
         requires inside { Holds
             (whole_window (shape_of_node self.now.graph self.now.graph.result)) chunk.now }
         requires filled { (p : Position) × IsIn chunk.now p }

@@ -180,7 +180,8 @@ fn step_of_result(checked: &Checked, order: &NodeOrder) -> usize
 pub fn windows_of(checked: &Checked, order: &NodeOrder, chunk: &Window, windows: &mut [Window])
     requires order { IsOrderOf checked.now order.now }
     requires each { length windows.old ≡ length order.now.steps }
-    requires within { Holds (whole_window (shape_of_node checked.now checked.now.result)) chunk.now }
+    requires within { Holds (whole_window (shape_of_node checked.now checked.now.result))
+        chunk.now }
     requires some { ¬ IsEmpty chunk.now }
     ensures { (size : ChunkSize)
         → FitsSides (tiling_of (shape_of_node checked.now checked.now.result) size) chunk.now

@@ -1,4 +1,5 @@
--- The cube text: JSON that says what a result text says, with members and blanks in any order, and other members besides.
+-- The cube text: JSON that says what a result text says, with members and blanks in any order, and other members
+-- besides.
 use Rattle.std.specs.Prelude.{◌≡◌, ◌≢◌, ⊤, ℕ, ◌≤◌, ◌==◌, ◌&&◌, Bool, true, false, nat_le, ℤ, List, [], ◌∷◌, ◌++◌, length, Option, Some, None, codes, decimal, IsUtf8, option_and_then, if◌then◌else◌}
 use Rattle.std.specs.Fmt.{signed_decimal}
 use Rattle.std.specs.List.{All, list_any}

@@ -36,13 +36,15 @@ sink_answer (Ok x) = Ok x
 sink_answer (Err e) = Err SinkFailed
 
 -- What a call that sends a text, part of which may have to be read first, promises of a sink of type O.
-pub record HasRendered {O T : Type 0} (written : O → Option (List ℕ)) (faults : O → ℕ) (before : O) (held text : List ℕ) (after : O) (left : List ℕ) (result : Result T RenderFail) : Type 0 where
+pub record HasRendered {O T : Type 0} (written : O → Option (List ℕ)) (faults : O → ℕ) (before : O)
+    (held text : List ℕ) (after : O) (left : List ℕ) (result : Result T RenderFail) : Type 0 where
   pub sent : OnOk result (Sends (written before) held text (written after) left)
   pub stopped : OnErr result (Stops (written before) held text (written after))
   pub cause : HasCauseOf SinkFailed (faults before) (faults after) result
 
 -- The same of cells that are stored at an offset, after so many others were sent.
-abbrev pub HasSentStored : {O T : Type 0} → Option (List ℕ) → ℕ → ℕ → ℕ → (O → Option (List ℕ)) → (O → ℕ) → O → List ℕ → O → List ℕ → Result T RenderFail → Type 0
+abbrev pub HasSentStored : {O T : Type 0} → Option (List ℕ) → ℕ → ℕ → ℕ → (O → Option (List ℕ)) → (O → ℕ)
+    → O → List ℕ → O → List ℕ → Result T RenderFail → Type 0
 HasSentStored store at count index written faults before held after left result =
     (cells : List Cell) × AreStored store at count cells
     × HasRendered written faults before held (more_text index (map cell_text cells)) after left result

@@ -24,8 +24,8 @@ struct Values<'a> {
     x: Option<&'a Value>,
 }
 
-/// The shape whose dimensions the values of a list are, as a cube text has them: in the order `t`, `bands`, `y`, `x`. It
-/// is `None` exactly where they are those of no shape. Refuses: out of memory.
+/// The shape whose dimensions the values of a list are, as a cube text has them: in the order `t`, `bands`, `y`, `x`.
+/// It is `None` exactly where they are those of no shape. Refuses: out of memory.
 pub fn read_shape(alloc: Global, values: &[Value]) -> Result<Option<Shape>, OutOfMemory>
     ensures { IfOk result (λ read. MatchOption read
         ((shape : Dimensions) → IsShape shape → ¬ AreDimensions (items_view values.now) shape)

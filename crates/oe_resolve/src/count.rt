@@ -157,7 +157,8 @@ fn node_fits(stored: &[StoredProcess], counts: &[u32], node: &Node) -> bool
 fn fit_named(stored: &[StoredProcess], counts: &[u32], members: &Vec<(Text, Arg)>) -> bool
     requires each { length counts.now ≡ length stored.now }
     ensures { (size : PlainStored → ℕ) → counts.now ≡ map size (map plain_stored stored.now)
-        → result ≡ spec.fit_named (map plain_stored stored.now) size (plain_named members.now.items) }
+        → result ≡ spec.fit_named (map plain_stored stored.now) size
+        (plain_named members.now.items) }
 {
     for member in members {
         if !fits_arg(stored, counts, &member.1) {

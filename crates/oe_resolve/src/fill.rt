@@ -104,7 +104,8 @@ fn put_defaults_of(
     arguments: &mut Vec<(Text, Arg)>,
 ) -> Result<(), OutOfMemory>
     ensures { OnOk result (plain_named arguments.new.items
-        ≡ spec.put_defaults (spec.parameters_named process_id.now) (plain_named arguments.old.items)) }
+        ≡ spec.put_defaults (spec.parameters_named process_id.now)
+        (plain_named arguments.old.items)) }
 {
     match process(alloc, process_id)? {
         Some(row) => put_defaults(alloc, &row.parameters, arguments),

@@ -217,7 +217,8 @@ fn items_fault(
 ) -> Result<Option<Fault>, OutOfMemory>
     ensures { IfOk result (λ o. IdsRiseIn (callbacks_in (tree.list (plain_args items.now.items)))
         → IsLeastFault (OfArgument (map plain_stored judge.now.stored.now) judge.now.last
-        node_name.now argument.now (names_behind scope.now) (tree.list (plain_args items.now.items))) o) }
+        node_name.now argument.now (names_behind scope.now)
+        (tree.list (plain_args items.now.items))) o) }
 {
     let mut fault = None;
     for item in items {
@@ -238,9 +239,11 @@ fn members_fault(
     scope: &[&'static str],
     members: &Vec<(Text, Arg)>,
 ) -> Result<Option<Fault>, OutOfMemory>
-    ensures { IfOk result (λ o. IdsRiseIn (callbacks_in (tree.object (plain_named members.now.items)))
+    ensures { IfOk result (λ o. IdsRiseIn
+        (callbacks_in (tree.object (plain_named members.now.items)))
         → IsLeastFault (OfArgument (map plain_stored judge.now.stored.now) judge.now.last
-        node_name.now argument.now (names_behind scope.now) (tree.object (plain_named members.now.items))) o) }
+        node_name.now argument.now (names_behind scope.now)
+        (tree.object (plain_named members.now.items))) o) }
 {
     let mut fault = None;
     for member in members {

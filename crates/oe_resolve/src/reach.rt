@@ -51,7 +51,8 @@ fn links_of(
     in_callback: bool,
 ) -> Result<Links, OutOfMemory>
     ensures { IfOk result (λ links. reached.IsCalledBehind (map plain_stored stored.now)
-        (reached.held_nodes in_callback (plain_stored process.now).graph.nodes) [] links.arguments.items) }
+        (reached.held_nodes in_callback (plain_stored process.now).graph.nodes) []
+        links.arguments.items) }
 {
     let mut arguments = Vec::new(alloc);
     add_nodes(stored, &process.graph.nodes, in_callback, &mut arguments)?;

@@ -35,7 +35,7 @@ fn round_graph(alloc: Global, graph: &Graph, stored: &[StoredProcess]) -> Result
     let nodes = round_nodes(alloc, &graph.nodes, stored)?;
     let target = id_at(graph);
     let index = index_of(&graph.nodes, target);
-    let id = landing(alloc, stored, &graph.nodes, index, target)?;
+    let id = landing_id(alloc, stored, &graph.nodes, index, target)?;
     let result = index_of(&nodes, id.as_str());
     // As many nodes as do not fit this type do not fit the memory either.
     match u32::try_from(result) {
@@ -151,7 +151,7 @@ fn index_among(nodes: &Vec<Node>, id: &str) -> usize
 }
 
 /// What the id of a node at this index means after the round: the result node of a call's graph in place of the call.
-fn landing(
+fn landing_id(
     alloc: Global,
     stored: &[StoredProcess],
     all: &Vec<Node>,
@@ -183,7 +183,7 @@ fn landing_beside(
         ≡ spec.landed (map plain_stored stored.now) (plain_nodes beside.now.nodes.now.items)
         id.now) }
 {
-    landing(alloc, stored, beside.nodes, index_beside(beside, id), id)
+    landing_id(alloc, stored, beside.nodes, index_beside(beside, id), id)
 }
 
 #[cycle(round)]

@@ -121,7 +121,8 @@ fn value_named(alloc: Global, values: &Values, name: &Text) -> Result<Arg, OutOf
 fn carried_value(alloc: Global, values: &Values, name: &Text) -> Result<Arg, OutOfMemory>
     ensures { IfOk result (λ a. plain_arg a
         ≡ unwrap_or (argument_named name.now
-        (spec.inside (names_behind values.now.hidden.items) (plain_named values.now.given.now.items)))
+        (spec.inside (names_behind values.now.hidden.items)
+        (plain_named values.now.given.now.items)))
         (from_parameter name.now)) }
 {
     if is_among(values.hidden.as_slice(), name.as_str()) {

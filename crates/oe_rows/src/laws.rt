@@ -23,7 +23,8 @@ pub fn found_again(shape: &Shape, kind: Kind, index: u32) -> Option<u32>
 
 /// Where a shape is refused for its code, its instants rise: they are judged before it (`first` of `Shape::new`).
 pub fn with_times(code: u32, times: Vec<i64>) -> Result<Shape, ShapeFault>
-    ensures { IfErr result (λ fault. fault ≡ ShapeFault.EpsgWrong → IsInOrder Kind.Time times.items) }
+    ensures { IfErr result (λ fault. fault ≡ ShapeFault.EpsgWrong
+        → IsInOrder Kind.Time times.items) }
 {
     Shape::new(code, Some(times), None, None, None)
 }
@@ -66,7 +67,7 @@ pub fn has_positions(window: &Window) -> bool
 
 /// Two chunks that have one number of the cube are one chunk, so who writes chunk by chunk writes no number twice
 /// (`numbers` of `Grid::new`).
-pub fn parted(shape: &Shape, size: ChunkSize) -> Grid
+pub fn chunks_are_apart(shape: &Shape, size: ChunkSize) -> Grid
     requires x { IsSide size.x }
     requires y { IsSide size.y }
     requires t { IsSide size.t }

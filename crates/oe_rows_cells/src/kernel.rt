@@ -526,7 +526,7 @@ fn nulls(alloc: Global, count: usize) -> Result<Vec<Cell>, Fail>
 
 /// The cells of a part of a plane by one of three calls, with 5 in place of a null: cell by cell, row by row, or at
 /// once.
-pub(crate) fn found(
+pub(crate) fn cells_by(
     alloc: Global,
     way: &str,
     kernel: &Kernel,
@@ -597,7 +597,7 @@ fn gives(rt: &impl Abort, alloc: Global, field: Field, factor: (i64, u64)) -> Re
     };
     let times = frac(factor.0, factor.1)?;
     for way in ["cell", "row", "block"] {
-        let cells = found(
+        let cells = cells_by(
             alloc, way, &kernel, times, &border, &plane, 0, sides.0, 0, sides.1,
         )?;
         assert_eq!(rt; cells, wanted, "{name}, {way}");

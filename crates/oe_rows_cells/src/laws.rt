@@ -82,7 +82,8 @@ pub fn greatest(cells: &[Cell]) -> Cell
 pub fn columns_of(kernel: &Kernel, border: Border, side: u32) -> (u32, u32)
     requires most { side ≤ longest_side }
     requires some { 0 < side }
-    ensures { (at : ℕ) → at < side → CoversWindow border at kernel.now.width side result.0 result.1 }
+    ensures { (at : ℕ) → at < side
+        → CoversWindow border at kernel.now.width side result.0 result.1 }
 {
     kernel.need_x(border, side, 0, side)
 }

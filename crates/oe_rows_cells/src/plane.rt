@@ -1,7 +1,7 @@
 //! Planes that are large or loaded in part, and the sides that a kernel needs of them, against values by hand.
 use crate::kernel::Rule::{Number, Reflect, ReflectPixel, Replicate, Wrap};
 use crate::kernel::Written::{Ratio, Whole};
-use crate::kernel::{FIELDS, border_of, cell, cells_of, found, frac, kernel_of};
+use crate::kernel::{FIELDS, border_of, cell, cells_by, cells_of, frac, kernel_of};
 use oe_kernel::{Kernel, Plane, border_index};
 use std::test::Fail;
 
@@ -41,7 +41,7 @@ fn convolves_a_large_plane(rt: HostRuntime) -> Result<(), Fail> {
         side_y: side,
     };
     for way in ["row", "block"] {
-        let given = found(
+        let given = cells_by(
             rt.alloc(),
             way,
             &kernel,
@@ -124,7 +124,7 @@ fn reads_a_part_of_a_plane(rt: HostRuntime) -> Result<(), Fail> {
             side_y: 5,
         };
         for way in ["cell", "row", "block"] {
-            let given = found(
+            let given = cells_by(
                 rt.alloc(),
                 way,
                 kernel,

@@ -6,7 +6,7 @@ use std::alloc::Global;
 use std::test::Fail;
 
 /// What a reader answers, in words.
-pub(crate) fn refused(alloc: Global, refusal: Refusal) -> Result<Text, OutOfMemory> {
+pub(crate) fn refusal_text(alloc: Global, refusal: Refusal) -> Result<Text, OutOfMemory> {
     match refusal {
         Refusal::Fault(fault) => {
             let mut line = String::from_str(alloc, fault.code.as_str())?;
@@ -22,7 +22,7 @@ pub(crate) fn refused(alloc: Global, refusal: Refusal) -> Result<Text, OutOfMemo
 fn answer(alloc: Global, input: &[u8]) -> Result<Text, OutOfMemory> {
     match read_graph(alloc, input) {
         Ok(graph) => print_graph(alloc, &graph.copy()?),
-        Err(refusal) => refused(alloc, refusal),
+        Err(refusal) => refusal_text(alloc, refusal),
     }
 }
 
@@ -604,7 +604,7 @@ fn keeps_values_at_each_depth(rt: HostRuntime) -> Result<(), Fail> {
 }
 
 /// An input of a number of bytes: a graph of one node, and blanks behind it.
-fn padded(alloc: Global, length: usize) -> Result<Vec<u8>, OutOfMemory> {
+fn input_of_length(alloc: Global, length: usize) -> Result<Vec<u8>, OutOfMemory> {
     let graph = r#"{"process_graph":{"z":{"process_id":"p","arguments":{},"result":true}}}"#;
     let mut bytes = Vec::from_slice(alloc, graph.as_bytes())?;
     for _ in graph.len()..length {
@@ -616,13 +616,13 @@ fn padded(alloc: Global, length: usize) -> Result<Vec<u8>, OutOfMemory> {
 #[test]
 fn bounds_the_input(rt: HostRuntime) -> Result<(), Fail> {
     let alloc = rt.alloc();
-    let whole = padded(alloc, 1048576)?;
+    let whole = input_of_length(alloc, 1048576)?;
     let found = answer(alloc, whole.as_slice())?;
     assert_eq!(rt;
         found.as_str(),
         r#"{"process_graph":{"z":{"arguments":{},"process_id":"p","result":true}}}"#
     );
-    let long = padded(alloc, 1048577)?;
+    let long = input_of_length(alloc, 1048577)?;
     assert_eq!(rt; answer(alloc, long.as_slice())?.as_str(), "InputTooLong ");
     let invalid = [b'"', 255, b'"'];
     assert_eq!(rt; answer(alloc, &invalid)?.as_str(), "GraphUnreadable ");
@@ -630,7 +630,7 @@ fn bounds_the_input(rt: HostRuntime) -> Result<(), Fail> {
 }
 
 /// A graph whose argument `x` is so many lists in one another.
-fn nested(alloc: Global, depth: usize) -> Result<String, OutOfMemory> {
+fn lists_of_depth(alloc: Global, depth: usize) -> Result<String, OutOfMemory> {
     let mut text = String::from_str(alloc, r#"{"process_graph":{"a":{"arguments":{"x":"#)?;
     for _ in 0..depth {
         text.push('[')?;
@@ -646,9 +646,9 @@ fn nested(alloc: Global, depth: usize) -> Result<String, OutOfMemory> {
 fn bounds_the_depth(rt: HostRuntime) -> Result<(), Fail> {
     let alloc = rt.alloc();
     // Four objects stand round the lists, and 127 levels are read.
-    let deep = nested(alloc, 123)?;
+    let deep = lists_of_depth(alloc, 123)?;
     assert_eq!(rt; answer(alloc, deep.as_bytes())?.as_str(), deep.as_str());
-    let deeper = nested(alloc, 124)?;
+    let deeper = lists_of_depth(alloc, 124)?;
     assert_eq!(rt;
         answer(alloc, deeper.as_bytes())?.as_str(),
         "GraphUnreadable "

@@ -1,5 +1,5 @@
 //! Stored processes read: their parameters, and the fault of each row of the table of forms.
-use crate::graph::{FaultRow, refused};
+use crate::graph::{FaultRow, refusal_text};
 use oe_dims::Text;
 use oe_graph::{StoredProcess, read_stored};
 use oe_memory::OutOfMemory;
@@ -13,7 +13,7 @@ fn stored_answer(alloc: Global, parameters: &str) -> Result<Text, OutOfMemory> {
     )?;
     match read_stored(alloc, "p", input.as_bytes()) {
         Ok(process) => parameters_text(alloc, &process.copy()?),
-        Err(refusal) => refused(alloc, refusal),
+        Err(refusal) => refusal_text(alloc, refusal),
     }
 }
 

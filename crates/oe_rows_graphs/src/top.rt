@@ -124,7 +124,7 @@ fn line_cube(alloc: Global, failing: Vec<u64>) -> Result<MemoryCube, Fail> {
 }
 
 /// The one number, if calls of this object fail.
-fn failing(alloc: Global, fails: bool, number: u64) -> Result<Vec<u64>, Fail> {
+fn numbers_to_fail(alloc: Global, fails: bool, number: u64) -> Result<Vec<u64>, Fail> {
     if fails {
         list(alloc, number)
     } else {
@@ -142,9 +142,9 @@ fn call(
     number: u64,
 ) -> Result<Called, Fail> {
     let words = words_of(alloc, line)?;
-    let reads = failing(alloc, object == Object::Input, number)?;
-    let writes = failing(alloc, object == Object::Out, number)?;
-    let uses = failing(alloc, object == Object::Spool, number)?;
+    let reads = numbers_to_fail(alloc, object == Object::Input, number)?;
+    let writes = numbers_to_fail(alloc, object == Object::Out, number)?;
+    let uses = numbers_to_fail(alloc, object == Object::Spool, number)?;
     let mut input = MemorySource::new(input.to_vec(alloc)?, reads)?;
     let mut out = MemorySink::new(alloc, 4096, writes)?;
     let mut err = MemorySink::new(alloc, 64, Vec::new(alloc))?;
@@ -213,7 +213,7 @@ fn stops_at_each_call_that_fails(rt: HostRuntime) -> Result<(), Fail> {
             let mut calls = 100;
             for number in 0..100u64 {
                 let mut catalogue = Catalogue::new(alloc);
-                let reads = failing(alloc, object == Object::Collection, number)?;
+                let reads = numbers_to_fail(alloc, object == Object::Collection, number)?;
                 let cube = Box::new(alloc, line_cube(alloc, reads)?)?;
                 assert!(rt; catalogue.mount("LINE", cube).is_ok());
                 let called = call(

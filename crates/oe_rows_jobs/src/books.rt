@@ -10,7 +10,7 @@ use std::alloc::Global;
 use std::test::Fail;
 
 /// A book whose next number is given, with so many created jobs of the user u.
-fn crowded(alloc: Global, next: u64, count: u64) -> Result<Book, OutOfMemory> {
+fn book_of_length(alloc: Global, next: u64, count: u64) -> Result<Book, OutOfMemory> {
     let mut jobs = Vec::new(alloc);
     for before in 0..count {
         let number = before + 1;
@@ -80,7 +80,7 @@ const LIMITS: &[LimitRow] = &[
 fn keeps_the_limits(rt: HostRuntime) -> Result<(), Fail> {
     let alloc = rt.alloc();
     for (count, next, user, command, wanted) in LIMITS {
-        let book = crowded(alloc, *next, *count)?;
+        let book = book_of_length(alloc, *next, *count)?;
         let found = answer(alloc, &book, user, command, "j-1")?;
         assert_eq!(rt;
             found.as_str(),
@@ -96,7 +96,7 @@ fn keeps_the_limits(rt: HostRuntime) -> Result<(), Fail> {
 }
 
 /// The stored process of an id.
-fn stored(alloc: Global, id: &str) -> Result<StoredProcess, OutOfMemory> {
+fn process_of(alloc: Global, id: &str) -> Result<StoredProcess, OutOfMemory> {
     match read_stored(alloc, id, PROCESS.as_bytes()) {
         Ok(process) => Ok(process),
         Err(Refusal::OutOfMemory) => Err(OutOfMemory),
@@ -113,7 +113,7 @@ fn store_words(
 ) -> Result<String, OutOfMemory> {
     let user = Text::of(alloc, user)?;
     let command = Command::Store {
-        process: stored(alloc, id)?,
+        process: process_of(alloc, id)?,
     };
     let verdict = decide(alloc, book, &user, &command, 50)?;
     let words = verdict_words(alloc, &verdict)?;
@@ -157,7 +157,7 @@ const STORED: &[(&str, &str, &str)] = &[
 #[test]
 fn stores_processes_in_order(rt: HostRuntime) -> Result<(), Fail> {
     let alloc = rt.alloc();
-    let mut book = crowded(alloc, 1, 0)?;
+    let mut book = book_of_length(alloc, 1, 0)?;
     for (user, id, wanted) in STORED {
         let words = format!(in alloc; "done: store {id} of {user}")?;
         let found = store_words(alloc, &mut book, user, id)?;
@@ -177,7 +177,7 @@ fn stores_processes_in_order(rt: HostRuntime) -> Result<(), Fail> {
 #[test]
 fn limits_stored_processes(rt: HostRuntime) -> Result<(), Fail> {
     let alloc = rt.alloc();
-    let mut book = crowded(alloc, 1, 0)?;
+    let mut book = book_of_length(alloc, 1, 0)?;
     for number in 10..26 {
         let id = format!(in alloc; "p{number}")?;
         let words = format!(in alloc; "done: store p{number} of u")?;
@@ -241,7 +241,7 @@ fn happen(alloc: Global, book: &mut Book, word: &str) -> Result<String, OutOfMem
 
 /// A book with a stored process of the user u, and no job.
 fn book_with_process(alloc: Global) -> Result<Book, OutOfMemory> {
-    let mut book = crowded(alloc, 1, 0)?;
+    let mut book = book_of_length(alloc, 1, 0)?;
     let _ = store_words(alloc, &mut book, "u", "p")?;
     Ok(book)
 }

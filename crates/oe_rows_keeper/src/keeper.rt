@@ -52,7 +52,7 @@ fn keep(alloc: Global, keeper: &mut MemoryKeeper, id: &str) -> Result<&'static s
     };
     let user = Text::of(alloc, "u")?;
     let command = Command::Store {
-        process: stored(alloc, id)?,
+        process: process_of(alloc, id)?,
     };
     let verdict = decide(alloc, &book, &user, &command, 50)?;
     match &verdict.change {
@@ -76,7 +76,7 @@ fn fail_word(fail: KeeperFail, failed: &'static str) -> &'static str {
 }
 
 /// A stored process of an id.
-fn stored(alloc: Global, id: &str) -> Result<StoredProcess, Fault>
+fn process_of(alloc: Global, id: &str) -> Result<StoredProcess, Fault>
     ensures { IfOk result (λ p. IsStored (plain_stored p)) }
 {
     match read_stored(alloc, id, PROCESS.as_bytes()) {

@@ -71,7 +71,7 @@ fn plan_of(
 }
 
 /// The cells that are too many, or 0 where there is a plan.
-fn refused(alloc: Global, row: &Row) -> Result<u128, Fail> {
+fn cells_too_many(alloc: Global, row: &Row) -> Result<u128, Fail> {
     let (_, nodes, sides, workers, _) = *row;
     match plan_of(alloc, nodes, sides, workers)? {
         Ok(_plan) => Ok(0),
@@ -83,7 +83,7 @@ fn refused(alloc: Global, row: &Row) -> Result<u128, Fail> {
 #[test]
 fn refuses_too_many_cells(rt: HostRuntime) -> Result<(), Fail> {
     for row in ROWS {
-        assert_eq!(rt; refused(rt.alloc(), row)?, row.4, "{}", row.0);
+        assert_eq!(rt; cells_too_many(rt.alloc(), row)?, row.4, "{}", row.0);
     }
     Ok(())
 }

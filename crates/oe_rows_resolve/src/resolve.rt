@@ -383,7 +383,7 @@ pub(crate) fn answer(alloc: Global, stored: Stored, input: &str) -> Result<Text,
 }
 
 /// What is wanted of a row: a fault as it stands, or the nodes of a graph.
-fn wanted(alloc: Global, text: &str) -> Result<Text, Fail> {
+fn text_of_row(alloc: Global, text: &str) -> Result<Text, Fail> {
     if !text.starts_with('"') {
         return Ok(Text::of(alloc, text)?);
     }
@@ -391,16 +391,19 @@ fn wanted(alloc: Global, text: &str) -> Result<Text, Fail> {
     Ok(Text::of(alloc, graph.as_str())?)
 }
 
-fn found(alloc: Global, row: &Row) -> Result<(Text, Text), Fail> {
+fn both_texts(alloc: Global, row: &Row) -> Result<(Text, Text), Fail> {
     let (_, stored, nodes, text) = *row;
     let input = format!(in alloc; r#"{{"process_graph":{{{nodes}}}}}"#)?;
-    Ok((answer(alloc, stored, input.as_str())?, wanted(alloc, text)?))
+    Ok((
+        answer(alloc, stored, input.as_str())?,
+        text_of_row(alloc, text)?,
+    ))
 }
 
 #[test]
 fn resolves_calls_and_defaults(rt: HostRuntime) -> Result<(), Fail> {
     for row in RESOLVED {
-        let (given, wanted) = found(rt.alloc(), row)?;
+        let (given, wanted) = both_texts(rt.alloc(), row)?;
         assert_eq!(rt; given.as_str(), wanted.as_str(), "{}", row.0);
     }
     Ok(())
@@ -409,7 +412,7 @@ fn resolves_calls_and_defaults(rt: HostRuntime) -> Result<(), Fail> {
 #[test]
 fn refuses_calls(rt: HostRuntime) -> Result<(), Fail> {
     for row in CALLS {
-        let (given, wanted) = found(rt.alloc(), row)?;
+        let (given, wanted) = both_texts(rt.alloc(), row)?;
         assert_eq!(rt; given.as_str(), wanted.as_str(), "{}", row.0);
     }
     Ok(())
@@ -418,7 +421,7 @@ fn refuses_calls(rt: HostRuntime) -> Result<(), Fail> {
 #[test]
 fn refuses_names(rt: HostRuntime) -> Result<(), Fail> {
     for row in NAMES {
-        let (given, wanted) = found(rt.alloc(), row)?;
+        let (given, wanted) = both_texts(rt.alloc(), row)?;
         assert_eq!(rt; given.as_str(), wanted.as_str(), "{}", row.0);
     }
     Ok(())

@@ -1,6 +1,6 @@
 // Instants, read and printed.
 use crate::fault::Fault;
-use crate::words::signed;
+use crate::words::read_signed;
 use oe_dims::{print_instant, read_instant};
 use std::alloc::Global;
 
@@ -17,7 +17,7 @@ pub(crate) fn read(alloc: Global, text: &str) -> Result<String, Fault> {
 }
 
 pub(crate) fn print(alloc: Global, word: &str) -> Result<String, Fault> {
-    let seconds = signed(word)?;
+    let seconds = read_signed(word)?;
     if seconds < FIRST || seconds > LAST {
         return Err(Fault::Line);
     }

@@ -1,6 +1,6 @@
 // The order of a run.
 use crate::fault::Fault;
-use crate::words::{two_words, unsigned};
+use crate::words::{read_unsigned, two_words};
 use oe_order::{Links, NodeOrder, is_ranked, leads_back, order as order_of};
 use std::alloc::Global;
 
@@ -9,9 +9,9 @@ use std::alloc::Global;
 pub(crate) fn order(alloc: Global, line: &str) -> Result<String, Fault> {
     let (last, rest) = two_words(line)?;
     let (nodes, ranks) = two_words(rest)?;
-    let last = unsigned(last)?;
+    let last = read_unsigned(last)?;
     let nodes = nodes_of(alloc, nodes)?;
-    let ranks = listed(alloc, ranks)?;
+    let ranks = numbers_of_list(alloc, ranks)?;
     match order_ranked(alloc, nodes.as_slice(), ranks.as_slice(), last)? {
         Some(found) => spell(alloc, &found, nodes.len()),
         None => Ok(String::from_str(alloc, "refused")?),
@@ -53,17 +53,17 @@ fn nodes_of(alloc: Global, word: &str) -> Result<Vec<Links>, Fault> {
         let arguments = if load {
             Vec::new(alloc)
         } else {
-            listed(alloc, node)?
+            numbers_of_list(alloc, node)?
         };
         nodes.push(Links { load, arguments })?;
     }
     Ok(nodes)
 }
 
-fn listed(alloc: Global, word: &str) -> Result<Vec<u32>, Fault> {
+fn numbers_of_list(alloc: Global, word: &str) -> Result<Vec<u32>, Fault> {
     let mut numbers = Vec::new(alloc);
     for number in word.split(',') {
-        numbers.push(unsigned(number)?)?;
+        numbers.push(read_unsigned(number)?)?;
     }
     Ok(numbers)
 }

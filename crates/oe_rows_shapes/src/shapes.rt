@@ -1,7 +1,7 @@
 // Shapes, their labels and their cells.
 use crate::Known;
 use crate::fault::Fault;
-use crate::words::{kind_of, names_of, numbers_of, signed, two_words, unsigned};
+use crate::words::{kind_of, names_of, numbers_of, read_signed, read_unsigned, two_words};
 use oe_dims::{BandIndex, CellKind, Dims, DimsRow, Kind, Shape, ShapeFault, Text};
 use std::alloc::Global;
 use std::mem;
@@ -20,7 +20,7 @@ fn read_shape(alloc: Global, line: &str) -> Result<Result<Shape, ShapeFault>, Fa
     let (bands, rest) = two_words(rest)?;
     let (y, x) = two_words(rest)?;
     Ok(Shape::new(
-        unsigned(epsg)?,
+        read_unsigned(epsg)?,
         numbers_of(alloc, t)?,
         names_of(alloc, bands)?,
         numbers_of(alloc, y)?,
@@ -63,7 +63,7 @@ pub(crate) fn bands(alloc: Global, line: &str) -> Result<String, Fault> {
 pub(crate) fn label(alloc: Global, line: &str, shape: &Shape) -> Result<String, Fault> {
     let (kind, label) = two_words(line)?;
     let kind = kind_of(kind)?;
-    match shape.position_of(kind, signed(label)?) {
+    match shape.position_of(kind, read_signed(label)?) {
         Some(index) => {
             let there = shape.label_at(kind, index);
             Ok(format!(in alloc; "{index} {there}")?)
@@ -75,7 +75,7 @@ pub(crate) fn label(alloc: Global, line: &str, shape: &Shape) -> Result<String, 
 pub(crate) fn range(alloc: Global, line: &str, shape: &Shape) -> Result<String, Fault> {
     let (kind, rest) = two_words(line)?;
     let (from, to) = two_words(rest)?;
-    let (first, end) = shape.range_of(kind_of(kind)?, signed(from)?, signed(to)?);
+    let (first, end) = shape.range_of(kind_of(kind)?, read_signed(from)?, read_signed(to)?);
     Ok(format!(in alloc; "{first}..{end}")?)
 }
 
@@ -118,7 +118,7 @@ pub(crate) fn same(alloc: Global, shape: &Shape, other: &Shape) -> Result<String
 /// Whether so many cells make a cube of the shape.
 pub(crate) fn cube(alloc: Global, word: &str, shape: &Shape) -> Result<String, Fault> {
     let mut cells = Vec::new(alloc);
-    for _index in 0..unsigned(word)? {
+    for _index in 0..read_unsigned(word)? {
         cells.push(0u8)?;
     }
     let is_cube = shape.is_cube(cells.as_slice());

@@ -3,7 +3,7 @@ ghost use Rattle.std.specs.Prelude.{IfOk};
 ghost use Rattle.oe_window.specs.Chunks.{IsSide};
 
 use crate::fault::Fault;
-use crate::words::{two_words, unsigned};
+use crate::words::{read_unsigned, two_words};
 use oe_dims::Shape;
 use oe_window::{ChunkSize, Grid, Span, Window, copy_window, holds, hull, meet, runs, size, whole};
 use std::alloc::Global;
@@ -30,8 +30,8 @@ pub(crate) fn answer_to(
 fn span_of(word: &str) -> Result<Span, Fault> {
     match word.split_once("..") {
         Some((from, to)) => Ok(Span {
-            from: unsigned(from)?,
-            to: unsigned(to)?,
+            from: read_unsigned(from)?,
+            to: read_unsigned(to)?,
         }),
         None => Err(Fault::Line),
     }
@@ -79,7 +79,7 @@ fn sides_of(t: &str, y: &str, x: &str) -> Result<ChunkSize, Fault>
 fn side_of(word: &str) -> Result<u32, Fault>
     ensures { IfOk result IsSide }
 {
-    let side = unsigned(word)?;
+    let side = read_unsigned(word)?;
     if side >= 1 && side <= 4096 {
         Ok(side)
     } else {
@@ -92,7 +92,7 @@ fn chunk(alloc: Global, line: &str, shape: &Shape) -> Result<String, Fault> {
     let (t, rest) = two_words(line)?;
     let (y, rest) = two_words(rest)?;
     let (x, number) = two_words(rest)?;
-    match chunk_of(shape, sides_of(t, y, x)?, u64::from(unsigned(number)?)) {
+    match chunk_of(shape, sides_of(t, y, x)?, u64::from(read_unsigned(number)?)) {
         (count, Some(window)) => {
             let window = spell(alloc, &window)?;
             Ok(format!(in alloc; "{count} {window}")?)
@@ -186,7 +186,10 @@ fn parts(alloc: Global, line: &str, shape: &Shape) -> Result<String, Fault> {
         return outside(alloc);
     };
     let (count, planes, rows) = (found[0], found[1], found[2]);
-    let (plane, row) = (u64::from(unsigned(plane)?), u64::from(unsigned(row)?));
+    let (plane, row) = (
+        u64::from(read_unsigned(plane)?),
+        u64::from(read_unsigned(row)?),
+    );
     let (plane, row) = (plane_at(shape, &window, plane), row_at(shape, &window, row));
     let (Some(plane), Some(row)) = (plane, row) else {
         return Ok(format!(in alloc; "{count} {planes} {rows} none")?);

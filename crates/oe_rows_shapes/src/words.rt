@@ -19,14 +19,14 @@ pub(crate) fn two_words(line: &str) -> Result<(&str, &str), Fault> {
     }
 }
 
-pub(crate) fn unsigned(word: &str) -> Result<u32, Fault> {
+pub(crate) fn read_unsigned(word: &str) -> Result<u32, Fault> {
     match word.parse::<u32>() {
         Ok(number) => Ok(number),
         Err(_) => Err(Fault::Line),
     }
 }
 
-pub(crate) fn signed(word: &str) -> Result<i64, Fault> {
+pub(crate) fn read_signed(word: &str) -> Result<i64, Fault> {
     match word.parse::<i64>() {
         Ok(number) => Ok(number),
         Err(_) => Err(Fault::Line),
@@ -52,7 +52,7 @@ pub(crate) fn numbers_of(alloc: Global, word: &str) -> Result<Option<Vec<i64>>, 
         return Ok(Some(Vec::new(alloc)));
     }
     match word.split_once("..") {
-        Some((from, to)) => Ok(Some(numbers_between(alloc, signed(from)?, signed(to)?)?)),
+        Some((from, to)) => Ok(Some(numbers_between(alloc, read_signed(from)?, read_signed(to)?)?)),
         None => Ok(Some(listed_numbers(alloc, word)?)),
     }
 }
@@ -72,7 +72,7 @@ fn numbers_between(alloc: Global, from: i64, to: i64) -> Result<Vec<i64>, Fault>
 fn listed_numbers(alloc: Global, word: &str) -> Result<Vec<i64>, Fault> {
     let mut labels = Vec::new(alloc);
     for label in word.split(',') {
-        labels.push(signed(label)?)?;
+        labels.push(read_signed(label)?)?;
     }
     Ok(labels)
 }
@@ -86,7 +86,11 @@ pub(crate) fn names_of(alloc: Global, word: &str) -> Result<Option<Vec<Text>>, F
         return Ok(Some(Vec::new(alloc)));
     }
     match word.split_once("..") {
-        Some((from, to)) => Ok(Some(names_between(alloc, unsigned(from)?, unsigned(to)?)?)),
+        Some((from, to)) => Ok(Some(names_between(
+            alloc,
+            read_unsigned(from)?,
+            read_unsigned(to)?,
+        )?)),
         None => Ok(Some(listed_names(alloc, word)?)),
     }
 }

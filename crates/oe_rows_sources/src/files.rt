@@ -137,7 +137,7 @@ fn finds_damage(rt: HostRuntime) -> Result<(), Fail> {
 }
 
 /// The file of one cell under the id `Z`.
-fn packed(alloc: Global, cell: Cell) -> Result<Vec<u8>, Fail> {
+fn file_of_cell(alloc: Global, cell: Cell) -> Result<Vec<u8>, Fail> {
     let Ok(shape) = Shape::new(0, None, None, None, None) else {
         return Err(Fail::new("no value"));
     };
@@ -160,16 +160,19 @@ fn packed(alloc: Global, cell: Cell) -> Result<Vec<u8>, Fail> {
 #[test]
 fn packs_the_least_width(rt: HostRuntime) -> Result<(), Fail> {
     let alloc = rt.alloc();
-    assert_eq!(rt; packed(alloc, minus_three_halves())?.as_slice(), SECOND);
     assert_eq!(rt;
-        packed(alloc, whole_cell(7))?.as_slice(),
+        file_of_cell(alloc, minus_three_halves())?.as_slice(),
+        SECOND
+    );
+    assert_eq!(rt;
+        file_of_cell(alloc, whole_cell(7))?.as_slice(),
         b"OEOCUBE2\x00\x00\x00\x38\
         {\"id\":\"Z\",\"cells\":\"number\",\"widths\":[9],\"dimensions\":[]}\
         \x05\x00\x00\x00\x00\x00\x00\x00\x07"
             .as_slice()
     );
     assert_eq!(rt;
-        packed(alloc, Cell::Empty)?.as_slice(),
+        file_of_cell(alloc, Cell::Empty)?.as_slice(),
         b"OEOCUBE2\x00\x00\x00\x38\
         {\"id\":\"Z\",\"cells\":\"number\",\"widths\":[1],\"dimensions\":[]}\
         \x00"

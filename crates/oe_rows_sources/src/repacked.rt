@@ -56,7 +56,7 @@ fn with_dates(alloc: Global, failing: &[u64]) -> Result<Catalogue, Fail> {
 }
 
 /// What is written of the one collection, where the writes with these numbers fail, and what is answered.
-fn written(
+fn repack_one(
     alloc: Global,
     catalogue: &mut Catalogue,
     failing: &[u64],
@@ -77,7 +77,7 @@ fn written(
 fn writes_the_second_version(rt: HostRuntime) -> Result<(), Fail> {
     let alloc = rt.alloc();
     for file in [FIRST, SECOND] {
-        let (answer, bytes) = written(alloc, &mut with_file(alloc, file)?, &[])?;
+        let (answer, bytes) = repack_one(alloc, &mut with_file(alloc, file)?, &[])?;
         assert_eq!(rt; answer, Ok(()));
         assert_eq!(rt; bytes.as_slice(), SECOND);
     }
@@ -88,7 +88,7 @@ fn writes_the_second_version(rt: HostRuntime) -> Result<(), Fail> {
 #[test]
 fn writes_the_least_widths(rt: HostRuntime) -> Result<(), Fail> {
     let alloc = rt.alloc();
-    let (answer, bytes) = written(alloc, &mut with_dates(alloc, &[])?, &[])?;
+    let (answer, bytes) = repack_one(alloc, &mut with_dates(alloc, &[])?, &[])?;
     assert_eq!(rt; answer, Ok(()));
     assert_eq!(rt; bytes.as_slice(), DATES);
     Ok(())
@@ -110,11 +110,11 @@ fn hands_faults_on(rt: HostRuntime) -> Result<(), Fail> {
     let alloc = rt.alloc();
     for (number, count) in [(0u64, 0usize), (1, 0), (2, 12 + 226), (3, 12 + 226 + 2)] {
         let mut catalogue = with_dates(alloc, &[number])?;
-        let (answer, bytes) = written(alloc, &mut catalogue, &[])?;
+        let (answer, bytes) = repack_one(alloc, &mut catalogue, &[])?;
         assert_eq!(rt; answer, Err(RepackFail::SourceFailed));
         assert!(rt; bytes.len() == count && DATES.starts_with(&bytes));
     }
-    let (answer, bytes) = written(alloc, &mut with_dates(alloc, &[])?, &[0])?;
+    let (answer, bytes) = repack_one(alloc, &mut with_dates(alloc, &[])?, &[0])?;
     assert_eq!(rt; answer, Err(RepackFail::SinkFailed));
     assert!(rt; DATES.starts_with(&bytes));
     Ok(())
@@ -125,7 +125,7 @@ fn names_the_damage(rt: HostRuntime) -> Result<(), Fail> {
     let alloc = rt.alloc();
     let mut bytes = Vec::from_slice(alloc, &FIRST[..55])?;
     bytes.extend_from_slice(&[4; 17])?;
-    let (answer, bytes) = written(alloc, &mut with_file(alloc, &bytes)?, &[])?;
+    let (answer, bytes) = repack_one(alloc, &mut with_file(alloc, &bytes)?, &[])?;
     assert_eq!(rt; answer, Err(RepackFail::SourceDamaged(0)));
     assert!(rt; bytes.is_empty());
     Ok(())

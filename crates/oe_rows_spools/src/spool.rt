@@ -56,7 +56,7 @@ fn store(alloc: Global, count: usize, failing: &[u64]) -> Result<MemoryStore, Fa
 
 /// So many bytes 9, and over them the records of whole numbers from 0 to 255: tag 3, 8 bytes of the number and 8 bytes
 /// of the denominator 1. The record of the cell with a number stands 17 times that number behind the offset 5.
-fn expected(alloc: Global, count: usize, records: &[(usize, u8)]) -> Result<Vec<u8>, Fail> {
+fn bytes_with(alloc: Global, count: usize, records: &[(usize, u8)]) -> Result<Vec<u8>, Fail> {
     if count > 1000000 {
         return Err(Fail::from("too many bytes"));
     }
@@ -169,7 +169,7 @@ fn writes_at_numbers(rt: HostRuntime) -> Result<(), Fail> {
         assert_eq!(rt; answer, Some(Ok(())), "{name}");
         assert_eq!(rt;
             spool.bytes(),
-            &expected(alloc, 420, &records)?[..],
+            &bytes_with(alloc, 420, &records)?[..],
             "{name}"
         );
     }
@@ -193,7 +193,7 @@ fn stops_at_a_fault(rt: HostRuntime) -> Result<(), Fail> {
     let records = [(13, 1), (14, 2), (16, 3), (17, 4), (19, 5)];
     assert_eq!(rt; answer, Some(Err(Failed)));
     assert_eq!(rt; spool.faults(), 1);
-    assert_eq!(rt; spool.bytes(), &expected(alloc, 420, &records)?[..]);
+    assert_eq!(rt; spool.bytes(), &bytes_with(alloc, 420, &records)?[..]);
     Ok(())
 }
 
@@ -293,7 +293,7 @@ fn writes_chunk_by_chunk(rt: HostRuntime) -> Result<(), Fail> {
         (23, 123),
     ];
     assert_eq!(rt; found, None);
-    assert_eq!(rt; spool.bytes(), &expected(alloc, 420, &records)?[..]);
+    assert_eq!(rt; spool.bytes(), &bytes_with(alloc, 420, &records)?[..]);
     let mut spoiled = cells;
     spoiled[17] = Cell::Over;
     spoiled[8] = Cell::Over;

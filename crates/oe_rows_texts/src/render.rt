@@ -305,7 +305,7 @@ fn writes_each_subset_of_dimensions(rt: HostRuntime) -> Result<(), Fail> {
 }
 
 /// A cube with as many bands as there are cells.
-fn banded(alloc: Global, count: usize) -> Result<Shape, Fail> {
+fn shape_of_bands(alloc: Global, count: usize) -> Result<Shape, Fail> {
     let mut names = Vec::new(alloc);
     for index in 0..count {
         names.push(Text::of(alloc, format!(in alloc; "b{index}")?.as_str())?)?;
@@ -434,7 +434,7 @@ const STOPS: [StopRow<'static>; 12] = [
 #[test]
 fn stops_at_each_fault(rt: HostRuntime) -> Result<(), Fail> {
     let alloc = rt.alloc();
-    let shape = banded(alloc, 8)?;
+    let shape = shape_of_bands(alloc, 8)?;
     for row in &STOPS {
         let name = row.name;
         let mut cells = [Cell::Empty; 8];
@@ -459,7 +459,7 @@ fn stops_at_each_fault(rt: HostRuntime) -> Result<(), Fail> {
 #[test]
 fn stops_at_over(rt: HostRuntime) -> Result<(), Fail> {
     let alloc = rt.alloc();
-    let shape = banded(alloc, 3)?;
+    let shape = shape_of_bands(alloc, 3)?;
     for (room, at) in [(1, 0), (1, 2), (3, 0), (3, 1), (3, 2)] {
         let mut cells = [Cell::Empty, Cell::Empty, Cell::Empty];
         if let Some(cell) = cells.get_mut(at) {
@@ -480,7 +480,7 @@ fn stops_at_over(rt: HostRuntime) -> Result<(), Fail> {
 #[test]
 fn writes_many_pieces(rt: HostRuntime) -> Result<(), Fail> {
     let alloc = rt.alloc();
-    let shape = banded(alloc, 20000)?;
+    let shape = shape_of_bands(alloc, 20000)?;
     let mut cells = Vec::new(alloc);
     let mut spelled = String::new(alloc);
     let mut names = String::new(alloc);
@@ -507,7 +507,7 @@ fn writes_many_pieces(rt: HostRuntime) -> Result<(), Fail> {
 #[test]
 fn drops_what_waited(rt: HostRuntime) -> Result<(), Fail> {
     let alloc = rt.alloc();
-    let shape = banded(alloc, 1)?;
+    let shape = shape_of_bands(alloc, 1)?;
     let mut buffer = [Cell::Empty];
     let mut pending = Pending::new(alloc)?;
     let wanted = text_of(

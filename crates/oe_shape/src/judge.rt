@@ -96,7 +96,8 @@ fn judge_request(
     requires labels { HasValidLabels (plain_cube_request request.now) }
     ensures { IfOk result (λ verdict. (rows : List DimsRow) (at : List ℕ → Outline)
         → Passes rows at (plain_node node.now) (plain_cube_request request.now)
-        → WorksOn rows at (plain_cube_request request.now) (outline_in one.entry) (outline_in two.entry)
+        → WorksOn rows at (plain_cube_request request.now) (outline_in one.entry)
+        (outline_in two.entry)
         → IsVerdict rows at (plain_node node.now) verdict) }
 {
     let shape = result_shape(alloc, request, one.shape, two.shape)?;
@@ -144,7 +145,8 @@ fn judge_operation(
 ) -> Result<Verdict, OutOfMemory>
     requires buildable { IsBuildable (plain_cube_request request.now) }
     requires labels { HasValidLabels (plain_cube_request request.now) }
-    requires shape { IsResultShape (plain_cube_request request.now) one.shape.now two.shape.now shape }
+    requires shape { IsResultShape (plain_cube_request request.now)
+        one.shape.now two.shape.now shape }
     requires operation { (others : List Outline) → Some (plain_operation operation)
         ≡ operations.operation_of (plain_cube_request request.now) (outline_in one ∷ others) }
     requires faultless { (others : List Outline) → IfSome
@@ -152,7 +154,8 @@ fn judge_operation(
         (λ c. IsFaultlessCallback c.1) }
     ensures { IfOk result (λ verdict. (rows : List DimsRow) (at : List ℕ → Outline)
         → Passes rows at (plain_node node.now) (plain_cube_request request.now)
-        → WorksOn rows at (plain_cube_request request.now) (outline_in one.entry) (outline_in two.entry)
+        → WorksOn rows at (plain_cube_request request.now) (outline_in one.entry)
+        (outline_in two.entry)
         → IsVerdict rows at (plain_node node.now) verdict) }
 {
     if takes_other_kinds(&operation, one.kind, two.kind) {

@@ -79,7 +79,8 @@ fn once(input: Option<Input<'_>>) -> Option<(Input<'_>, Input<'_>)>
 /// Two cubes.
 fn both<'a>(one: Option<Input<'a>>, two: Option<Input<'a>>) -> Option<(Input<'a>, Input<'a>)>
     ensures { option_map both_outlines result
-        ≡ with_both (λ a b. (a, b)) (option_map outline_in one.entry) (option_map outline_in two.entry) }
+        ≡ with_both (λ a b. (a, b)) (option_map outline_in one.entry)
+        (option_map outline_in two.entry) }
 {
     match (one, two) {
         (Some(one), Some(two)) => Some((one, two)),

@@ -75,10 +75,12 @@ pub fn operation_for(
         (record { shape = shape.now; kind = kind } ∷ others)) }
     // no fault stands in its callback
     ensures faultless { IfOk result (λ r. (others : List Outline) → IfSome
-        (callback_on (plain_cube_request request.now) (record { shape = shape.now; kind = kind } ∷ others))
+        (callback_on (plain_cube_request request.now)
+        (record { shape = shape.now; kind = kind } ∷ others))
         (λ c. IsFaultlessCallback c.1)) }
     // or the least of those that stand there
-    ensures refused { IfErr result (IsFault (StandsInCallback id.now (plain_cube_request request.now)
+    ensures refused { IfErr result (IsFault (StandsInCallback id.now
+        (plain_cube_request request.now)
         (record { shape = shape.now; kind = kind }))) }
 {
     match request {

@@ -32,7 +32,8 @@ pub fn are_numbers_among(shape: &Shape, kind: Kind, labels: &[i64]) -> bool
 /// One of the labels is one of the cube's along t, y or x.
 fn is_number_among(shape: &Shape, kind: Kind, labels: &[i64]) -> bool
     ensures { result
-        ≡ list_any (λ label. list_any (same_number label) (number_labels shape.now kind)) labels.now }
+        ≡ list_any (λ label. list_any (same_number label)
+        (number_labels shape.now kind)) labels.now }
 {
     labels.iter().any(|label| has_number(shape, kind, *label))
 }
@@ -136,7 +137,7 @@ fn differ_in_bands(alloc: Global, one: &Shape, two: &Shape) -> Result<bool, OutO
 }
 
 /// Along how many dimensions that both cubes have their label sets differ, 4 at most.
-fn differing(alloc: Global, one: &Shape, two: &Shape) -> Result<u32, OutOfMemory>
+fn count_differences(alloc: Global, one: &Shape, two: &Shape) -> Result<u32, OutOfMemory>
     ensures { IfOk result (λ count. count ≡ labels.differing one.now two.now) }
 {
     let t = differ_in_numbers(Kind::Time, one, two) as u32;
@@ -151,7 +152,7 @@ fn differing(alloc: Global, one: &Shape, two: &Shape) -> Result<u32, OutOfMemory
 pub fn differ_in_dimensions(alloc: Global, one: &Shape, two: &Shape) -> Result<bool, OutOfMemory>
     ensures { IfOk result (λ differ. differ ≡ row.differ_in_dimensions one.now two.now) }
 {
-    let differing = differing(alloc, one, two)?;
+    let differing = count_differences(alloc, one, two)?;
     Ok((has_another(one, two) && has_another(two, one)) || differing > 1 || codes_differ(one, two))
 }
 
@@ -160,7 +161,7 @@ pub fn differ_in_dimensions(alloc: Global, one: &Shape, two: &Shape) -> Result<b
 pub fn differs_from_data(alloc: Global, shape: &Shape, mask: &Shape) -> Result<bool, OutOfMemory>
     ensures { IfOk result (λ differs. differs ≡ row.differs_from_data shape.now mask.now) }
 {
-    let differing = differing(alloc, shape, mask)?;
+    let differing = count_differences(alloc, shape, mask)?;
     Ok(has_another(mask, shape) || differing > 0 || codes_differ(shape, mask))
 }
 

@@ -59,7 +59,8 @@ pub fn names_other(name: Option<&str>) -> bool
 
 /// The first cube has this dimension, and the second lacks it.
 fn has_alone(kind: Kind, one: &Shape, two: &Shape) -> bool
-    ensures { result ≡ (not (spec.lacks_dimension kind one.now) && spec.lacks_dimension kind two.now) }
+    ensures { result
+        ≡ (not (spec.lacks_dimension kind one.now) && spec.lacks_dimension kind two.now) }
 {
     !lacks(kind, one) && lacks(kind, two)
 }

@@ -42,7 +42,8 @@ pub fn interval_labels(alloc: Global, intervals: &[Interval]) -> Result<Vec<i64>
 /// The labels of intervals, which differ, in the order of time.
 fn labels_in_order(alloc: Global, intervals: &[Interval]) -> Result<Vec<i64>, OutOfMemory>
     requires differ { are_distinct same_number (labels_of intervals.now) ≡ true }
-    ensures { IfOk result (λ labels. labels.items ≡ sorted_labels is_below (labels_of intervals.now)) }
+    ensures { IfOk result (λ labels. labels.items ≡ sorted_labels is_below
+        (labels_of intervals.now)) }
 {
     let mut labels = interval_labels(alloc, intervals)?;
     sort_rising(labels.as_mut_slice());

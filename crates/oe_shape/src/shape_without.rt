@@ -34,7 +34,8 @@ fn other_bands(
     shape: &Shape,
     reduced: Kind,
 ) -> Result<Option<Vec<Text>>, OutOfMemory>
-    ensures { IfOk result (λ copy. option_map items_of copy ≡ (without_dimension reduced shape.now).bands) }
+    ensures { IfOk result (λ copy. option_map items_of copy
+        ≡ (without_dimension reduced shape.now).bands) }
 {
     if reduced == Kind::Bands {
         Ok(None)
@@ -61,7 +62,8 @@ fn other_epsg(shape: &Shape, reduced: Kind) -> u32
 /// The shape without a dimension (`reduce_dimension` of openEO Processes), `None` where it has over 2^40 cells, as one
 /// may that had a dimension without labels. Refuses: out of memory.
 pub fn without(alloc: Global, kind: Kind, shape: &Shape) -> Result<Option<Shape>, OutOfMemory>
-    ensures { IfOk result (λ found. found ≡ where_within_limits (without_dimension kind shape.now)) }
+    ensures { IfOk result (λ found. found ≡ where_within_limits
+        (without_dimension kind shape.now)) }
 {
     let t = other_numbers(alloc, shape, Kind::Time, kind)?;
     let bands = other_bands(alloc, shape, kind)?;

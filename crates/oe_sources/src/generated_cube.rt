@@ -71,8 +71,8 @@ impl GeneratedCube {
     {
         let t = days(alloc)?;
         let bands = band_names(alloc)?;
-        let y = falling(alloc, side)?;
-        let x = rising(alloc, side)?;
+        let y = labels_downward(alloc, side)?;
+        let x = labels_upward(alloc, side)?;
         match Shape::new(UTM_33_NORTH, Some(t), Some(bands), Some(y), Some(x)) {
             Ok(shape) => Ok(GeneratedCube {
                 seed,
@@ -113,7 +113,7 @@ fn band_names(alloc: Global) -> Result<Vec<Text>, OutOfMemory>
 }
 
 /// The labels of `y`, from the greatest down to 0.
-fn falling(alloc: Global, side: u32) -> Result<Vec<i64>, OutOfMemory>
+fn labels_downward(alloc: Global, side: u32) -> Result<Vec<i64>, OutOfMemory>
     requires { side ≤ 1024 }
     ensures { IfOk result (λ labels. labels.items ≡ falling_labels side) }
 {
@@ -125,7 +125,7 @@ fn falling(alloc: Global, side: u32) -> Result<Vec<i64>, OutOfMemory>
 }
 
 /// The labels of `x`, from 0 on.
-fn rising(alloc: Global, side: u32) -> Result<Vec<i64>, OutOfMemory>
+fn labels_upward(alloc: Global, side: u32) -> Result<Vec<i64>, OutOfMemory>
     requires { side ≤ 1024 }
     ensures { IfOk result (λ labels. labels.items ≡ rising_labels side) }
 {

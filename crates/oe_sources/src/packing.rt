@@ -156,7 +156,8 @@ pub(crate) fn front_of(
     ensures front { IfOk result (λ front. front.items ≡
         spec.front_bytes (packed_head id.now shape.now kind widths.now)) }
     ensures short { IfOk result (λ _.
-        length (spec.header_text (packed_head id.now shape.now kind widths.now)) ≤ spec.most_header) }
+        length (spec.header_text (packed_head id.now shape.now kind widths.now))
+        ≤ spec.most_header) }
     ensures valid { IsShape shape.now }
 {
     let _epsg = shape.epsg();

@@ -64,7 +64,8 @@ pub fn repack<O: Sink>(
 ) -> Result<(), RepackFail>
     requires mounted { place < length (rows_in seen catalogue.old) }
     requires id { is_name id.now ≡ true }
-    ensures written { OnOk result (AppendsRepacked id.now (source_at (rows_in seen catalogue.old) place)
+    ensures written { OnOk result (AppendsRepacked id.now
+        (source_at (rows_in seen catalogue.old) place)
         (O.written out.old) (O.written out.new)) }
     ensures undamaged { OnOk result (IsUndamaged (source_at (rows_in seen catalogue.old) place)) }
     ensures left { IfErr result (LeavesWritten id.now (source_at (rows_in seen catalogue.old) place)

@@ -1,5 +1,5 @@
--- The records of a cube's cells in a store, each at its row-major number from an offset on. A set of positions is given by
--- what makes a position one of it, as `IsIn window`.
+-- The records of a cube's cells in a store, each at its row-major number from an offset on. A set of positions is given
+-- by what makes a position one of it, as `IsIn window`.
 use Rattle.std.specs.Prelude.{◌≡◌, ◌⊎◌, ℕ, ◌+◌, ◌*◌, ◌<◌, ◌≤◌, List, [], ◌∷◌, length, slice_get, Option, Some, None}
 use Rattle.oe_cell.specs.Record.{record_of, records_of}
 use Rattle.oe_cell.specs.declared.cell.Cell.{Cell}

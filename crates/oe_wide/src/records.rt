@@ -9,9 +9,9 @@ use crate::Width;
 use crate::narrow::{nine_at, nine_record, of_tag, tag_of};
 use oe_cell::{Cell, read_record, read_records, write_record, write_records};
 
-/// Writes the record of a cell in a width: in 1 byte the tag 0 of null, 1 of `false` or 2 of `true`; in 9 bytes the same
-/// with zeros, or tag 5 with a whole number in two's complement, the highest byte first; in 17 bytes the record of any
-/// cell.
+/// Writes the record of a cell in a width: in 1 byte the tag 0 of null, 1 of `false` or 2 of `true`; in 9 bytes the
+/// same with zeros, or tag 5 with a whole number in two's complement, the highest byte first; in 17 bytes the record of
+/// any cell.
 #[inline(always)]
 pub fn write_wide(cell: Cell, width: Width, into: &mut [u8])
     requires fits { FitsIn width cell }
@@ -28,8 +28,8 @@ pub fn write_wide(cell: Cell, width: Width, into: &mut [u8])
 /// The cell whose record in the width the bytes are.
 ///
 /// Refuses: exactly bytes that are no record of that width, as one of another width is none: a tag that it does not
-/// have, a byte that should be 0 and is not, −2^63 in 9 bytes, or in 17 a fraction that is not in lowest terms or out of
-/// range.
+/// have, a byte that should be 0 and is not, −2^63 in 9 bytes, or in 17 a fraction that is not in lowest terms or out
+/// of range.
 pub fn read_wide(bytes: &[u8], width: Width) -> Option<Cell>
     requires { length bytes.now ≡ byte_count width }
     ensures round_trip { (c : Cell) → IsCell c → record_in width c ≡ Some bytes.now

@@ -45,7 +45,8 @@ pub fn whole_cells<'a, C>(cells: &'a [C], shape: &Shape) -> &'a [C]
     requires whole { length cells.now ≡ cell_count shape.now }
     ensures same { result.now ≡ cells.now }
     ensures value { (other : C) →
-        result.now ≡ cells_on other (record { shape = shape.now; cells = cells.now }) (whole_window shape.now) }
+        result.now ≡ cells_on other (record { shape = shape.now; cells = cells.now })
+        (whole_window shape.now) }
 {
     let _shape = shape;
     cells

@@ -159,7 +159,8 @@ pub fn size(window: &Window) -> u64
     // The list of the positions, and where each stands in it.
     ensures listed { result ≡ length (positions window.now) }
     ensures numbered { (k : ℕ) (p : Position) →
-        (slice_get (positions window.now) k ≡ Some p) ↔ (IsIn window.now p × (k ≡ number_in window.now p)) }
+        (slice_get (positions window.now) k ≡ Some p)
+        ↔ (IsIn window.now p × (k ≡ number_in window.now p)) }
 {
     if window.is_empty() {
         return 0;

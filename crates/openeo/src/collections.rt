@@ -114,7 +114,11 @@ where
 /// What mounting the collection of a file came to.
 ///
 /// Refuses: the set-up fault of the file where the id was taken or 64 collections are mounted; out of memory.
-pub fn mounted(alloc: Global, name: &[u8], outcome: Result<(), MountFail>) -> Result<(), Fault>
+pub fn mount_outcome(
+    alloc: Global,
+    name: &[u8],
+    outcome: Result<(), MountFail>,
+) -> Result<(), Fault>
     ensures mounted { IsOk result ↔ IsOk outcome }
     ensures refused { IfErr result (IsSetupFault name.now) }
 {

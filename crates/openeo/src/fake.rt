@@ -20,11 +20,11 @@ pub struct FakeFile {
 impl FakeFile {
     /// An empty file that stumbles in the call of a number, from 0.
     pub fn stumbles_at(alloc: Global, number: u64, error: ErrorKind) -> FakeFile {
-        FakeFile::holding(Vec::new(alloc), number, error)
+        FakeFile::with_bytes(Vec::new(alloc), number, error)
     }
 
     /// A file with these bytes that stumbles in the call of a number, from 0.
-    pub fn holding(bytes: Vec<u8>, number: u64, error: ErrorKind) -> FakeFile {
+    pub fn with_bytes(bytes: Vec<u8>, number: u64, error: ErrorKind) -> FakeFile {
         FakeFile {
             bytes: RefCell::new(bytes),
             calls: Cell::new(0),
@@ -48,7 +48,7 @@ impl FileExt for FakeFile {
     fn read_at(&self, into: &mut [u8], at: u64) -> Result<usize> {
         self.call()?;
         let Ok(bytes) = self.bytes.try_borrow() else {
-            return refused();
+            return refuse();
         };
         let start = bytes.len().min(at as usize);
         let count = into.len().min(2).min(bytes.len() - start);
@@ -59,11 +59,11 @@ impl FileExt for FakeFile {
     fn write_at(&self, piece: &[u8], at: u64) -> Result<usize> {
         self.call()?;
         let Ok(mut bytes) = self.bytes.try_borrow_mut() else {
-            return refused();
+            return refuse();
         };
         let count = piece.len().min(2);
         let Some(end) = (at as usize).checked_add(count) else {
-            return refused();
+            return refuse();
         };
         if bytes.len() < end {
             bytes.resize(end, 0)?;
@@ -78,20 +78,20 @@ impl Seek for FakeFile {
         self.call()?;
         match (to, self.bytes.try_borrow()) {
             (SeekFrom::End(0), Ok(bytes)) => Ok(bytes.len() as u64),
-            _ => refused(),
+            _ => refuse(),
         }
     }
 }
 
 impl Read for FakeFile {
     fn read(&mut self, _into: &mut [u8]) -> Result<usize> {
-        refused()
+        refuse()
     }
 }
 
 impl Write for FakeFile {
     fn write(&mut self, _piece: &[u8]) -> Result<usize> {
-        refused()
+        refuse()
     }
 
     fn flush(&mut self) -> Result<()> {
@@ -101,19 +101,19 @@ impl Write for FakeFile {
 
 impl OpenFile for FakeFile {
     fn metadata(&self) -> Result<Metadata> {
-        refused()
+        refuse()
     }
 
     fn set_len(&self, _size: u64) -> Result<()> {
-        refused()
+        refuse()
     }
 
     fn sync_all(&self) -> Result<()> {
-        refused()
+        refuse()
     }
 
     fn sync_data(&self) -> Result<()> {
-        refused()
+        refuse()
     }
 }
 
@@ -152,7 +152,7 @@ pub struct FakeFiles {
 }
 
 /// What no test asks for.
-fn refused<T>() -> Result<T>
+fn refuse<T>() -> Result<T>
     ensures { IfOk result (λ value. ⊥) }
 {
     Err(Error::from(ErrorKind::Unsupported))
@@ -168,7 +168,7 @@ impl Files for FakeFiles {
             Some(error) => Err(Error::from(error)),
             None => {
                 let bytes = Vec::from_slice(self.alloc, self.bytes)?;
-                Ok(FakeFile::holding(bytes, u64::MAX, ErrorKind::Other))
+                Ok(FakeFile::with_bytes(bytes, u64::MAX, ErrorKind::Other))
             }
         }
     }
@@ -184,34 +184,34 @@ impl Files for FakeFiles {
     }
 
     fn metadata(&self, _path: &str) -> Result<Metadata> {
-        refused()
+        refuse()
     }
 
     fn symlink_metadata(&self, _path: &str) -> Result<Metadata> {
-        refused()
+        refuse()
     }
 
     fn copy(&self, _from: &str, _to: &str) -> Result<u64> {
-        refused()
+        refuse()
     }
 
     fn rename(&self, _from: &str, _to: &str) -> Result<()> {
-        refused()
+        refuse()
     }
 
     fn remove_file(&self, _path: &str) -> Result<()> {
-        refused()
+        refuse()
     }
 
     fn create_dir(&self, _path: &str) -> Result<()> {
-        refused()
+        refuse()
     }
 
     fn remove_dir(&self, _path: &str) -> Result<()> {
-        refused()
+        refuse()
     }
 
     fn remove_dir_all<B: Allocator>(&self, _alloc: B, _path: &str) -> Result<()> {
-        refused()
+        refuse()
     }
 }

@@ -20,7 +20,7 @@ mod streams;
 mod tests;
 mod words;
 
-use collections::{mounted, open_collection};
+use collections::{mount_outcome, open_collection};
 use fault::Fault;
 use oe_outside::NoGate;
 use oe_sources::Catalogue;
@@ -43,7 +43,7 @@ fn main(rt: HostRuntime) -> ExitCode {
         let name = start.names[index].as_slice();
         let outcome = match open_collection(alloc, &rt, name) {
             Ok((id, source)) => match Box::new(alloc, source) {
-                Ok(cube) => mounted(alloc, name, catalogue.mount(id.as_str(), cube)),
+                Ok(cube) => mount_outcome(alloc, name, catalogue.mount(id.as_str(), cube)),
                 Err(_) => Err(Fault::OutOfMemory),
             },
             Err(fault) => Err(fault),

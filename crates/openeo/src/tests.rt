@@ -1,5 +1,5 @@
 // What the program says about itself, and what it sets up, over files that stumble.
-use crate::collections::{cube_files, mounted, open_collection};
+use crate::collections::{cube_files, mount_outcome, open_collection};
 use crate::fake::{FakeFile, FakeFiles};
 use crate::fault::Fault;
 use crate::files::FileStore;
@@ -40,7 +40,10 @@ fn words_of(alloc: Global, texts: &[&str]) -> Result<Vec<Text>, Fail> {
 }
 
 /// The status of a fault and its line as they leave the program, 0 and nothing where there is none.
-fn ending<T: Drop>(alloc: Global, outcome: Result<T, Fault>) -> Result<(u8, Vec<u8>), Fail> {
+fn status_and_line<T: Drop>(
+    alloc: Global,
+    outcome: Result<T, Fault>,
+) -> Result<(u8, Vec<u8>), Fail> {
     let mut err = MemorySink::new(alloc, 64, Vec::new(alloc))?;
     let status = match outcome {
         Ok(_) => 0,
@@ -56,7 +59,7 @@ fn assert_ends<T: Drop>(
     status: u8,
     line: &str,
 ) -> Result<(), Fail> {
-    let (ended, said) = ending(alloc, outcome)?;
+    let (ended, said) = status_and_line(alloc, outcome)?;
     assert_eq!(rt; ended, status, "{line}");
     assert_eq!(rt; said.as_slice(), line.as_bytes(), "{line}");
     Ok(())
@@ -238,7 +241,7 @@ fn names_the_spool(rt: HostRuntime) -> Result<(), Fail> {
 }
 
 /// The cube file, opened.
-fn opened(alloc: Global) -> Result<FileSource<FileStore<FakeFile>>, Fail> {
+fn open_file(alloc: Global) -> Result<FileSource<FileStore<FakeFile>>, Fail> {
     let (_id, source) = open_collection(alloc, &with_names(alloc, b"a.cube\0"), b"a.cube")?;
     Ok(source)
 }
@@ -249,14 +252,14 @@ fn names_the_file_that_is_one_too_many(rt: HostRuntime) -> Result<(), Fail> {
     let alloc = rt.alloc();
     let mut catalogue = Catalogue::new(alloc);
     for number in 0..64 {
-        let cube = Box::new(alloc, opened(alloc)?)?;
+        let cube = Box::new(alloc, open_file(alloc)?)?;
         let id = Text::of(alloc, format!(in alloc; "C{number}")?.as_str())?;
-        let outcome = mounted(alloc, b"b.cube", catalogue.mount(id.as_str(), cube));
+        let outcome = mount_outcome(alloc, b"b.cube", catalogue.mount(id.as_str(), cube));
         assert_ends(&rt, alloc, outcome, 0, "")?;
     }
     for id in ["C63", "D"] {
-        let cube = Box::new(alloc, opened(alloc)?)?;
-        let outcome = mounted(alloc, b"c.cube", catalogue.mount(id, cube));
+        let cube = Box::new(alloc, open_file(alloc)?)?;
+        let outcome = mount_outcome(alloc, b"c.cube", catalogue.mount(id, cube));
         assert_ends(&rt, alloc, outcome, 14, "openeo: Setup c.cube\n")?;
     }
     Ok(())

@@ -7,7 +7,7 @@ use Rattle.oe_graph.specs.declared.tree.Node.{Node}
 use Rattle.oe_resolve.specs.Calls.{callee}
 use Rattle.oe_resolve.specs.Rounds.{index_of, landed, landing, under_id}
 use Rattle.oe_resolve.proofs.RoundLemmas.{index_of-within, landed-none, landed-at}
-use Rattle.oe_resolve.proofs.round.landing.Goals as goal
+use Rattle.oe_resolve.proofs.round.landing_id.Goals as goal
 
 pub returns-then-index-len : goal.returns-then-index-len
 returns-then-index-len c =

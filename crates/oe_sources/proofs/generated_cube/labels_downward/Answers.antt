@@ -1,7 +1,7 @@
 use Rattle.std.proofs.Common.{◌-◌, ◌*◌, pos, arith}
 use Rattle.std.proofs.lemmas.Int.{ints}
 use Rattle.oe_sources.proofs.GeneratedLemmas.{labels_more}
-use Rattle.oe_sources.proofs.generated_cube.falling.Goals as goal
+use Rattle.oe_sources.proofs.generated_cube.labels_downward.Goals as goal
 
 pub loop-index-preserved : goal.loop-index-preserved
 loop-index-preserved c =
