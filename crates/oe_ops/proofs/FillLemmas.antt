@@ -5,7 +5,7 @@ use Rattle.std.proofs.Math.Nat.{mul-div_cancel}
 use Rattle.std.proofs.lemmas.Bool.{cases_lt}
 use Rattle.std.proofs.lemmas.Bool.Decides.{nat_tests}
 use Rattle.std.proofs.Math.Seq.{take-append-add, take-append_seam}
-use Rattle.std.proofs.lemmas.List.{length-take-le, length-drop, get_or-take, get_or_append_left, get_or-append_right, take-append-drop}
+use Rattle.std.proofs.lemmas.List.{length-take-le, length-drop, get_or-take, get_or_append_left, get_or-append_right, take-append-drop, take-map, drop-map}
 use Rattle.std.proofs.lemmas.List.Elements.{All-append}
 use Rattle.std.proofs.lemmas.List.Folds.{drop_split}
 use Rattle.std.proofs.lemmas.Nat.{mul-le}
@@ -14,7 +14,7 @@ use borrow.Rule.Slice.PartMut.{put_mid}
 use Rattle.oe_cell.specs.declared.cell.Cell.{Cell}
 use Rattle.oe_cell.specs.declared.cell.Cell.TheVariants.{Empty}
 use Rattle.oe_dims.specs.Positions.{Position}
-use Rattle.oe_window.specs.Parts.{plane_count, plane_of, plane_size}
+use Rattle.oe_window.specs.Parts.{IsPartFrom, plane_count, plane_of, plane_size}
 use Rattle.oe_window.specs.Windows.{IsIn, span_length, positions, position_count, number_in}
 use Rattle.oe_window.specs.declared.window.Window.{Window}
 use Rattle.oe_window.proofs.ChunkLemmas.{none_or_more}
@@ -158,3 +158,9 @@ piece_of w plane n planes is all whole below =
       within = plane_ends w n under;
       next = one_more n (plane_size w);
     }
+
+-- what stands for the positions of a part is a piece of what stands for those of the window
+pub part_of_map : (f : Position → Cell) (first : ℕ) (w part : Window) → IsPartFrom first w part → slice_range (map f (positions w)) first (first + position_count part) ≡ map f (positions part)
+part_of_map f first w part h =
+    let n = first + position_count part - first in
+    ap (take n) (drop-map f first (positions w)) ∙ take-map f n (drop first (positions w)) ∙ ap (map f) h.listed

@@ -1,5 +1,5 @@
 -- What stands in an argument at the labels of a result.
-use Rattle.std.proofs.Common.{◌≡◌, ℕ, ◌+◌, ◌*◌, ◌<◌, Bool, true, List, refl, sym, ap, ◌∙◌, subst, arith, Option, Some, None}
+use Rattle.std.proofs.Common.{◌≡◌, ℕ, ◌+◌, ◌-◌, ◌*◌, ◌<◌, ◌≤◌, Bool, true, List, refl, sym, ap, ◌∙◌, subst, arith, Option, Some, None}
 use Rattle.std.specs.List.{slice_get, slice_index_or}
 use Rattle.std.specs.Option.{option_map, option_and_then}
 use Rattle.std.proofs.lemmas.Option.{same_Some}
@@ -9,21 +9,23 @@ use Rattle.oe_dims.specs.Cube.{Cube, at, index_along, IsCube}
 use Rattle.oe_dims.specs.Dimensions.{Dimensions, IsShape, extent}
 use Rattle.oe_dims.specs.Indices.{same_number}
 use Rattle.oe_dims.specs.Names.{same_name}
-use Rattle.oe_dims.specs.Positions.{Position, label_of, tuple_of}
+use Rattle.oe_dims.specs.Positions.{IsPosition, Position, label_of, tuple_of}
 use Rattle.oe_dims.specs.declared.kind.Kind.TheVariants.{Time, Bands, Y, X}
 use Rattle.oe_dims.proofs.CubeLemmas.{length-tuples}
 use Rattle.oe_dims.proofs.FlatMapLemmas.{value_inside}
 use Rattle.oe_dims.proofs.IndexLemmas.{index_where_passes, same_number_is}
 use Rattle.oe_dims.proofs.OrderLemmas.{same_name_is}
 use Rattle.oe_window.specs.Cells.{cell_at}
-use Rattle.oe_window.specs.Windows.{IsIn, number_in}
+use Rattle.oe_window.specs.Windows.{IsIn, number_in, position_count}
+use Rattle.oe_window.specs.declared.window.Window.{Window}
 use Rattle.oe_window.proofs.CellLemmas.{cell_at-at, cells_on-get}
 use Rattle.oe_shape.specs.Labels.{only_along, restrict}
 use Rattle.oe_ops.specs.Indices.{index_in_argument, row_in, position_on, position_in, found_in, IsHeld}
-use Rattle.oe_ops.specs.Needs.{HasLabelsOf}
+use Rattle.oe_ops.specs.Needs.{HasLabelsOf, plane_window}
 use Rattle.oe_ops.specs.Slices.{at_indices, cell_of, IsOn}
 use Rattle.oe_ops.specs.declared.slice.Slice.{Slice}
 use Rattle.oe_ops.specs.declared.source.RowIndices.{RowIndices}
+use Rattle.oe_ops.proofs.NumberLemmas.{are_some}
 
 -- ---- one dimension
 
@@ -110,3 +112,63 @@ listed cube slice (Some q) on held = ap Some (cell_of_is cube slice q on (held q
 pub found_is : (cube : Cube Cell) (shape : Dimensions) (slice : Slice) (p : Position) → IsShape cube.shape → IsCube cube → IsOn cube slice → IsHeld shape cube.shape slice p → found_in shape cube.shape slice p ≡ at cube (restrict cube.shape (tuple_of shape p))
 found_is cube shape slice p valid whole on held =
     listed cube slice (position_in shape cube.shape p) on held ∙ sym (at_is cube shape p valid whole)
+
+-- ---- rows that are found or are not
+
+pub not_on_row : (shape argument : Dimensions) (slice : Slice) (p : Position) → row_in shape argument p ≡ None → found_in shape argument slice p ≡ None
+not_on_row shape argument slice p h =
+    ap (λ (o : Option RowIndices). option_map (cell_of slice) (option_and_then (λ row. option_map (position_on row) (index_in_argument X shape argument p.x)) o)) h
+
+fused : (slice : Slice) (row : RowIndices) (o : Option ℕ) → option_map (cell_of slice) (option_map (position_on row) o) ≡ option_map (λ i. cell_of slice (position_on row i)) o
+fused slice row None = refl
+fused slice row (Some i) = refl
+
+pub found_on_row : (shape argument : Dimensions) (slice : Slice) (p : Position) (row : RowIndices) → row_in shape argument p ≡ Some row → found_in shape argument slice p ≡ option_map (λ i. cell_of slice (position_on row i)) (index_in_argument X shape argument p.x)
+found_on_row shape argument slice p row h =
+    ap (λ (o : Option RowIndices). option_map (cell_of slice) (option_and_then (λ r. option_map (position_on r) (index_in_argument X shape argument p.x)) o)) h
+    ∙ fused slice row (index_in_argument X shape argument p.x)
+
+-- ---- what is found for a plane
+
+-- the ends of a window with a position, all of whose positions are of a cube
+pub record HasEnds (d : Dimensions) (w : Window) : Type 0 where
+  pub t : w.t.from < extent d.t
+  pub bands : w.bands.from < extent d.bands
+  pub y_some : w.y.from < w.y.to
+  pub y : w.y.to ≤ extent d.y
+  pub x_some : w.x.from < w.x.to
+  pub x : w.x.to ≤ extent d.x
+
+pub has_ends : (d : Dimensions) (w : Window) → 0 < position_count w → ((p : Position) → IsIn w p → IsPosition d p) → HasEnds d w
+has_ends d w h inside =
+    let some = are_some w h in
+    let some_t = some.t in
+    let some_bands = some.bands in
+    let some_y = some.y in
+    let some_x = some.x in
+    let last = at_indices w.t.from w.bands.from (w.y.to - 1) (w.x.to - 1) in
+    let ends = inside last (record {
+      t = record { begun = omega arith; before = omega arith };
+      bands = record { begun = omega arith; before = omega arith };
+      y = record { begun = omega arith; before = omega arith };
+      x = record { begun = omega arith; before = omega arith };
+    }) in
+    let ends_y = ends.y in
+    let ends_x = ends.x in
+    record {
+      t = ends.t;
+      bands = ends.band;
+      y_some = omega arith;
+      y = omega arith;
+      x_some = omega arith;
+      x = omega arith;
+    }
+
+-- each position of a plane has its index along t and bands
+pub on_plane : (w : Window) (p : Position) → w ≡ plane_window w w.t.from w.bands.from → IsIn w p → (w.t.from ≡ p.t) × (w.bands.from ≡ p.band)
+on_plane w p one h =
+    let t : w.t.to ≡ w.t.from + 1 = ap (λ (v : Window). v.t.to) one in
+    let bands : w.bands.to ≡ w.bands.from + 1 = ap (λ (v : Window). v.bands.to) one in
+    let in_t = h.t in
+    let in_bands = h.bands in
+    (omega arith, omega arith)

@@ -2,7 +2,7 @@
 use Rattle.std.proofs.Common.{◌≡◌, ℕ, ◌<◌, ◌≤◌, true, List, [], length, map, refl, sym, ap, ◌∙◌, subst, arith, Option, Some, None, is_some, IfSome}
 use Rattle.std.specs.List.{All, slice_index_or}
 use Rattle.std.proofs.lemmas.List.{get_or_default}
-use Rattle.std.specs.Option.{option_and_then, option_map, unwrap_or}
+use Rattle.std.specs.Option.{option_map, unwrap_or}
 use Rattle.oe_cell.specs.declared.cell.Cell.{Cell}
 use Rattle.oe_cell.specs.declared.cell.Cell.TheVariants.{Empty}
 use Rattle.oe_cube.specs.Kinds.{IsOfKind}
@@ -10,7 +10,6 @@ use Rattle.oe_dims.specs.Cube.{Cube, IsCube, at}
 use Rattle.oe_dims.specs.Dimensions.{Dimensions, IsShape}
 use Rattle.oe_dims.specs.Positions.{Position, tuple_of}
 use Rattle.oe_dims.specs.declared.kind.CellKind.{CellKind}
-use Rattle.oe_dims.specs.declared.kind.Kind.TheVariants.{X}
 use Rattle.oe_expr.specs.Callback.{Callback, IsEnvironment, KeepsKind, callback_kind, callback_value, environment}
 use Rattle.oe_expr.specs.EnvRows.{AreEnvironments, HasRowCells, environment_at, x_at, y_at, list_at}
 use Rattle.oe_expr.specs.Scope.{PlainScope, IsEnvironmentOf, IsListNumber, list_labels, merge, no_labels}
@@ -21,7 +20,7 @@ use Rattle.oe_window.specs.Cells.{cells_on}
 use Rattle.oe_window.specs.Windows.{Holds, positions, whole_window}
 use Rattle.oe_window.specs.declared.window.Window.{Window}
 use Rattle.oe_window.proofs.CellLemmas.{cells_on-tabulate}
-use Rattle.oe_ops.specs.Indices.{found_in, index_in_argument, position_in, position_on, row_in}
+use Rattle.oe_ops.specs.Indices.{found_in, position_in, position_on}
 use Rattle.oe_ops.specs.Joins.{AreBothFound, where_found}
 use Rattle.oe_ops.specs.Needs.{HasLabelsOf, HoldsNeed}
 use Rattle.oe_ops.specs.Slices.{IsOn, TakesPairs, cell_of}
@@ -66,21 +65,6 @@ pub where_both : (i j : Option ℕ) (a b both : Cell) → AreBothFound i j → w
 where_both None j a b both h = let e = h.one_found in cc
 where_both (Some i) None a b both h = let e = h.two_found in cc
 where_both (Some i) (Some j) a b both h = refl
-
--- ---- rows that are found or are not
-
-pub not_on_row : (shape argument : Dimensions) (slice : Slice) (p : Position) → row_in shape argument p ≡ None → found_in shape argument slice p ≡ None
-not_on_row shape argument slice p h =
-    ap (λ (o : Option RowIndices). option_map (cell_of slice) (option_and_then (λ row. option_map (position_on row) (index_in_argument X shape argument p.x)) o)) h
-
-fused : (slice : Slice) (row : RowIndices) (o : Option ℕ) → option_map (cell_of slice) (option_map (position_on row) o) ≡ option_map (λ i. cell_of slice (position_on row i)) o
-fused slice row None = refl
-fused slice row (Some i) = refl
-
-pub found_on_row : (shape argument : Dimensions) (slice : Slice) (p : Position) (row : RowIndices) → row_in shape argument p ≡ Some row → found_in shape argument slice p ≡ option_map (λ i. cell_of slice (position_on row i)) (index_in_argument X shape argument p.x)
-found_on_row shape argument slice p row h =
-    ap (λ (o : Option RowIndices). option_map (cell_of slice) (option_and_then (λ r. option_map (position_on r) (index_in_argument X shape argument p.x)) o)) h
-    ∙ fused slice row (index_in_argument X shape argument p.x)
 
 -- ---- the resolver
 

@@ -1,12 +1,12 @@
 -- What a plane of a load needs of the collection is one plane of it, which lists the same cells in the same order.
-use Rattle.std.proofs.Common.{◌≡◌, ℕ, suc, ◌+◌, ◌-◌, ◌*◌, ◌<◌, ◌≤◌, List, [], ◌∷◌, length, map, replicate, refl, sym, ap, ◌∙◌, subst, arith, Option, Some, None, inl, inr, ℤ}
+use Rattle.std.proofs.Common.{◌≡◌, ℕ, ◌+◌, ◌-◌, List, [], ◌∷◌, length, map, replicate, refl, sym, ap, ◌∙◌, subst, arith, Option, Some, None}
 use Rattle.std.specs.List.{slice_get}
 use Rattle.std.specs.Option.{option_map, unwrap_or}
 use Rattle.std.proofs.lemmas.Option.{same_Some}
 use Rattle.oe_cell.specs.declared.cell.Cell.{Cell}
 use Rattle.oe_cell.specs.declared.cell.Cell.TheVariants.{Empty}
 use Rattle.oe_dims.specs.Cube.{Cube, IsCube, at}
-use Rattle.oe_dims.specs.Dimensions.{Dimensions, IsShape, extent}
+use Rattle.oe_dims.specs.Dimensions.{Dimensions, IsShape}
 use Rattle.oe_dims.specs.Positions.{IsPosition, Position, tuple_of}
 use Rattle.oe_dims.specs.declared.kind.Kind.TheVariants.{Time, Bands, Y, X}
 use Rattle.oe_dims.proofs.ShapeLemmas.{x_rises, y_falls}
@@ -15,9 +15,9 @@ use Rattle.oe_window.specs.Windows.{Holds, IsAlong, IsEmpty, IsIn, number_in, po
 use Rattle.oe_window.specs.declared.window.Span.{Span}
 use Rattle.oe_window.specs.declared.window.Window.{Window}
 use Rattle.oe_window.proofs.CellLemmas.{cell_at-tabulate, cells_on-at, cells_on-tabulate, is_cells_on, length-cells_on}
-use Rattle.oe_window.proofs.WindowLemmas.{AreWithin, IsFilled, IsWithin, filled_by, filled_or_not, filled_unless_empty, first_in, first_position, length-positions, within_from_holds}
+use Rattle.oe_window.proofs.WindowLemmas.{AreWithin, IsWithin, filled_by, filled_unless_empty, first_in, first_position, length-positions, within_from_holds}
 use Rattle.oe_window.proofs.WholeLemmas.{position_in as inside_shape}
-use Rattle.oe_shape.specs.Extents.{Restriction, is_across, is_up, kept_labels, kept_shape}
+use Rattle.oe_shape.specs.Extents.{Restriction, is_across, is_up, kept_shape}
 use Rattle.oe_shape.specs.Meaning.{cell, restricted_cube}
 use Rattle.oe_ops.specs.Indices.{index_in_argument, position_in}
 use Rattle.oe_ops.specs.Loads.{GivesPlane}

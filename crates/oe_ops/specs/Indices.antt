@@ -1,5 +1,5 @@
 -- Where the labels at a position of a result stand in an argument, which may lack dimensions of the result.
-use Rattle.std.specs.Prelude.{◌≡◌, ℕ, Bool, List, Option, Some}
+use Rattle.std.specs.Prelude.{◌≡◌, ℕ, ◌+◌, ◌-◌, ◌≤◌, Bool, List, Option, Some, IfSome}
 use Rattle.std.specs.Option.{option_and_then, option_map}
 use Rattle.oe_cell.specs.declared.cell.Cell.{Cell}
 use Rattle.oe_dims.specs.Cube.{index_along}
@@ -13,6 +13,8 @@ use Rattle.oe_window.specs.Windows.{IsIn}
 use Rattle.oe_shape.specs.Labels.{only_along}
 use Rattle.oe_ops.specs.Slices.{at_indices, cell_of}
 use Rattle.oe_ops.specs.declared.slice.Slice.{Slice}
+use Rattle.oe_ops.specs.declared.run.Run.{Run}
+use Rattle.oe_ops.specs.declared.source.PlaneIndices.{PlaneIndices}
 use Rattle.oe_ops.specs.declared.source.RowIndices.{RowIndices}
 
 -- the index in the argument of the label at an index of the result: 0 where the argument lacks the dimension, and none
@@ -50,3 +52,18 @@ found_in shape argument slice p = option_map (cell_of slice) (position_in shape 
 -- the slice has the position in the argument, if there is one
 abbrev pub IsHeld : Dimensions → Dimensions → Slice → Position → Type 0
 IsHeld shape argument slice p = (q : Position) → position_in shape argument p ≡ Some q → IsIn slice.window q
+
+-- ---- what is found once for many labels
+
+-- a label of a run, if there is one, stands in the argument as far behind the first as in the result
+abbrev pub IsOnRun : Kind → Dimensions → Dimensions → Run → ℕ → Type 0
+IsOnRun along shape argument run index =
+    IfSome run.first (λ first. (run.from ≤ index)
+    × (index_in_argument along shape argument index ≡ Some (first + (index - run.from))))
+
+-- what is found for a plane is right at the position
+pub record AreIndicesAt (shape argument : Dimensions) (plane : PlaneIndices) (p : Position) : Type 0 where
+  pub t : plane.t ≡ index_in_argument Time shape argument p.t
+  pub band : plane.band ≡ index_in_argument Bands shape argument p.band
+  pub y : IsOnRun Y shape argument plane.y p.y
+  pub x : IsOnRun X shape argument plane.x p.x

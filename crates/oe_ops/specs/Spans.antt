@@ -1,5 +1,6 @@
 -- The least span of an argument with the indices that are needed for those of a span of a result.
-use Rattle.std.specs.Prelude.{◌≡◌, ◌⊎◌, ℕ, ◌+◌, ◌<◌, ◌≤◌, Bool, true, false, nat_le, min, max, if◌then◌else◌, Option, Some, None}
+use Rattle.std.specs.Prelude.{◌≡◌, ◌⊎◌, ℕ, ◌+◌, ◌<◌, ◌≤◌, nat_le, min, max, if◌then◌else◌}
+use Rattle.std.specs.Prelude.{Bool, true, false, Option, Some, None}
 use Rattle.oe_dims.specs.Dimensions.{Dimensions}
 use Rattle.oe_dims.specs.declared.kind.Kind.{Kind}
 use Rattle.oe_window.specs.Windows.{IsAlong, extent_along}

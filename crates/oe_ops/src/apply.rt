@@ -72,8 +72,8 @@ pub fn eval_apply(
     requires need { HoldsNeed (HasLabelsOf shape.now shape.now) window.now slice.window }
     requires length { length out.old ≡ position_count window.now }
     requires room { 192 ≤ length scratch.old }
-    ensures value { (cube : Cube Cell) → IsCube cube → cube.shape ≡ shape.now → IsOn cube slice.entry
-        → out.new ≡ cells_on Empty (applied expr.now cube) window.now }
+    ensures value { (cube : Cube Cell) → IsCube cube → cube.shape ≡ shape.now
+        → IsOn cube slice.entry → out.new ≡ cells_on Empty (applied expr.now cube) window.now }
     ensures kinds { All (IsOfKind (callback_kind expr.now)) out.new }
 {
     let _shape = shape;

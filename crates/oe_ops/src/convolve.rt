@@ -71,7 +71,8 @@ fn convolve_plane(
     requires some { 0 < length out.old }
     requires counted { IsCounted slice.now }
     requires inside { Holds (whole_window shape.now) slice.now.window }
-    requires need { HoldsNeed (Needs (convolve kernel.now factor border.now replace) (shape.now ∷ []) 0)
+    requires need { HoldsNeed
+        (Needs (convolve kernel.now factor border.now replace) (shape.now ∷ []) 0)
         window.now slice.now.window }
     requires length { length out.old ≡ position_count window.now }
     ensures value { (cube : Cube Cell) → IsCube cube → cube.shape ≡ shape.now → IsOn cube slice.now
@@ -114,8 +115,8 @@ pub fn eval_convolve(
     requires need { HoldsNeed (Needs (convolve kernel.now factor border replace) (shape.now ∷ []) 0)
         window.now slice.window }
     requires length { length out.old ≡ position_count window.now }
-    ensures value { (cube : Cube Cell) → IsCube cube → cube.shape ≡ shape.now → IsOn cube slice.entry
-        → out.new
+    ensures value { (cube : Cube Cell) → IsCube cube → cube.shape ≡ shape.now
+        → IsOn cube slice.entry → out.new
         ≡ cells_on Empty (convolution kernel.now factor border replace cube) window.now }
     ensures kinds { All (IsOfKind Numbers) out.new }
 {

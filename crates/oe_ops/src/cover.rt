@@ -13,20 +13,63 @@ ghost use Rattle.oe_window.specs.Windows.{Holds, position_count, whole_window};
 ghost use Rattle.oe_ops.specs.Needs.{HasLabelsOf, HoldsNeed};
 ghost use Rattle.oe_ops.specs.Slices.{IsCounted, IsOn};
 
-use crate::rows::{Rows, fill};
+use crate::rows::{Planes, Rows, fill, fill_planes};
 use crate::slice::{Slice, row_of};
-use crate::source::{Source, found_row};
+use crate::source::{PlaneIndices, Source, found_row, plane_indices};
 use oe_cell::Cell;
 use oe_dims::Shape;
-use oe_shape::cover;
 use oe_window::Window;
 
 /// The cells of a slice under those of a mask.
 #[derive(Clone, Copy)]
-struct CoveredRows<'a> {
-    replacement: Cell,
+struct CoveredPlanes<'a> {
+    replacement: &'a Cell,
     slice: Slice<'a>,
     mask: Source<'a>,
+}
+
+/// The same on a plane.
+#[derive(Clone, Copy)]
+struct CoveredRows<'a> {
+    cubes: CoveredPlanes<'a>,
+    plane: PlaneIndices,
+}
+
+/// Copies a cell, a number by its parts: these stay in registers, where a cell would go through memory.
+#[inline(always)]
+fn store(from: &Cell, to: &mut Cell)
+    ensures { to.new ≡ from.now }
+{
+    match from {
+        Cell::Number(number) => *to = Cell::Number(*number),
+        _ => *to = *from,
+    }
+}
+
+/// A cell under the cell of a mask, which becomes the result. It writes what changes alone, where a cell that is
+/// answered would be made first and then copied.
+#[inline(always)]
+fn cover_cell(replacement: &Cell, cell: &Cell, mask: &mut Cell)
+    ensures { mask.new ≡ covered_by replacement.now mask.old cell.now }
+{
+    match mask {
+        Cell::Over => {}
+        Cell::Empty => store(cell, mask),
+        Cell::Flag(flag) => {
+            if *flag {
+                store(replacement, mask);
+            } else {
+                store(cell, mask);
+            }
+        }
+        Cell::Number(number) => {
+            if number.num() == 0 {
+                store(cell, mask);
+            } else {
+                store(replacement, mask);
+            }
+        }
+    }
 }
 
 /// A row of cells under the row of a mask, which becomes the result.
@@ -37,13 +80,45 @@ fn cover_row(replacement: &Cell, cells: &[Cell], out: &mut [Cell])
         (slice_index_or cells.now k Empty) }
 {
     for k in 0..out.len() {
-        out[k] = cover(*replacement, out[k], cells[k]);
+        cover_cell(replacement, &cells[k], &mut out[k]);
     }
 }
 
 impl Rows for CoveredRows<'_> {
     ghost use Rattle.std.specs.Prelude.{unwrap_or};
     ghost use Rattle.oe_cell.specs.declared.cell.Cell.TheVariants.{Empty};
+    ghost use Rattle.oe_dims.specs.Dimensions.{IsShape};
+    ghost use Rattle.oe_dims.specs.Positions.{IsPosition};
+    ghost use Rattle.oe_shape.specs.Meaning.{covered_by};
+    ghost use Rattle.oe_window.specs.Windows.{IsIn};
+    ghost use Rattle.oe_ops.specs.Indices.{AreIndicesAt, IsHeld, found_in};
+    ghost use Rattle.oe_ops.specs.Slices.{IsCounted, cell_of};
+
+    ghost serves = { λ s p. IsCounted s.cubes.slice × IsIn s.cubes.slice.window p
+        × IsCounted s.cubes.mask.slice
+        × IsShape s.cubes.mask.shape.now × IsShape s.cubes.mask.argument.now
+        × IsPosition s.cubes.mask.shape.now p
+        × AreIndicesAt s.cubes.mask.shape.now s.cubes.mask.argument.now s.plane p
+        × IsHeld s.cubes.mask.shape.now s.cubes.mask.argument.now s.cubes.mask.slice p };
+
+    ghost room = { λ s. 0 };
+
+    ghost cell = { λ s p. covered_by s.cubes.replacement.now
+        (unwrap_or (found_in s.cubes.mask.shape.now s.cubes.mask.argument.now
+        s.cubes.mask.slice p) Empty)
+        (cell_of s.cubes.slice p) };
+
+    fn row(&self, t: u32, band: u32, y: u32, x: u32, out: &mut [Cell], _scratch: &mut [Cell]) {
+        found_row(&self.cubes.mask, &self.plane, t, band, y, x, out);
+        let cells = row_of(&self.cubes.slice, t, band, y, x, out.len());
+        cover_row(self.cubes.replacement, cells, out);
+    }
+}
+
+impl Planes for CoveredPlanes<'_> {
+    ghost use Rattle.std.specs.Prelude.{unwrap_or};
+    ghost use Rattle.oe_cell.specs.declared.cell.Cell.TheVariants.{Empty};
+    ghost use Rattle.oe_dims.specs.Dimensions.{IsShape};
     ghost use Rattle.oe_dims.specs.Positions.{IsPosition};
     ghost use Rattle.oe_shape.specs.Meaning.{covered_by};
     ghost use Rattle.oe_window.specs.Windows.{IsIn};
@@ -51,19 +126,21 @@ impl Rows for CoveredRows<'_> {
     ghost use Rattle.oe_ops.specs.Slices.{IsCounted, cell_of};
 
     ghost serves = { λ s p. IsCounted s.slice × IsIn s.slice.window p × IsCounted s.mask.slice
-        × IsPosition s.mask.shape.now p
+        × IsShape s.mask.argument.now × IsPosition s.mask.shape.now p
         × IsHeld s.mask.shape.now s.mask.argument.now s.mask.slice p };
 
     ghost room = { λ s. 0 };
 
-    ghost cell = { λ s p. covered_by s.replacement
+    ghost cell = { λ s p. covered_by s.replacement.now
         (unwrap_or (found_in s.mask.shape.now s.mask.argument.now s.mask.slice p) Empty)
         (cell_of s.slice p) };
 
-    fn row(&self, t: u32, band: u32, y: u32, x: u32, out: &mut [Cell], _scratch: &mut [Cell]) {
-        found_row(&self.mask, t, band, y, x, out);
-        let cells = row_of(&self.slice, t, band, y, x, out.len());
-        cover_row(&self.replacement, cells, out);
+    fn plane(&self, window: &Window, out: &mut [Cell], scratch: &mut [Cell]) {
+        let rows = CoveredRows {
+            cubes: *self,
+            plane: plane_indices(self.mask.shape, self.mask.argument, window),
+        };
+        fill(&rows, window, out, scratch);
     }
 }
 
@@ -87,8 +164,9 @@ pub fn eval_cover(
     requires need { HoldsNeed (HasLabelsOf shape.now shape.now) window.now slice.window }
     requires mask_need { HoldsNeed (HasLabelsOf shape.now mask_shape.now) window.now mask.window }
     requires length { length out.old ≡ position_count window.now }
-    ensures value { (cube mask_cube : Cube Cell) → IsCube cube → cube.shape ≡ shape.now → IsOn cube slice.entry
-        → IsCube mask_cube → mask_cube.shape ≡ mask_shape.now → IsOn mask_cube mask.entry
+    ensures value { (cube mask_cube : Cube Cell) → IsCube cube → cube.shape ≡ shape.now
+        → IsOn cube slice.entry → IsCube mask_cube → mask_cube.shape ≡ mask_shape.now
+        → IsOn mask_cube mask.entry
         → out.new ≡ cells_on Empty (covered replacement cube mask_cube) window.now }
     ensures kinds { (kind : CellKind) → All (IsOfKind kind) slice.entry.cells.now
         → IsOfKind kind replacement → All (IsOfKind kind) out.new }
@@ -98,10 +176,10 @@ pub fn eval_cover(
         argument: mask_shape,
         slice: mask,
     };
-    let rows = CoveredRows {
-        replacement,
+    let planes = CoveredPlanes {
+        replacement: &replacement,
         slice,
         mask,
     };
-    fill(&rows, window, out, scratch);
+    fill_planes(&planes, window, out, scratch);
 }

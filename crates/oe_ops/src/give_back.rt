@@ -53,8 +53,8 @@ pub fn eval_give_back(
     requires counted { IsCounted slice }
     requires need { HoldsNeed (HasLabelsOf shape.now shape.now) window.now slice.window }
     requires length { length out.old ≡ position_count window.now }
-    ensures value { (cube : Cube Cell) → IsCube cube → cube.shape ≡ shape.now → IsOn cube slice.entry
-        → out.new ≡ cells_on Empty cube window.now }
+    ensures value { (cube : Cube Cell) → IsCube cube → cube.shape ≡ shape.now
+        → IsOn cube slice.entry → out.new ≡ cells_on Empty cube window.now }
     ensures kinds { (kind : CellKind) → All (IsOfKind kind) slice.entry.cells.now
         → All (IsOfKind kind) out.new }
 {

@@ -14,27 +14,32 @@ ghost use Rattle.oe_window.specs.Windows.{Holds, position_count, whole_window};
 ghost use Rattle.oe_ops.specs.Needs.{HasLabelsOf, HoldsNeed};
 ghost use Rattle.oe_ops.specs.Slices.{IsCounted, IsOn};
 
-use crate::rows::{Rows, fill};
+use crate::rows::{Planes, Rows, fill, fill_planes};
 use crate::slice::Slice;
-use crate::source::{Source, found_row};
+use crate::source::{PlaneIndices, Source, found_row, plane_indices};
 use oe_cell::Cell;
 use oe_dims::Shape;
 use oe_window::Window;
 
-/// The cells of an argument at the labels of a result.
+/// The cells of an argument at the labels of a result, on a plane.
 #[derive(Clone, Copy)]
 struct KeptRows<'a> {
     source: Source<'a>,
+    plane: PlaneIndices,
 }
 
 impl Rows for KeptRows<'_> {
     ghost use Rattle.std.specs.Prelude.{unwrap_or};
     ghost use Rattle.oe_cell.specs.declared.cell.Cell.TheVariants.{Empty};
+    ghost use Rattle.oe_dims.specs.Dimensions.{IsShape};
     ghost use Rattle.oe_dims.specs.Positions.{IsPosition};
-    ghost use Rattle.oe_ops.specs.Indices.{IsHeld, found_in};
+    ghost use Rattle.oe_ops.specs.Indices.{AreIndicesAt, IsHeld, found_in};
     ghost use Rattle.oe_ops.specs.Slices.{IsCounted};
 
-    ghost serves = { λ s p. IsCounted s.source.slice × IsPosition s.source.shape.now p
+    ghost serves = { λ s p. IsCounted s.source.slice
+        × IsShape s.source.shape.now × IsShape s.source.argument.now
+        × IsPosition s.source.shape.now p
+        × AreIndicesAt s.source.shape.now s.source.argument.now s.plane p
         × IsHeld s.source.shape.now s.source.argument.now s.source.slice p };
 
     ghost room = { λ s. 0 };
@@ -43,7 +48,33 @@ impl Rows for KeptRows<'_> {
         (found_in s.source.shape.now s.source.argument.now s.source.slice p) Empty };
 
     fn row(&self, t: u32, band: u32, y: u32, x: u32, out: &mut [Cell], _scratch: &mut [Cell]) {
-        found_row(&self.source, t, band, y, x, out);
+        found_row(&self.source, &self.plane, t, band, y, x, out);
+    }
+}
+
+impl Planes for Source<'_> {
+    ghost use Rattle.std.specs.Prelude.{unwrap_or};
+    ghost use Rattle.oe_cell.specs.declared.cell.Cell.TheVariants.{Empty};
+    ghost use Rattle.oe_dims.specs.Dimensions.{IsShape};
+    ghost use Rattle.oe_dims.specs.Positions.{IsPosition};
+    ghost use Rattle.oe_ops.specs.Indices.{IsHeld, found_in};
+    ghost use Rattle.oe_ops.specs.Slices.{IsCounted};
+
+    ghost serves = { λ s p. IsCounted s.slice × IsShape s.argument.now
+        × IsPosition s.shape.now p
+        × IsHeld s.shape.now s.argument.now s.slice p };
+
+    ghost room = { λ s. 0 };
+
+    ghost cell = { λ s p. unwrap_or
+        (found_in s.shape.now s.argument.now s.slice p) Empty };
+
+    fn plane(&self, window: &Window, out: &mut [Cell], scratch: &mut [Cell]) {
+        let rows = KeptRows {
+            source: *self,
+            plane: plane_indices(self.shape, self.argument, window),
+        };
+        fill(&rows, window, out, scratch);
     }
 }
 
@@ -73,5 +104,5 @@ pub fn eval_keep(
         argument,
         slice,
     };
-    fill(&KeptRows { source }, window, out, scratch);
+    fill_planes(&source, window, out, scratch);
 }

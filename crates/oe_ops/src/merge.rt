@@ -14,14 +14,17 @@ ghost use Rattle.oe_shape.specs.Labels.{merged_shape};
 ghost use Rattle.oe_shape.specs.Meaning.{joined, merged};
 ghost use Rattle.oe_window.specs.Cells.{cells_on};
 ghost use Rattle.oe_window.specs.Windows.{Holds, IsIn, extent_along, position_count, span_length, whole_window};
-ghost use Rattle.oe_ops.specs.Indices.{index_in_argument, position_on};
+ghost use Rattle.oe_ops.specs.Indices.{IsOnRun, index_in_argument, position_on};
 ghost use Rattle.oe_ops.specs.Joins.{AreBothFound, where_found};
 ghost use Rattle.oe_ops.specs.Needs.{HasLabelsOf, HoldsNeed};
 ghost use Rattle.oe_ops.specs.Slices.{IsCounted, IsOn, TakesPairs, cell_of};
 
-use crate::rows::{Rows, fill};
+use crate::rows::{Planes, Rows, fill, fill_planes};
+use crate::run::Run;
 use crate::slice::{Slice, indices};
-use crate::source::{RowIndices, Source, found_on, found_row, index_in, row_in};
+use crate::source::{
+    PlaneIndices, RowIndices, Source, found_on, found_row, index_in, plane_indices, row_in,
+};
 use oe_cell::Cell;
 use oe_dims::{Kind, Shape};
 use oe_expr::{EnvRow, Expr, eval_row};
@@ -37,13 +40,21 @@ pub struct Input<'a> {
 /// The cells of a slice of the first cube at the labels of a result, and of one of the second, `other`, in rows of at
 /// most `width` cells from the index `from` on.
 #[derive(Clone, Copy)]
-struct MergedRows<'a> {
+struct MergedPlanes<'a> {
     resolver: &'a Option<Expr>,
     one: Source<'a>,
     other: &'a Shape,
     other_slice: Slice<'a>,
     from: u32,
     width: usize,
+}
+
+/// The same on a plane.
+#[derive(Clone, Copy)]
+struct MergedRows<'a> {
+    cubes: MergedPlanes<'a>,
+    plane: PlaneIndices,
+    other_plane: PlaneIndices,
 }
 
 /// The values of the resolver on two rows of cells; null where there is none.
@@ -133,6 +144,7 @@ fn join_row(
     one: &Source,
     two: &Source,
     rows: (RowIndices, RowIndices),
+    runs: (Run, Run),
     x: u32,
     out: &mut [Cell],
     scratch: &mut [Cell],
@@ -144,6 +156,10 @@ fn join_row(
     requires counted { IsCounted one.now.slice }
     requires two_counted { IsCounted two.now.slice }
     requires inside { x + length out.old ≤ extent_along one.now.shape.now Kind.X }
+    requires on_run { (k : ℕ) → k < length out.old
+        → IsOnRun Kind.X one.now.shape.now one.now.argument.now runs.0 (x + k) }
+    requires two_on_run { (k : ℕ) → k < length out.old
+        → IsOnRun Kind.X one.now.shape.now two.now.argument.now runs.1 (x + k) }
     requires held { (k i : ℕ) → k < length out.old
         → index_in_argument Kind.X one.now.shape.now one.now.argument.now (x + k) ≡ Some i
         → IsIn one.now.slice.window (position_on rows.0 i) }
@@ -165,20 +181,78 @@ fn join_row(
     };
     let (ones, rest) = scratch.split_at_mut(out.len());
     let (twos, rest) = rest.split_at_mut(out.len());
-    let has_ones = found_on(one, rows.0, x, ones);
-    let has_twos = found_on(&two, rows.1, x, twos);
+    let has_ones = found_on(one, runs.0, rows.0, x, ones);
+    let has_twos = found_on(&two, runs.1, rows.1, x, twos);
     resolve_row(resolver, ones, twos, out, rest);
     mend_row(has_ones & has_twos, one, &two, x, ones, twos, out);
 }
 
 impl Rows for MergedRows<'_> {
     ghost use Rattle.std.specs.Prelude.{IfSome};
+    ghost use Rattle.oe_dims.specs.Dimensions.{IsShape};
+    ghost use Rattle.oe_dims.specs.Positions.{IsPosition};
+    ghost use Rattle.oe_shape.specs.Meaning.{joined};
+    ghost use Rattle.oe_ops.specs.Indices.{AreIndicesAt, IsHeld, found_in};
+    ghost use Rattle.oe_ops.specs.Slices.{IsCounted, TakesPairs};
+
+    ghost serves = { λ s p. IsCounted s.cubes.one.slice × IsCounted s.cubes.other_slice
+        × IsShape s.cubes.one.shape.now × IsShape s.cubes.one.argument.now
+        × IsShape s.cubes.other.now
+        × IfSome s.cubes.resolver.now
+        (λ c. TakesPairs c s.cubes.one.slice.cells.now s.cubes.other_slice.cells.now)
+        × (s.cubes.from ≤ p.x) × (p.x < s.cubes.from + s.cubes.width)
+        × IsPosition s.cubes.one.shape.now p
+        × AreIndicesAt s.cubes.one.shape.now s.cubes.one.argument.now s.plane p
+        × AreIndicesAt s.cubes.one.shape.now s.cubes.other.now s.other_plane p
+        × IsHeld s.cubes.one.shape.now s.cubes.one.argument.now s.cubes.one.slice p
+        × IsHeld s.cubes.one.shape.now s.cubes.other.now s.cubes.other_slice p };
+
+    ghost room = { λ s. 2 * s.cubes.width + 192 };
+
+    ghost cell = { λ s p. joined s.cubes.resolver.now
+        (found_in s.cubes.one.shape.now s.cubes.one.argument.now s.cubes.one.slice p)
+        (found_in s.cubes.one.shape.now s.cubes.other.now s.cubes.other_slice p) };
+
+    fn row(&self, t: u32, band: u32, y: u32, x: u32, out: &mut [Cell], scratch: &mut [Cell]) {
+        let cubes = &self.cubes;
+        let two = Source {
+            shape: cubes.one.shape,
+            argument: cubes.other,
+            slice: cubes.other_slice,
+        };
+        let first = row_in(&cubes.one, &self.plane, y);
+        let second = row_in(&two, &self.other_plane, y);
+        match (first, second) {
+            (_, None) => found_row(&cubes.one, &self.plane, t, band, y, x, out),
+            (None, Some(_)) => found_row(&two, &self.other_plane, t, band, y, x, out),
+            (Some(first), Some(second)) => {
+                let rows = (first, second);
+                let runs = (self.plane.x, self.other_plane.x);
+                join_row(
+                    cubes.resolver,
+                    &cubes.one,
+                    &two,
+                    rows,
+                    runs,
+                    x,
+                    out,
+                    scratch,
+                );
+            }
+        }
+    }
+}
+
+impl Planes for MergedPlanes<'_> {
+    ghost use Rattle.std.specs.Prelude.{IfSome};
+    ghost use Rattle.oe_dims.specs.Dimensions.{IsShape};
     ghost use Rattle.oe_dims.specs.Positions.{IsPosition};
     ghost use Rattle.oe_shape.specs.Meaning.{joined};
     ghost use Rattle.oe_ops.specs.Indices.{IsHeld, found_in};
     ghost use Rattle.oe_ops.specs.Slices.{IsCounted, TakesPairs};
 
     ghost serves = { λ s p. IsCounted s.one.slice × IsCounted s.other_slice
+        × IsShape s.one.argument.now × IsShape s.other.now
         × IfSome s.resolver.now (λ c. TakesPairs c s.one.slice.cells.now s.other_slice.cells.now)
         × (s.from ≤ p.x) × (p.x < s.from + s.width) × IsPosition s.one.shape.now p
         × IsHeld s.one.shape.now s.one.argument.now s.one.slice p
@@ -190,22 +264,13 @@ impl Rows for MergedRows<'_> {
         (found_in s.one.shape.now s.one.argument.now s.one.slice p)
         (found_in s.one.shape.now s.other.now s.other_slice p) };
 
-    fn row(&self, t: u32, band: u32, y: u32, x: u32, out: &mut [Cell], scratch: &mut [Cell]) {
-        let two = Source {
-            shape: self.one.shape,
-            argument: self.other,
-            slice: self.other_slice,
+    fn plane(&self, window: &Window, out: &mut [Cell], scratch: &mut [Cell]) {
+        let rows = MergedRows {
+            cubes: *self,
+            plane: plane_indices(self.one.shape, self.one.argument, window),
+            other_plane: plane_indices(self.one.shape, self.other, window),
         };
-        let first = row_in(self.one.shape, self.one.argument, t, band, y);
-        let second = row_in(self.one.shape, self.other, t, band, y);
-        match (first, second) {
-            (_, None) => found_row(&self.one, t, band, y, x, out),
-            (None, Some(_)) => found_row(&two, t, band, y, x, out),
-            (Some(first), Some(second)) => {
-                let rows = (first, second);
-                join_row(self.resolver, &self.one, &two, rows, x, out, scratch);
-            }
-        }
+        fill(&rows, window, out, scratch);
     }
 }
 
@@ -247,7 +312,7 @@ pub fn eval_merge(
         argument: one.shape,
         slice: one.slice,
     };
-    let rows = MergedRows {
+    let planes = MergedPlanes {
         resolver,
         one,
         other: two.shape,
@@ -255,5 +320,5 @@ pub fn eval_merge(
         from: window.x.from,
         width: indices(window.x),
     };
-    fill(&rows, window, out, scratch);
+    fill_planes(&planes, window, out, scratch);
 }

@@ -10,7 +10,8 @@ ghost use Rattle.oe_window.specs.Windows.{Holds, IsAlong, IsEmpty, extent_along,
 ghost use Rattle.oe_ops.specs.Indices.{index_in_argument};
 ghost use Rattle.oe_ops.specs.Loads.{GivesPlane};
 ghost use Rattle.oe_ops.specs.Needs.{HasLabelsBeside, HasLabelsOf, IsNeed, Needs, plane_window, zero_window};
-ghost use Rattle.oe_ops.specs.Spans.{IsAnyOf, IsBeside, IsLabelAt, IsReached, IsSpanOf, product, with_found, with_index};
+ghost use Rattle.oe_ops.specs.Spans.{IsAnyOf, IsBeside, IsLabelAt, IsReached, IsSpanOf};
+ghost use Rattle.oe_ops.specs.Spans.{product, with_found, with_index};
 
 use crate::source::index_in;
 use oe_dims::{Kind, Shape};

@@ -1,14 +1,15 @@
 // One loop over the rows of a window, for all operations.
-ghost use Rattle.std.specs.Prelude.{◌≡◌, ◌+◌, ◌/◌, ◌%◌, ◌*◌, ◌<◌, ◌≤◌, ℕ, length, map, slice_index_or};
+ghost use Rattle.std.specs.Prelude.{◌≡◌, ◌+◌, ◌<◌, ◌≤◌, ℕ, length, map, slice_index_or};
 ghost use Rattle.oe_cell.specs.declared.cell.Cell.{Cell};
 ghost use Rattle.oe_cell.specs.declared.cell.Cell.TheVariants.{Empty};
 ghost use Rattle.oe_dims.specs.Positions.{Position};
-ghost use Rattle.oe_window.specs.Windows.{IsIn, span_length, positions, position_count};
+ghost use Rattle.oe_window.specs.Windows.{IsIn, positions, position_count};
+ghost use Rattle.oe_ops.specs.Needs.{plane_window};
 ghost use Rattle.oe_ops.specs.Slices.{along_x, at_indices};
 
 use crate::slice::indices;
 use oe_cell::Cell;
-use oe_window::{Span, Window};
+use oe_window::{Span, Window, size};
 
 /// What gives the cells of a result row by row.
 pub(crate) trait Rows {
@@ -76,5 +77,48 @@ fn fill_rows<R: Rows>(rows: &R, window: &Window, out: &mut [Cell], scratch: &mut
             &mut out[first..first + width],
             scratch,
         );
+    }
+}
+
+/// What gives the cells of a result plane by plane, where something is found once for all rows of a plane.
+pub(crate) trait Planes {
+    // a position whose cell can be given
+    ghost serves: { Self → Position → Type 0 };
+
+    // how many cells of scratch that takes
+    ghost room: { Self → ℕ };
+
+    // the cell of a position
+    ghost cell: { Self → Position → Cell };
+
+    /// The cells of a window with one index along `t` and one along bands.
+    fn plane(&self, window: &Window, out: &mut [Cell], scratch: &mut [Cell])
+        requires one { window.now
+            ≡ plane_window window.now window.now.t.from window.now.bands.from }
+        requires some { 0 < length out.old }
+        requires counted { length out.old ≡ position_count window.now }
+        requires serves { (p : Position) → IsIn window.now p → serves self.now p }
+        requires room { room self.now ≤ length scratch.old }
+        ensures { out.new ≡ map (cell self.now) (positions window.now) };
+}
+
+/// The cells at all positions of a window, plane by plane.
+pub(crate) fn fill_planes<P: Planes>(
+    planes: &P,
+    window: &Window,
+    out: &mut [Cell],
+    scratch: &mut [Cell],
+)
+    requires counted { length out.old ≡ position_count window.now }
+    requires serves { (p : Position) → IsIn window.now p → P.serves planes.now p }
+    requires room { P.room planes.now ≤ length scratch.old }
+    ensures { out.new ≡ map (P.cell planes.now) (positions window.now) }
+{
+    let mut done = 0;
+    for number in 0..window.planes() {
+        let plane = window.plane(number);
+        let count = size(&plane) as usize;
+        planes.plane(&plane, &mut out[done..done + count], scratch);
+        done += count;
     }
 }

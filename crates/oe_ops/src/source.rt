@@ -1,18 +1,22 @@
 // The cells of an argument at the labels of a result.
-ghost use Rattle.std.specs.Prelude.{◌≡◌, ℕ, ◌+◌, ◌-◌, ◌<◌, ◌≤◌, IsTrue, true, is_some, length, slice_index_or, unwrap_or, Some};
+ghost use Rattle.std.specs.Prelude.{◌≡◌, ℕ, ◌+◌, ◌<◌, ◌≤◌, IsTrue, true, is_some, Some};
+ghost use Rattle.std.specs.Prelude.{length, slice_index_or, unwrap_or};
 ghost use Rattle.std.specs.Option.{option_map};
 ghost use Rattle.oe_cell.specs.declared.cell.Cell.TheVariants.{Empty};
 ghost use Rattle.oe_dims.specs.declared.kind.Kind.{Kind};
 ghost use Rattle.oe_dims.specs.Dimensions.{IsShape};
-ghost use Rattle.oe_dims.specs.Positions.{IsPosition};
-ghost use Rattle.oe_window.specs.Windows.{IsIn, extent_along};
-ghost use Rattle.oe_ops.specs.Indices.{IsHeld, found_in, index_in_argument, position_on, row_in};
+ghost use Rattle.oe_dims.specs.Positions.{IsPosition, Position};
+ghost use Rattle.oe_window.specs.Windows.{IsIn, extent_along, position_count};
+ghost use Rattle.oe_ops.specs.Indices.{AreIndicesAt, IsHeld, IsOnRun};
+ghost use Rattle.oe_ops.specs.Indices.{found_in, index_in_argument, position_on, row_in};
+ghost use Rattle.oe_ops.specs.Needs.{plane_window};
 ghost use Rattle.oe_ops.specs.Slices.{IsCounted, along_x, at_indices, cell_of};
 
-use crate::run::run_from;
+use crate::run::{Run, index_by, run_of};
 use crate::slice::{Slice, cell_of, row_of};
 use oe_cell::Cell;
 use oe_dims::{Kind, Shape};
+use oe_window::Window;
 
 /// The indices of a row along `t`, bands and `y`.
 #[derive(Clone, Copy)]
@@ -41,22 +45,30 @@ pub(crate) fn index_in(shape: &Shape, argument: &Shape, kind: Kind, index: u32) 
     }
 }
 
-/// The row in the argument of the labels along `t`, bands and `y`.
-pub(crate) fn row_in(
-    shape: &Shape,
-    argument: &Shape,
-    t: u32,
-    band: u32,
-    y: u32,
-) -> Option<RowIndices>
-    requires { IsPosition shape.now (at_indices t band y 0) }
-    ensures value { result ≡ row_in shape.now argument.now (at_indices t band y 0) }
+/// The indices in an argument of the labels of a plane of a result, found once for all its rows.
+#[derive(Clone, Copy)]
+pub(crate) struct PlaneIndices {
+    pub t: Option<u32>,
+    pub band: Option<u32>,
+    pub y: Run,
+    pub x: Run,
+}
+
+/// The indices in an argument of the labels of a plane.
+pub(crate) fn plane_indices(shape: &Shape, argument: &Shape, window: &Window) -> PlaneIndices
+    requires one { window.now ≡ plane_window window.now window.now.t.from window.now.bands.from }
+    requires some { 0 < position_count window.now }
+    requires inside { (p : Position) → IsIn window.now p → IsPosition shape.now p }
+    ensures value { (p : Position) → IsIn window.now p
+        → AreIndicesAt shape.now argument.now result p }
     ensures valid { IsShape shape.now }
 {
-    let t = index_in(shape, argument, Kind::Time, t)?;
-    let band = index_in(shape, argument, Kind::Bands, band)?;
-    let y = index_in(shape, argument, Kind::Y, y)?;
-    Some(RowIndices { t, band, y })
+    PlaneIndices {
+        t: index_in(shape, argument, Kind::Time, window.t.from),
+        band: index_in(shape, argument, Kind::Bands, window.bands.from),
+        y: run_of(shape, argument, Kind::Y, window.y),
+        x: run_of(shape, argument, Kind::X, window.x),
+    }
 }
 
 /// A slice of an argument, for the rows of a result.
@@ -69,11 +81,29 @@ pub(crate) struct Source<'a> {
     pub slice: Slice<'a>,
 }
 
+/// The row in the argument of the labels of a row of a plane.
+pub(crate) fn row_in(source: &Source, plane: &PlaneIndices, y: u32) -> Option<RowIndices>
+    requires valid { IsShape source.now.argument.now }
+    requires inside { y < extent_along source.now.shape.now Kind.Y }
+    requires on_run { IsOnRun Kind.Y source.now.shape.now source.now.argument.now plane.now.y y }
+    ensures { (t band : ℕ)
+        → plane.now.t ≡ index_in_argument Kind.Time source.now.shape.now source.now.argument.now t
+        → plane.now.band
+        ≡ index_in_argument Kind.Bands source.now.shape.now source.now.argument.now band
+        → result ≡ row_in source.now.shape.now source.now.argument.now (at_indices t band y 0) }
+{
+    let t = plane.t?;
+    let band = plane.band?;
+    let y = index_by(source.shape, source.argument, Kind::Y, plane.y, y)?;
+    Some(RowIndices { t, band, y })
+}
+
 /// The cell of a row at the label at an index along `x`: null where the argument has no such label.
 fn found_at(source: &Source, row: RowIndices, x: u32) -> Cell
     requires counted { IsCounted source.now.slice }
     requires inside { x < extent_along source.now.shape.now Kind.X }
-    requires held { (i : ℕ) → index_in_argument Kind.X source.now.shape.now source.now.argument.now x ≡ Some i
+    requires held { (i : ℕ)
+        → index_in_argument Kind.X source.now.shape.now source.now.argument.now x ≡ Some i
         → IsIn source.now.slice.window (position_on row i) }
     ensures { result ≡ unwrap_or (option_map (λ i. cell_of source.now.slice (position_on row i))
         (index_in_argument Kind.X source.now.shape.now source.now.argument.now x)) Empty }
@@ -103,11 +133,13 @@ fn found_each(source: &Source, row: RowIndices, x: u32, out: &mut [Cell])
 
 /// The cells of a row, and whether each label along `x` is sure to be found: one cell where the argument has no
 /// dimension `x`, one piece of the slice where the labels are a run of the argument's, and else each by itself.
-pub(crate) fn found_on(source: &Source, row: RowIndices, x: u32, out: &mut [Cell]) -> bool
+pub(crate) fn found_on(source: &Source, run: Run, row: RowIndices, x: u32, out: &mut [Cell]) -> bool
     requires valid { IsShape source.now.shape.now }
     requires some { 0 < length out.old }
     requires counted { IsCounted source.now.slice }
     requires inside { x + length out.old ≤ extent_along source.now.shape.now Kind.X }
+    requires on_run { (k : ℕ) → k < length out.old
+        → IsOnRun Kind.X source.now.shape.now source.now.argument.now run (x + k) }
     requires held { (k i : ℕ) → k < length out.old
         → index_in_argument Kind.X source.now.shape.now source.now.argument.now (x + k) ≡ Some i
         → IsIn source.now.slice.window (position_on row i) }
@@ -115,18 +147,20 @@ pub(crate) fn found_on(source: &Source, row: RowIndices, x: u32, out: &mut [Cell
         ≡ unwrap_or (option_map (λ i. cell_of source.now.slice (position_on row i))
         (index_in_argument Kind.X source.now.shape.now source.now.argument.now (x + k))) Empty }
     ensures all { IsTrue result → (k : ℕ) → k < length out.old
-        → is_some (index_in_argument Kind.X source.now.shape.now source.now.argument.now (x + k)) ≡ true }
+        → is_some (index_in_argument Kind.X source.now.shape.now source.now.argument.now (x + k))
+        ≡ true }
 {
     if source.argument.count(Kind::X).is_none() {
         out.fill(cell_of(&source.slice, row.t, row.band, row.y, 0));
         return true;
     }
-    match run_from(source.shape, source.argument, x, out.len()) {
+    match run.first {
         None => {
             found_each(source, row, x, out);
             false
         }
         Some(first) => {
+            let first = first + (x - run.from);
             let count = out.len();
             out.copy_from_slice(row_of(&source.slice, row.t, row.band, row.y, first, count));
             true
@@ -134,12 +168,32 @@ pub(crate) fn found_on(source: &Source, row: RowIndices, x: u32, out: &mut [Cell
     }
 }
 
+/// Null cells, where the argument has no such row.
+fn null_row(out: &mut [Cell])
+    ensures { (k : ℕ) → k < length out.old → slice_index_or out.new k Empty ≡ Empty }
+{
+    out.fill(Cell::Empty);
+}
+
 /// The cells at the labels of a row of the result, from a position on along `x`.
-pub(crate) fn found_row(source: &Source, t: u32, band: u32, y: u32, x: u32, out: &mut [Cell])
+pub(crate) fn found_row(
+    source: &Source,
+    plane: &PlaneIndices,
+    t: u32,
+    band: u32,
+    y: u32,
+    x: u32,
+    out: &mut [Cell],
+)
     requires some { 0 < length out.old }
+    requires valid { IsShape source.now.shape.now }
+    requires argument_valid { IsShape source.now.argument.now }
     requires counted { IsCounted source.now.slice }
     requires inside { (k : ℕ) → k < length out.old
         → IsPosition source.now.shape.now (along_x (at_indices t band y x) k) }
+    requires indices { (k : ℕ) → k < length out.old
+        → AreIndicesAt source.now.shape.now source.now.argument.now plane.now
+        (along_x (at_indices t band y x) k) }
     requires held { (k : ℕ) → k < length out.old
         → IsHeld source.now.shape.now source.now.argument.now source.now.slice
         (along_x (at_indices t band y x) k) }
@@ -147,10 +201,11 @@ pub(crate) fn found_row(source: &Source, t: u32, band: u32, y: u32, x: u32, out:
         ≡ unwrap_or (found_in source.now.shape.now source.now.argument.now source.now.slice
         (along_x (at_indices t band y x) k)) Empty }
 {
-    match row_in(source.shape, source.argument, t, band, y) {
-        None => out.fill(Cell::Empty),
+    let _plane = (t, band);
+    match row_in(source, plane, y) {
+        None => null_row(out),
         Some(row) => {
-            found_on(source, row, x, out);
+            found_on(source, plane.x, row, x, out);
         }
     }
 }

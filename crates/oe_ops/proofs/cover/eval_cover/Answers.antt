@@ -11,21 +11,22 @@ use Rattle.oe_ops.proofs.CoverLemmas.{own_inside, covered_is}
 use Rattle.oe_ops.proofs.KindLemmas.{all_fit, covered_by_fits, fits_at}
 use Rattle.oe_ops.proofs.cover.eval_cover.Goals as goal
 
-pub fill-requires-clause-serves : goal.fill-requires-clause-serves
-fill-requires-clause-serves c = λ p h. (
+pub fill_planes-requires-clause-serves : goal.fill_planes-requires-clause-serves
+fill_planes-requires-clause-serves c = λ p h. (
   c.requires.counted,
   own_inside c.args.shape.now c.args.slice c.args.window.now c.requires.within c.requires.need p h,
   c.requires.mask_counted,
+  c.requires.mask_valid,
   position_in c.args.shape.now p (c.requires.within p h),
   are_held c.args.shape.now c.args.mask_shape.now c.args.mask c.args.window.now c.requires.mask_need p h,
 )
 
 pub returns-clause-value : goal.returns-clause-value
 returns-clause-value c = λ cube mask whole same on mask_whole mask_same mask_on.
-    c.fill.ensures
+    c.fill_planes.ensures
     ∙ covered_is c.args.replacement cube mask c.args.slice c.args.mask c.args.window.now c.args.shape.now c.args.mask_shape.now same mask_same c.requires.valid whole on c.requires.mask_valid mask_whole mask_on c.requires.within c.requires.need c.requires.mask_need
 
 pub returns-clause-kinds : goal.returns-clause-kinds
 returns-clause-kinds c = λ kind h other.
-    all_fit kind (λ p. covered_by c.args.replacement (unwrap_or (found_in c.args.shape.now c.args.mask_shape.now c.args.mask p) Empty) (cell_of c.args.slice p)) (positions c.args.window.now) _ c.fill.ensures
+    all_fit kind (λ p. covered_by c.args.replacement (unwrap_or (found_in c.args.shape.now c.args.mask_shape.now c.args.mask p) Empty) (cell_of c.args.slice p)) (positions c.args.window.now) _ c.fill_planes.ensures
     (λ p. covered_by_fits kind c.args.replacement (unwrap_or (found_in c.args.shape.now c.args.mask_shape.now c.args.mask p) Empty) (cell_of c.args.slice p) other (fits_at kind c.args.slice.cells.now (number_in c.args.slice.window p) h))

@@ -8,19 +8,20 @@ use Rattle.oe_ops.proofs.KeepLemmas.{are_held, kept_is}
 use Rattle.oe_ops.proofs.KindLemmas.{all_fit, found_fits}
 use Rattle.oe_ops.proofs.keep.eval_keep.Goals as goal
 
-pub fill-requires-clause-serves : goal.fill-requires-clause-serves
-fill-requires-clause-serves c = λ p h. (
+pub fill_planes-requires-clause-serves : goal.fill_planes-requires-clause-serves
+fill_planes-requires-clause-serves c = λ p h. (
   c.requires.counted,
+  c.requires.valid,
   position_in c.args.shape.now p (c.requires.within p h),
   are_held c.args.shape.now c.args.argument.now c.args.slice c.args.window.now c.requires.need p h,
 )
 
 pub returns-clause-value : goal.returns-clause-value
 returns-clause-value c = λ cube r whole same is on.
-    c.fill.ensures
+    c.fill_planes.ensures
     ∙ kept_is cube r c.args.slice c.args.window.now c.args.shape.now c.args.argument.now same is c.requires.valid whole on c.requires.within c.requires.need
 
 pub returns-clause-kinds : goal.returns-clause-kinds
 returns-clause-kinds c = λ kind h.
-    all_fit kind (λ p. unwrap_or (found_in c.args.shape.now c.args.argument.now c.args.slice p) Empty) (positions c.args.window.now) _ c.fill.ensures
+    all_fit kind (λ p. unwrap_or (found_in c.args.shape.now c.args.argument.now c.args.slice p) Empty) (positions c.args.window.now) _ c.fill_planes.ensures
     (λ p. found_fits kind c.args.shape.now c.args.argument.now c.args.slice p h)

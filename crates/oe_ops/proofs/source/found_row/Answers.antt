@@ -1,10 +1,30 @@
-use Rattle.std.proofs.Common.{◌∙◌, sym}
+use Rattle.std.proofs.Common.{sym, ap, ◌∙◌}
+use Rattle.std.specs.Option.{unwrap_or}
+use Rattle.oe_cell.specs.declared.cell.Cell.TheVariants.{Empty}
 use Rattle.oe_ops.specs.Slices.{along_x, at_indices}
-use Rattle.oe_ops.proofs.FoundLemmas.{on_row}
+use Rattle.oe_ops.proofs.FoundLemmas.{found_on_row, not_on_row, on_row}
 use Rattle.oe_ops.proofs.source.found_row.Goals as goal
+
+pub found_on-requires-clause-on_run : goal.found_on-requires-clause-on_run
+found_on-requires-clause-on_run c = λ k lt. (c.requires.indices k lt).x
 
 pub found_on-requires-clause-held : goal.found_on-requires-clause-held
 found_on-requires-clause-held c = λ k i lt e.
+    let found = c.requires.indices k lt in
     c.requires.held k lt _
     (on_row c.args.source.now.shape.now c.args.source.now.argument.now (along_x (at_indices c.args.t c.args.band c.args.y c.args.x) k) c.in-Some.row i
-    (sym c.row_in.ensures.value ∙ c.in-Some.is) e)
+    (sym (c.row_in.ensures c.args.t c.args.band found.t found.band) ∙ c.in-Some.is) e)
+
+pub returns-in-None : goal.returns-in-None
+returns-in-None c = λ k lt.
+    let found = c.requires.indices k lt in
+    let source = c.args.source.now in
+    let none = not_on_row source.shape.now source.argument.now source.slice (along_x (at_indices c.args.t c.args.band c.args.y c.args.x) k) (sym (c.row_in.ensures c.args.t c.args.band found.t found.band) ∙ c.in-None.is) in
+    c.null_row.ensures k lt ∙ sym (ap (λ o. unwrap_or o Empty) none)
+
+pub returns-in-Some : goal.returns-in-Some
+returns-in-Some c = λ k lt.
+    let found = c.requires.indices k lt in
+    let source = c.args.source.now in
+    let some = found_on_row source.shape.now source.argument.now source.slice (along_x (at_indices c.args.t c.args.band c.args.y c.args.x) k) c.in-Some.row (sym (c.row_in.ensures c.args.t c.args.band found.t found.band) ∙ c.in-Some.is) in
+    c.found_on.ensures.value k lt ∙ sym (ap (λ o. unwrap_or o Empty) some)
