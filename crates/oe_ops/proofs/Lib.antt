@@ -9,6 +9,7 @@ pub mod ApplyLemmas
 pub mod RunLemmas
 pub mod GiveBackLemmas
 pub mod IndexLemmas
+pub mod OrderLemmas
 pub mod ConvolveLemmas
 pub mod MergeLemmas
 pub mod ColumnLemmas

@@ -1,5 +1,5 @@
 // The least window of an argument that a window of a result needs.
-ghost use Rattle.std.specs.Prelude.{◌≡◌, ◌∷◌, [], ◌+◌, ◌^◌, ◌<◌, ◌≤◌};
+ghost use Rattle.std.specs.Prelude.{◌≡◌, ◌∷◌, [], ◌+◌, ◌^◌, ◌<◌, ◌≤◌, IfSome};
 ghost use Rattle.oe_cell.specs.Fraction.{Fraction};
 ghost use Rattle.oe_dims.specs.Dimensions.{IsShape};
 ghost use Rattle.oe_dims.specs.declared.kind.Kind.{Kind};
@@ -89,6 +89,38 @@ fn with_label(found: Span, shape: &Shape, argument: &Shape, along: Kind, index: 
 
 /// The least span of the argument with the index of each label at a span of the result.
 fn labels_in(shape: &Shape, argument: &Shape, along: Kind, span: Span) -> Span
+    requires valid { IsShape argument.now }
+    requires some { span.from < span.to }
+    requires within { span.to ≤ extent_along shape.now along }
+    ensures { IsSpanOf (IsLabelAt along shape.now argument.now) span result }
+{
+    match labels_between(shape, argument, along, span) {
+        Some(found) => found,
+        None => each_label_in(shape, argument, along, span),
+    }
+}
+
+/// The same by the first and the last label, where the argument has both and labels stand in order: along `t`, `y` and
+/// `x` those between are found between.
+fn labels_between(shape: &Shape, argument: &Shape, along: Kind, span: Span) -> Option<Span>
+    requires valid { IsShape argument.now }
+    requires some { span.from < span.to }
+    requires within { span.to ≤ extent_along shape.now along }
+    ensures { IfSome result (IsSpanOf (IsLabelAt along shape.now argument.now) span) }
+{
+    if is_same(along, Kind::Bands) {
+        return None;
+    }
+    let first = index_in(shape, argument, along, span.from)?;
+    let last = index_in(shape, argument, along, span.to - 1)?;
+    Some(Span {
+        from: first,
+        to: last + 1,
+    })
+}
+
+/// The same by each label.
+fn each_label_in(shape: &Shape, argument: &Shape, along: Kind, span: Span) -> Span
     requires valid { IsShape argument.now }
     requires some { span.from < span.to }
     requires within { span.to ≤ extent_along shape.now along }

@@ -1,5 +1,5 @@
 use Rattle.oe_ops.specs.Spans.{IsLabelAt, IsSpanOf}
-use Rattle.oe_ops.proofs.needs.labels_in.Given as goal
+use Rattle.oe_ops.proofs.needs.each_label_in.Given as goal
 
 -- the least span for the indices so far
 abbrev pub invariant-loop-index : goal.invariant-loop-index

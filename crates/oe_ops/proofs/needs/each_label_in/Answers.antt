@@ -3,7 +3,7 @@ use Rattle.oe_window.specs.declared.window.Span.{Span}
 use Rattle.oe_ops.specs.Indices.{index_in_argument}
 use Rattle.oe_ops.specs.Spans.{IsLabelAt, IsSpanOf}
 use Rattle.oe_ops.proofs.SpanLemmas.{span_more, span_none}
-use Rattle.oe_ops.proofs.needs.labels_in.Goals as goal
+use Rattle.oe_ops.proofs.needs.each_label_in.Goals as goal
 
 pub loop-index-init : goal.loop-index-init
 loop-index-init c = subst (λ (s : Span). IsSpanOf (IsLabelAt c.args.along c.args.shape.now c.args.argument.now) (record { from = c.args.span.from; to = c.args.span.from }) s) (sym c.no_index-found.ensures) (span_none _ _ (omega arith))
