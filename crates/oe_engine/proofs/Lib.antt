@@ -16,6 +16,9 @@ pub mod PlaneLemmas
 pub mod StepLoadLemmas
 pub mod BenchLoadLemmas
 pub mod ChunkLemmas
+pub mod StripLemmas
+pub mod HullLemmas
+pub mod PieceLemmas
 pub mod GridLemmas
 pub mod CubeLemmas
 pub mod DoneLemmas

@@ -1,6 +1,5 @@
 -- The planes of what a node loads, one behind the other, and the steps that load, one after the other.
 use Rattle.std.proofs.Common.{◌≡◌, ◌≢◌, ℕ, zero, suc, ◌+◌, ◌-◌, ◌*◌, ◌<◌, ◌≤◌, Bool, cond, true, List, [], ◌∷◌, ◌++◌, length, get_or, take, drop, set, Some, refl, sym, ap, ◌∙◌, subst, arith, Vec}
-use Rattle.std.proofs.Math.Nat.{mul-le-mul_right}
 use Rattle.std.proofs.lemmas.List.{length-set, take_all}
 use Rattle.std.proofs.lemmas.Option.{same_Some}
 use Rattle.std.proofs.lemmas.List.Elements.{All-append}
@@ -15,8 +14,7 @@ use Rattle.oe_ops.specs.Needs.{plane_window}
 use Rattle.oe_plan.specs.Plans.{IsPlan, PlanOf}
 use Rattle.oe_plan.specs.Windows.{window_at}
 use Rattle.oe_shape.specs.Checked.{CheckedGraph, collection_of_node, outline_of_node}
-use Rattle.oe_shape.specs.Graphs.{Collections}
-use Rattle.oe_shape.specs.Laws.{AreCollectionsOf, meaning_of_node}
+use Rattle.oe_shape.specs.Laws.{meaning_of_node}
 use Rattle.oe_shape.specs.Links.{links_of}
 use Rattle.oe_sources.specs.Catalogue.{Row}
 use Rattle.oe_window.specs.Parts.{IsPartFrom, plane_count, plane_of, plane_size}
@@ -26,14 +24,14 @@ use Rattle.oe_window.proofs.CellLemmas.{cells_on-part, length-cells_on}
 use Rattle.oe_window.proofs.PartLemmas.{plane_ends, plane_of_size}
 use Rattle.oe_engine.specs.Benches.{EachLive, is_load_at, node_at, node_cells}
 use Rattle.oe_engine.specs.Buffers.{AreOfSize, buffer_at, lists_of}
-use Rattle.oe_engine.specs.Collections.{AreRead, IsMountedAt, Shows}
-use Rattle.oe_engine.specs.Loads.{AreLoaded, IsLoadedAt}
+use Rattle.oe_engine.specs.Collections.{AreRead, IsMountedAt}
+use Rattle.oe_engine.specs.Loads.{AreLoaded, HasLoadedTo, IsLoadedAt}
 use Rattle.oe_engine.specs.Runs.{load_count}
 use Rattle.oe_engine.proofs.BufferLemmas.{length-lists, of_size_after, take_front, with_items_is}
 use Rattle.oe_engine.proofs.LiveLemmas.{live_after}
 use Rattle.oe_engine.proofs.ReadLemmas.{mounted_same, shows_same}
 
-slice_more : {X : Type 0} (xs : List X) (a n end : ℕ) → end ≡ a + n → take a xs ++ take n (drop a xs) ≡ take end xs
+pub slice_more : {X : Type 0} (xs : List X) (a n end : ℕ) → end ≡ a + n → take a xs ++ take n (drop a xs) ≡ take end xs
 slice_more xs zero n end e = let same : n ≡ end = omega arith in ap (λ k. take k xs) same
 slice_more xs (suc a) n zero e = absurd (omega arith)
 slice_more [] (suc a) zero (suc end) e = refl
@@ -76,12 +74,6 @@ ends_within window plane n planes is all below = record {
   where
     by : (n m : ℕ) → (n + 1) * m ≡ n * m + m
     by n m = omega arith
-
--- the cells from the first on, as many as are done, are those of the node over the collections that are visible
-pub record HasLoadedTo (c : CheckedGraph) (rows : List Row) (node : ℕ) (window : Window) (done : ℕ) (buffer : List Cell) : Type 0 where
-  pub values : (collections : Collections) → AreCollectionsOf c collections → Shows c rows collections
-      → take done buffer ≡ take done (node_cells collections c node window)
-  pub kinds : All (IsOfKind (outline_of_node c node).kind) (take done buffer)
 
 module _ (c : CheckedGraph) (rows : List Row) (node : ℕ) (window : Window) where
   pub loaded_none : (buffer : List Cell) → HasLoadedTo c rows node window 0 buffer
@@ -167,9 +159,6 @@ module _ (buffers : List (Vec Cell Global)) (slot count cells : ℕ) (are : AreO
       (ap length slot_written ∙ (long ∙ sym (ap length at)))
 
 module _ (p : PlanOf) (is : IsPlan p) (rows : List Row) (windows : List Window) where
-  pub first_loaded : (buffers : List (List Cell)) → EachLive p 0 (IsLoadedAt p rows windows buffers)
-  first_loaded buffers i lt live = absurd (omega arith)
-
   pub next_loaded : (old new : List (List Cell)) (step : ℕ) → step < length p.order.steps
       → ((slot : ℕ) → slot ≢ get_or p.order.slots step 0 → buffer_at new slot ≡ buffer_at old slot)
       → EachLive p step (IsLoadedAt p rows windows old) → IsLoadedAt p rows windows new step
@@ -200,14 +189,3 @@ count_first test a (suc n) (suc m) le each =
 pub loads_counted : (p : PlanOf) (count : ℕ) → count ≤ length p.order.steps → ((step : ℕ) → step < count → is_load_at p step ≡ true)
     → count ≤ load_count p
 loads_counted p count most loads = count_first (is_load_at p) 0 count (length p.order.steps) most (λ i from to. loads i (omega arith))
-
--- a step more asks for one window more
-pub asked_more : (p : PlanOf) (count step cells window largest : ℕ) → count ≤ load_count p → step < count → cells ≡ step * largest → window ≤ largest
-    → (cells + window ≤ (step + 1) * largest) × (cells + window ≤ load_count p * largest)
-asked_more p count step cells window largest many before asked few =
-    let all : (step + 1) * largest ≤ load_count p * largest = mul-le-mul_right largest (omega arith) in
-    let one : (step + 1) * largest ≡ step * largest + largest = by step largest in
-    (omega arith, omega arith)
-  where
-    by : (n m : ℕ) → (n + 1) * m ≡ n * m + m
-    by n m = omega arith

@@ -7,4 +7,5 @@ pub mod Rounds
 pub mod Loads
 pub mod Workspaces
 pub mod Chunks
+pub mod Hulls
 pub mod Laws

@@ -1,5 +1,5 @@
 -- What reading the cells of a load gives.
-use Rattle.std.specs.Prelude.{◌≡◌, ◌≤◌, ℕ, ◌+◌, List, IsErrOf, IfErr, Result, Ok, Err}
+use Rattle.std.specs.Prelude.{◌≡◌, ◌≤◌, ℕ, ◌+◌, List, take, IsErrOf, IfErr, Result, Ok, Err}
 use Rattle.std.specs.List.{All}
 use Rattle.oe_cell.specs.declared.cell.Cell.{Cell}
 use Rattle.oe_cube.specs.Kinds.{IsOfKind}
@@ -46,6 +46,13 @@ pub record AreLoaded (c : CheckedGraph) (rows : List Row) (node : ℕ) (window :
   pub values : (collections : Collections) → AreCollectionsOf c collections → Shows c rows collections
       → cells ≡ node_cells collections c node window
   pub kinds : All (IsOfKind (outline_of_node c node).kind) cells
+
+-- the cells from the first on, as many as are done, are those of the node over the collections that are visible
+pub record HasLoadedTo (c : CheckedGraph) (rows : List Row) (node : ℕ) (window : Window) (done : ℕ)
+    (buffer : List Cell) : Type 0 where
+  pub values : (collections : Collections) → AreCollectionsOf c collections → Shows c rows collections
+      → take done buffer ≡ take done (node_cells collections c node window)
+  pub kinds : All (IsOfKind (outline_of_node c node).kind) (take done buffer)
 
 -- the same of a step, at the front of the buffer of its slot
 abbrev pub IsLoadedAt : PlanOf → List Row → List Window → List (List Cell) → ℕ → Type 0

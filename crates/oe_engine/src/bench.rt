@@ -1,27 +1,36 @@
 // A bench: what one chunk of a run is evaluated in.
-ghost use Rattle.std.specs.Prelude.{◌≡◌, ◌<◌, ◌+◌, ◌*◌, ℕ, IfOk, length, ◌≤◌, ◌^◌, OnOk, OnErr, IfErr};
+ghost use Rattle.std.specs.Prelude.{◌≡◌, ◌<◌, ◌+◌, ◌*◌, ℕ, IfOk, length, ◌≤◌, ◌^◌, OnOk, OnErr, IfErr, List, take, Some, true};
 ghost use Rattle.oe_shape.specs.Graphs.{Collections};
 ghost use Rattle.oe_shape.specs.Laws.{AreCollectionsOf};
 ghost use Rattle.oe_plan.specs.Fits.{bench_cells};
-ghost use Rattle.oe_engine.specs.Benches.{IsBenchFor, IsDone, IsLoaded, chunk_of, held_cells, node_cells};
+ghost use Rattle.oe_engine.specs.Benches.{IsBenchFor, IsDone, IsLoaded, chunk_of, held_cells, node_cells, IsAtChunk, is_load_at, node_at};
 ghost use Rattle.oe_engine.specs.Buffers.{AreOfSize, lists_of};
 ghost use Rattle.oe_engine.specs.Chunks.{AreResultOf};
 ghost use Rattle.oe_engine.specs.declared.bench.State.TheVariants.{Idle, Loaded, Done};
 ghost use Rattle.oe_dims.specs.Dimensions.{cell_count};
 ghost use Rattle.oe_outside.specs.Faults.{HasCauseOf};
-ghost use Rattle.oe_plan.specs.Figures.{largest_window};
+ghost use Rattle.oe_plan.specs.Figures.{largest_window, shape_of_node};
 ghost use Rattle.oe_render.specs.Rendered.{AppendsCube, AppendsCubePrefix, IsRefusalWithin};
 ghost use Rattle.oe_render.specs.Stored.{HasCells};
 ghost use Rattle.oe_render.specs.declared.rendering.RenderFail.{RenderFail};
 ghost use Rattle.oe_sources.specs.CatalogueRows.{rows_of};
-ghost use Rattle.oe_engine.specs.Collections.{HasCollections};
-ghost use Rattle.oe_engine.specs.Loads.{HasRead, LoadsBench};
-ghost use Rattle.oe_engine.specs.Runs.{chunk_total, load_count, result_shape};
+ghost use Rattle.oe_engine.specs.Collections.{HasCollections, AreRead, IsMountedAt};
+ghost use Rattle.oe_engine.specs.Loads.{HasRead, LoadsBench, AreLoaded};
+ghost use Rattle.oe_engine.specs.Runs.{chunk_total, result_shape};
+ghost use Rattle.oe_engine.specs.Hulls.{HasLoadedRows, HasLoadedSteps, IsBegun, IsStripped, LoadsFirst};
+ghost use Rattle.oe_ops.specs.Needs.{plane_window};
+ghost use Rattle.oe_plan.specs.Plans.{IsPlan, PlanOf};
+ghost use Rattle.oe_plan.specs.Windows.{window_at};
+ghost use Rattle.oe_shape.specs.Checked.{collection_of_node};
+ghost use Rattle.oe_sources.specs.Catalogue.{Row};
+ghost use Rattle.oe_window.specs.Parts.{row_count, row_of};
+ghost use Rattle.oe_window.specs.Windows.{Holds, position_count, span_length, whole_window};
 
-use crate::loading::load_steps;
+use crate::loading::{load_front, load_slot};
 use crate::rounds::RunFail;
 use crate::run::{evaluate_steps, step_of_result};
 use crate::step::front;
+use crate::strips::take_part;
 use oe_cell::Cell;
 use oe_memory::OutOfMemory;
 use oe_outside::{Pending, Sink, Store};
@@ -119,30 +128,151 @@ impl Bench {
         self.state
     }
 
-    /// Loads it for a chunk: its windows, and the cells of each step that loads a collection.
-    ///
-    /// Refuses: where a read of a collection is refused. Then it is idle.
-    pub(crate) fn load(
-        &mut self,
-        plan: &Plan,
-        catalogue: &mut Catalogue,
-        chunk: u64,
-    ) -> Result<(), RunFail>
+    /// Gives it the windows of a chunk. It is idle until all is loaded.
+    pub(crate) fn begin(&mut self, plan: &Plan, chunk: u64)
         requires bench { IsBenchFor plan.now self.old }
         requires chunk { chunk < chunk_total plan.now }
-        requires mounted { HasCollections plan.now.graph (rows_of seen catalogue.old) }
-        ensures loaded { OnOk result
-            (LoadsBench plan.now (rows_of seen catalogue.old) chunk self.new) }
-        ensures bench { IsBenchFor plan.now self.new }
-        ensures read { HasRead plan.now.graph
-            (load_count plan.now * largest_window plan.now.graph plan.now.size)
-            (rows_of seen catalogue.old) (rows_of seen catalogue.new) result }
+        ensures begun { IsBegun plan.now self.new }
+        ensures chunk { IsAtChunk plan.now chunk self.new }
     {
         self.state = State::Idle;
         plan.windows_of(&plan.chunk(chunk), &mut self.windows);
-        load_steps(plan, catalogue, &self.windows, &mut self.buffers)?;
+    }
+
+    /// Says that it is loaded for its chunk, which has this number.
+    pub(crate) fn end(&mut self, chunk: u64)
+        ensures loaded { (p : PlanOf) (rows : List Row) (count : ℕ) → IsPlan p → LoadsFirst p count
+            → IsBegun p self.old → HasLoadedSteps p rows count chunk self.old
+            → LoadsBench p rows chunk self.new }
+    {
         self.state = State::Loaded(chunk);
-        Ok(())
+    }
+
+    /// The window of a step.
+    pub(crate) fn window(&self, step: u32) -> Window
+        requires { step < length self.now.windows }
+        ensures { result ≡ window_at self.now.windows step }
+    {
+        self.windows[step as usize]
+    }
+
+    /// So many of the cells that it works with.
+    pub(crate) fn scratch(&self, count: usize) -> &[Cell]
+        requires { count ≤ length self.now.scratch }
+        ensures { result.now ≡ take count self.now.scratch }
+    {
+        &self.scratch[..count]
+    }
+
+    /// Reads the cells of a step that loads a collection.
+    ///
+    /// Refuses: where a read of a collection is refused.
+    pub(crate) fn load_step(
+        &mut self,
+        plan: &Plan,
+        catalogue: &mut Catalogue,
+        step: u32,
+    ) -> Result<(), RunFail>
+        requires step { step < length plan.now.order.steps }
+        requires load { is_load_at plan.now step ≡ true }
+        requires mounted { HasCollections plan.now.graph (rows_of seen catalogue.old) }
+        requires begun { IsBegun plan.now self.old }
+        ensures begun { IsBegun plan.now self.new }
+        ensures loaded { (rows : List Row) (k : ℕ) → AreRead rows (rows_of seen catalogue.old)
+            → HasLoadedSteps plan.now rows step k self.old
+            → OnOk result (HasLoadedSteps plan.now rows (step + 1) k self.new) }
+        ensures read { HasRead plan.now.graph (largest_window plan.now.graph plan.now.size)
+            (rows_of seen catalogue.old) (rows_of seen catalogue.new) result }
+    {
+        load_slot(plan, catalogue, step, &self.windows, &mut self.buffers)
+    }
+
+    /// Reads a row of a hull into the cells to work with, from the collection of a row of the catalogue.
+    ///
+    /// Refuses: where the read is refused.
+    pub(crate) fn read_row(
+        &mut self,
+        plan: &Plan,
+        catalogue: &mut Catalogue,
+        step: u32,
+        place: u32,
+        row: &Window,
+    ) -> Result<(), RunFail>
+        requires step { step < length plan.now.order.steps }
+        requires load { is_load_at plan.now step ≡ true }
+        requires mounted { (id : List ℕ)
+            → collection_of_node plan.now.graph (node_at plan.now step) ≡ Some id
+            → IsMountedAt plan.now.graph (rows_of seen catalogue.old) id place }
+        requires within { Holds
+            (whole_window (shape_of_node plan.now.graph (node_at plan.now step))) row.now }
+        requires one { row.now ≡ plane_window row.now row.now.t.from row.now.bands.from }
+        requires count { position_count row.now ≡ span_length row.now.x }
+        requires room { span_length row.now.x ≤ length self.old.scratch }
+        ensures loaded { OnOk result (AreLoaded plan.now.graph (rows_of seen catalogue.old)
+            (node_at plan.now step) row.now (take (span_length row.now.x) self.new.scratch)) }
+        ensures others { (record self.new { scratch = self.old.scratch }) ≡ self.old }
+        ensures scratch { length self.new.scratch ≡ length self.old.scratch }
+        ensures read { HasRead plan.now.graph (span_length row.now.x)
+            (rows_of seen catalogue.old) (rows_of seen catalogue.new) result }
+    {
+        load_front(plan, catalogue, step, place, row, &mut self.scratch)
+    }
+
+    /// Takes its part of a row that it read itself.
+    pub(crate) fn take_own_row(&mut self, plan: &Plan, step: u32, hull: &Window, number: u64)
+        requires step { step < length plan.now.order.steps }
+        requires stripped { IsStripped plan.now hull.now step self.old }
+        requires number { number < row_count hull.now }
+        requires room { span_length hull.now.x ≤ length self.old.scratch }
+        ensures stripped { IsStripped plan.now hull.now step self.new }
+        ensures scratch { self.new.scratch ≡ self.old.scratch }
+        ensures loaded { (rows : List Row) (k : ℕ)
+            → AreLoaded plan.now.graph rows (node_at plan.now step) (row_of hull.now number)
+            (take (span_length hull.now.x) self.old.scratch)
+            → HasLoadedRows plan.now rows step number k self.old
+            → HasLoadedRows plan.now rows step (number + 1) k self.new }
+    {
+        let count = (hull.x.to - hull.x.from) as usize;
+        let row = &self.scratch[..count];
+        take_part(
+            plan,
+            step,
+            hull,
+            number,
+            row,
+            &self.windows,
+            &mut self.buffers,
+        );
+    }
+
+    /// Takes its part of a hull's row of a number.
+    pub(crate) fn take_row(
+        &mut self,
+        plan: &Plan,
+        step: u32,
+        hull: &Window,
+        number: u64,
+        row: &[Cell],
+    )
+        requires step { step < length plan.now.order.steps }
+        requires stripped { IsStripped plan.now hull.now step self.old }
+        requires number { number < row_count hull.now }
+        requires row { length row.now ≡ span_length hull.now.x }
+        ensures stripped { IsStripped plan.now hull.now step self.new }
+        ensures loaded { (rows : List Row) (k : ℕ)
+            → AreLoaded plan.now.graph rows (node_at plan.now step) (row_of hull.now number) row.now
+            → HasLoadedRows plan.now rows step number k self.old
+            → HasLoadedRows plan.now rows step (number + 1) k self.new }
+    {
+        take_part(
+            plan,
+            step,
+            hull,
+            number,
+            row,
+            &self.windows,
+            &mut self.buffers,
+        );
     }
 
     /// Writes the result text from records in a spool, with the cells to work with as its buffer.

@@ -1,18 +1,15 @@
 // The chunks of one round, each in a bench of its own.
-ghost use Rattle.std.specs.Prelude.{◌≡◌, ◌+◌, ◌*◌, ◌^◌, ◌≤◌, length, IfErr, OnOk};
+ghost use Rattle.std.specs.Prelude.{◌≡◌, ◌+◌, ◌^◌, ◌≤◌, length, IfErr, OnOk};
 ghost use Rattle.std.specs.List.{All};
 ghost use Rattle.oe_cell.specs.Cells.{IsCell};
 ghost use Rattle.oe_outside.specs.Faults.{HasCauseOf};
-ghost use Rattle.oe_plan.specs.Figures.{largest_window, shape_of_node};
+ghost use Rattle.oe_plan.specs.Figures.{shape_of_node};
 ghost use Rattle.oe_shape.specs.Graphs.{Collections};
 ghost use Rattle.oe_shape.specs.Laws.{AreCollectionsOf};
-ghost use Rattle.oe_sources.specs.CatalogueRows.{rows_of};
 ghost use Rattle.oe_spool.specs.Spooled.{ChangesOnly, IsInSome};
-ghost use Rattle.oe_engine.specs.Benches.{IsBenchFor, IsDone, IsLoaded};
+ghost use Rattle.oe_engine.specs.Benches.{IsDone, IsLoaded};
 ghost use Rattle.oe_engine.specs.Chunks.{EachBench, HasRecordsOf, HasValidCells, IsAtDone, IsAtLoaded, IsLeastOf};
-ghost use Rattle.oe_engine.specs.Collections.{HasCollections};
-ghost use Rattle.oe_engine.specs.Loads.{HasRead, LoadsBench};
-ghost use Rattle.oe_engine.specs.Runs.{chunk_total, chunks_from, evaluated_after, load_count};
+ghost use Rattle.oe_engine.specs.Runs.{chunk_total, chunks_from, evaluated_after};
 ghost use Rattle.oe_engine.specs.declared.rounds.RunFail.{RunFail};
 
 use crate::bench::Bench;
@@ -20,36 +17,7 @@ use crate::rounds::RunFail;
 use oe_cell::Cell;
 use oe_outside::{Gate, Store};
 use oe_plan::Plan;
-use oe_sources::Catalogue;
 use oe_spool::{least_over, lesser, write_window};
-
-/// Loads the chunks from a first one on, each into a bench.
-///
-/// Refuses: where a read of a collection is refused.
-pub(crate) fn load_chunks(
-    plan: &Plan,
-    benches: &mut [Bench],
-    catalogue: &mut Catalogue,
-    first: u64,
-) -> Result<(), RunFail>
-    requires benches { All (IsBenchFor plan.now) benches.old }
-    requires chunks { first + length benches.old ≤ chunk_total plan.now }
-    requires mounted { HasCollections plan.now.graph (rows_of seen catalogue.old) }
-    ensures loaded { OnOk result
-        (EachBench first (LoadsBench plan.now (rows_of seen catalogue.old)) benches.new) }
-    ensures benches { All (IsBenchFor plan.now) benches.new }
-    ensures count { length benches.new ≡ length benches.old }
-    ensures read { HasRead plan.now.graph (length benches.old
-        * (load_count plan.now * largest_window plan.now.graph plan.now.size))
-        (rows_of seen catalogue.old) (rows_of seen catalogue.new) result }
-{
-    // A plan has at most 2^48 chunks, so that their numbers fit 64 bits.
-    let _chunks = plan.chunks();
-    for index in 0..benches.len() {
-        benches[index].load(plan, catalogue, first + index as u64)?;
-    }
-    Ok(())
-}
 
 /// Evaluates benches that are loaded for the chunks from a first one on, each once behind the gate. Answers the number
 /// of evaluations, before which there were so many.

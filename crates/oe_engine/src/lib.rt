@@ -8,12 +8,14 @@
 
 mod bench;
 mod chunks;
+mod hulls;
 mod laws;
 mod loading;
 mod over;
 mod rounds;
 mod run;
 mod step;
+mod strips;
 mod taken;
 mod workspace;
 

@@ -1,23 +1,21 @@
 // The cells of collections that a chunk needs, read into a bench.
-ghost use Rattle.std.specs.Prelude.{◌≡◌, ◌<◌, ◌≤◌, ◌*◌, ◌^◌, ℕ, List, true, Some, IfSome, OnOk, length, replicate, take};
+ghost use Rattle.std.specs.Prelude.{◌≡◌, ◌<◌, ◌≤◌, ◌+◌, ◌^◌, ℕ, List, true, Some, IfSome, OnOk, length, replicate, take};
 ghost use Rattle.oe_cell.specs.declared.cell.Cell.TheVariants.{Empty};
 ghost use Rattle.oe_cube.specs.Collections.{IsCollection};
 ghost use Rattle.oe_dims.specs.Dimensions.{IsShape};
-ghost use Rattle.oe_engine.specs.Benches.{AreOfChunk, EachLoad, HaveRoomFor, is_load_at, node_at};
+ghost use Rattle.oe_engine.specs.Benches.{AreOfChunk, EachLive, HaveRoomFor, is_load_at, node_at};
 ghost use Rattle.oe_engine.specs.Buffers.{lists_of};
-ghost use Rattle.oe_engine.specs.Collections.{HasCollections, IsMountedAt};
+ghost use Rattle.oe_engine.specs.Collections.{AreRead, HasCollections, IsMountedAt};
 ghost use Rattle.oe_engine.specs.Loads.{AreLoaded, HasRead, IsLoadedAt, ReadsBox};
-ghost use Rattle.oe_engine.specs.Runs.{load_count};
 ghost use Rattle.oe_ops.specs.Needs.{plane_window};
 ghost use Rattle.oe_plan.specs.Figures.{largest_window, shape_of_node};
 ghost use Rattle.oe_shape.specs.Checked.{collection_of_node};
-ghost use Rattle.oe_sources.specs.Catalogue.{source_at};
+ghost use Rattle.oe_sources.specs.Catalogue.{Row, source_at};
 ghost use Rattle.oe_sources.specs.CatalogueRows.{rows_of};
 ghost use Rattle.oe_sources.specs.Source.{collection_of};
-ghost use Rattle.oe_window.specs.Windows.{Holds, position_count, whole_window};
+ghost use Rattle.oe_window.specs.Windows.{Holds, position_count, span_length, whole_window};
 
 use crate::rounds::RunFail;
-use crate::run::loads;
 use oe_cell::Cell;
 use oe_dims::{Kind, Shape};
 use oe_ops::source_window;
@@ -25,29 +23,33 @@ use oe_plan::Plan;
 use oe_sources::{Catalogue, SourceFail};
 use oe_window::{Window, size};
 
-/// Reads the cells of each step that loads a collection, on its window, into the buffer of its slot.
-pub(crate) fn load_steps(
+/// Reads the cells of a step that loads a collection, on its window, into the buffer of its slot.
+///
+/// Refuses: where a read of a collection is refused.
+pub(crate) fn load_slot(
     plan: &Plan,
     catalogue: &mut Catalogue,
+    step: u32,
     windows: &[Window],
     buffers: &mut [Vec<Cell>],
 ) -> Result<(), RunFail>
+    requires step { step < length plan.now.order.steps }
+    requires load { is_load_at plan.now step ≡ true }
+    requires mounted { HasCollections plan.now.graph (rows_of seen catalogue.old) }
     requires windows { AreOfChunk plan.now windows.now }
     requires room { HaveRoomFor plan.now (lists_of buffers.old) }
-    requires mounted { HasCollections plan.now.graph (rows_of seen catalogue.old) }
     ensures room { HaveRoomFor plan.now (lists_of buffers.new) }
-    ensures loaded { OnOk result (EachLoad plan.now (IsLoadedAt plan.now
-        (rows_of seen catalogue.old) windows.now (lists_of buffers.new))) }
-    ensures read { HasRead plan.now.graph
-        (load_count plan.now * largest_window plan.now.graph plan.now.size)
+    ensures loaded { (rows : List Row) → AreRead rows (rows_of seen catalogue.old)
+        → EachLive plan.now step (IsLoadedAt plan.now rows windows.now (lists_of buffers.old))
+        → OnOk result (EachLive plan.now (step + 1)
+        (IsLoadedAt plan.now rows windows.now (lists_of buffers.new))) }
+    ensures read { HasRead plan.now.graph (largest_window plan.now.graph plan.now.size)
         (rows_of seen catalogue.old) (rows_of seen catalogue.new) result }
 {
-    for step in 0..loads(plan) {
-        let window = windows[step as usize];
-        let buffer = buffers[plan.slot(step) as usize].as_mut_slice();
-        load_step(plan, catalogue, step, &window, buffer)?;
-    }
-    Ok(())
+    let slot = plan.slot(step);
+    let window = windows[step as usize];
+    let buffer = buffers[slot as usize].as_mut_slice();
+    load_step(plan, catalogue, step, &window, buffer)
 }
 
 /// Reads the cells of the node of a step on its window into the front of a buffer, plane by plane.
@@ -83,7 +85,7 @@ fn load_step(
 }
 
 /// The row of the collection that the node of a step loads.
-fn place_of(plan: &Plan, catalogue: &Catalogue, step: u32) -> u32
+pub(crate) fn place_of(plan: &Plan, catalogue: &Catalogue, step: u32) -> u32
     requires step { step < length plan.now.order.steps }
     requires load { is_load_at plan.now step ≡ true }
     requires mounted { HasCollections plan.now.graph (rows_of seen catalogue.now) }
@@ -108,7 +110,7 @@ fn clear(cells: &mut [Cell])
 }
 
 /// Reads the cells of the node of a step on one plane, from the collection of a row.
-fn load_plane(
+pub(crate) fn load_plane(
     plan: &Plan,
     catalogue: &mut Catalogue,
     step: u32,
@@ -144,6 +146,34 @@ fn load_plane(
         return Ok(());
     }
     read_box(catalogue, node, place, &source, into)
+}
+
+/// Reads the cells of the node of a step on one row of a window into the front of some cells.
+pub(crate) fn load_front(
+    plan: &Plan,
+    catalogue: &mut Catalogue,
+    step: u32,
+    place: u32,
+    row: &Window,
+    cells: &mut [Cell],
+) -> Result<(), RunFail>
+    requires step { step < length plan.now.order.steps }
+    requires load { is_load_at plan.now step ≡ true }
+    requires mounted { (id : List ℕ)
+        → collection_of_node plan.now.graph (node_at plan.now step) ≡ Some id
+        → IsMountedAt plan.now.graph (rows_of seen catalogue.old) id place }
+    requires within { Holds (whole_window (shape_of_node plan.now.graph (node_at plan.now step)))
+        row.now }
+    requires one { row.now ≡ plane_window row.now row.now.t.from row.now.bands.from }
+    requires count { position_count row.now ≡ span_length row.now.x }
+    requires room { span_length row.now.x ≤ length cells.old }
+    ensures loaded { OnOk result (AreLoaded plan.now.graph (rows_of seen catalogue.old)
+        (node_at plan.now step) row.now (take (span_length row.now.x) cells.new)) }
+    ensures read { HasRead plan.now.graph (span_length row.now.x)
+        (rows_of seen catalogue.old) (rows_of seen catalogue.new) result }
+{
+    let count = row.x.to.saturating_sub(row.x.from) as usize;
+    load_plane(plan, catalogue, step, place, row, &mut cells[..count])
 }
 
 /// The shape of the collection of a row, of which the reading of a dimension says that it is valid.

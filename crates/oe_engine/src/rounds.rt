@@ -89,7 +89,8 @@ impl Run {
     pub fn start(plan: Plan, workspace: Workspace, base: u64) -> Run
         requires made { AreBenchesFor plan workspace }
         requires base { base ≤ 2 ^ 62 }
-        ensures { result ≡ record { plan = plan; base = base; done = 0; evaluations = 0; over = None } }
+        ensures { result
+            ≡ record { plan = plan; base = base; done = 0; evaluations = 0; over = None } }
     {
         Run {
             plan,

@@ -12,7 +12,8 @@ ghost use Rattle.oe_engine.specs.Loads.{HasRead, LoadsBench};
 ghost use Rattle.oe_engine.specs.Runs.{chunk_total, evaluated_after, load_count};
 
 use crate::bench::Bench;
-use crate::chunks::{evaluate_chunks, load_chunks};
+use crate::chunks::evaluate_chunks;
+use crate::hulls::load_chunks;
 use crate::rounds::RunFail;
 use oe_outside::Gate;
 use oe_plan::Plan;
@@ -33,7 +34,8 @@ pub(crate) fn load_taken(
     requires chunks { first + count ≤ chunk_total plan.now }
     requires mounted { HasCollections plan.now.graph (rows_of seen catalogue.old) }
     ensures loaded { OnOk result
-        (EachBench first (LoadsBench plan.now (rows_of seen catalogue.old)) (take count benches.new)) }
+        (EachBench first (LoadsBench plan.now (rows_of seen catalogue.old))
+        (take count benches.new)) }
     ensures benches { All (IsBenchFor plan.now) benches.new }
     ensures many { length benches.new ≡ length benches.old }
     ensures read { HasRead plan.now.graph (count

@@ -16,9 +16,10 @@
 //! - A run evaluates each chunk once. The chunks of a round whose read failed are not evaluated, so a failed read adds
 //!   none; those of a round whose write failed are evaluated again, so that adds the two a worker that the round takes. A
 //!   call that fails while the text is written adds none.
-//! - A chunk is read by one call for each of its planes, and its records are written by one for each of its rows. The
-//!   text takes one call of the spool, since its buffer has room for all records, and two writes: when the buffer is
-//!   empty, and at the end.
+//! - Chunks of a round that stand beside one another along x are read by one call for each row of the hull of their
+//!   windows, another chunk by one for each plane of its window. The records of a chunk are written by one call for each
+//!   of its rows. The text takes one call of the spool, since its buffer has room for all records, and two writes: when
+//!   the buffer is empty, and at the end.
 //! - Cells by the definitions of openEO Processes, those of the graph with every process by a short program over fractions
 //!   that shares no code with these crates; records as `docs/formats.md` has them.
 #![tactic(auto)]

@@ -5,9 +5,9 @@ use Rattle.oe_sources.specs.CatalogueRows.{rows_of}
 use Rattle.oe_window.specs.Parts.{IsPartFrom, plane_size}
 use Rattle.oe_window.specs.Windows.{position_count}
 use Rattle.oe_engine.specs.Benches.{node_at}
-use Rattle.oe_engine.specs.Loads.{AreLoaded, HasRead}
+use Rattle.oe_engine.specs.Loads.{AreLoaded, HasLoadedTo, HasRead}
 use Rattle.oe_engine.proofs.ReadLemmas.{has_more, has_most, has_none, has_refused}
-use Rattle.oe_engine.proofs.StepLoadLemmas.{HasLoadedTo, ends_within, front_written, loaded_all, loaded_before, loaded_more, loaded_none, mounted_for, one_plane}
+use Rattle.oe_engine.proofs.StepLoadLemmas.{ends_within, front_written, loaded_all, loaded_before, loaded_more, loaded_none, mounted_for, one_plane}
 use Rattle.oe_engine.proofs.loading.load_step.Goals as goal
 
 pub loop-number-init : goal.loop-number-init

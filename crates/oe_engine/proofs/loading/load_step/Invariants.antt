@@ -3,8 +3,7 @@ use Rattle.oe_sources.specs.CatalogueRows.{rows_of}
 use Rattle.oe_window.specs.Parts.{plane_size}
 use Rattle.oe_window.specs.Windows.{position_count}
 use Rattle.oe_engine.specs.Benches.{node_at}
-use Rattle.oe_engine.specs.Loads.{HasRead}
-use Rattle.oe_engine.proofs.StepLoadLemmas.{HasLoadedTo}
+use Rattle.oe_engine.specs.Loads.{HasLoadedTo, HasRead}
 use Rattle.oe_engine.proofs.loading.load_step.Given as goal
 
 abbrev pub invariant-loop-number : goal.invariant-loop-number

@@ -1,0 +1,243 @@
+-- Steps that are loaded for several benches at once, row by row of a hull.
+use Rattle.std.proofs.Common.{◌≡◌, ◌≢◌, ℕ, zero, suc, ◌+◌, ◌-◌, ◌*◌, ◌<◌, ◌≤◌, List, [], ◌∷◌, ◌++◌, length, get_or, set, take, Some, Result, Ok, Err, refl, sym, ap, ◌∙◌, subst, arith}
+use Rattle.std.proofs.Math.Nat.{mul-le-mul_right, mul_assoc, mul_comm}
+use Rattle.std.proofs.lemmas.List.Elements.{All-cons, All-drop, All-tail, All-take}
+use Rattle.std.proofs.lemmas.Option.{get_or_from_slice_get, same_Some, slice_get_within, slice_get-get_or}
+use Rattle.std.specs.List.{All, slice_get, slice_range}
+use Rattle.std.specs.Result.{IsErrAnd, OnOk}
+use Rattle.oe_cell.specs.declared.cell.Cell.{Cell}
+use Rattle.oe_cell.specs.declared.cell.Cell.TheVariants.{Empty}
+use Rattle.oe_cube.specs.Kinds.{IsOfKind}
+use Rattle.oe_ops.specs.Needs.{plane_window}
+use Rattle.oe_plan.specs.Plans.{IsPlan, PlanOf}
+use Rattle.oe_plan.specs.Windows.{window_at}
+use Rattle.oe_shape.specs.Checked.{CheckedGraph, outline_of_node}
+use Rattle.oe_shape.specs.Laws.{meaning_of_node}
+use Rattle.oe_sources.specs.Catalogue.{Row}
+use Rattle.oe_window.specs.Parts.{row_count, row_of}
+use Rattle.oe_window.specs.Windows.{position_count, span_length}
+use Rattle.oe_window.specs.declared.window.Window.{Window}
+use Rattle.oe_window.proofs.CellLemmas.{cells_on-part}
+use Rattle.oe_window.proofs.PartLemmas.{row_of_size, row_part}
+use Rattle.oe_engine.specs.Benches.{BenchOf, EachLive, IsBenchFor, KeepsState, node_at, node_cells}
+use Rattle.oe_engine.specs.Buffers.{buffer_at}
+use Rattle.oe_engine.specs.Chunks.{EachBench}
+use Rattle.oe_engine.specs.Hulls.{HasLoadedRows, HasLoadedSteps, HaveLoadedRows, IsBegun, IsStripOf, IsStripped}
+use Rattle.oe_engine.specs.Loads.{AreLoaded, HasLoadedTo, IsLoadedAt}
+use Rattle.oe_engine.specs.declared.rounds.RunFail.{RunFail}
+use Rattle.oe_engine.proofs.StepLoadLemmas.{front_written, loaded_all, loaded_more, loaded_none, next_loaded}
+use Rattle.oe_engine.proofs.StripLemmas.{row_part_of, rows_all}
+
+-- ---- the rows of one window
+
+-- what a strip takes of the cells of a hull's row are those of its own row
+pub part_loaded : (c : CheckedGraph) (rows : List Row) (node : ℕ) (hull window : Window) → IsStripOf hull window → (n : ℕ) (row : List Cell)
+    → AreLoaded c rows node (row_of hull n) row
+    → AreLoaded c rows node (row_of window n)
+    (slice_range row (window.x.from - hull.x.from) (window.x.from - hull.x.from + span_length window.x))
+part_loaded c rows node hull window s n row loaded =
+    let start = window.x.from - hull.x.from in
+    record {
+      values = λ collections has shows.
+          ap (λ xs. slice_range xs start (start + span_length window.x)) (loaded.values collections has shows)
+          ∙ (ap (λ m. slice_range (node_cells collections c node (row_of hull n)) start (start + m)) (sym (row_of_size window n))
+          ∙ cells_on-part Empty (meaning_of_node collections c node).cube start (row_of hull n) (row_of window n) (row_part_of hull window s n));
+      kinds = All-take (IsOfKind (outline_of_node c node).kind) _ _ (All-drop (IsOfKind (outline_of_node c node).kind) start row loaded.kinds);
+    }
+
+one_more : (n m : ℕ) → (n + 1) * m ≡ n * m + m
+one_more n m = omega arith
+
+-- one row more behind those that are loaded
+pub row_loaded : (c : CheckedGraph) (rows : List Row) (node : ℕ) (window : Window) (n : ℕ) → n < row_count window
+    → (before piece rest : List Cell) → n * span_length window.x ≤ length before → length piece ≡ span_length window.x
+    → HasLoadedTo c rows node window (n * span_length window.x) before → AreLoaded c rows node (row_of window n) piece
+    → HasLoadedTo c rows node window ((n + 1) * span_length window.x) (take (n * span_length window.x) before ++ (piece ++ rest))
+row_loaded c rows node window n below before piece rest le long was now =
+    let size = row_of_size window n in
+    let done = n * span_length window.x in
+    let end : done + position_count (row_of window n) ≡ (n + 1) * span_length window.x =
+    ap (λ m. done + m) size ∙ sym (one_more n (span_length window.x)) in
+    let after = take done before ++ (piece ++ rest) in
+    subst (λ m. HasLoadedTo c rows node window m after) end
+    (loaded_more c rows node window done (row_of window n) before after piece (row_part window n below)
+    (front_written before piece rest done (position_count (row_of window n)) le (long ∙ sym size)) was now)
+
+-- ---- the steps of one bench
+
+module _ (p : PlanOf) (is : IsPlan p) (rows : List Row) (windows : List Window) (step : ℕ) (within : step < length p.order.steps) where
+  -- a step that is written leaves those before it that are live
+  pub before_stay : (old new : List (List Cell))
+      → ((slot : ℕ) → slot ≢ get_or p.order.slots step 0 → buffer_at new slot ≡ buffer_at old slot)
+      → EachLive p step (IsLoadedAt p rows windows old) → EachLive p step (IsLoadedAt p rows windows new)
+  before_stay old new others each i lt live =
+      let apart = is.slotted.apart step i step within live (is.evaluation.own_live step) (λ e. absurd (omega arith)) in
+      subst (AreLoaded p.graph rows (node_at p i) (window_at windows i))
+      (sym (ap (take (position_count (window_at windows i))) (others (get_or p.order.slots i 0) apart))) (each i lt live)
+
+  pub no_rows_loaded : (buffers : List (List Cell)) → EachLive p step (IsLoadedAt p rows windows buffers)
+      → HaveLoadedRows p rows step 0 windows buffers
+  no_rows_loaded buffers each =
+      let window = window_at windows step in
+      let none : 0 ≡ 0 * span_length window.x = omega arith in
+      let buffer = buffer_at buffers (get_or p.order.slots step 0) in
+      record {
+        before = each;
+        loaded = subst (λ n. HasLoadedTo p.graph rows (node_at p step) window n buffer) none
+            (loaded_none p.graph rows (node_at p step) window buffer);
+      }
+
+  pub all_rows_loaded : (buffers : List (List Cell)) (number : ℕ) → number * span_length (window_at windows step).x ≡ position_count (window_at windows step)
+      → HaveLoadedRows p rows step number windows buffers → EachLive p (step + 1) (IsLoadedAt p rows windows buffers)
+  all_rows_loaded buffers number all have =
+      next_loaded p is rows windows buffers buffers step within (λ slot other. refl) have.before
+      (loaded_all p.graph rows (node_at p step) (window_at windows step) (number * span_length (window_at windows step).x)
+      (buffer_at buffers (get_or p.order.slots step 0)) all have.loaded)
+
+-- ---- the steps of all benches
+
+pub one_of_all : {X : Type 0} (P : X → Type 0) (xs : List X) (i : ℕ) (x : X) → slice_get xs i ≡ Some x → All P xs → P x
+one_of_all P xs i x at all = subst P (get_or_from_slice_get xs i x x at) (all i x (slice_get_within xs i x at))
+
+pub all_of_each : (P : BenchOf → Type 0) (benches : List BenchOf) → EachBench 0 (λ k b. P b) benches → All P benches
+all_of_each P benches each k d h = each k (get_or benches k d) (slice_get-get_or benches k d h)
+
+module _ (p : PlanOf) (is : IsPlan p) (rows : List Row) (first step : ℕ) (within : step < length p.order.steps) where
+  pub no_row_of_each : (benches : List BenchOf) → EachBench first (HasLoadedSteps p rows step) benches
+      → EachBench first (HasLoadedRows p rows step 0) benches
+  no_row_of_each benches each i b at =
+      let has = each i b at in
+      record { chunk = has.chunk; loaded = no_rows_loaded p is rows b.windows step within b.buffers has.loaded }
+
+  pub all_rows_of_each : (hull : Window) (benches : List BenchOf) (number : ℕ) → number ≡ row_count hull → All (IsStripped p hull step) benches
+      → EachBench first (HasLoadedRows p rows step number) benches → EachBench first (HasLoadedSteps p rows (step + 1)) benches
+  all_rows_of_each hull benches number end strips each i b at =
+      let has = each i b at in
+      let window = window_at b.windows step in
+      let strip = (one_of_all (IsStripped p hull step) benches i b at strips).strip in
+      record {
+        chunk = has.chunk;
+        loaded = all_rows_loaded p is rows b.windows step within b.buffers number
+            (ap (λ n. n * span_length window.x) end ∙ rows_all hull window strip) has.loaded;
+      }
+
+-- benches of which the first one is taken out
+module _ (Holds : ℕ → BenchOf → Type 0) (first : ℕ) (own others : List BenchOf) (one : length own ≡ 1) where
+  pub own_of_each : (other : BenchOf) → EachBench first Holds (own ++ others) → Holds first (get_or own 0 other)
+  own_of_each = by own one
+    where
+      by : (xs : List BenchOf) → length xs ≡ 1 → (other : BenchOf) → EachBench first Holds (xs ++ others) → Holds first (get_or xs 0 other)
+      by [] e other each = absurd (omega arith)
+      by (x ∷ xs) e other each =
+          let same : first + 0 ≡ first = omega arith in subst (λ k. Holds k x) same (each 0 x refl)
+
+  pub others_of_each : EachBench first Holds (own ++ others) → EachBench (first + 1) Holds others
+  others_of_each = by own one
+    where
+      by : (xs : List BenchOf) → length xs ≡ 1 → EachBench first Holds (xs ++ others) → EachBench (first + 1) Holds others
+      by [] e each = absurd (omega arith)
+      by (x ∷ []) e each = λ i b at.
+          let same : first + suc i ≡ first + 1 + i = omega arith in subst (λ k. Holds k b) same (each (suc i) b at)
+      by (x ∷ y ∷ xs) e each = absurd (omega arith)
+
+  pub both_of_each : (y : BenchOf) (new : List BenchOf) → Holds first y → EachBench (first + 1) Holds new
+      → EachBench first Holds (set own 0 y ++ new)
+  both_of_each y new here each = by own one
+    where
+      by : (xs : List BenchOf) → length xs ≡ 1 → EachBench first Holds (set xs 0 y ++ new)
+      by [] e i b at = absurd (omega arith)
+      by (x ∷ []) e zero b at =
+          let same : first ≡ first + 0 = omega arith in
+          let is : y ≡ b = same_Some y b at in
+          subst (λ k. Holds k b) same (subst (Holds first) is here)
+      by (x ∷ []) e (suc i) b at =
+          let same : first + 1 + i ≡ first + suc i = omega arith in subst (λ k. Holds k b) same (each i b at)
+      by (x ∷ z ∷ xs) e i b at = absurd (omega arith)
+
+-- the same of what holds of all of them
+module _ {X : Type 0} (P : X → Type 0) (own others : List X) (one : length own ≡ 1) where
+  pub own_of_all : (other : X) → All P (own ++ others) → P (get_or own 0 other)
+  own_of_all = by own one
+    where
+      by : (xs : List X) → length xs ≡ 1 → (other : X) → All P (xs ++ others) → P (get_or xs 0 other)
+      by [] e other all = absurd (omega arith)
+      by (x ∷ xs) e other all = all 0 other (omega arith)
+
+  pub others_of_all : All P (own ++ others) → All P others
+  others_of_all = by own one
+    where
+      by : (xs : List X) → length xs ≡ 1 → All P (xs ++ others) → All P others
+      by [] e all = absurd (omega arith)
+      by (x ∷ []) e all = All-tail P x others all
+      by (x ∷ y ∷ xs) e all = absurd (omega arith)
+
+  pub both_of_all : (y : X) (new : List X) → P y → All P new → All P (set own 0 y ++ new)
+  both_of_all y new here each = by own one
+    where
+      by : (xs : List X) → length xs ≡ 1 → All P (set xs 0 y ++ new)
+      by [] e = absurd (omega arith)
+      by (x ∷ []) e = All-cons P y new here each
+      by (x ∷ z ∷ xs) e = absurd (omega arith)
+
+pub own_set : {X : Type 0} (own : List X) (y other : X) → length own ≡ 1 → get_or (set own 0 y) 0 other ≡ y
+own_set [] y other e = absurd (omega arith)
+own_set (x ∷ xs) y other e = refl
+
+-- a bench that is not loaded yet is one for the plan
+pub begun_is : (p : PlanOf) (b : BenchOf) → IsBegun p b → IsBenchFor p b
+begun_is p b begun = record {
+  room = begun.room;
+  keeps = subst (KeepsState p b) (sym begun.state) tt;
+}
+
+-- ---- how many cells are asked for
+
+pub steps_turned : (loads many largest : ℕ) → loads * (many * largest) ≡ many * (loads * largest)
+steps_turned loads many largest =
+    sym (mul_assoc loads many largest) ∙ (ap (λ n. n * largest) (mul_comm loads many) ∙ mul_assoc many loads largest)
+
+-- a step more of all benches
+pub step_asked : (step loads many largest : ℕ) → step < loads
+    → ((step + 1) * (many * largest) ≡ step * (many * largest) + many * largest)
+    × (step * (many * largest) + many * largest ≤ many * (loads * largest))
+step_asked step loads many largest before =
+    let one = one_more step (many * largest) in
+    let most : (step + 1) * (many * largest) ≤ loads * (many * largest) = mul-le-mul_right (many * largest) (omega arith) in
+    let turned = steps_turned loads many largest in
+    (one, omega arith)
+
+-- ---- what a refusal says of nothing
+
+pub none_if_refused : (r : Result (Unit {0}) RunFail) (refusal : RunFail) → IsErrAnd r (λ e. e ≡ refusal) → (X : Type 0) → OnOk r X
+none_if_refused (Ok u) refusal is X = absurd is
+none_if_refused (Err e) refusal is X = tt
+
+-- ---- a bench that has read a row
+
+module _ (old new : BenchOf) (same : record new { scratch = old.scratch } ≡ old) (long : length new.scratch ≡ length old.scratch) where
+  is_old : record old { scratch = new.scratch } ≡ new
+  is_old = sym (ap (λ (b : BenchOf). record b { scratch = new.scratch }) same)
+
+  pub stripped_after_read : (p : PlanOf) (hull : Window) (step : ℕ) → IsStripped p hull step old → IsStripped p hull step new
+  stripped_after_read p hull step s = subst (IsStripped p hull step) is_old (record {
+    begun = record {
+      room = record { windows = s.begun.room.windows; buffers = s.begun.room.buffers; scratch = long ∙ s.begun.room.scratch };
+      state = s.begun.state;
+      windows = s.begun.windows;
+    };
+    strip = s.strip;
+  })
+
+  pub rows_after_read : (p : PlanOf) (rows : List Row) (step number k : ℕ) → HasLoadedRows p rows step number k old
+      → HasLoadedRows p rows step number k new
+  rows_after_read p rows step number k has = subst (HasLoadedRows p rows step number k) is_old (record {
+    chunk = record { within = has.chunk.within; windows = has.chunk.windows };
+    loaded = has.loaded;
+  })
+
+-- a row has one index along t and bands, and as many positions as the hull has indices along x
+pub one_row : (hull row : Window) (n : ℕ) → row ≡ row_of hull n → row ≡ plane_window row row.t.from row.bands.from
+one_row hull row n is = rw is refl
+
+pub row_long : (hull row : Window) (n : ℕ) → row ≡ row_of hull n → position_count row ≡ span_length row.x
+row_long hull row n is = rw is (row_of_size hull n)

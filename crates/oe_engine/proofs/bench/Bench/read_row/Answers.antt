@@ -1,0 +1,18 @@
+use Rattle.std.proofs.Common.{◌∙◌, List, OnOk, length, take, sym, ap, subst}
+use Rattle.oe_cell.specs.declared.cell.Cell.{Cell}
+use Rattle.oe_sources.specs.CatalogueRows.{rows_of}
+use Rattle.oe_window.specs.Windows.{span_length}
+use Rattle.oe_engine.specs.Benches.{node_at}
+use Rattle.oe_engine.specs.Loads.{AreLoaded}
+use Rattle.oe_engine.proofs.BufferLemmas.{with_items_is}
+use Rattle.oe_engine.proofs.bench.Bench.read_row.Goals as goal
+
+pub returns-clause-loaded : goal.returns-clause-loaded
+returns-clause-loaded g c =
+    let p = c.args.plan.now in
+    let rows = rows_of (λ z. (goal.CubeSource-dyn g z).seen z.1) c.args.catalogue.now in
+    let width = span_length c.args.row.now.x in
+    let cells = c.load_front.new.cells in
+    let long = c.load_front.auto.cells ∙ ap length c.deref_mut.ensures.value in
+    subst (λ (xs : List Cell). OnOk c.load_front.result (AreLoaded p.graph rows (node_at p c.args.step) c.args.row.now (take width xs)))
+    (sym (with_items_is c.self.inside.scratch cells long)) c.load_front.ensures.loaded

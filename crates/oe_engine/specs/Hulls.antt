@@ -1,0 +1,84 @@
+-- Chunks that are loaded together: their windows of a step are strips of one hull, each row of which is read once.
+use Rattle.std.specs.Prelude.{◌≡◌, ◌<◌, ◌≤◌, ℕ, ◌+◌, ◌*◌, ◌^◌, List, length, slice_index, false, true, Result, OnOk}
+use Rattle.std.specs.List.{All}
+use Rattle.oe_cell.specs.declared.cell.Cell.{Cell}
+use Rattle.oe_window.specs.Windows.{Holds, IsEmpty, position_count, span_length, whole_window}
+use Rattle.oe_window.specs.declared.window.Window.{Window}
+use Rattle.oe_plan.specs.Figures.{largest_window, scratch_of, shape_of_node}
+use Rattle.oe_plan.specs.Plans.{PlanOf}
+use Rattle.oe_plan.specs.Windows.{window_at}
+use Rattle.oe_sources.specs.Catalogue.{Row}
+use Rattle.oe_engine.specs.Benches.{AreOfChunk, BenchOf, EachLive, HasRoomFor, IsAtChunk, is_load_at, node_at}
+use Rattle.oe_engine.specs.Buffers.{buffer_at}
+use Rattle.oe_engine.specs.Chunks.{EachBench}
+use Rattle.oe_engine.specs.Collections.{AreRead}
+use Rattle.oe_engine.specs.Loads.{HasLoadedTo, HasRead, IsLoadedAt}
+use Rattle.oe_engine.specs.declared.bench.State.TheVariants.{Idle}
+use Rattle.oe_engine.specs.declared.rounds.RunFail.{RunFail}
+
+-- ---- strips
+
+-- a window with positions that differs from a hull along x alone, where its indices are some of the hull's
+pub record IsStripOf (hull window : Window) : Type 0 where
+  pub filled : ¬ IsEmpty window
+  pub t : window.t ≡ hull.t
+  pub bands : window.bands ≡ hull.bands
+  pub y : window.y ≡ hull.y
+  pub from : hull.x.from ≤ window.x.from
+  pub to : window.x.to ≤ hull.x.to
+
+-- a hull of the windows of a step for so many chunks may be read: it lies in the cube of the step's node, which has
+-- fewer than 2^64 cells, it has no more cells than their largest windows, and there is room for its row in the cells
+-- that a bench works with
+pub record IsReadable (p : PlanOf) (step count : ℕ) (hull : Window) : Type 0 where
+  pub within : Holds (whole_window (shape_of_node p.graph (node_at p step))) hull
+  pub counted : position_count hull < 2 ^ 64
+  pub few : position_count hull ≤ count * largest_window p.graph p.size
+  pub row : span_length hull.x ≤ scratch_of p.graph
+
+-- ---- a bench that is loaded
+
+-- it has the windows of a chunk, and is not loaded yet
+pub record IsBegun (p : PlanOf) (b : BenchOf) : Type 0 where
+  pub room : HasRoomFor p b
+  pub state : b.state ≡ Idle
+  pub windows : AreOfChunk p b.windows
+
+-- besides, its window of a step is a strip of a hull
+pub record IsStripped (p : PlanOf) (hull : Window) (step : ℕ) (b : BenchOf) : Type 0 where
+  pub begun : IsBegun p b
+  pub strip : IsStripOf hull (window_at b.windows step)
+
+-- the steps that load a collection are the first so many
+pub record LoadsFirst (p : PlanOf) (count : ℕ) : Type 0 where
+  pub most : count ≤ length p.order.steps
+  pub load : (step : ℕ) → step < count → is_load_at p step ≡ true
+  pub work : (step : ℕ) → count ≤ step → step < length p.order.steps → is_load_at p step ≡ false
+
+-- it is at this chunk, and those steps before this one that are live are loaded
+pub record HasLoadedSteps (p : PlanOf) (rows : List Row) (step k : ℕ) (b : BenchOf) : Type 0 where
+  pub chunk : IsAtChunk p k b
+  pub loaded : EachLive p step (IsLoadedAt p rows b.windows b.buffers)
+
+-- these are loaded, and of this step so many rows of its window
+pub record HaveLoadedRows (p : PlanOf) (rows : List Row) (step number : ℕ) (windows : List Window)
+    (buffers : List (List Cell)) : Type 0 where
+  pub before : EachLive p step (IsLoadedAt p rows windows buffers)
+  pub loaded : HasLoadedTo p.graph rows (node_at p step) (window_at windows step)
+      (number * span_length (window_at windows step).x) (buffer_at buffers (slice_index p.order.slots step))
+
+-- the same of a bench that is at this chunk
+pub record HasLoadedRows (p : PlanOf) (rows : List Row) (step number k : ℕ) (b : BenchOf) : Type 0 where
+  pub chunk : IsAtChunk p k b
+  pub loaded : HaveLoadedRows p rows step number b.windows b.buffers
+
+-- ---- one step of all
+
+-- Of each of these benches one step more is loaded, whatever collections were visible when the first one was.
+pub record LoadsStep (p : PlanOf) (step : ℕ) (before after : List Row) (old new : List BenchOf)
+    (result : Result (Unit {0}) RunFail) : Type 0 where
+  pub many : length new ≡ length old
+  pub begun : All (IsBegun p) new
+  pub loaded : (rows : List Row) (first : ℕ) → AreRead rows before → EachBench first (HasLoadedSteps p rows step) old
+      → OnOk result (EachBench first (HasLoadedSteps p rows (step + 1)) new)
+  pub read : HasRead p.graph (length old * largest_window p.graph p.size) before after result

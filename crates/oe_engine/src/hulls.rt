@@ -1,0 +1,291 @@
+// The chunks of a round, loaded together: where the windows of a step that are neighbours along x are strips of one
+// hull, each row of that is read once and dealt to the benches, so that a collection is read in long rows.
+ghost use Rattle.std.specs.Prelude.{◌≡◌, ◌<◌, ◌+◌, ◌*◌, ◌^◌, ◌≤◌, ℕ, List, Some, IsTrue, OnOk, length, true};
+ghost use Rattle.std.specs.List.{All};
+ghost use Rattle.oe_engine.specs.Benches.{IsAtChunk, IsBenchFor, is_load_at, node_at};
+ghost use Rattle.oe_engine.specs.Chunks.{EachBench};
+ghost use Rattle.oe_engine.specs.Collections.{AreRead, HasCollections, IsMountedAt};
+ghost use Rattle.oe_engine.specs.Hulls.{HasLoadedRows, HasLoadedSteps, IsBegun, IsReadable, IsStripped, LoadsFirst, LoadsStep};
+ghost use Rattle.oe_engine.specs.Loads.{AreLoaded, HasRead, LoadsBench};
+ghost use Rattle.oe_engine.specs.Runs.{chunk_total, load_count};
+ghost use Rattle.oe_plan.specs.Figures.{largest_window};
+ghost use Rattle.oe_plan.specs.Plans.{IsPlan, PlanOf};
+ghost use Rattle.oe_shape.specs.Checked.{collection_of_node};
+ghost use Rattle.oe_sources.specs.Catalogue.{Row};
+ghost use Rattle.oe_sources.specs.CatalogueRows.{rows_of};
+ghost use Rattle.oe_window.specs.Parts.{row_count, row_of};
+ghost use Rattle.oe_window.specs.Windows.{span_length};
+
+use crate::bench::Bench;
+use crate::loading::place_of;
+use crate::rounds::RunFail;
+use crate::run::loads;
+use crate::strips::is_strip;
+use oe_cell::Cell;
+use oe_plan::Plan;
+use oe_sources::Catalogue;
+use oe_window::{Window, holds, hull, size, whole};
+
+/// Loads the chunks from a first one on, each into a bench.
+///
+/// Refuses: where a read of a collection is refused.
+pub(crate) fn load_chunks(
+    plan: &Plan,
+    benches: &mut [Bench],
+    catalogue: &mut Catalogue,
+    first: u64,
+) -> Result<(), RunFail>
+    requires benches { All (IsBenchFor plan.now) benches.old }
+    requires chunks { first + length benches.old ≤ chunk_total plan.now }
+    requires mounted { HasCollections plan.now.graph (rows_of seen catalogue.old) }
+    ensures loaded { OnOk result
+        (EachBench first (LoadsBench plan.now (rows_of seen catalogue.old)) benches.new) }
+    ensures benches { All (IsBenchFor plan.now) benches.new }
+    ensures count { length benches.new ≡ length benches.old }
+    ensures read { HasRead plan.now.graph (length benches.old
+        * (load_count plan.now * largest_window plan.now.graph plan.now.size))
+        (rows_of seen catalogue.old) (rows_of seen catalogue.new) result }
+{
+    // A plan has at most 2^48 chunks, so that their numbers fit 64 bits.
+    let _chunks = plan.chunks();
+    begin_chunks(plan, benches, first);
+    for step in 0..loads(plan) {
+        load_step_of_all(plan, benches, catalogue, step)?;
+    }
+    end_chunks(benches, first);
+    Ok(())
+}
+
+/// Gives benches the windows of the chunks from a first one on.
+fn begin_chunks(plan: &Plan, benches: &mut [Bench], first: u64)
+    requires benches { All (IsBenchFor plan.now) benches.old }
+    requires chunks { first + length benches.old ≤ chunk_total plan.now }
+    ensures begun { All (IsBegun plan.now) benches.new }
+    ensures chunks { EachBench first (IsAtChunk plan.now) benches.new }
+    ensures count { length benches.new ≡ length benches.old }
+{
+    // A plan has at most 2^48 chunks, so that their numbers fit 64 bits.
+    let _chunks = plan.chunks();
+    for index in 0..benches.len() {
+        benches[index].begin(plan, first + index as u64);
+    }
+}
+
+/// Says that benches are loaded for the chunks from a first one on, whose numbers fit 64 bits.
+fn end_chunks(benches: &mut [Bench], first: u64)
+    requires { first + length benches.old ≤ 2 ^ 48 }
+    ensures loaded { (p : PlanOf) (rows : List Row) (count : ℕ) → IsPlan p → LoadsFirst p count
+        → All (IsBegun p) benches.old → EachBench first (HasLoadedSteps p rows count) benches.old
+        → EachBench first (LoadsBench p rows) benches.new }
+    ensures count { length benches.new ≡ length benches.old }
+{
+    for index in 0..benches.len() {
+        benches[index].end(first + index as u64);
+    }
+}
+
+/// Reads the cells of a step that loads a collection, for each of the benches.
+///
+/// Refuses: where a read of a collection is refused.
+fn load_step_of_all(
+    plan: &Plan,
+    benches: &mut [Bench],
+    catalogue: &mut Catalogue,
+    step: u32,
+) -> Result<(), RunFail>
+    requires step { step < length plan.now.order.steps }
+    requires load { is_load_at plan.now step ≡ true }
+    requires mounted { HasCollections plan.now.graph (rows_of seen catalogue.old) }
+    requires begun { All (IsBegun plan.now) benches.old }
+    ensures { LoadsStep plan.now step (rows_of seen catalogue.old) (rows_of seen catalogue.new)
+        benches.old benches.new result }
+{
+    let mut first = 0;
+    while first < benches.len() {
+        let end = end_of_neighbours(benches, first, step);
+        load_neighbours(plan, &mut benches[first..end], catalogue, step)?;
+        first = end;
+    }
+    Ok(())
+}
+
+/// The end of the benches from a first one on whose windows of a step stand beside one another along x.
+fn end_of_neighbours(benches: &[Bench], first: usize, step: u32) -> usize
+    requires first { first < length benches.now }
+    requires step { All (λ bench. step < length bench.windows) benches.now }
+    ensures some { first < result }
+    ensures most { result ≤ length benches.now }
+{
+    for index in first + 1..benches.len() {
+        if !is_beside(
+            &benches[index - 1].window(step),
+            &benches[index].window(step),
+        ) {
+            return index;
+        }
+    }
+    benches.len()
+}
+
+/// Whether two windows differ along x alone, where the second begins and ends no earlier.
+fn is_beside(one: &Window, next: &Window) -> bool {
+    let beyond = one.x.from <= next.x.from && one.x.to <= next.x.to;
+    beyond && one.t == next.t && one.bands == next.bands && one.y == next.y
+}
+
+/// Reads the cells of a step for neighbours: where that may be, row by row of the hull of their windows.
+fn load_neighbours(
+    plan: &Plan,
+    benches: &mut [Bench],
+    catalogue: &mut Catalogue,
+    step: u32,
+) -> Result<(), RunFail>
+    requires step { step < length plan.now.order.steps }
+    requires load { is_load_at plan.now step ≡ true }
+    requires mounted { HasCollections plan.now.graph (rows_of seen catalogue.old) }
+    requires begun { All (IsBegun plan.now) benches.old }
+    ensures { LoadsStep plan.now step (rows_of seen catalogue.old) (rows_of seen catalogue.new)
+        benches.old benches.new result }
+{
+    if benches.len() < 2 {
+        return load_each(plan, benches, catalogue, step);
+    }
+    let last = benches.len() - 1;
+    let hull = hull(&benches[0].window(step), &benches[last].window(step));
+    if is_readable(plan, step, benches.len(), &hull) && are_strips(plan, &hull, step, benches) {
+        load_rows(plan, benches, catalogue, step, &hull)
+    } else {
+        load_each(plan, benches, catalogue, step)
+    }
+}
+
+/// Whether a hull of the windows of a step for so many chunks may be read: it lies in the cube of the step's node, has
+/// no more cells than their largest windows, and its row has room in the cells that a bench works with.
+fn is_readable(plan: &Plan, step: u32, count: usize, hull: &Window) -> bool
+    requires { step < length plan.now.order.steps }
+    ensures { IsTrue result → IsReadable plan.now step count hull.now }
+{
+    let shape = plan.checked().shape(plan.node(step));
+    // A cube has fewer than 2^64 cells.
+    let _cells = shape.cells();
+    if hull.is_empty() || !holds(&whole(shape), hull) {
+        return false;
+    }
+    let most = (count as u64).saturating_mul(plan.largest());
+    size(hull) <= most && u64::from(hull.x.to - hull.x.from) <= plan.scratch()
+}
+
+/// Whether the windows of a step are strips of a hull.
+fn are_strips(plan: &Plan, hull: &Window, step: u32, benches: &[Bench]) -> bool
+    requires step { step < length plan.now.order.steps }
+    requires begun { All (IsBegun plan.now) benches.now }
+    ensures { IsTrue result → All (IsStripped plan.now hull.now step) benches.now }
+{
+    for index in 0..benches.len() {
+        if !is_strip(hull, &benches[index].window(step)) {
+            return false;
+        }
+    }
+    true
+}
+
+/// Reads the cells of a step for each bench by itself.
+fn load_each(
+    plan: &Plan,
+    benches: &mut [Bench],
+    catalogue: &mut Catalogue,
+    step: u32,
+) -> Result<(), RunFail>
+    requires step { step < length plan.now.order.steps }
+    requires load { is_load_at plan.now step ≡ true }
+    requires mounted { HasCollections plan.now.graph (rows_of seen catalogue.old) }
+    requires begun { All (IsBegun plan.now) benches.old }
+    ensures { LoadsStep plan.now step (rows_of seen catalogue.old) (rows_of seen catalogue.new)
+        benches.old benches.new result }
+{
+    for index in 0..benches.len() {
+        benches[index].load_step(plan, catalogue, step)?;
+    }
+    Ok(())
+}
+
+/// Reads each row of a hull once, and deals it to the benches.
+fn load_rows(
+    plan: &Plan,
+    benches: &mut [Bench],
+    catalogue: &mut Catalogue,
+    step: u32,
+    hull: &Window,
+) -> Result<(), RunFail>
+    requires step { step < length plan.now.order.steps }
+    requires load { is_load_at plan.now step ≡ true }
+    requires mounted { HasCollections plan.now.graph (rows_of seen catalogue.old) }
+    requires some { 0 < length benches.old }
+    requires stripped { All (IsStripped plan.now hull.now step) benches.old }
+    requires readable { IsReadable plan.now step (length benches.old) hull.now }
+    ensures { LoadsStep plan.now step (rows_of seen catalogue.old) (rows_of seen catalogue.new)
+        benches.old benches.new result }
+{
+    // What a plan gives shows that it is valid: its slots keep the steps that are live apart.
+    let _slot = plan.slot(step);
+    let place = place_of(plan, catalogue, step);
+    for number in 0..hull.rows() {
+        load_row(plan, benches, catalogue, step, place, hull, number)?;
+    }
+    Ok(())
+}
+
+/// Reads a row of a hull, from the collection of a row of the catalogue, and deals it to the benches.
+fn load_row(
+    plan: &Plan,
+    benches: &mut [Bench],
+    catalogue: &mut Catalogue,
+    step: u32,
+    place: u32,
+    hull: &Window,
+    number: u64,
+) -> Result<(), RunFail>
+    requires step { step < length plan.now.order.steps }
+    requires load { is_load_at plan.now step ≡ true }
+    requires mounted { (id : List ℕ)
+        → collection_of_node plan.now.graph (node_at plan.now step) ≡ Some id
+        → IsMountedAt plan.now.graph (rows_of seen catalogue.old) id place }
+    requires some { 0 < length benches.old }
+    requires stripped { All (IsStripped plan.now hull.now step) benches.old }
+    requires readable { IsReadable plan.now step (length benches.old) hull.now }
+    requires number { number < row_count hull.now }
+    ensures count { length benches.new ≡ length benches.old }
+    ensures stripped { All (IsStripped plan.now hull.now step) benches.new }
+    ensures loaded { (rows : List Row) (first : ℕ) → AreRead rows (rows_of seen catalogue.old)
+        → EachBench first (HasLoadedRows plan.now rows step number) benches.old
+        → OnOk result
+        (EachBench first (HasLoadedRows plan.now rows step (number + 1)) benches.new) }
+    ensures read { HasRead plan.now.graph (span_length hull.now.x) (rows_of seen catalogue.old)
+        (rows_of seen catalogue.new) result }
+{
+    let row = hull.row(number);
+    let (one, others) = benches.split_at_mut(1);
+    one[0].read_row(plan, catalogue, step, place, &row)?;
+    one[0].take_own_row(plan, step, hull, number);
+    let cells = one[0].scratch((hull.x.to - hull.x.from) as usize);
+    deal_row(plan, others, step, hull, number, cells);
+    Ok(())
+}
+
+/// Deals a hull's row of a number to benches.
+fn deal_row(plan: &Plan, benches: &mut [Bench], step: u32, hull: &Window, number: u64, row: &[Cell])
+    requires step { step < length plan.now.order.steps }
+    requires stripped { All (IsStripped plan.now hull.now step) benches.old }
+    requires number { number < row_count hull.now }
+    requires row { length row.now ≡ span_length hull.now.x }
+    ensures count { length benches.new ≡ length benches.old }
+    ensures stripped { All (IsStripped plan.now hull.now step) benches.new }
+    ensures loaded { (rows : List Row) (first : ℕ)
+        → AreLoaded plan.now.graph rows (node_at plan.now step) (row_of hull.now number) row.now
+        → EachBench first (HasLoadedRows plan.now rows step number) benches.old
+        → EachBench first (HasLoadedRows plan.now rows step (number + 1)) benches.new }
+{
+    for index in 0..benches.len() {
+        benches[index].take_row(plan, step, hull, number, row);
+    }
+}
