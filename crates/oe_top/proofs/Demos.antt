@@ -42,12 +42,13 @@ use Rattle.oe_spool.proofs.CubeRecords.{cells_counted}
 use Rattle.oe_top.specs.DemoAnswer.{DemoAnswers, DemoEnds, Demonstrates, FiguresEnd, IsDemo, IsDemonstrated, IsDemonstration}
 use Rattle.oe_top.specs.Demonstration.{HasSpooled, IsSpooled, demo_graph, demo_text, figures_text}
 use Rattle.oe_top.specs.Evaluated.{CanBeNamed, Completes, IsPlanOf, IsRefusalOfRun, IsRefusalOfText, IsVisible, result_of}
-use Rattle.oe_top.specs.Judged.{IsCheckedText}
+use Rattle.oe_top.specs.Judged.{IsCheckedText, JudgesBytes}
 use Rattle.oe_top.specs.Lines.{number_line}
 use Rattle.oe_top.specs.Objects.{Objects, objects}
 use Rattle.oe_top.specs.Written.{WriteEnds, Writes}
 use Rattle.oe_top.specs.declared.refusal.Refusal.{Refusal}
 use Rattle.oe_top.specs.declared.refusal.Refusal.TheVariants.{Usage, Graph, NoCubeText, NotMounted, TooLarge, Overflow, ReadFault, Damaged, SpoolFault, WriteFault, OutOfMemory, SpoolDamaged}
+use Rattle.oe_top.proofs.DemoCubes.{demo_valid}
 use Rattle.oe_top.proofs.Evaluations.{of_meaning, over_is}
 use Rattle.oe_top.proofs.Inputs.{sizes}
 
@@ -452,3 +453,30 @@ module _ (seed side : ℕ) (size : ChunkSize) (workers : ℕ) (graph : CheckedGr
     out_count = NeverFalls-refl out_faults;
     spool_count = NeverFalls-refl faults;
   }
+
+-- no fault stands in the graph, so that it is refused only where memory is
+pub not_checked : (seed side : ℕ) (size : ChunkSize) (workers : ℕ) → side ≤ 1024 → (here : Objects) (refusal : Refusal)
+    → JudgesBytes (dims_of (demonstration seed side)) demo_graph (Err refusal)
+    → DemoAnswers seed side size workers here here (Err refusal)
+not_checked seed side size workers most here refusal judged = record {
+  ends = by refusal judged;
+  input_kept = (refl, refl);
+  collections_kept = refl;
+  out_count = NeverFalls-refl here.out_faults;
+  spool_count = NeverFalls-refl here.spool_faults;
+}
+  where
+    by : (refusal : Refusal) → JudgesBytes (dims_of (demonstration seed side)) demo_graph (Err refusal)
+        → DemoEnds seed side size workers here here (Err refusal)
+    by Usage never = never
+    by (Graph line) names = demo_valid seed side most names.fault.code names.fault.node names.least.stands
+    by NoCubeText never = never
+    by NotMounted never = never
+    by (TooLarge line) never = absurd never
+    by (Overflow line) never = absurd never
+    by ReadFault never = never
+    by (Damaged line) never = never
+    by SpoolFault never = absurd never
+    by WriteFault never = absurd never
+    by OutOfMemory free = record { out = refl; faults = refl }
+    by (SpoolDamaged line) never = absurd never

@@ -9,6 +9,9 @@ pub mod Repackings
 pub mod Said
 pub mod Rounds
 pub mod Evaluations
+pub mod DemoReadings
+pub mod DemoNames
+pub mod DemoCubes
 pub mod Demos
 pub mod Namings
 pub mod Runs

@@ -10,7 +10,7 @@ use Rattle.oe_sources.specs.CatalogueDims.{dims_of}
 use Rattle.oe_window.specs.declared.grid.ChunkSize.{ChunkSize}
 use Rattle.oe_top.specs.Demonstration.{demo_graph, demo_text}
 use Rattle.oe_top.specs.Evaluated.{IsWithoutOver, IsOverFirst, IsPlanOf, IsVisible, result_of}
-use Rattle.oe_top.specs.Judged.{IsCheckedText, NamesFaultOf}
+use Rattle.oe_top.specs.Judged.{IsCheckedText}
 use Rattle.oe_top.specs.Lines.{number_line}
 use Rattle.oe_top.specs.Objects.{Objects}
 use Rattle.oe_top.specs.Written.{IsUnwritten}
@@ -104,13 +104,12 @@ module _ (seed side : ℕ) (size : ChunkSize) (workers : ℕ) where
       pub line_is : line ≡ number_line (codes "PlanTooLarge") (bound_of graph size workers)
       pub unwritten : IsUnwritten before after
 
-    -- What each ending says; out of memory has no cause. The graph of the demonstration has no fault, so that `Graph`
-    -- never comes; no clause says so.
+    -- What each ending says; out of memory has no cause. No fault stands in the graph of the demonstration, so that
+    -- `Graph` never comes.
     abbrev pub DemoEnds : Result (Unit {0}) Refusal → Type 0
     DemoEnds (Ok x) = IsDemonstrated (Ok x)
     DemoEnds (Err Usage) = ⊥
-    DemoEnds (Err (Graph line)) =
-        NamesFaultOf (dims_of (demonstration seed side)) demo_graph line.items × IsUnwritten before after
+    DemoEnds (Err (Graph line)) = ⊥
     DemoEnds (Err NoCubeText) = ⊥
     DemoEnds (Err NotMounted) = ⊥
     DemoEnds (Err (TooLarge line)) = IsTooLarge line.items

@@ -42,8 +42,8 @@ const GRAPH: &str = "{\"process_graph\":{\
 \"top\":{\"process_id\":\"reduce_dimension\",\"arguments\":{\"data\":{\"from_node\":\"sum\"},\"dimension\":\"bands\",\"reducer\":{\"process_graph\":\
 {\"max\":{\"process_id\":\"max\",\"arguments\":{\"data\":{\"from_parameter\":\"data\"}},\"result\":true}}}},\"result\":true}}}";
 
-/// Evaluates the graph of the demonstration over the generated collection of a seed and a side, and writes how many
-/// cells its result has, and the first and the last of them.
+/// Evaluates the graph of the demonstration, in which no fault stands, over the generated collection of a seed and a
+/// side, and writes how many cells its result has, and the first and the last of them.
 pub(crate) fn demo<O: Sink, P: Store, G: Gate>(
     alloc: Global,
     source: (u32, u32),

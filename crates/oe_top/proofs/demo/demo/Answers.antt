@@ -1,10 +1,18 @@
-use Rattle.std.proofs.Common.{List, subst}
+use Rattle.std.proofs.Common.{List, Err, subst}
 use Rattle.oe_sources.specs.Catalogue.{Row}
 use Rattle.oe_sources.specs.CatalogueDims.{dims_of}
 use Rattle.oe_top.specs.Demonstration.{demo_graph}
-use Rattle.oe_top.specs.Judged.{IsCheckedText}
-use Rattle.oe_top.proofs.Demos.{answered, too_large}
+use Rattle.oe_top.specs.Judged.{IsCheckedText, JudgesBytes}
+use Rattle.oe_top.specs.Objects.{objects}
+use Rattle.oe_top.proofs.Demos.{answered, not_checked, too_large}
 use Rattle.oe_top.proofs.demo.demo.Goals as goal
+
+pub returns-in-Err : goal.returns-in-Err
+returns-in-Err g c = λ input input_faults lent.
+    not_checked c.args.source.0 c.args.source.1 c.args.sizes.0 c.args.sizes.1 c.requires.side.1
+    (objects input input_faults (g.O.Sink.written c.args.out.now) (g.O.Sink.faults c.args.out.now)
+    (g.P.Store.bytes c.args.spool.now) (g.P.Store.faults c.args.spool.now) lent) c.in-Err.refusal
+    (subst (λ (rows : List Row). JudgesBytes (dims_of rows) demo_graph (Err c.in-Err.refusal)) c.in_ok-catalogue.ensures c.in-Err.ensures.judged)
 
 pub returns-in-Ok-begin : goal.returns-in-Ok-begin
 returns-in-Ok-begin g c = λ input input_faults lent.
