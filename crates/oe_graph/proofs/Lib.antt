@@ -4,7 +4,7 @@ mod Finds
 pub mod LeastLemmas
 mod NamesLemmas
 mod WalkLemmas
-mod ReadLemmas
+pub mod ReadLemmas
 pub mod AsReadLemmas
 mod PrintableLemmas
 pub mod ValidLemmas

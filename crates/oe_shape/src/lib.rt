@@ -12,7 +12,6 @@ mod judge;
 mod judge_inputs;
 mod laws;
 mod links;
-mod mask;
 mod operation;
 mod operation_request;
 mod operation_scope;
@@ -44,7 +43,6 @@ pub use laws::{
     labels_are_kept, meanings_are_sound, nodes_give_cubes, references_are_cubes, shapes_are_valid,
     shapes_need_no_cells,
 };
-pub use mask::cover;
 pub use operation::{Operation, Restriction};
 pub use operation_request::operation_for;
 pub use operation_scope::part_in_time;

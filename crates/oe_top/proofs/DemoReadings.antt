@@ -1,7 +1,6 @@
 -- What the text of the demonstration is read as: a graph in which no fault of its form stands.
-use Rattle.std.proofs.Common.{◌≡◌, ℕ, ◌<◌, ◌⊎◌, inl, inr, List, [], true, true≢false, Option, Some, None, codes, pos, length, refl, sym, ap, ◌∙◌, subst, arith}
+use Rattle.std.proofs.Common.{◌≡◌, ℕ, ◌≤◌, List, [], true, Some, None, codes, pos, length, refl, arith}
 use Rattle.std.proofs.lemmas.Str.{IsUtf8-from_is_utf8}
-use Rattle.std.specs.Prelude.{⊤}
 use Rattle.std.specs.Str.{chars, is_utf8}
 use lib.Utf8.{encode}
 use Rattle.fast_float.specs.Text.{scan}
@@ -11,14 +10,13 @@ use Rattle.json.specs.Text.{content}
 use Rattle.json.specs.Word.{after_number, word}
 use Rattle.serde_json.specs.Data.{Data, null, boolean, number, string, array, object, unsigned, no_items, item, Members, no_members, member}
 use Rattle.serde_json.specs.Read.{number_of, read}
-use Rattle.oe_dims.specs.Names.{is_name}
 use Rattle.oe_graph.specs.Built.{graph_of}
-use Rattle.oe_graph.specs.Form as form
-use Rattle.oe_graph.specs.Form.{IsGraphObject, IsMember, first, later, IsNamedWithin, IsReading, Stands, StandsIn, arguments_in, is_node, most_input, nodes_in, result_count}
+use Rattle.oe_graph.specs.Form.{IsReading, Stands, most_input}
 use Rattle.oe_graph.specs.Read.{IsFaultless, Reads}
 use Rattle.oe_graph.specs.Tree as tree
 use Rattle.oe_graph.specs.Tree.{Argument, Named, Nodes, PlainGraph}
-use Rattle.oe_graph.specs.declared.code.Code.{Code}
+use Rattle.oe_graph.specs.Walked.{graph_fault}
+use Rattle.oe_graph.proofs.ReadLemmas.{bytes_valid, value_valid}
 use Rattle.oe_top.specs.Demonstration.{demo_graph}
 
 -- ---- the value of the text
@@ -127,98 +125,18 @@ built = refl
 
 -- ---- no fault of its form
 
--- what holds of each member
-abbrev OfAll : (List ℕ → Data → Type 0) → Members → Type 0
-OfAll P no_members = ⊤
-OfAll P (member name d rest) = P name d × OfAll P rest
-
-of_member : (P : List ℕ → Data → Type 0) (ms : Members) → OfAll P ms → (name : List ℕ) (d : Data) → IsMember name d ms → P name d
-of_member P no_members all name d m = elim m [ ]
-of_member P (member other e rest) all name d first = all.0
-of_member P (member other e rest) all name d (later m) = of_member P rest all.1 name d m
-
--- a node of a valid id and in form
-abbrev IsGoodNode : List ℕ → Data → Type 0
-IsGoodNode id d = (is_name id ≡ true) × (is_node d ≡ true)
-
--- an argument that is a callback is the reducer
-abbrev IsReducerAlone : List ℕ → Data → Type 0
-IsReducerAlone name value = (inner : Members) → nodes_in value ≡ Some inner → inner ≡ reducer_data
-
-abbrev HasReducerAlone : List ℕ → Data → Type 0
-HasReducerAlone id d =
-    (arguments : Members) → arguments_in d ≡ Some arguments → (name : List ℕ) (value : Data) → IsMember name value arguments
-    → IsReducerAlone name value
-
-by_arguments : (process_id : List ℕ) (ms rest : Members) → OfAll IsReducerAlone ms → (id : List ℕ)
-    → HasReducerAlone id (node_data process_id ms rest)
-by_arguments process_id ms rest all id arguments found name value m =
-    let same : arguments ≡ ms = cc in
-    of_member IsReducerAlone ms all name value (subst (IsMember name value) same m)
-
-no_graph : (inner : Members) → ◌≡◌ {A = Option Members} None (Some inner) → inner ≡ reducer_data
-no_graph inner is = absurd cc
-
-main_alone : OfAll HasReducerAlone demo_nodes
-main_alone =
-    let load = by_arguments (codes "load_collection") load_data no_members (no_graph, (no_graph, (no_graph, tt))) (codes "load") in
-    let sum = by_arguments (codes "apply_kernel") sum_data no_members (no_graph, (no_graph, (no_graph, tt))) (codes "sum") in
-    let top = by_arguments (codes "reduce_dimension") top_data is_result (no_graph, (no_graph, ((λ inner is. cc), tt))) (codes "top") in
-    (load, (sum, (top, tt)))
-
-reducer_alone : OfAll HasReducerAlone reducer_data
-reducer_alone = (by_arguments (codes "max") max_data is_result (no_graph, tt) (codes "max"), tt)
-
--- the graph objects are the main graph and the reducer
-abbrev IsEither : Members → Type 0
-IsEither nodes = (nodes ≡ demo_nodes) ⊎ (nodes ≡ reducer_data)
-
-alone : (outer : Members) → IsEither outer → OfAll HasReducerAlone outer
-alone outer (inl is) = subst (OfAll HasReducerAlone) (sym is) main_alone
-alone outer (inr is) = subst (OfAll HasReducerAlone) (sym is) reducer_alone
-
-either : (nodes : Members) (name : List ℕ) (outer : Members) (at : List ℕ) → IsNamedWithin nodes name outer at → IsEither outer
-    → IsEither nodes
-either nodes name outer at form.itself is = is
-either nodes name outer at (form.in_callback {id = id} {d = d} {arguments = arguments} {a = a} {value = value} {inner = inner} m valid found n calls within) is =
-    either nodes name inner _ within (inr (of_member HasReducerAlone outer (alone outer is) id d m arguments found a value n inner calls))
-
-object_is : (nodes : Members) (name : List ℕ) → IsGraphObject demo_data nodes name → IsEither nodes
-object_is nodes name g =
-    let main : g.main ≡ demo_nodes = (let is = g.is_main in cc) in
-    either nodes name g.main [] g.within (inl main)
-
-good : (nodes : Members) → IsEither nodes → OfAll IsGoodNode nodes
-good nodes (inl is) = subst (OfAll IsGoodNode) (sym is) ((refl, refl), ((refl, refl), ((refl, refl), tt)))
-good nodes (inr is) = subst (OfAll IsGoodNode) (sym is) ((refl, refl), tt)
-
-one_result : (nodes : Members) → IsEither nodes → result_count nodes ≡ 1
-one_result nodes (inl is) = ap result_count is
-one_result nodes (inr is) = ap result_count is
-
-value_valid : (code : Code) (at : List ℕ) → ¬ StandsIn demo_data code at
-value_valid code at (form.graph_unreadable none) = cc
-value_valid code at (form.process_graph_missing none) = cc
-value_valid code at (form.node_id_invalid {nodes = nodes} {name = name} {id = id} {d = d} g m fails) =
-    true≢false (sym (of_member IsGoodNode nodes (good nodes (object_is nodes name g)) id d m).0 ∙ fails)
-value_valid code at (form.node_invalid {nodes = nodes} {name = name} {id = id} {d = d} g m valid fails) =
-    true≢false (sym (of_member IsGoodNode nodes (good nodes (object_is nodes name g)) id d m).1 ∙ fails)
-value_valid code at (form.result_node_count {nodes = nodes} {name = name} g other) = other (one_result nodes (object_is nodes name g))
+no_fault : None ≡ graph_fault [] demo_nodes
+no_fault = refl
 
 size : length demo_graph ≡ 497
 size = refl
 
-short : (n : ℕ) → n ≡ 497 → ¬ (most_input < n)
-short n is long = absurd (omega (arith, is, long))
-
-same_value : (d : Data) → IsReading demo_graph d → demo_data ≡ d
-same_value d r = let both : Some demo_data ≡ Some d = sym value_is ∙ r.value in cc
+short : (n : ℕ) → n ≡ 497 → n ≤ most_input
+short n is = omega (arith, is)
 
 form_valid : IsFaultless (Stands demo_graph)
-form_valid code at (form.input_too_long long) = short (length demo_graph) size long
-form_valid code at (form.graph_unreadable fails) = fails demo_data reads_data
-form_valid code at (form.of_value {d = d} r s) =
-    value_valid code at (subst (λ (e : Data). StandsIn e code at) (sym (same_value d r)) s)
+form_valid =
+    bytes_valid demo_graph demo_data reads_data (short (length demo_graph) size) (value_valid demo_data demo_nodes refl no_fault)
 
 pub demo_reads : Reads demo_graph demo_plain
 demo_reads = record {
