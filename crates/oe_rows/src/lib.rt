@@ -1,15 +1,15 @@
-//! Worked values of the outside and of what threads share, and laws of shapes, windows and grids that serve a caller.
+//! Laws of cells, shapes, windows and grids that serve a caller, and what callers do with values of the base crates
+//! besides asking them: they hand them to threads, and take a refused allocation by `?`.
 //!
-//! Nothing stands on this crate: its tests have expected values that are taken from outside, by hand or from the public
-//! texts, and the contracts of [`laws`] follow from those of the calls in their bodies. What needs something private stands in the
-//! crate itself. `oe_rows_shapes` has the values of dimensions, windows and orders, `oe_rows_cells` those of cells,
-//! reducers and kernels, `oe_rows_graphs` those of the crates that read and run graphs.
+//! Nothing stands on this crate. The contracts of [`laws`] and [`laws_of_cells`] follow from those of the calls in their
+//! bodies. That a value may be shared by threads, or moved into one, is seen in a test that does so and is proved.
+//! Worked values stand in the crates beside this one: `oe_rows_shapes` has those of dimensions, windows and orders,
+//! `oe_rows_outside` those of objects in memory, `oe_rows_cells` those of cells, reducers and kernels.
 #![tactic(auto)]
 
 pub mod laws;
+pub mod laws_of_cells;
 #[cfg(test)]
 mod memory;
-#[cfg(test)]
-mod outside;
 #[cfg(test)]
 mod threads;

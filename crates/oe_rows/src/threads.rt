@@ -1,5 +1,7 @@
-//! Shapes, texts, grids and orders, which threads share and take for their own.
+//! Shapes, texts, grids, references and kernels, which threads share and take for their own.
+use oe_cell::Frac;
 use oe_dims::{BandIndex, Shape, Text};
+use oe_kernel::Kernel;
 use oe_memory::OutOfMemory;
 use oe_order::{Links, is_ranked};
 use oe_window::{ChunkSize, Grid};
@@ -79,5 +81,23 @@ fn share_references(rt: HostRuntime) -> Result<(), Fail> {
         || is_ranked(nodes.as_slice(), &[]),
     );
     assert_eq!(rt; (left, right), (true, false));
+    Ok(())
+}
+
+/// A kernel of three ones.
+fn kernel(alloc: Global, width: u32, height: u32) -> Result<Kernel, Fail> {
+    let values = vec![in alloc; Frac::whole(1); 3]?;
+    Ok(Kernel::new(width, height, values)?)
+}
+
+// Threads may share a kernel, and a thread may take one for its own.
+#[test]
+fn share_kernels(rt: HostRuntime) -> Result<(), Fail> {
+    let wide = kernel(rt.alloc(), 3, 1)?;
+    let sizes = thread::join(&rt, || wide.width(), || wide.height());
+    assert_eq!(rt; sizes, (3, 1), "lent");
+    let high = kernel(rt.alloc(), 1, 3)?;
+    let sizes = thread::join(&rt, move || wide.width(), move || high.height());
+    assert_eq!(rt; sizes, (3, 3), "moved");
     Ok(())
 }

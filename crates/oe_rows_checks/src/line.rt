@@ -29,8 +29,10 @@ pub(crate) enum Line<'a> {
         id: Text,
         source: FileSource<MemoryStore>,
     },
-    /// The bytes of a cube file are none.
-    NoFile,
+    /// The bytes of a cube file are none, and whether the store was handed back as it was.
+    NoFile {
+        kept: bool,
+    },
     /// `openeo` is called with words and an input.
     Call {
         words: Vec<Text>,
@@ -61,11 +63,13 @@ pub(crate) fn read_line(alloc: Global, line: &str) -> Result<Line<'_>, Fault> {
 
 fn read_file(alloc: Global, digits: &str) -> Result<Line<'_>, Fault> {
     match open_file(alloc, bytes_of(alloc, digits)?)? {
-        Some(source) => Ok(Line::File {
+        Ok(source) => Ok(Line::File {
             id: source.id().copy()?,
             source,
         }),
-        None => Ok(Line::NoFile),
+        Err(store) => Ok(Line::NoFile {
+            kept: hex::encode(alloc, store.bytes())?.as_str() == digits,
+        }),
     }
 }
 

@@ -18,9 +18,10 @@
 //! | `WORDS` | calls it with no byte of input |
 //!
 //! `replace` and `detach` answer `none` where no collection is mounted under the id, and `file` answers `invalid` where
-//! the bytes are no cube file; else they answer nothing. The answer of a call is the status, then the bytes of the
-//! output and, behind a bar, those of the error output, where there are any. Bytes are spelled as they are, with `\n`
-//! for a line feed, if each is printable, and else in hexadecimal digits.
+//! the bytes are no cube file and stand in the store that is handed back, and `changed` where others do; else they answer
+//! nothing. The answer of a call is the status, then the bytes of the output and, behind a bar, those of the error
+//! output, where there are any. Bytes are spelled as they are, with `\n` for a line feed, if each is printable, and else
+//! in hexadecimal digits.
 #![tactic(auto)]
 
 mod answer;
@@ -79,8 +80,9 @@ fn main(rt: HostRuntime) -> ExitCode {
                     return ExitCode::from(9);
                 }
             }
-            Ok(Line::NoFile) => {
-                if mark("invalid", &mut answers).is_err() {
+            Ok(Line::NoFile { kept }) => {
+                let word = if kept { "invalid" } else { "changed" };
+                if mark(word, &mut answers).is_err() {
                     return ExitCode::from(9);
                 }
             }

@@ -1,36 +1,54 @@
 // A keeper in memory whose calls fail, and which stops.
-ghost use Rattle.std.specs.Prelude.{IfOk};
-ghost use Rattle.oe_graph.specs.Plain.{plain_stored};
-ghost use Rattle.oe_jobs.specs.Plain.{plain_book};
-ghost use Rattle.oe_jobs.specs.Valid.{IsBook, IsStored};
+ghost use Rattle.std.specs.Prelude.{◌≡◌, IfOk, IfSome};
+ghost use Rattle.oe_jobs.specs.Changes.{changed};
+ghost use Rattle.oe_jobs.specs.Plain.{plain_book, plain_change};
+ghost use Rattle.oe_jobs.specs.Valid.{IsBook};
 
+use crate::command::stored_of;
 use crate::fault::Fault;
-use crate::line::PROCESS;
+use crate::spell::{push_all, push_number};
+use crate::words::{first_word, number_of};
 use oe_dims::Text;
-use oe_graph::{Refusal, StoredProcess, read_stored};
-use oe_jobs::{Book, Command, Keeper, KeeperFail, decide};
+use oe_jobs::{Book, Change, Command, Keeper, KeeperFail, Verdict, decide};
 use oe_keeper::MemoryKeeper;
 use std::alloc::Global;
 
+/// When the processes are stored.
+const KEPT: i64 = 50;
+
 /// Asks a keeper of an empty book to keep the stored processes `a` and `b` of the user u, and to load the book at last.
-/// Spells what each is answered, how often a call failed, and the stored processes that a crash leaves.
-pub(crate) fn keep_both(
-    alloc: Global,
-    failing: Vec<u64>,
-    stop: Option<(u64, bool)>,
-    answers: &mut String,
-) -> Result<(), Fault> {
+/// Appends what each is answered, how often a call failed, and the stored processes that a crash leaves.
+///
+/// The line has the numbers of the calls that fail, with commas between them, or `-` for none; then the call in which
+/// the keeper stops with `kept` or `lost`, or `-` for none.
+pub(crate) fn keep_both(alloc: Global, line: &str, answers: &mut String) -> Result<(), Fault> {
+    let (failing, stop) = first_word(line);
+    let stop = stop_of(stop)?;
+    let failing = numbers_of(alloc, failing)?;
     let mut keeper = MemoryKeeper::new(empty_book(alloc), failing, stop);
-    let first = keep(alloc, &mut keeper, "a")?;
-    let second = keep(alloc, &mut keeper, "b")?;
-    let last = match keeper.load() {
-        Ok(_) => "loaded",
-        Err(fail) => fail_word(fail, "not loaded"),
-    };
-    let faults = keeper.faults();
-    let line = format!(in alloc; "{first}, {second}, {last}, {faults} failed, left")?;
-    answers.push_str(line.as_str())?;
+    answer_calls(alloc, &mut keeper, answers)?;
     spell_stored(&keeper.stopped(), answers)
+}
+
+fn numbers_of(alloc: Global, word: &str) -> Result<Vec<u64>, Fault> {
+    let mut numbers = Vec::new(alloc);
+    if word == "-" {
+        return Ok(numbers);
+    }
+    for number in word.split(',') {
+        numbers.push(number_of(number)?)?;
+    }
+    Ok(numbers)
+}
+
+fn stop_of(line: &str) -> Result<Option<(u64, bool)>, Fault> {
+    let (call, flag) = first_word(line);
+    match flag {
+        "" => Ok(None),
+        "kept" => Ok(Some((number_of(call)?, true))),
+        "lost" => Ok(Some((number_of(call)?, false))),
+        _ => Err(Fault::Line),
+    }
 }
 
 /// A book without jobs and stored processes.
@@ -44,21 +62,63 @@ fn empty_book(alloc: Global) -> Book
     }
 }
 
+fn answer_calls(
+    alloc: Global,
+    keeper: &mut MemoryKeeper,
+    answers: &mut String,
+) -> Result<(), Fault> {
+    let first = keep(alloc, keeper, "a")?;
+    let second = keep(alloc, keeper, "b")?;
+    push_all(&[first, ", ", second, ", ", load_word(keeper)], answers)?;
+    push_number(", ", keeper.faults(), answers)?;
+    answers.push_str(" failed, left")?;
+    Ok(())
+}
+
+fn load_word(keeper: &mut MemoryKeeper) -> &'static str {
+    match keeper.load() {
+        Ok(_) => "loaded",
+        Err(fail) => fail_word(fail, "not loaded"),
+    }
+}
+
 /// Loads the book and, where that is answered Ok, commits that the user u stores a process.
 fn keep(alloc: Global, keeper: &mut MemoryKeeper, id: &str) -> Result<&'static str, Fault> {
-    let book = match keeper.load() {
-        Ok(book) => book,
-        Err(fail) => return Ok(fail_word(fail, "not loaded")),
-    };
-    let user = Text::of(alloc, "u")?;
-    let command = Command::Store {
-        process: process_of(alloc, id)?,
-    };
-    let verdict = decide(alloc, &book, &user, &command, 50)?;
-    match &verdict.change {
-        Some(change) => Ok(commit_word(keeper.commit(change))),
+    match keeper.load() {
+        Ok(book) => commit_stored(alloc, keeper, &book, id),
+        Err(fail) => Ok(fail_word(fail, "not loaded")),
+    }
+}
+
+/// Commits, over the book that is kept, that the user u stores a process.
+fn commit_stored(
+    alloc: Global,
+    keeper: &mut MemoryKeeper,
+    book: &Book,
+    id: &str,
+) -> Result<&'static str, Fault>
+    requires valid { IsBook (plain_book book.now) }
+    requires kept { plain_book book.now ≡ plain_book keeper.old.book }
+{
+    match stored_change(alloc, book, id)? {
+        Some(change) => Ok(commit_word(keeper.commit(&change))),
         None => Ok("unchanged"),
     }
+}
+
+/// What it changes that the user u stores a process.
+fn stored_change(alloc: Global, book: &Book, id: &str) -> Result<Option<Change>, Fault>
+    requires { IsBook (plain_book book.now) }
+    ensures { IfOk result (λ change. IfSome change
+        (λ c. IsBook (changed (plain_book book.now) (plain_change c)))) }
+{
+    let user = Text::of(alloc, "u")?;
+    let command = Command::Store {
+        process: stored_of(alloc, id)?,
+    };
+    let verdict = decide(alloc, book, &user, &command, KEPT)?;
+    let Verdict { change, outcome: _ } = verdict;
+    Ok(change)
 }
 
 fn commit_word(answer: Result<(), KeeperFail>) -> &'static str {
@@ -75,22 +135,10 @@ fn fail_word(fail: KeeperFail, failed: &'static str) -> &'static str {
     }
 }
 
-/// A stored process of an id.
-fn process_of(alloc: Global, id: &str) -> Result<StoredProcess, Fault>
-    ensures { IfOk result (λ p. IsStored (plain_stored p)) }
-{
-    match read_stored(alloc, id, PROCESS.as_bytes()) {
-        Ok(process) => Ok(process),
-        Err(Refusal::OutOfMemory) => Err(Fault::OutOfMemory),
-        Err(Refusal::Fault(_)) => Err(Fault::Line),
-    }
-}
-
-/// Spells the ids of the stored processes of a book.
+/// Appends the ids of the stored processes of a book.
 fn spell_stored(book: &Book, answers: &mut String) -> Result<(), Fault> {
     for owned in &book.processes {
-        answers.push(' ')?;
-        answers.push_str(owned.process.id.as_str())?;
+        push_all(&[" ", owned.process.id.as_str()], answers)?;
     }
     answers.push('\n')?;
     Ok(())

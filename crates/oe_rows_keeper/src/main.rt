@@ -17,25 +17,31 @@
 //! | `entry TEXT` | reads the text as the entry of the job j-3, and writes the entry of that job |
 //!
 //! An answer to a command is its outcome, then the kind of the change, then the book: its next number, its jobs and its
-//! stored processes, with bars between them. An answer to an event has no outcome.
+//! stored processes, with bars between them. An answer to an event or to `reopen` has no outcome. `keeper` is answered
+//! by what the two processes and the load are answered, by how many calls failed, and by the stored processes that a
+//! crash leaves; `entry` by the job that was read and, behind a bar, the entry that is written of it, or by `none`.
 #![tactic(auto)]
 
 mod book;
+mod command;
 mod entry;
+mod event;
 mod fault;
+mod job;
 mod keeper;
-mod line;
 mod spell;
+mod words;
 
-use book::{ask, empty_book, happen, open};
+use book::{ask, begin, empty_book, happen, open};
 use entry::read_entry;
 use fault::Fault;
+use job::add_job;
 use keeper::keep_both;
-use line::{Line, read_line};
 use oe_jobs::Book;
 use std::alloc::Global;
 use std::io::{Read, Write};
 use std::process::ExitCode;
+use words::first_word;
 
 fn main(rt: HostRuntime) -> ExitCode {
     let alloc = rt.alloc();
@@ -43,39 +49,43 @@ fn main(rt: HostRuntime) -> ExitCode {
     if rt.stdin().read_to_string(&mut text).is_err() {
         return ExitCode::from(5);
     }
-    match answer_lines(alloc, text.as_str()) {
-        Ok(answers) => match rt.stdout().write_all(answers.as_bytes()) {
-            Ok(()) => ExitCode::from(0),
-            Err(_) => ExitCode::from(8),
-        },
-        Err(Fault::Line) => ExitCode::from(1),
-        Err(Fault::OutOfMemory) => ExitCode::from(9),
-    }
-}
-
-fn answer_lines(alloc: Global, text: &str) -> Result<String, Fault> {
-    let mut book = empty_book(alloc, 1);
     let mut answers = String::new(alloc);
-    for line in text.lines() {
-        answer_line(alloc, read_line(alloc, line)?, &mut book, &mut answers)?;
+    match answer_lines(alloc, text.as_str(), &mut answers) {
+        Ok(()) => {}
+        Err(Fault::Line) => return ExitCode::from(1),
+        Err(Fault::OutOfMemory) => return ExitCode::from(9),
     }
-    Ok(answers)
+    match rt.stdout().write_all(answers.as_bytes()) {
+        Ok(()) => ExitCode::from(0),
+        Err(_) => ExitCode::from(8),
+    }
 }
 
+/// Appends the answers of all lines.
+fn answer_lines(alloc: Global, text: &str, answers: &mut String) -> Result<(), Fault> {
+    let mut book = empty_book(alloc, 1);
+    for line in text.lines() {
+        let (word, rest) = first_word(line);
+        answer_line(alloc, word, rest, &mut book, answers)?;
+    }
+    Ok(())
+}
+
+/// Appends the answer of a line that begins with this word.
 fn answer_line(
     alloc: Global,
-    line: Line<'_>,
+    word: &str,
+    rest: &str,
     book: &mut Book,
     answers: &mut String,
 ) -> Result<(), Fault> {
-    match line {
-        Line::Book { next } => *book = empty_book(alloc, next),
-        Line::Job { job } => book.jobs.push(job)?,
-        Line::Ask { user, command } => ask(alloc, book, &user, &command, answers)?,
-        Line::Happen { id, event } => happen(alloc, book, &id, event, answers)?,
-        Line::Reopen => open(alloc, book, answers)?,
-        Line::Keep { failing, stop } => keep_both(alloc, failing, stop, answers)?,
-        Line::Entry { text } => read_entry(alloc, text, answers)?,
+    match word {
+        "book" => begin(alloc, rest, book),
+        "job" => add_job(alloc, rest, &mut book.jobs),
+        "event" => happen(alloc, rest, book, answers),
+        "reopen" => open(alloc, book, answers),
+        "keeper" => keep_both(alloc, rest, answers),
+        "entry" => read_entry(alloc, rest, answers),
+        _ => ask(alloc, word, rest, book, answers),
     }
-    Ok(())
 }

@@ -1,25 +1,16 @@
 // Books, jobs, changes and verdicts in words.
 use crate::fault::Fault;
-use oe_jobs::{Book, Change, Job, JobFault, Level, LogEntry, Outcome, Status};
-use std::alloc::Global;
+use itoa::{Buffer, Integer};
+use oe_dims::Text;
+use oe_jobs::{Asset, Book, Change, Job, JobFault, Level, LogEntry, Outcome, Owned, Ran, Status};
 
-pub(crate) fn status_word(status: Status) -> &'static str {
-    match status {
-        Status::Created => "created",
-        Status::Queued => "queued",
-        Status::Running => "running",
-        Status::Canceled => "canceled",
-        Status::Finished => "finished",
-        Status::Error => "error",
-    }
-}
-
-pub(crate) fn level_word(level: Level) -> &'static str {
-    match level {
-        Level::Error => "error",
-        Level::Warning => "warning",
-        Level::Info => "info",
-        Level::Debug => "debug",
+/// What a command is answered.
+pub(crate) fn outcome_word(outcome: &Outcome) -> &str {
+    match outcome {
+        Outcome::Created(id) => id.as_str(),
+        Outcome::Queued => "queued",
+        Outcome::Done => "done",
+        Outcome::Refused(fault) => fault_word(*fault),
     }
 }
 
@@ -34,91 +25,129 @@ fn fault_word(fault: JobFault) -> &'static str {
     }
 }
 
-/// What a command is answered.
-pub(crate) fn outcome_word(outcome: &Outcome) -> &str {
-    match outcome {
-        Outcome::Created(id) => id.as_str(),
-        Outcome::Queued => "queued",
-        Outcome::Done => "done",
-        Outcome::Refused(fault) => fault_word(*fault),
-    }
-}
-
-/// Spells which change it is, behind the answers so far.
-pub(crate) fn spell_change(change: &Option<Change>, answers: &mut String) -> Result<(), Fault> {
-    let word = match change {
+/// Which change it is.
+pub(crate) fn change_word(change: &Option<Change>) -> &'static str {
+    match change {
         None => "unchanged",
         Some(Change::PutJob { .. }) => "put",
         Some(Change::AddAsset { .. }) => "added",
         Some(Change::DropJob { .. }) => "dropped",
         Some(Change::PutProcess { .. }) => "stored",
         Some(Change::DropProcess { .. }) => "forgotten",
-    };
-    answers.push_str(word)?;
+    }
+}
+
+/// Appends the next number of a book, its jobs and its stored processes.
+pub(crate) fn spell_book(book: &Book, answers: &mut String) -> Result<(), Fault> {
+    push_number(" | ", book.next, answers)?;
+    spell_jobs(&book.jobs, answers)?;
+    spell_processes(&book.processes, answers)?;
+    answers.push('\n')?;
     Ok(())
 }
 
-/// Spells the next number of a book, its jobs and its stored processes.
-pub(crate) fn spell_book(alloc: Global, book: &Book, answers: &mut String) -> Result<(), Fault> {
-    let next = format!(in alloc; " | {}", book.next)?;
-    answers.push_str(next.as_str())?;
-    for job in &book.jobs {
+fn spell_jobs(jobs: &[Job], answers: &mut String) -> Result<(), Fault> {
+    for job in jobs {
         answers.push_str(" | ")?;
-        spell_job(alloc, job, answers)?;
-    }
-    for owned in &book.processes {
-        answers.push_str(" | ")?;
-        answers.push_str(owned.user.as_str())?;
-        answers.push('/')?;
-        answers.push_str(owned.process.id.as_str())?;
+        spell_job(job, answers)?;
     }
     Ok(())
 }
 
-/// Spells a job: its id, user, status, level, when it was created and changed, its turn, how many stored processes it
-/// runs, its assets and its logs; its title and description where it has them.
-pub(crate) fn spell_job(alloc: Global, job: &Job, answers: &mut String) -> Result<(), Fault> {
-    let head = format!(in alloc;
-        "{} {} {} {}",
-        job.id.as_str(),
-        job.user.as_str(),
-        status_word(job.status),
-        level_word(job.level)
+fn spell_processes(processes: &[Owned], answers: &mut String) -> Result<(), Fault> {
+    for owned in processes {
+        push_all(
+            &[" | ", owned.user.as_str(), "/", owned.process.id.as_str()],
+            answers,
+        )?;
+    }
+    Ok(())
+}
+
+/// Appends a job: its id, user, status, level, when it was created and changed, its turn, how many stored processes it
+/// runs, its title and description where it has them, its assets and its logs.
+pub(crate) fn spell_job(job: &Job, answers: &mut String) -> Result<(), Fault> {
+    push_all(&[job.id.as_str(), " ", job.user.as_str()], answers)?;
+    push_all(
+        &[" ", status_word(job.status), " ", level_word(job.level)],
+        answers,
     )?;
-    answers.push_str(head.as_str())?;
-    let moments = format!(in alloc; " {} {} turn {}", job.created, job.updated, job.turn)?;
-    answers.push_str(moments.as_str())?;
-    if let Some(ran) = &job.ran {
-        let runs = format!(in alloc; " runs {}", ran.stored.len())?;
-        answers.push_str(runs.as_str())?;
+    push_number(" ", job.created, answers)?;
+    push_number(" ", job.updated, answers)?;
+    push_number(" turn ", job.turn, answers)?;
+    spell_ran(&job.ran, answers)?;
+    spell_text(" title ", &job.title, answers)?;
+    spell_text(" description ", &job.description, answers)?;
+    spell_assets(&job.assets, answers)?;
+    spell_logs(&job.logs, answers)
+}
+
+fn status_word(status: Status) -> &'static str {
+    match status {
+        Status::Created => "created",
+        Status::Queued => "queued",
+        Status::Running => "running",
+        Status::Canceled => "canceled",
+        Status::Finished => "finished",
+        Status::Error => "error",
     }
-    if let Some(title) = &job.title {
-        answers.push_str(" title ")?;
-        answers.push_str(title.as_str())?;
+}
+
+fn level_word(level: Level) -> &'static str {
+    match level {
+        Level::Error => "error",
+        Level::Warning => "warning",
+        Level::Info => "info",
+        Level::Debug => "debug",
     }
-    if let Some(description) = &job.description {
-        answers.push_str(" description ")?;
-        answers.push_str(description.as_str())?;
+}
+
+fn spell_ran(ran: &Option<Ran>, answers: &mut String) -> Result<(), Fault> {
+    match ran {
+        Some(ran) => push_number(" runs ", ran.stored.len(), answers),
+        None => Ok(()),
     }
-    for asset in &job.assets {
-        answers.push(' ')?;
-        answers.push_str(asset.name.as_str())?;
+}
+
+/// Appends a name and a text, where there is one.
+fn spell_text(name: &str, text: &Option<Text>, answers: &mut String) -> Result<(), Fault> {
+    match text {
+        Some(text) => push_all(&[name, text.as_str()], answers),
+        None => Ok(()),
     }
-    for entry in &job.logs {
-        spell_log(entry, answers)?;
+}
+
+fn spell_assets(assets: &[Asset], answers: &mut String) -> Result<(), Fault> {
+    for asset in assets {
+        push_all(&[" ", asset.name.as_str()], answers)?;
     }
     Ok(())
 }
 
-/// Spells a log entry: its level, its code where it has one, and its message.
-fn spell_log(entry: &LogEntry, answers: &mut String) -> Result<(), Fault> {
-    answers.push(' ')?;
-    answers.push_str(level_word(entry.level))?;
-    if let Some(code) = &entry.code {
-        answers.push('=')?;
-        answers.push_str(code.as_str())?;
+/// Appends log entries: their levels, their codes where they have them, and their messages.
+fn spell_logs(logs: &[LogEntry], answers: &mut String) -> Result<(), Fault> {
+    for entry in logs {
+        push_all(&[" ", level_word(entry.level)], answers)?;
+        spell_text("=", &entry.code, answers)?;
+        push_all(&[":", entry.message.as_str()], answers)?;
     }
-    answers.push(':')?;
-    answers.push_str(entry.message.as_str())?;
+    Ok(())
+}
+
+pub(crate) fn push_all(words: &[&str], answers: &mut String) -> Result<(), Fault> {
+    for word in words {
+        answers.push_str(word)?;
+    }
+    Ok(())
+}
+
+/// Appends words and a number.
+pub(crate) fn push_number<N: Integer>(
+    words: &str,
+    number: N,
+    answers: &mut String,
+) -> Result<(), Fault> {
+    answers.push_str(words)?;
+    answers.push_str(Buffer::new().format(number))?;
     Ok(())
 }

@@ -1,5 +1,0 @@
-use Rattle.std.proofs.Common.{arith}
-use Rattle.oe_rows_cells.proofs.laws.two_records.Goals as goal
-
-pub returns : goal.returns
-returns c = c.write_records.ensures.each 1 (omega arith)

@@ -1,0 +1,20 @@
+// Why the answers could not be had.
+use std::alloc::{AllocError, AllocFailed};
+
+pub(crate) enum Fault {
+    /// A line is none of those that are understood.
+    Line,
+    OutOfMemory,
+}
+
+impl From<AllocError> for Fault {
+    fn from(_error: AllocError) -> Fault {
+        Fault::OutOfMemory
+    }
+}
+
+impl<T: Drop> From<AllocFailed<T>> for Fault {
+    fn from(_error: AllocFailed<T>) -> Fault {
+        Fault::OutOfMemory
+    }
+}
