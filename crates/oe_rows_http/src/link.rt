@@ -63,11 +63,12 @@ fn numbers_of(alloc: Global, words: &str) -> Result<Vec<u64>, Fault> {
     Ok(numbers)
 }
 
-/// Appends how many calls of a link failed, if any did.
-pub(crate) fn spell_faults(link: &MemoryLink, answer: &mut Vec<u8>) -> Result<(), Fault> {
-    if link.faults() == 0 {
-        return Ok(());
+/// Appends how many calls of a link failed, if any did, and the end of the line.
+pub(crate) fn spell_end(link: &MemoryLink, answer: &mut Vec<u8>) -> Result<(), Fault> {
+    if link.faults() != 0 {
+        answer.extend_from_slice(b" faults ")?;
+        spell_number(link.faults(), answer)?;
     }
-    answer.extend_from_slice(b" faults ")?;
-    spell_number(link.faults(), answer)
+    answer.push(b'\n')?;
+    Ok(())
 }

@@ -33,11 +33,12 @@ mod writing;
 
 use fault::Fault;
 use link::{Links, links_of};
-use reading::{answer_request, answer_response, answer_texts};
+use reading::{Message, answer_read, answer_texts};
+use spelling::two_words;
 use std::alloc::Global;
 use std::io::{Read, Write};
 use std::process::ExitCode;
-use writing::{answer_head, answer_reply, answer_written};
+use writing::answer_written;
 
 fn main(rt: HostRuntime) -> ExitCode {
     let alloc = rt.alloc();
@@ -64,35 +65,28 @@ fn answer_lines(alloc: Global, text: &str, answers: &mut Vec<u8>) -> Result<(), 
         calls: "",
     };
     for line in text.lines() {
-        let Some((word, rest)) = line.split_once(' ') else {
-            return Err(Fault::Line);
-        };
-        if word == "links" {
-            links = links_of(rest);
-        } else {
-            answer_line(alloc, links, word, rest, answers)?;
+        match line.strip_prefix("links ") {
+            Some(words) => links = links_of(words),
+            None => answer_line(alloc, links, line, answers)?,
         }
     }
     Ok(())
 }
 
-/// Appends the answer of a line that begins with this word.
+/// Appends the answer of a line.
 fn answer_line(
     alloc: Global,
     links: Links<'_>,
-    word: &str,
-    rest: &str,
+    line: &str,
     answers: &mut Vec<u8>,
 ) -> Result<(), Fault> {
+    let (word, rest) = two_words(line)?;
     match word {
         "#" => print_heading(rest, answers),
         "texts" => answer_texts(alloc, answers),
-        "request" => answer_request(alloc, links, rest, answers),
-        "response" => answer_response(alloc, links, rest, answers),
-        "reply" => answer_reply(alloc, links, rest, answers),
-        "head" => answer_head(alloc, links, rest, answers),
-        "written" => answer_written(alloc, links, rest, answers),
-        _ => Err(Fault::Line),
+        "request" => answer_read(alloc, links, Message::Request, rest, answers),
+        "response" => answer_read(alloc, links, Message::Response, rest, answers),
+        _ => answer_written(alloc, links, word, rest, answers),
     }
 }
 

@@ -1,65 +1,85 @@
 // What is read of messages.
 use crate::fault::Fault;
-use crate::link::{Links, incoming_link, spell_faults};
-use crate::spelling::{bytes_of, spell_number, spell_part};
+use crate::link::{Links, incoming_link, spell_end};
+use crate::spelling::{push_bytes, spell_number, spell_part, spell_word};
 use oe_dims::Text;
 use oe_http::{Request, RequestRefusal, Response, ResponseRefusal, read_request, read_response};
+use oe_outside::MemoryLink;
 use std::alloc::Global;
 
-/// Reads a request from each link, and appends the answers.
-pub(crate) fn answer_request(
+/// What is read.
+#[derive(Clone, Copy)]
+pub(crate) enum Message {
+    Request,
+    Response,
+}
+
+/// Reads a message from each link, and appends the answers, each that is not the one before it.
+pub(crate) fn answer_read(
     alloc: Global,
     links: Links<'_>,
+    message: Message,
     spelled: &str,
     answers: &mut Vec<u8>,
 ) -> Result<(), Fault> {
-    let bytes = bytes_of(alloc, spelled)?;
-    let mut before = Vec::new(alloc);
+    let mut bytes = Vec::new(alloc);
+    push_bytes(alloc, spelled, &mut bytes)?;
+    let mut before = answers.len();
     for piece in links.pieces.split(',') {
-        let mut link = incoming_link(alloc, &bytes, piece, links.calls)?;
-        let mut answer = Vec::new(alloc);
-        match read_request(alloc, &mut link) {
-            Ok(request) => spell_request(&request, &mut answer)?,
-            Err(refusal) => answer.extend_from_slice(request_refusal(refusal).as_bytes())?,
-        }
-        spell_faults(&link, &mut answer)?;
-        append_other(&answer, &before, answers)?;
-        before = answer;
+        let from = answers.len();
+        read_from_link(alloc, &bytes, piece, links.calls, message, answers)?;
+        before = last_other(before, from, answers);
     }
     Ok(())
 }
 
-/// Reads a response from each link, and appends the answers.
-pub(crate) fn answer_response(
-    alloc: Global,
-    links: Links<'_>,
-    spelled: &str,
-    answers: &mut Vec<u8>,
-) -> Result<(), Fault> {
-    let bytes = bytes_of(alloc, spelled)?;
-    let mut before = Vec::new(alloc);
-    for piece in links.pieces.split(',') {
-        let mut link = incoming_link(alloc, &bytes, piece, links.calls)?;
-        let mut answer = Vec::new(alloc);
-        match read_response(alloc, &mut link) {
-            Ok(response) => spell_response(&response, &mut answer)?,
-            Err(refusal) => answer.extend_from_slice(response_refusal(refusal).as_bytes())?,
-        }
-        spell_faults(&link, &mut answer)?;
-        append_other(&answer, &before, answers)?;
-        before = answer;
+/// Where the last answer begins, once the answer from `from` on is taken away where it is the one from `before` on.
+fn last_other(before: usize, from: usize, answers: &mut Vec<u8>) -> usize {
+    if answers.get(before..from) == answers.get(from..) {
+        answers.truncate(from);
+        before
+    } else {
+        from
     }
-    Ok(())
 }
 
-/// Appends a line of an answer that is not the one before it.
-fn append_other(answer: &[u8], before: &[u8], answers: &mut Vec<u8>) -> Result<(), Fault> {
-    if answer == before {
-        return Ok(());
+/// Reads a message from a link that gives these bytes, and appends a line of the answer.
+fn read_from_link(
+    alloc: Global,
+    bytes: &[u8],
+    piece: &str,
+    calls: &str,
+    message: Message,
+    answers: &mut Vec<u8>,
+) -> Result<(), Fault> {
+    let mut link = incoming_link(alloc, bytes, piece, calls)?;
+    match message {
+        Message::Request => spell_read_request(alloc, &mut link, answers)?,
+        Message::Response => spell_read_response(alloc, &mut link, answers)?,
     }
-    answers.extend_from_slice(answer)?;
-    answers.push(b'\n')?;
-    Ok(())
+    spell_end(&link, answers)
+}
+
+fn spell_read_request(
+    alloc: Global,
+    link: &mut MemoryLink,
+    answer: &mut Vec<u8>,
+) -> Result<(), Fault> {
+    match read_request(alloc, link) {
+        Ok(request) => spell_request(&request, answer),
+        Err(refusal) => spell_word(request_refusal(refusal), answer),
+    }
+}
+
+fn spell_read_response(
+    alloc: Global,
+    link: &mut MemoryLink,
+    answer: &mut Vec<u8>,
+) -> Result<(), Fault> {
+    match read_response(alloc, link) {
+        Ok(response) => spell_response(&response, answer),
+        Err(refusal) => spell_word(response_refusal(refusal), answer),
+    }
 }
 
 fn spell_request(request: &Request, answer: &mut Vec<u8>) -> Result<(), Fault> {

@@ -8,22 +8,37 @@ use std::str;
 /// How many equal bytes side by side are spelled one by one at most.
 const MOST_EQUAL: usize = 16;
 
-/// The bytes that are spelled so.
-pub(crate) fn bytes_of(alloc: Global, spelled: &str) -> Result<Vec<u8>, Fault> {
-    let mut bytes = Vec::new(alloc);
-    for part in spelled.split('|') {
-        let (times, text) = times_of(part);
-        let once = plain_bytes(alloc, text)?;
-        for _ in 0..times {
-            bytes.extend_from_slice(&once)?;
-        }
+/// The words before and behind the first blank.
+pub(crate) fn two_words(words: &str) -> Result<(&str, &str), Fault> {
+    match words.split_once(' ') {
+        Some((word, rest)) => Ok((word, rest)),
+        None => Err(Fault::Line),
     }
-    Ok(bytes)
+}
+
+/// Appends the bytes that are spelled so.
+pub(crate) fn push_bytes(alloc: Global, spelled: &str, bytes: &mut Vec<u8>) -> Result<(), Fault> {
+    for part in spelled.split('|') {
+        push_part(alloc, part, bytes)?;
+    }
+    Ok(())
+}
+
+fn push_part(alloc: Global, part: &str, bytes: &mut Vec<u8>) -> Result<(), Fault> {
+    let (times, text) = times_of(part);
+    let mut once = Vec::new(alloc);
+    push_plain(text, &mut once)?;
+    for _ in 0..times {
+        bytes.extend_from_slice(&once)?;
+    }
+    Ok(())
 }
 
 /// The text that is spelled so.
 pub(crate) fn text_of(alloc: Global, spelled: &str) -> Result<Text, Fault> {
-    match str::from_utf8(&bytes_of(alloc, spelled)?) {
+    let mut bytes = Vec::new(alloc);
+    push_bytes(alloc, spelled, &mut bytes)?;
+    match str::from_utf8(&bytes) {
         Ok(text) => Ok(Text::of(alloc, text)?),
         Err(_) => Err(Fault::Line),
     }
@@ -40,8 +55,7 @@ fn times_of(part: &str) -> (usize, &str) {
     }
 }
 
-fn plain_bytes(alloc: Global, text: &str) -> Result<Vec<u8>, Fault> {
-    let mut bytes = Vec::new(alloc);
+fn push_plain(text: &str, bytes: &mut Vec<u8>) -> Result<(), Fault> {
     let mut pieces = text.split('\\');
     if let Some(first) = pieces.next() {
         bytes.extend_from_slice(first.as_bytes())?;
@@ -51,7 +65,7 @@ fn plain_bytes(alloc: Global, text: &str) -> Result<Vec<u8>, Fault> {
         bytes.push(byte)?;
         bytes.extend_from_slice(rest.as_bytes())?;
     }
-    Ok(bytes)
+    Ok(())
 }
 
 /// The byte that is spelled behind a backslash, and what follows its spelling.
@@ -71,10 +85,14 @@ fn escaped_byte(piece: &str) -> Result<(u8, &str), Fault> {
     }
 }
 
+pub(crate) fn spell_word(word: &str, answer: &mut Vec<u8>) -> Result<(), Fault> {
+    answer.extend_from_slice(word.as_bytes())?;
+    Ok(())
+}
+
 /// Appends a number.
 pub(crate) fn spell_number(number: u64, answer: &mut Vec<u8>) -> Result<(), Fault> {
-    answer.extend_from_slice(Buffer::new().format(number).as_bytes())?;
-    Ok(())
+    spell_word(Buffer::new().format(number), answer)
 }
 
 /// Appends a name and bytes in quotation marks.

@@ -3,65 +3,79 @@ ghost use Rattle.std.specs.Prelude.{IsSome, IsTrue};
 ghost use Rattle.http.specs.StatusCode.{reason_phrase};
 
 use crate::fault::Fault;
-use crate::link::{Links, outgoing_link, spell_faults};
-use crate::spelling::{bytes_of, spell_part, text_of};
+use crate::link::{Links, outgoing_link, spell_end};
+use crate::spelling::{push_bytes, spell_part, text_of, two_words};
 use http::{Method, StatusCode};
 use oe_dims::Text;
 use oe_http::{Request, Response, write_head, write_request, write_response};
 use oe_outside::{Failed, MemoryLink};
 use std::alloc::Global;
 
-/// Writes a reply, and appends what was written.
-pub(crate) fn answer_reply(
-    alloc: Global,
-    links: Links<'_>,
-    rest: &str,
-    answers: &mut Vec<u8>,
-) -> Result<(), Fault> {
-    let response = response_of(alloc, rest)?;
-    if !has_phrase(response.status) {
-        return Err(Fault::Line);
-    }
-    let mut link = outgoing_link(alloc, links.calls)?;
-    let outcome = write_response(&mut link, &response);
-    spell_written(&link, outcome, answers)
-}
-
-/// Writes the head of a reply, and appends what was written.
-pub(crate) fn answer_head(
-    alloc: Global,
-    links: Links<'_>,
-    rest: &str,
-    answers: &mut Vec<u8>,
-) -> Result<(), Fault> {
-    let Some((status, length)) = rest.split_once(' ') else {
-        return Err(Fault::Line);
-    };
-    let (Ok(status), Ok(length)) = (status.parse::<u16>(), length.parse::<u64>()) else {
-        return Err(Fault::Line);
-    };
-    if !has_phrase(status) {
-        return Err(Fault::Line);
-    }
-    let mut link = outgoing_link(alloc, links.calls)?;
-    let outcome = write_head(&mut link, status, length);
-    spell_written(&link, outcome, answers)
-}
-
-/// Writes a request, and appends what was written.
+/// Writes what a line that begins with this word describes, and appends what was written.
 pub(crate) fn answer_written(
     alloc: Global,
     links: Links<'_>,
+    word: &str,
     rest: &str,
     answers: &mut Vec<u8>,
 ) -> Result<(), Fault> {
-    let Some((host, rest)) = rest.split_once(' ') else {
+    let mut link = outgoing_link(alloc, links.calls)?;
+    write_line(alloc, word, rest, &mut link, answers)
+}
+
+fn write_line(
+    alloc: Global,
+    word: &str,
+    rest: &str,
+    link: &mut MemoryLink,
+    answers: &mut Vec<u8>,
+) -> Result<(), Fault> {
+    let outcome = match word {
+        "reply" => write_reply(alloc, rest, link)?,
+        "head" => write_reply_head(rest, link)?,
+        "written" => write_to_host(alloc, rest, link)?,
+        _ => return Err(Fault::Line),
+    };
+    spell_written(link, outcome, answers)
+}
+
+/// Writes a reply.
+fn write_reply(
+    alloc: Global,
+    rest: &str,
+    link: &mut MemoryLink,
+) -> Result<Result<(), Failed>, Fault> {
+    let response = response_of(alloc, rest)?;
+    if has_phrase(response.status) {
+        Ok(write_response(link, &response))
+    } else {
+        Err(Fault::Line)
+    }
+}
+
+/// Writes the head of a reply.
+fn write_reply_head(rest: &str, link: &mut MemoryLink) -> Result<Result<(), Failed>, Fault> {
+    let (status, length) = two_words(rest)?;
+    let Ok(length) = length.parse::<u64>() else {
         return Err(Fault::Line);
     };
+    let status = status_of(status)?;
+    if has_phrase(status) {
+        Ok(write_head(link, status, length))
+    } else {
+        Err(Fault::Line)
+    }
+}
+
+/// Writes a request to a host.
+fn write_to_host(
+    alloc: Global,
+    rest: &str,
+    link: &mut MemoryLink,
+) -> Result<Result<(), Failed>, Fault> {
+    let (host, rest) = two_words(rest)?;
     let request = request_of(alloc, rest)?;
-    let mut link = outgoing_link(alloc, links.calls)?;
-    let outcome = write_request(&mut link, &request, host);
-    spell_written(&link, outcome, answers)
+    Ok(write_request(link, &request, host))
 }
 
 /// Whether the status has a standard phrase, as every status has that may be written.
@@ -76,27 +90,37 @@ fn has_phrase(status: u16) -> bool
 
 /// The reply that `STATUS TYPE LOCATION IDENTIFIER BODY` spell.
 fn response_of(alloc: Global, rest: &str) -> Result<Response, Fault> {
-    let mut words = rest.split(' ');
-    let (Some(status), Some(kind), Some(location), Some(identifier), Some(body), None) = (
-        words.next(),
-        words.next(),
-        words.next(),
-        words.next(),
-        words.next(),
-        words.next(),
-    ) else {
-        return Err(Fault::Line);
-    };
-    let Ok(status) = status.parse::<u16>() else {
-        return Err(Fault::Line);
-    };
-    Ok(Response {
+    let (status, rest) = two_words(rest)?;
+    let (kind, rest) = two_words(rest)?;
+    let mut response = bare_response(alloc, status_of(status)?, is_json(kind)?);
+    fill_response(alloc, rest, &mut response)?;
+    Ok(response)
+}
+
+/// Fills a reply with what `LOCATION IDENTIFIER BODY` spell.
+fn fill_response(alloc: Global, rest: &str, response: &mut Response) -> Result<(), Fault> {
+    let (location, rest) = two_words(rest)?;
+    let (identifier, body) = two_words(rest)?;
+    set_text(alloc, location, &mut response.location)?;
+    set_text(alloc, identifier, &mut response.identifier)?;
+    push_body(alloc, body, &mut response.body)
+}
+
+fn bare_response(alloc: Global, status: u16, json: bool) -> Response {
+    Response {
         status,
-        location: text_or_none(alloc, location)?,
-        identifier: text_or_none(alloc, identifier)?,
-        json: is_json(kind)?,
-        body: bytes_or_none(alloc, body)?,
-    })
+        location: None,
+        identifier: None,
+        json,
+        body: Vec::new(alloc),
+    }
+}
+
+fn status_of(word: &str) -> Result<u16, Fault> {
+    match word.parse::<u16>() {
+        Ok(status) => Ok(status),
+        Err(_) => Err(Fault::Line),
+    }
 }
 
 fn is_json(word: &str) -> Result<bool, Fault> {
@@ -109,41 +133,48 @@ fn is_json(word: &str) -> Result<bool, Fault> {
 
 /// The request that `METHOD PATH QUERY AUTHORIZATION BODY` spell.
 fn request_of(alloc: Global, rest: &str) -> Result<Request, Fault> {
-    let mut words = rest.split(' ');
-    let (Some(method), Some(path), Some(query), Some(authorization), Some(body), None) = (
-        words.next(),
-        words.next(),
-        words.next(),
-        words.next(),
-        words.next(),
-        words.next(),
-    ) else {
-        return Err(Fault::Line);
-    };
-    let Ok(method) = Method::from_bytes(alloc, method.as_bytes()) else {
-        return Err(Fault::Line);
-    };
-    let query = if query == "-" { "" } else { query };
-    Ok(Request {
-        method,
-        path: text_of(alloc, path)?,
-        query: text_of(alloc, query)?,
-        authorization: text_or_none(alloc, authorization)?,
-        body: bytes_or_none(alloc, body)?,
-    })
+    let (method, rest) = two_words(rest)?;
+    let (path, rest) = two_words(rest)?;
+    let (query, rest) = two_words(rest)?;
+    let mut request = bare_request(alloc, method, path, query)?;
+    fill_request(alloc, rest, &mut request)?;
+    Ok(request)
 }
 
-fn text_or_none(alloc: Global, word: &str) -> Result<Option<Text>, Fault> {
-    match word {
-        "-" => Ok(None),
-        _ => Ok(Some(text_of(alloc, word)?)),
+/// Fills a request with what `AUTHORIZATION BODY` spell.
+fn fill_request(alloc: Global, rest: &str, request: &mut Request) -> Result<(), Fault> {
+    let (authorization, body) = two_words(rest)?;
+    set_text(alloc, authorization, &mut request.authorization)?;
+    push_body(alloc, body, &mut request.body)
+}
+
+fn bare_request(alloc: Global, method: &str, path: &str, query: &str) -> Result<Request, Fault> {
+    let query = if query == "-" { "" } else { query };
+    let path = text_of(alloc, path)?;
+    let query = text_of(alloc, query)?;
+    match Method::from_bytes(alloc, method.as_bytes()) {
+        Ok(method) => Ok(Request {
+            method,
+            path,
+            query,
+            authorization: None,
+            body: Vec::new(alloc),
+        }),
+        Err(_) => Err(Fault::Line),
     }
 }
 
-fn bytes_or_none(alloc: Global, word: &str) -> Result<Vec<u8>, Fault> {
+fn set_text(alloc: Global, word: &str, text: &mut Option<Text>) -> Result<(), Fault> {
+    if word != "-" {
+        *text = Some(text_of(alloc, word)?);
+    }
+    Ok(())
+}
+
+fn push_body(alloc: Global, word: &str, body: &mut Vec<u8>) -> Result<(), Fault> {
     match word {
-        "-" => Ok(Vec::new(alloc)),
-        _ => bytes_of(alloc, word),
+        "-" => Ok(()),
+        _ => push_bytes(alloc, word, body),
     }
 }
 
@@ -159,7 +190,5 @@ fn spell_written(
         "Failed "
     };
     spell_part(word, link.written(), answers)?;
-    spell_faults(link, answers)?;
-    answers.push(b'\n')?;
-    Ok(())
+    spell_end(link, answers)
 }

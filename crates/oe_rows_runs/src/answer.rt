@@ -1,7 +1,7 @@
 // The answers to lines.
 ghost use Rattle.oe_plan.specs.Ranges.{IsWithinRanges};
 
-use crate::attempt::{Ended, Failing, attempt};
+use crate::attempt::{Counts, Failing, attempt};
 use crate::fault::Fault;
 use crate::line::Sizes;
 use itoa::Buffer;
@@ -29,13 +29,16 @@ pub(crate) fn spell_run(
 ) -> Result<(), Fault>
     requires { IsWithinRanges sizes.0 sizes.1 }
 {
-    let ended = attempt(alloc, cubes, sizes, graph, none_failing())?;
-    answers.extend_from_slice(Buffer::new().format(ended.chunks).as_bytes())?;
-    spell_number(ended.evaluations, answers)?;
+    let mut left = Vec::new(alloc);
+    let counts = attempt(alloc, cubes, sizes, graph, none_failing(), &mut left)?;
+    spell_counts(counts, &left, answers)
+}
+
+fn spell_counts(counts: Counts, left: &[u8], answers: &mut Vec<u8>) -> Result<(), Fault> {
+    answers.extend_from_slice(Buffer::new().format(counts.chunks).as_bytes())?;
+    spell_number(counts.evaluations, answers)?;
     answers.push(b' ')?;
-    answers.extend_from_slice(ended.text.bytes())?;
-    answers.push(b' ')?;
-    answers.extend_from_slice(hex::encode(alloc, ended.spool.bytes())?.as_bytes())?;
+    answers.extend_from_slice(left)?;
     answers.push(b'\n')?;
     Ok(())
 }
@@ -50,26 +53,60 @@ pub(crate) fn spell_resumed(
 ) -> Result<(), Fault>
     requires { IsWithinRanges sizes.0 sizes.1 }
 {
-    let whole = attempt(alloc, cubes, sizes, graph, none_failing())?;
-    for (word, object) in [
-        ("reads", Object::Collections),
-        (" spool", Object::Spool),
-        (" writes", Object::Output),
-    ] {
-        answers.extend_from_slice(word.as_bytes())?;
-        for number in 0..MOST_CALLS {
-            let calls = [number];
-            let ended = attempt(alloc, cubes, sizes, graph, failing_of(object, &calls))?;
-            if ended.refusals == 0 {
-                break;
-            }
-            spell_number(ended.evaluations, answers)?;
-            if !is_same(&ended, &whole) {
-                answers.extend_from_slice(b"?")?;
-            }
-        }
+    let mut whole = Vec::new(alloc);
+    attempt(alloc, cubes, sizes, graph, none_failing(), &mut whole)?;
+    for object in [Object::Collections, Object::Spool, Object::Output] {
+        spell_calls(alloc, cubes, sizes, graph, object, &whole, answers)?;
     }
     answers.push(b'\n')?;
+    Ok(())
+}
+
+/// Spells the same of one object. `whole` is what a run leaves in which no call fails.
+fn spell_calls(
+    alloc: Global,
+    cubes: &[(&str, &str)],
+    sizes: Sizes,
+    graph: &str,
+    object: Object,
+    whole: &[u8],
+    answers: &mut Vec<u8>,
+) -> Result<(), Fault>
+    requires { IsWithinRanges sizes.0 sizes.1 }
+{
+    answers.extend_from_slice(object_word(object).as_bytes())?;
+    for number in 0..MOST_CALLS {
+        let calls = [number];
+        let failing = failing_of(object, &calls);
+        let mut left = Vec::new(alloc);
+        let counts = attempt(alloc, cubes, sizes, graph, failing, &mut left)?;
+        if counts.refusals == 0 {
+            break;
+        }
+        spell_resumption(counts, &left, whole, answers)?;
+    }
+    Ok(())
+}
+
+fn object_word(object: Object) -> &'static str {
+    match object {
+        Object::Collections => "reads",
+        Object::Spool => " spool",
+        Object::Output => " writes",
+    }
+}
+
+/// Spells the number of evaluations, and `?` where a run left others records or another text.
+fn spell_resumption(
+    counts: Counts,
+    left: &[u8],
+    whole: &[u8],
+    answers: &mut Vec<u8>,
+) -> Result<(), Fault> {
+    spell_number(counts.evaluations, answers)?;
+    if left != whole {
+        answers.push(b'?')?;
+    }
     Ok(())
 }
 
@@ -97,11 +134,6 @@ fn failing_of(object: Object, calls: &[u64]) -> Failing<'_> {
             ..none_failing()
         },
     }
-}
-
-/// Whether a run left the same records and the same text.
-fn is_same(ended: &Ended, whole: &Ended) -> bool {
-    ended.spool.bytes() == whole.spool.bytes() && ended.text.bytes() == whole.text.bytes()
 }
 
 fn spell_number(number: u64, answers: &mut Vec<u8>) -> Result<(), Fault> {

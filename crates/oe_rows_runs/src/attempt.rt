@@ -46,26 +46,26 @@ pub(crate) struct Failing<'a> {
     pub(crate) writes: &'a [u64],
 }
 
-/// What a run gave.
-#[derive(Drop)]
-pub(crate) struct Ended {
+/// The counts of a run.
+#[derive(Clone, Copy)]
+pub(crate) struct Counts {
     /// How many chunks it has, and how many were evaluated.
     pub(crate) chunks: u64,
     pub(crate) evaluations: u64,
     /// How often it was refused.
     pub(crate) refusals: u64,
-    pub(crate) spool: MemoryStore,
-    pub(crate) text: MemorySink,
 }
 
-/// Evaluates a graph over collections, and takes it up again after each refusal.
+/// Evaluates a graph over collections, and takes it up again after each refusal. Appends the text and, behind a blank,
+/// the bytes of the spool in hexadecimal digits.
 pub(crate) fn attempt(
     alloc: Global,
     cubes: &[(&str, &str)],
     sizes: Sizes,
     graph: &str,
     failing: Failing<'_>,
-) -> Result<Ended, Fault>
+    left: &mut Vec<u8>,
+) -> Result<Counts, Fault>
     requires { IsWithinRanges sizes.0 sizes.1 }
 {
     // The boxes of collections stay in this function, which drops them.
@@ -76,7 +76,7 @@ pub(crate) fn attempt(
             return Err(Fault::Line);
         }
     }
-    carry_out(alloc, &mut catalogue, sizes, graph, failing)
+    carry_out(alloc, &mut catalogue, sizes, graph, failing, left)
 }
 
 /// Evaluates a graph over the collections of a catalogue, likewise.
@@ -86,27 +86,61 @@ fn carry_out(
     sizes: Sizes,
     graph: &str,
     failing: Failing<'_>,
-) -> Result<Ended, Fault>
+    left: &mut Vec<u8>,
+) -> Result<Counts, Fault>
     requires { IsWithinRanges sizes.0 sizes.1 }
 {
-    let mut spool = MemoryStore::new(FRONT.to_vec(alloc)?, ROOM, failing.spool.to_vec(alloc)?)?;
+    let mut spool = spool_of(alloc, failing.spool)?;
     let (mut run, chunks) = begin(alloc, catalogue, sizes, graph)?;
+    evaluate(
+        alloc,
+        &mut run,
+        chunks,
+        catalogue,
+        &mut spool,
+        failing.writes,
+        left,
+    )
+}
+
+/// A spool with its front, of which these calls fail.
+fn spool_of(alloc: Global, failing: &[u64]) -> Result<MemoryStore, Fault> {
+    let front = FRONT.to_vec(alloc)?;
+    Ok(MemoryStore::new(front, ROOM, failing.to_vec(alloc)?)?)
+}
+
+/// Carries out a run that has so many chunks, of which none is done.
+fn evaluate(
+    alloc: Global,
+    run: &mut Run,
+    chunks: u64,
+    catalogue: &mut Catalogue,
+    spool: &mut MemoryStore,
+    failing: &[u64],
+    left: &mut Vec<u8>,
+) -> Result<Counts, Fault>
+    requires mounted { HasCollections run.old.plan.graph (rows_of seen catalogue.old) }
+    requires none_done { run.old.done ≡ 0 }
+{
     over_is_of_the_result();
-    let stopped = complete(&mut run, catalogue, &mut spool)?;
+    let stopped = complete(run, catalogue, spool)?;
     let evaluations = run.evaluations();
-    match run.finish() {
-        Ok(()) => {
-            let (text, unwritten) = text_of(alloc, &mut run, &mut spool, failing.writes)?;
-            Ok(Ended {
-                chunks,
-                evaluations,
-                refusals: stopped.saturating_add(unwritten),
-                spool,
-                text,
-            })
-        }
-        Err(_) => Err(Fault::Run),
+    if run.finish().is_err() {
+        return Err(Fault::Run);
     }
+    let unwritten = push_text(alloc, run, spool, failing, left)?;
+    push_digits(alloc, spool.bytes(), left)?;
+    Ok(Counts {
+        chunks,
+        evaluations,
+        refusals: stopped.saturating_add(unwritten),
+    })
+}
+
+fn push_digits(alloc: Global, bytes: &[u8], left: &mut Vec<u8>) -> Result<(), Fault> {
+    left.push(b' ')?;
+    left.extend_from_slice(hex::encode(alloc, bytes)?.as_bytes())?;
+    Ok(())
 }
 
 /// A run of a graph before its first round, whose records are to follow the front of a spool, and how many chunks it
@@ -188,36 +222,66 @@ fn refusals_of(answer: &Result<Progress, RunFail>) -> Result<u64, Fault> {
     }
 }
 
-/// The text of a run that is complete, written again where that was refused, and how often it was.
-fn text_of(
+/// Appends the text of a run that is complete, written again where that was refused. Answers how often it was.
+fn push_text(
     alloc: Global,
     run: &mut Run,
     spool: &mut MemoryStore,
     failing: &[u64],
-) -> Result<(MemorySink, u64), Fault>
+    left: &mut Vec<u8>,
+) -> Result<u64, Fault>
     requires complete { run.old.done ≡ chunk_total run.old.plan }
     requires numbers { run.old.over ≡ None }
     requires records { HasRunRecords run.old (Some spool.old.bytes) }
 {
-    let mut out = MemorySink::new(alloc, ROOM, failing.to_vec(alloc)?)?;
-    let mut pending = Pending::new(alloc)?;
-    match run.render(spool, &mut out, &mut pending) {
-        Ok(()) => Ok((out, 0)),
-        Err(RenderFail::SpoolDamaged(_)) => Err(Fault::Run),
-        Err(_) => Ok((text_at_last(alloc, run, spool)?, 1)),
+    if push_written(alloc, run, spool, failing, left)? {
+        return Ok(0);
     }
+    if push_written(alloc, run, spool, &[], left)? {
+        return Ok(1);
+    }
+    Err(Fault::Run)
 }
 
-/// The text of a run that is complete, where no call fails any more.
-fn text_at_last(alloc: Global, run: &mut Run, spool: &mut MemoryStore) -> Result<MemorySink, Fault>
+/// Appends the text of a run that is complete, and answers whether no call failed.
+fn push_written(
+    alloc: Global,
+    run: &mut Run,
+    spool: &mut MemoryStore,
+    failing: &[u64],
+    left: &mut Vec<u8>,
+) -> Result<bool, Fault>
     requires complete { run.old.done ≡ chunk_total run.old.plan }
     requires numbers { run.old.over ≡ None }
     requires records { HasRunRecords run.old (Some spool.old.bytes) }
+    ensures run { IfOk result (λ written. run.new ≡ run.old) }
+    ensures same { IfOk result (λ written. spool.new.bytes ≡ spool.old.bytes) }
 {
-    let mut out = MemorySink::new(alloc, ROOM, Vec::new(alloc))?;
+    let mut out = MemorySink::new(alloc, ROOM, failing.to_vec(alloc)?)?;
+    let written = write_text(alloc, run, spool, &mut out)?;
+    if written {
+        left.extend_from_slice(out.bytes())?;
+    }
+    Ok(written)
+}
+
+/// Writes the text of a run that is complete, and answers whether no call failed.
+fn write_text(
+    alloc: Global,
+    run: &mut Run,
+    spool: &mut MemoryStore,
+    out: &mut MemorySink,
+) -> Result<bool, Fault>
+    requires complete { run.old.done ≡ chunk_total run.old.plan }
+    requires numbers { run.old.over ≡ None }
+    requires records { HasRunRecords run.old (Some spool.old.bytes) }
+    ensures run { IfOk result (λ written. run.new ≡ run.old) }
+    ensures same { IfOk result (λ written. spool.new.bytes ≡ spool.old.bytes) }
+{
     let mut pending = Pending::new(alloc)?;
-    match run.render(spool, &mut out, &mut pending) {
-        Ok(()) => Ok(out),
-        Err(_) => Err(Fault::Run),
+    match run.render(spool, out, &mut pending) {
+        Ok(()) => Ok(true),
+        Err(RenderFail::SpoolDamaged(_)) => Err(Fault::Run),
+        Err(_) => Ok(false),
     }
 }

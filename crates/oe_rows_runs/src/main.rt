@@ -32,7 +32,7 @@ mod line;
 
 use answer::{spell_resumed, spell_run};
 use fault::Fault;
-use line::{Line, read_line, sizes_of};
+use line::{first_word, sizes_of};
 use std::alloc::Global;
 use std::io::{Read, Write};
 use std::process::ExitCode;
@@ -43,32 +43,48 @@ fn main(rt: HostRuntime) -> ExitCode {
     if rt.stdin().read_to_string(&mut text).is_err() {
         return ExitCode::from(5);
     }
-    let answers = match answers_to(alloc, &text) {
-        Ok(answers) => answers,
+    let mut answers = Vec::new(alloc);
+    match answer_lines(alloc, &text, &mut answers) {
+        Ok(()) => {}
         Err(Fault::Line) => return ExitCode::from(1),
         Err(Fault::Run) => return ExitCode::from(4),
         Err(Fault::OutOfMemory) => return ExitCode::from(9),
-    };
+    }
     match rt.stdout().write_all(answers.as_slice()) {
         Ok(()) => ExitCode::from(0),
         Err(_) => ExitCode::from(8),
     }
 }
 
-fn answers_to(alloc: Global, text: &str) -> Result<Vec<u8>, Fault> {
+/// Appends the answers of all lines.
+fn answer_lines(alloc: Global, text: &str, answers: &mut Vec<u8>) -> Result<(), Fault> {
     let mut cubes = Vec::new(alloc);
-    let mut answers = Vec::new(alloc);
     for line in text.lines() {
-        match read_line(line)? {
-            Line::Catalogue => cubes.clear(),
-            Line::Cube { id, text } => cubes.push((id, text))?,
-            Line::Run { sizes, graph } => {
-                spell_run(alloc, &cubes, sizes_of(sizes)?, graph, &mut answers)?;
-            }
-            Line::Resume { sizes, graph } => {
-                spell_resumed(alloc, &cubes, sizes_of(sizes)?, graph, &mut answers)?;
-            }
+        let (word, rest) = first_word(line);
+        match word {
+            "catalogue" => cubes.clear(),
+            "cube" => cubes.push(first_word(rest))?,
+            _ => answer_run(alloc, word, rest, &cubes, answers)?,
         }
     }
-    Ok(answers)
+    Ok(())
+}
+
+/// Appends the answer of a line that evaluates a graph.
+fn answer_run(
+    alloc: Global,
+    word: &str,
+    rest: &str,
+    cubes: &[(&str, &str)],
+    answers: &mut Vec<u8>,
+) -> Result<(), Fault> {
+    let Some((sizes, graph)) = rest.split_once(" < ") else {
+        return Err(Fault::Line);
+    };
+    let sizes = sizes_of(sizes)?;
+    match word {
+        "run" => spell_run(alloc, cubes, sizes, graph, answers),
+        "resume" => spell_resumed(alloc, cubes, sizes, graph, answers),
+        _ => Err(Fault::Line),
+    }
 }
