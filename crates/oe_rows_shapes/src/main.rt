@@ -27,6 +27,7 @@ mod fault;
 mod instants;
 mod orders;
 mod shapes;
+mod spell;
 mod windows;
 mod words;
 
@@ -49,51 +50,76 @@ fn main(rt: HostRuntime) -> ExitCode {
     if rt.stdin().read_to_string(&mut text).is_err() {
         return ExitCode::from(5);
     }
-    let answers = match answers_to(alloc, text.as_str()) {
-        Ok(answers) => answers,
+    let mut answers = String::new(alloc);
+    match answer_all(alloc, text.as_str(), &mut answers) {
+        Ok(()) => {}
         Err(Fault::Line) => return ExitCode::from(1),
         Err(Fault::OutOfMemory) => return ExitCode::from(9),
-    };
+    }
     match rt.stdout().write_all(answers.as_bytes()) {
         Ok(()) => ExitCode::from(0),
         Err(_) => ExitCode::from(8),
     }
 }
 
-/// The answers to all lines.
-fn answers_to(alloc: Global, text: &str) -> Result<String, Fault> {
-    let mut answers = String::new(alloc);
-    let mut known = Known {
-        shape: shapes::point(alloc)?,
-        other: shapes::point(alloc)?,
-    };
+/// Appends the answers to all lines, of which the first ones refer to shapes without dimensions.
+fn answer_all(alloc: Global, text: &str, answers: &mut String) -> Result<(), Fault> {
+    let shape = shapes::point(alloc)?;
+    let other = shapes::point(alloc)?;
+    answer_lines(alloc, text, &mut Known { shape, other }, answers)
+}
+
+fn answer_lines(
+    alloc: Global,
+    text: &str,
+    known: &mut Known,
+    answers: &mut String,
+) -> Result<(), Fault> {
     for line in text.lines() {
         if !line.starts_with('#') {
-            let answer = answer_to(alloc, line, &mut known)?;
-            answers.push_str(answer.as_str())?;
+            let (verb, rest) = words::first_word(line);
+            answer_line(alloc, verb, rest, known, answers)?;
             answers.push('\n')?;
         }
     }
-    Ok(answers)
+    Ok(())
 }
 
-/// The answer to one line.
-fn answer_to(alloc: Global, line: &str, known: &mut Known) -> Result<String, Fault> {
-    let (verb, rest) = words::first_word(line);
+/// Appends the answer to a line that begins with this verb.
+fn answer_line(
+    alloc: Global,
+    verb: &str,
+    rest: &str,
+    known: &mut Known,
+    answers: &mut String,
+) -> Result<(), Fault> {
     match verb {
-        "shape" => shapes::shape(alloc, rest, known),
-        "bands" => shapes::bands(alloc, rest),
-        "label" => shapes::label(alloc, rest, &known.shape),
-        "range" => shapes::range(alloc, rest, &known.shape),
-        "band" => shapes::band(alloc, rest, &known.shape),
-        "counts" => shapes::counts(alloc, &known.shape),
-        "same" => shapes::same(alloc, &known.shape, &known.other),
-        "cube" => shapes::cube(alloc, rest, &known.shape),
-        "row" => shapes::row(alloc, rest, &known.shape),
-        "texts" => shapes::texts(alloc, rest),
-        "read" => instants::read(alloc, rest),
-        "print" => instants::print(alloc, rest),
-        "order" => orders::order(alloc, rest),
-        _ => windows::answer_to(alloc, verb, rest, &known.shape),
+        "shape" => shapes::shape(alloc, rest, known, answers),
+        "bands" => shapes::bands(alloc, rest, answers),
+        "same" => shapes::same(&known.shape, &known.other, answers),
+        "texts" => shapes::texts(alloc, rest, answers),
+        "read" => instants::read(rest, answers),
+        "print" => instants::print(rest, answers),
+        "order" => orders::order(alloc, rest, answers),
+        _ => answer_of(alloc, verb, rest, &known.shape, answers),
+    }
+}
+
+/// Appends what a shape answers to a line that begins with this verb.
+fn answer_of(
+    alloc: Global,
+    verb: &str,
+    rest: &str,
+    shape: &Shape,
+    answers: &mut String,
+) -> Result<(), Fault> {
+    match verb {
+        "label" => shapes::label(rest, shape, answers),
+        "range" => shapes::range(rest, shape, answers),
+        "band" => shapes::band(alloc, rest, shape, answers),
+        "counts" => shapes::counts(shape, answers),
+        "cube" => shapes::cube(alloc, rest, shape, answers),
+        "row" => shapes::row(alloc, rest, shape, answers),
+        _ => windows::answer_to(alloc, verb, rest, shape, answers),
     }
 }

@@ -1,20 +1,31 @@
 // The order of a run.
 use crate::fault::Fault;
-use crate::words::{read_unsigned, two_words};
+use crate::spell::{push_all, push_list, push_number};
+use crate::words::{first_word, read_unsigned};
 use oe_order::{Links, NodeOrder, is_ranked, leads_back, order as order_of};
 use std::alloc::Global;
 
-/// The order of the nodes that a result needs, how many slots it takes, and the step of each node. The ranks show that
-/// there is no cycle: they fall along each reference.
-pub(crate) fn order(alloc: Global, line: &str) -> Result<String, Fault> {
-    let (last, rest) = two_words(line)?;
-    let (nodes, ranks) = two_words(rest)?;
+/// Appends the order of the nodes that a result needs, how many slots it takes, and the step of each node. The ranks
+/// show that there is no cycle: they fall along each reference.
+pub(crate) fn order(alloc: Global, line: &str, answers: &mut String) -> Result<(), Fault> {
+    let (last, rest) = first_word(line);
+    let (nodes, ranks) = first_word(rest);
     let last = read_unsigned(last)?;
     let nodes = nodes_of(alloc, nodes)?;
+    answer_order(alloc, nodes.as_slice(), ranks, last, answers)
+}
+
+fn answer_order(
+    alloc: Global,
+    nodes: &[Links],
+    ranks: &str,
+    last: u32,
+    answers: &mut String,
+) -> Result<(), Fault> {
     let ranks = numbers_of_list(alloc, ranks)?;
-    match order_ranked(alloc, nodes.as_slice(), ranks.as_slice(), last)? {
-        Some(found) => spell(alloc, &found, nodes.len()),
-        None => Ok(String::from_str(alloc, "refused")?),
+    match order_ranked(alloc, nodes, ranks.as_slice(), last)? {
+        Some(found) => spell(&found, nodes.len(), answers),
+        None => push_all(&["refused"], answers),
     }
 }
 
@@ -34,30 +45,45 @@ fn order_ranked(
     Ok(Some(order_of(alloc, nodes, last)?))
 }
 
-fn spell(alloc: Global, found: &NodeOrder, count: usize) -> Result<String, Fault> {
-    let mut text = format!(in alloc; "{:?} {} {} |", found.steps(), found.width(), found.slots())?;
+fn spell(found: &NodeOrder, count: usize, answers: &mut String) -> Result<(), Fault> {
+    push_list(found.steps(), answers)?;
+    push_number(" ", found.width(), answers)?;
+    push_number(" ", found.slots(), answers)?;
+    push_all(&[" |"], answers)?;
     for node in 0..u32::try_from(count).or(Err(Fault::Line))? {
-        match found.step_of(node) {
-            Some(step) => text.push_str(format!(in alloc; " {step}")?.as_str())?,
-            None => text.push_str(" none")?,
-        }
+        push_step(found.step_of(node), answers)?;
     }
-    Ok(text)
+    Ok(())
+}
+
+fn push_step(step: Option<u32>, answers: &mut String) -> Result<(), Fault> {
+    match step {
+        Some(step) => push_number(" ", step, answers),
+        None => push_all(&[" none"], answers),
+    }
 }
 
 /// The nodes of a graph, with `;` between them.
 fn nodes_of(alloc: Global, word: &str) -> Result<Vec<Links>, Fault> {
     let mut nodes = Vec::new(alloc);
     for node in word.split(';') {
-        let load = node == "load";
-        let arguments = if load {
-            Vec::new(alloc)
-        } else {
-            numbers_of_list(alloc, node)?
-        };
-        nodes.push(Links { load, arguments })?;
+        nodes.push(node_of(alloc, node)?)?;
     }
     Ok(nodes)
+}
+
+fn node_of(alloc: Global, word: &str) -> Result<Links, Fault> {
+    let load = word == "load";
+    let arguments = arguments_of(alloc, load, word)?;
+    Ok(Links { load, arguments })
+}
+
+fn arguments_of(alloc: Global, load: bool, word: &str) -> Result<Vec<u32>, Fault> {
+    if load {
+        Ok(Vec::new(alloc))
+    } else {
+        numbers_of_list(alloc, word)
+    }
 }
 
 fn numbers_of_list(alloc: Global, word: &str) -> Result<Vec<u32>, Fault> {

@@ -1,5 +1,6 @@
 // The words of a line.
 use crate::fault::Fault;
+use crate::spell::push_number;
 use oe_dims::{Kind, Text};
 use std::alloc::Global;
 
@@ -8,14 +9,6 @@ pub(crate) fn first_word(line: &str) -> (&str, &str) {
     match line.split_once(' ') {
         Some((word, rest)) => (word, rest),
         None => (line, ""),
-    }
-}
-
-/// The words of a line. Refuses: another number of them.
-pub(crate) fn two_words(line: &str) -> Result<(&str, &str), Fault> {
-    match line.split_once(' ') {
-        Some((one, two)) => Ok((one, two)),
-        None => Err(Fault::Line),
     }
 }
 
@@ -48,33 +41,37 @@ pub(crate) fn numbers_of(alloc: Global, word: &str) -> Result<Option<Vec<i64>>, 
     if word == "-" {
         return Ok(None);
     }
+    let mut labels = Vec::new(alloc);
+    push_numbers(word, &mut labels)?;
+    Ok(Some(labels))
+}
+
+fn push_numbers(word: &str, labels: &mut Vec<i64>) -> Result<(), Fault> {
     if word == "=" {
-        return Ok(Some(Vec::new(alloc)));
+        return Ok(());
     }
     match word.split_once("..") {
-        Some((from, to)) => Ok(Some(numbers_between(alloc, read_signed(from)?, read_signed(to)?)?)),
-        None => Ok(Some(listed_numbers(alloc, word)?)),
+        Some((from, to)) => push_range(read_signed(from)?, read_signed(to)?, labels),
+        None => push_listed(word, labels),
     }
 }
 
-/// The numbers from one on to before another, upwards, or downwards where that is less.
-fn numbers_between(alloc: Global, from: i64, to: i64) -> Result<Vec<i64>, Fault> {
-    let mut labels = Vec::new(alloc);
+/// Appends the numbers from one on to before another, upwards, or downwards where that is less.
+fn push_range(from: i64, to: i64, labels: &mut Vec<i64>) -> Result<(), Fault> {
     let step = if from < to { 1 } else { -1 };
     let mut label = from;
     for _index in 0..from.abs_diff(to) {
         labels.push(label)?;
         label = label.wrapping_add(step);
     }
-    Ok(labels)
+    Ok(())
 }
 
-fn listed_numbers(alloc: Global, word: &str) -> Result<Vec<i64>, Fault> {
-    let mut labels = Vec::new(alloc);
+fn push_listed(word: &str, labels: &mut Vec<i64>) -> Result<(), Fault> {
     for label in word.split(',') {
         labels.push(read_signed(label)?)?;
     }
-    Ok(labels)
+    Ok(())
 }
 
 /// The names of bands.
@@ -82,42 +79,54 @@ pub(crate) fn names_of(alloc: Global, word: &str) -> Result<Option<Vec<Text>>, F
     if word == "-" {
         return Ok(None);
     }
+    let mut names = Vec::new(alloc);
+    push_names(alloc, word, &mut names)?;
+    Ok(Some(names))
+}
+
+/// Appends the names of bands.
+pub(crate) fn push_names(alloc: Global, word: &str, names: &mut Vec<Text>) -> Result<(), Fault> {
     if word == "=" {
-        return Ok(Some(Vec::new(alloc)));
+        return Ok(());
     }
     match word.split_once("..") {
-        Some((from, to)) => Ok(Some(names_between(
-            alloc,
-            read_unsigned(from)?,
-            read_unsigned(to)?,
-        )?)),
-        None => Ok(Some(listed_names(alloc, word)?)),
+        Some((from, to)) => {
+            push_names_between(alloc, read_unsigned(from)?, read_unsigned(to)?, names)
+        }
+        None => push_listed_names(alloc, word, names),
     }
 }
 
-fn listed_names(alloc: Global, word: &str) -> Result<Vec<Text>, Fault> {
-    let mut names = Vec::new(alloc);
+fn push_listed_names(alloc: Global, word: &str, names: &mut Vec<Text>) -> Result<(), Fault> {
     for name in word.split(',') {
         names.push(Text::of(alloc, name)?)?;
     }
-    Ok(names)
+    Ok(())
 }
 
-fn names_between(alloc: Global, from: u32, to: u32) -> Result<Vec<Text>, Fault> {
-    let mut names = Vec::new(alloc);
+fn push_names_between(
+    alloc: Global,
+    from: u32,
+    to: u32,
+    names: &mut Vec<Text>,
+) -> Result<(), Fault> {
     for index in from..to {
         names.push(name_at(alloc, index)?)?;
     }
-    Ok(names)
+    Ok(())
 }
 
 /// A band name for an index, unlike that of any other index: up to 65536 the multiples of an odd number differ.
 fn name_at(alloc: Global, index: u32) -> Result<Text, Fault> {
-    let name = if index < 65536 {
-        let number = index.wrapping_mul(40503) % 65536;
-        format!(in alloc; "band_{number}")?
+    if index < 65536 {
+        numbered_name(alloc, "band_", index.wrapping_mul(40503) % 65536)
     } else {
-        format!(in alloc; "more_{index}")?
-    };
+        numbered_name(alloc, "more_", index)
+    }
+}
+
+fn numbered_name(alloc: Global, words: &str, number: u32) -> Result<Text, Fault> {
+    let mut name = String::new(alloc);
+    push_number(words, number, &mut name)?;
     Ok(Text::of(alloc, name.as_str())?)
 }
