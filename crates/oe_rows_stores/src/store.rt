@@ -94,15 +94,16 @@ pub(crate) fn cells_of(alloc: Global, word: &str) -> Result<Vec<Cell>, Fault> {
 fn put_numbers(part: &str, cells: &mut Vec<Cell>) -> Result<(), Fault> {
     let (from, to) = range_of(part)?;
     for number in from..to {
-        cells.push(number_cell(number))?;
+        cells.push(number_cell(number)?)?;
     }
     Ok(())
 }
 
-fn number_cell(number: i64) -> Cell {
+/// A whole number as a cell. Refuses: -2^63, which is out of range; it is spelled `over`.
+fn number_cell(number: i64) -> Result<Cell, Fault> {
     if number == i64::MIN {
-        Cell::Over
+        Err(Fault::Line)
     } else {
-        whole_cell(number)
+        Ok(whole_cell(number))
     }
 }
