@@ -1,5 +1,5 @@
 -- Faults of all phases together, and what a check of them answers.
-use Rattle.std.proofs.Common.{◌≡◌, false, ℕ, ◌<◌, ◌≤◌, inl, inr, List, [], ◌∷◌, length, Option, Some, None, IfSome, IfOk, IfErr, Result, Ok, Err, refl, sym, ap, ◌∙◌, subst, arith}
+use Rattle.std.proofs.Common.{◌≡◌, false, ℕ, ◌<◌, ◌≤◌, inl, inr, List, [], ◌∷◌, length, Option, Some, None, IfSome, IfOk, IfErr, OnOk, Result, Ok, Err, refl, sym, ap, ◌∙◌, subst, arith}
 use Rattle.oe_dims.specs.declared.dims.DimsRow.{DimsRow}
 use Rattle.oe_graph.proofs.LeastLemmas.{IsLeast-unique}
 use Rattle.oe_graph.specs.Faults.{IsLeast, is_before}
@@ -12,15 +12,13 @@ use Rattle.oe_graph.specs.declared.code.Code.TheVariants.{InputTooLong, NodeInva
 use Rattle.oe_graph.specs.declared.fault.Fault.{Fault}
 use Rattle.oe_graph.specs.declared.fault.Refusal as graph
 use Rattle.oe_graph.specs.declared.fault.Refusal.TheVariants as refusal
+use Rattle.oe_judge.specs.Judged.{StandsWithCollections, checked_over}
 use Rattle.oe_outside.specs.Input.{ReadsUpTo}
-use Rattle.oe_resolve.specs.Faults as names
-use Rattle.oe_resolve.specs.Filled.{resolved}
 use Rattle.oe_shape.specs.Checked.{CheckedGraph}
-use Rattle.oe_shape.specs.Stands as cubes
 use Rattle.oe_sources.specs.Catalogue.{Row}
 use Rattle.oe_sources.specs.CatalogueDims.{AreDimsOf}
 use Rattle.oe_top.proofs.Inputs.{read_whole, sizes, whole_same, within}
-use Rattle.oe_top.specs.Faults.{StandsOver, of_form, of_names, of_cubes}
+use Rattle.oe_top.specs.Faults.{StandsOver, of_form, of_graph}
 use Rattle.oe_top.specs.Judged.{IsCheckedText, JudgeEnds, JudgesBytes}
 use Rattle.oe_top.specs.declared.refusal.Refusal.{Refusal}
 use Rattle.oe_top.specs.declared.refusal.Refusal.TheVariants.{Usage, Graph, NoCubeText, NotMounted, TooLarge, Overflow, ReadFault, Damaged, SpoolFault, WriteFault, OutOfMemory, SpoolDamaged}
@@ -38,8 +36,7 @@ module _ (rows : List DimsRow) (bytes : List ℕ) where
   form_only : (fault : Fault) → IsLeast (form.Stands bytes) fault → (code : Code) (node : List ℕ) → StandsOver rows bytes code node
       → is_before (record { code = code; node = node }) fault ≡ false
   form_only fault l code node (of_form s) = l.least (record { code = code; node = node }) s
-  form_only fault l code node (of_names reads s) = absurd (reads.valid fault.code fault.node l.stands)
-  form_only fault l code node (of_cubes reads valid s) = absurd (reads.valid fault.code fault.node l.stands)
+  form_only fault l code node (of_graph reads s) = absurd (reads.valid fault.code fault.node l.stands)
 
   -- a fault of the form comes first
   pub form_first : (r : graph.Refusal) → IsFault (form.Stands bytes) r → IsFault (StandsOver rows bytes) r
@@ -47,75 +44,39 @@ module _ (rows : List DimsRow) (bytes : List ℕ) where
   form_first refusal.OutOfMemory l = tt
 
   module _ (g : PlainGraph) (reads : Reads bytes g) where
-    same_names : (h : PlainGraph) → Reads bytes h → (code : Code) (node : List ℕ) → names.StandsWithStored [] h code node → names.StandsWithStored [] g code node
-    same_names h other code node s = subst (λ k. names.StandsWithStored [] k code node) (reads_one bytes h g other reads) s
+    same_graph : (h : PlainGraph) → Reads bytes h → (code : Code) (node : List ℕ) → StandsWithCollections rows [] h code node
+        → StandsWithCollections rows [] g code node
+    same_graph h other code node s = subst (λ k. StandsWithCollections rows [] k code node) (reads_one bytes h g other reads) s
 
-    other_names : (h : PlainGraph) → Reads bytes h → (code : Code) (node : List ℕ) → names.StandsWithStored [] g code node → names.StandsWithStored [] h code node
-    other_names h other code node s = subst (λ k. names.StandsWithStored [] k code node) (reads_one bytes g h reads other) s
+    graph_only : (fault : Fault) → IsLeast (StandsWithCollections rows [] g) fault → (code : Code) (node : List ℕ)
+        → StandsOver rows bytes code node → is_before (record { code = code; node = node }) fault ≡ false
+    graph_only fault l code node (of_form s) = absurd (reads.valid code node s)
+    graph_only fault l code node (of_graph {g = h} other s) = l.least (record { code = code; node = node }) (same_graph h other code node s)
 
-    names_only : (fault : Fault) → IsLeast (names.StandsWithStored [] g) fault → (code : Code) (node : List ℕ) → StandsOver rows bytes code node
-        → is_before (record { code = code; node = node }) fault ≡ false
-    names_only fault l code node (of_form s) = absurd (reads.valid code node s)
-    names_only fault l code node (of_names {g = h} other s) = l.least (record { code = code; node = node }) (same_names h other code node s)
-    names_only fault l code node (of_cubes {g = h} other valid s) =
-        absurd (valid fault.code fault.node (other_names h other fault.code fault.node l.stands))
+    -- without one of the form, a fault of the graph
+    pub graph_next : (r : graph.Refusal) → IsFault (StandsWithCollections rows [] g) r → IsFault (StandsOver rows bytes) r
+    graph_next (refusal.Fault fault) l = record { stands = of_graph reads l.stands; least = λ f s. graph_only fault l f.code f.node s }
+    graph_next refusal.OutOfMemory l = tt
 
-    -- without one of the form, a fault of what it calls and names
-    pub names_next : (r : graph.Refusal) → IsFault (names.StandsWithStored [] g) r → IsFault (StandsOver rows bytes) r
-    names_next (refusal.Fault fault) l = record { stands = of_names reads l.stands; least = λ f s. names_only fault l f.code f.node s }
-    names_next refusal.OutOfMemory l = tt
+    -- or none at all
+    pub none_over : IsFaultless (StandsWithCollections rows [] g) → IsFaultless (StandsOver rows bytes)
+    none_over none code node (of_form s) = reads.valid code node s
+    none_over none code node (of_graph {g = h} other s) = none code node (same_graph h other code node s)
 
-    module _ (valid : IsFaultless (names.StandsWithStored [] g)) where
-      same_cubes : (h : PlainGraph) → Reads bytes h → (code : Code) (node : List ℕ) → cubes.StandsInGraph rows (resolved [] h).nodes code node
-          → cubes.StandsInGraph rows (resolved [] g).nodes code node
-      same_cubes h other code node s =
-          subst (λ k. cubes.StandsInGraph rows (resolved [] k).nodes code node) (reads_one bytes h g other reads) s
+    pub checked_text : (result : Result CheckedGraph graph.Refusal) → IfOk result (λ c. c ≡ checked_over rows [] g)
+        → OnOk result (IsFaultless (StandsWithCollections rows [] g)) → IfOk result (IsCheckedText rows bytes)
+    checked_text (Err e) is none = tt
+    checked_text (Ok c) is none = record {
+      graph = g;
+      reads = reads;
+      valid = none_over none;
+      checked_is = is;
+    }
 
-      cubes_only : (fault : Fault) → IsLeast (cubes.StandsInGraph rows (resolved [] g).nodes) fault → (code : Code) (node : List ℕ)
-          → StandsOver rows bytes code node → is_before (record { code = code; node = node }) fault ≡ false
-      cubes_only fault l code node (of_form s) = absurd (reads.valid code node s)
-      cubes_only fault l code node (of_names {g = h} other s) = absurd (valid code node (same_names h other code node s))
-      cubes_only fault l code node (of_cubes {g = h} other v s) =
-          l.least (record { code = code; node = node }) (same_cubes h other code node s)
-
-      -- and then one of arguments and cubes
-      pub cubes_last : (r : graph.Refusal) → IsFault (cubes.StandsInGraph rows (resolved [] g).nodes) r → IsFault (StandsOver rows bytes) r
-      cubes_last (refusal.Fault fault) l =
-          record { stands = of_cubes reads valid l.stands; least = λ f s. cubes_only fault l f.code f.node s }
-      cubes_last refusal.OutOfMemory l = tt
-
-      -- or none at all
-      pub none_stands : IsFaultless (cubes.StandsInGraph rows (resolved [] g).nodes) → IsFaultless (StandsOver rows bytes)
-      none_stands none code node (of_form s) = reads.valid code node s
-      none_stands none code node (of_names {g = h} other s) = valid code node (same_names h other code node s)
-      none_stands none code node (of_cubes {g = h} other v s) = none code node (same_cubes h other code node s)
-
--- what the check of a resolved graph says of the bytes
-module _ (rows : List DimsRow) (bytes : List ℕ) (g h : PlainGraph) (reads : Reads bytes g) (valid : IsFaultless (names.StandsWithStored [] g)) (same : h ≡ resolved [] g) where
-  checked_valid : (result : Result CheckedGraph graph.Refusal)
-      → IfOk result (λ c. c ≡ record { nodes = h.nodes; result = h.result; rows = rows })
-      → IfOk result (λ c. IsFaultless (cubes.StandsInGraph c.rows c.nodes)) → IfOk result (λ c. IsFaultless (StandsOver rows bytes))
-  checked_valid (Err e) is none = tt
-  checked_valid (Ok c) is none =
-      let here : IsFaultless (cubes.StandsInGraph rows h.nodes) = subst (λ (k : CheckedGraph). IsFaultless (cubes.StandsInGraph k.rows k.nodes)) is none in
-      none_stands rows bytes g reads valid (subst (λ (k : PlainGraph). IsFaultless (cubes.StandsInGraph rows k.nodes)) same here)
-
-  pub checked_text : (result : Result CheckedGraph graph.Refusal)
-      → IfOk result (λ c. c ≡ record { nodes = h.nodes; result = h.result; rows = rows })
-      → IfOk result (λ c. IsFaultless (cubes.StandsInGraph c.rows c.nodes)) → IfOk result (IsCheckedText rows bytes)
-  checked_text (Err e) is none = tt
-  checked_text (Ok c) is none = record {
-    graph = g;
-    reads = reads;
-    valid = checked_valid (Ok c) is none;
-    checked_is = is ∙ ap (λ (k : PlainGraph). record { nodes = k.nodes; result = k.result; rows = rows }) same;
-  }
-
-  pub checked_refused : (result : Result CheckedGraph graph.Refusal) → IfErr result (IsFault (cubes.StandsInGraph rows h.nodes))
-      → IfErr result (IsFault (StandsOver rows bytes))
-  checked_refused (Ok c) refused = tt
-  checked_refused (Err e) refused =
-      cubes_last rows bytes g reads valid e (subst (λ (k : PlainGraph). IsFault (cubes.StandsInGraph rows k.nodes) e) same refused)
+    pub checked_refused : (result : Result CheckedGraph graph.Refusal) → IfErr result (IsFault (StandsWithCollections rows [] g))
+        → IfErr result (IsFault (StandsOver rows bytes))
+    checked_refused (Ok c) refused = tt
+    checked_refused (Err e) refused = graph_next e refused
 
 -- ---- an input over the limit
 
@@ -140,8 +101,7 @@ module _ (rows : List DimsRow) (bytes : List ℕ) (long : most_input < length by
   long_only code node (of_form (form.of_value r (form.node_id_invalid g m fails))) = node_after node
   long_only code node (of_form (form.of_value r (form.node_invalid g m valid fails))) = node_after node
   long_only code node (of_form (form.of_value r (form.result_node_count g other))) = count_after node
-  long_only code node (of_names reads s) = absurd (reads.valid InputTooLong [] (form.input_too_long long))
-  long_only code node (of_cubes reads valid s) = absurd (reads.valid InputTooLong [] (form.input_too_long long))
+  long_only code node (of_graph reads s) = absurd (reads.valid InputTooLong [] (form.input_too_long long))
 
   long_least : IsLeast (StandsOver rows bytes) too_long
   long_least = record { stands = of_form (form.input_too_long long); least = λ f s. long_only f.code f.node s }

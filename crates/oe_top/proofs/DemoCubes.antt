@@ -38,7 +38,8 @@ use Rattle.oe_sources.specs.Generated.{falling_labels, generated_days, generated
 use Rattle.oe_top.specs.Demonstration.{demo_graph}
 use Rattle.oe_top.proofs.DemoReadings.{demo_plain, demo_reads, kernel}
 use Rattle.oe_top.proofs.DemoNames.{names_valid, node_with, of_one, of_three}
-use Rattle.oe_top.proofs.Checks.{none_stands}
+use Rattle.oe_judge.proofs.Phases.{none_stands}
+use Rattle.oe_top.proofs.Checks.{none_over}
 use Rattle.oe_top.specs.Faults.{StandsOver}
 
 -- ---- the graph with all defaults
@@ -258,4 +259,5 @@ module _ (side : ℕ) (most : side ≤ 1024) where
 
 pub demo_valid : (seed side : ℕ) → side ≤ 1024 → IsFaultless (StandsOver (dims_of (demonstration seed side)) demo_graph)
 demo_valid seed side most =
-    none_stands (dims_of (demonstration seed side)) demo_graph demo_plain demo_reads names_valid (cubes_valid side most)
+    let rows = dims_of (demonstration seed side) in
+    none_over rows demo_graph demo_plain demo_reads (none_stands rows [] demo_plain names_valid (cubes_valid side most))

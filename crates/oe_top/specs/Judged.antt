@@ -5,9 +5,9 @@ use Rattle.oe_graph.specs.Faults.{IsLeast}
 use Rattle.oe_graph.specs.Read.{IsFaultless, Reads}
 use Rattle.oe_graph.specs.Tree.{PlainGraph}
 use Rattle.oe_graph.specs.declared.fault.Fault.{Fault}
+use Rattle.oe_judge.specs.Judged.{checked_over}
 use Rattle.oe_outside.specs.Faults.{NeverFalls, Rose}
 use Rattle.oe_outside.specs.Input.{ReadsUpTo, TakesAtMost}
-use Rattle.oe_resolve.specs.Filled.{resolved}
 use Rattle.oe_shape.specs.Checked.{CheckedGraph}
 use Rattle.oe_top.specs.Faults.{StandsOver, fault_line}
 use Rattle.oe_graph.specs.Form.{most_input}
@@ -15,17 +15,13 @@ use Rattle.oe_top.specs.Objects.{IsReadWhole}
 use Rattle.oe_top.specs.declared.refusal.Refusal.{Refusal}
 use Rattle.oe_top.specs.declared.refusal.Refusal.TheVariants.{Usage, Graph, NoCubeText, NotMounted, TooLarge, Overflow, ReadFault, Damaged, SpoolFault, WriteFault, OutOfMemory, SpoolDamaged}
 
--- a graph with all defaults, over collections of these shapes and kinds
-abbrev pub checked_over : List DimsRow → PlainGraph → CheckedGraph
-checked_over rows g = record { nodes = (resolved [] g).nodes; result = (resolved [] g).result; rows = rows }
-
 module _ (rows : List DimsRow) where
   -- the bytes are the text of a graph in which no fault stands, and this is it with all defaults
   pub record IsCheckedText (bytes : List ℕ) (c : CheckedGraph) : Type 0 where
     pub graph : PlainGraph
     pub reads : Reads bytes graph
     pub valid : IsFaultless (StandsOver rows bytes)
-    pub checked_is : c ≡ checked_over rows graph
+    pub checked_is : c ≡ checked_over rows [] graph
 
   -- the whole input was read, and it is such a text
   pub record IsCheckedInput (before after : Option (List ℕ)) (c : CheckedGraph) : Type 0 where

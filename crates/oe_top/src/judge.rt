@@ -13,9 +13,9 @@ use crate::refusal::Refusal;
 use oe_dims::Dims;
 use oe_engine::collections_are_valid;
 use oe_graph::{Fault, read_graph};
+use oe_judge::{fault_text, judge};
 use oe_memory::OutOfMemory;
 use oe_outside::Source;
-use oe_resolve::resolve;
 use oe_shape::Checked;
 use oe_sources::Catalogue;
 use std::alloc::Global;
@@ -71,23 +71,17 @@ fn checked_graph(alloc: Global, bytes: &[u8], dims: &Dims) -> Result<Checked, oe
         Ok(graph) => graph,
         Err(refusal) => return Err(refusal),
     };
-    match resolve(alloc, &graph, &[]) {
-        Ok(resolved) => oe_shape::check(alloc, &resolved, dims),
-        Err(refusal) => Err(refusal),
-    }
+    judge(alloc, &graph, &[], dims)
 }
 
 /// The line of a fault.
 fn line_of(alloc: Global, fault: &Fault) -> Result<Vec<u8>, OutOfMemory>
     ensures { IfOk result (λ line. line.items ≡ fault_line fault.now) }
 {
+    let text = fault_text(alloc, fault)?;
     let mut line = Vec::with_capacity(alloc, 128)?;
     line.extend_from_slice(b"openeo: ")?;
-    line.extend_from_slice(fault.code.as_str().as_bytes())?;
-    if !fault.node.as_str().is_empty() {
-        line.push(b' ')?;
-        line.extend_from_slice(fault.node.as_str().as_bytes())?;
-    }
+    line.extend_from_slice(text.as_str().as_bytes())?;
     line.push(b'\n')?;
     Ok(line)
 }
