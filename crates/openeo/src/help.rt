@@ -47,7 +47,9 @@ openeo run CX CY CT W < GRAPH
 
 Reads a process graph from standard input, evaluates it over the files collections/*.cube and writes its result text.
 CX, CY and CT are the sides of a chunk along x, y and t, from 1 to 4096, and W is the number of workers, from 1 to 64.
-They decide how much memory a run takes, and have no effect on the text.
+None of the four has an effect on the text. All four cost memory: a run holds 2 W chunks at once, with the pixels around
+them that kernels need; 'openeo plan' with the same words says how many cells, of 24 bytes each. Small sides cost time,
+since each chunk is read with what is around it.
 Exit status: 0, 1 Usage, 2 CODE NODE, 3 PlanTooLarge, 4 NumberOverflow, 5 ReadFault, 6 SourceDamaged, 7 SpoolFault,
 8 WriteFault, 9 OutOfMemory, 14 Setup, 15 SpoolDamaged.
 ";
