@@ -3,13 +3,14 @@
 LOG = crates/openeo/out/make-run.log
 PROGRAM = crates/openeo/out/openeo
 
-.PHONY: help run examples bench test check program
+.PHONY: help run examples bench test edits check program
 
 help:
 	@echo 'make run       builds the program, runs it on examples/graphs/greenest.json and prints the text of the result'
 	@echo 'make examples  builds the program and runs all graphs of examples/graphs against the texts they give'
 	@echo 'make bench     builds the program and runs it on a year of 12 dates, 4 bands and 1000 x 1000 pixels (needs python3)'
-	@echo 'make test      the gate: every proof, every edit that must be refused, every test, the program as two compilers build it'
+	@echo 'make test      the gate: every proof, edits that must be refused, every test, the program as two compilers build it'
+	@echo 'make edits     tries all edits that must be refused; with CRATE=oe_cell those of a crate'
 	@echo 'make check     proves every crate, lowest first, over what earlier checks kept'
 	@echo 'make help      prints this'
 
@@ -29,10 +30,13 @@ examples: program
 bench: program
 	@bench/year.py $(PROGRAM)
 
-# The gate: every proof, every edit that must be refused, every test, and the program twice. What it passed before on this
-# machine, with the same checksums, it does not prove again; `rt ci --anew` does.
+# The gate: every proof, the edits *.edit that must be refused, every test, and the program twice.
 test:
 	@rt ci
+
+# The edits that must be refused, those that the gate only reads too: `make edits CRATE=oe_cell`, or all.
+edits:
+	@tools/edits $(CRATE)
 
 # Every crate, lowest first.
 check:
