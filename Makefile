@@ -1,31 +1,41 @@
 # One word for each thing that is done here often. `make help` lists them; README.md says what each shows.
 
-LOG = crates/openeo/out/make-run.log
+LOG = crates/openeo/out/make-program.log
 PROGRAM = crates/openeo/out/openeo
+JOBS = $(shell nproc)
+
+# Something that the program is made from and that is newer, or what `find` complains of where no program stands.
+NEWER = $(shell find crates.txt crates/*/src crates/*/specs crates/*/proofs \
+  -not -path 'crates/oe_rows*' -newer $(PROGRAM) -print -quit 2>&1)
+# The proved program, if it stands: else `make run` and `make examples` build it without its proofs.
+STANDING = $(if $(NEWER),,$(PROGRAM))
 
 .PHONY: help run examples bench test edits check program
 
 help:
-	@echo 'make run       builds the program, runs it on examples/graphs/greenest.json and prints the text of the result'
-	@echo 'make examples  builds the program and runs all graphs of examples/graphs against the texts they give'
-	@echo 'make bench     builds the program and runs it on a year of 12 dates, 4 bands and 1000 x 1000 pixels (needs python3)'
-	@echo 'make test      the gate: every proof, edits that must be refused, every test, the program as two compilers build it'
+	@echo 'make run       runs the program on examples/graphs/greenest.json and prints the text of the result'
+	@echo 'make examples  runs all graphs of examples/graphs against the texts they give'
+	@echo 'make program   proves and builds the program, by as many processes as there are processors'
+	@echo 'make bench     runs the proved program on a year of 12 dates, 4 bands and 1000 x 1000 pixels (needs python3)'
+	@echo 'make test      the gate: every proof, edits that must be refused, every test, the program by two compilers'
 	@echo 'make edits     tries all edits that must be refused; with CRATE=oe_cell those of a crate'
 	@echo 'make check     proves every crate, lowest first, over what earlier checks kept'
 	@echo 'make help      prints this'
 
-# Builds the program. What `rt` prints goes to a file.
-program:
-	@mkdir -p crates/openeo/out
-	@cd crates/openeo && rt run -- --version > out/make-run.log 2>&1 \
-	  || { echo 'the program was not built: $(LOG) has what rt printed' >&2; exit 1; }
-
 # A kernel, a ratio of bands and the greatest of all dates, over a small collection.
-run: program
-	@examples/run $(PROGRAM) greenest
+run:
+	@examples/run greenest $(STANDING)
 
-examples: program
-	@examples/check $(PROGRAM)
+examples:
+	@examples/check $(STANDING)
+
+# Proves the crates below the program, lowest first and each by several processes, over what earlier checks kept, and
+# then builds it. Side by side, by one process each, they would wait for the longest chain, which is half of the work.
+program:
+	@[ -z '$(STANDING)' ] || exit 0; mkdir -p crates/openeo/out; \
+	echo 'proves and builds the program, half an hour and more the first time; $(LOG) has what rt prints' >&2; \
+	{ cd crates/openeo && rt run --jobs $(JOBS) -- --version; } > $(LOG) 2>&1 \
+	  || { echo 'the program was not built' >&2; exit 1; }
 
 bench: program
 	@bench/year.py $(PROGRAM)
