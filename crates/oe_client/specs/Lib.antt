@@ -1,0 +1,4 @@
+pub mod Verbs
+pub mod Arguments
+pub mod Commands
+pub mod Calls

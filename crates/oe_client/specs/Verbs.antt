@@ -1,0 +1,53 @@
+-- The verbs of the client, as the table of the code has them.
+use Rattle.std.specs.Prelude.{ℕ, Bool, List, [], ◌∷◌, map, Option, codes, find}
+use denote.Bor.{Bor}
+use Rattle.oe_dims.specs.Names.{same_name}
+use Rattle.oe_client.specs.declared.verbs.Argument.{Argument}
+use Rattle.oe_client.specs.declared.verbs.VerbMethod.{VerbMethod}
+use Rattle.oe_client.specs.declared.verbs.VerbMethod.TheVariants.{Delete, Get, Post, Put}
+use Rattle.oe_client.specs.declared.verbs.TheConstants.{VERBS}
+
+-- a verb: its word, its method, its path up to the argument, what the argument is, what follows the argument's id in the
+-- path, and whether the input is the body
+pub record Verb : Type 0 where
+  pub word : List ℕ
+  pub method : VerbMethod
+  pub before : List ℕ
+  pub argument : Argument
+  pub behind : List ℕ
+  pub sends_input : Bool
+
+abbrev pub verb_from : List ℕ → VerbMethod → List ℕ → Argument → List ℕ → Bool → Verb
+verb_from word method before argument behind sends_input = record {
+  word = word;
+  method = method;
+  before = before;
+  argument = argument;
+  behind = behind;
+  sends_input = sends_input;
+}
+
+-- a row of the table behind a reference
+abbrev pub VerbEntry : Type 0
+VerbEntry = Bor (List ℕ) × VerbMethod × Bor (List ℕ) × Argument × Bor (List ℕ) × Bool
+
+abbrev pub verb_of : VerbEntry → Verb
+verb_of row = verb_from row.0.now row.1 row.2.now row.3 row.4.now row.5
+
+-- all verbs
+abbrev pub verbs : List Verb
+verbs = map (λ row. verb_from row.0.now row.1 row.2.now row.3 row.4.now row.5) VERBS
+
+-- the first of these verbs with a word, and the verb of a word
+abbrev pub first_named : List ℕ → List Verb → Option Verb
+first_named word rows = find (λ (v : Verb). same_name v.word word) rows
+
+abbrev pub verb_named : List ℕ → Option Verb
+verb_named word = first_named word verbs
+
+-- the method as a request has it (RFC 9110, section 9)
+abbrev pub method_name : VerbMethod → List ℕ
+method_name Delete = codes "DELETE"
+method_name Get = codes "GET"
+method_name Post = codes "POST"
+method_name Put = codes "PUT"

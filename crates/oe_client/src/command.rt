@@ -1,0 +1,115 @@
+// The request of a verb.
+ghost use Rattle.std.specs.Prelude.{◌≡◌, ◌++◌, IfOk};
+ghost use Rattle.std.specs.Option.{option_map};
+ghost use Rattle.oe_client.specs.Commands as spec;
+ghost use Rattle.oe_client.specs.Verbs.{verb_of};
+
+use crate::argument::split_at_slash;
+use crate::verbs::{Argument, VerbEntry, method_of};
+use oe_dims::Text;
+use oe_http::Request;
+use oe_memory::OutOfMemory;
+use std::alloc::Global;
+
+/// A request, and the host that it is written to: its name and its port, with a colon between them.
+#[derive(Drop)]
+pub struct ClientCommand {
+    pub request: Request,
+    pub host: Text,
+}
+
+/// The request of a verb with its argument, for a token where there is one. The input becomes the body where the verb
+/// sends it, and is let go where it does not.
+///
+/// Refuses: out of memory.
+pub fn client_command(
+    alloc: Global,
+    verb: &VerbEntry,
+    argument: Option<&Text>,
+    token: Option<&Text>,
+    host: Text,
+    input: Vec<u8>,
+) -> Result<ClientCommand, OutOfMemory>
+    ensures request { IfOk result (λ c. (spec.plain_command c).request ≡ spec.request_of
+        (verb_of verb.now) (option_map (λ t. t.now) argument.entry)
+        (option_map (λ t. t.now) token.entry) input.items) }
+    ensures host { IfOk result (λ c. c.host ≡ host) }
+{
+    let (_, method, before, kind, behind, sends_input) = *verb;
+    let text = match argument {
+        Some(text) => text.as_str(),
+        None => "",
+    };
+    let path = path_with(alloc, kind, before, text, behind)?;
+    let query = query_with(alloc, kind, text)?;
+    let authorization = match token {
+        Some(token) => Some(credentials(alloc, token.as_str())?),
+        None => None,
+    };
+    let body = if sends_input { input } else { Vec::new(alloc) };
+    Ok(ClientCommand {
+        request: Request {
+            method: method_of(method),
+            path,
+            query,
+            authorization,
+            body,
+        },
+        host,
+    })
+}
+
+/// The path of a verb with an argument, by what stands before it and behind its id.
+fn path_with(
+    alloc: Global,
+    kind: Argument,
+    before: &str,
+    argument: &str,
+    behind: &str,
+) -> Result<Text, OutOfMemory>
+    ensures { IfOk result
+        (λ path. path ≡ spec.path_with kind before.now argument.now behind.now) }
+{
+    let (id, rest) = split_at_slash(argument);
+    match kind {
+        Argument::Missing => Text::of(alloc, before),
+        Argument::Id => join(alloc, before, argument, behind, ""),
+        Argument::JobAndAsset => join(alloc, before, id, behind, rest),
+        Argument::JobAndOffset => join(alloc, before, id, behind, ""),
+    }
+}
+
+/// The query of a verb with an argument.
+fn query_with(alloc: Global, kind: Argument, argument: &str) -> Result<Text, OutOfMemory>
+    ensures { IfOk result (λ query. query ≡ spec.query_with kind argument.now) }
+{
+    match kind {
+        Argument::JobAndOffset => join(alloc, "offset=", split_at_slash(argument).1, "", ""),
+        Argument::Missing | Argument::Id | Argument::JobAndAsset => Text::of(alloc, ""),
+    }
+}
+
+/// The value of the field `Authorization` for a token.
+fn credentials(alloc: Global, token: &str) -> Result<Text, OutOfMemory>
+    ensures { IfOk result (λ value. value ≡ spec.credentials token.now) }
+{
+    join(alloc, "Bearer basic//", token, "", "")
+}
+
+/// Four texts, one behind the other.
+fn join(
+    alloc: Global,
+    first: &str,
+    second: &str,
+    third: &str,
+    fourth: &str,
+) -> Result<Text, OutOfMemory>
+    ensures { IfOk result
+        (λ text. text ≡ first.now ++ second.now ++ third.now ++ fourth.now) }
+{
+    let mut text = String::from_str(alloc, first)?;
+    text.push_str(second)?;
+    text.push_str(third)?;
+    text.push_str(fourth)?;
+    Text::of(alloc, text.as_str())
+}
