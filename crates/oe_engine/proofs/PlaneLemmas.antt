@@ -244,7 +244,7 @@ module _ (p : PlanOf) (is : IsPlan p) (rows : List Row) (step : ℕ) (within : s
             id = id.0;
             index = place;
             loaded = step_loads;
-            node_is = id.1;
+            node_is = sym (ap (λ (s : List ℕ). get_or s step 0) is.steps_are);
             mounted = at;
             position = damage.position;
             inside = position_in (source_at rows place).shape damage.position (box_inside damage.position damage.inside);

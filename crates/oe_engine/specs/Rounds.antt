@@ -1,10 +1,10 @@
 -- How a round of a run ends.
-use Rattle.std.specs.Prelude.{◌≡◌, ◌≤◌, ◌↔◌, ⊤, ℕ, ◌+◌, ◌*◌, List, Contains, Option, Some, Result, IsErrOf, IfSome, OnOk, OnErr, IfOk, IfErr}
+use Rattle.std.specs.Prelude.{◌≡◌, ◌≤◌, ◌↔◌, ⊤, ℕ, ◌+◌, ◌*◌, List, Contains, slice_index, Option, Some, Result, IsErrOf, IfSome, OnOk, OnErr, IfOk, IfErr}
 use Rattle.oe_dims.specs.Positions.{IsPosition, Position, number_of}
 use Rattle.oe_ops.specs.Needs.{HasLabelsOf}
 use Rattle.oe_outside.specs.Faults.{HasCauseOf}
-use Rattle.oe_plan.specs.Figures.{largest_window, shape_of_node}
-use Rattle.oe_shape.specs.Checked.{CheckedGraph, collection_of_node}
+use Rattle.oe_plan.specs.Figures.{largest_window, shape_of_node, steps_of}
+use Rattle.oe_shape.specs.Checked.{CheckedGraph}
 use Rattle.oe_shape.specs.Graphs.{Collections}
 use Rattle.oe_shape.specs.Laws.{AreCollectionsOf}
 use Rattle.oe_sources.specs.Catalogue.{Row, cells_asked, source_at}
@@ -16,14 +16,14 @@ use Rattle.oe_engine.specs.declared.rounds.Progress.TheVariants.{Complete}
 use Rattle.oe_engine.specs.declared.rounds.RunFail.{RunFail}
 use Rattle.oe_engine.specs.declared.rounds.RunFail.TheVariants.{SourceFailed, SourceDamaged, SpoolFailed, Overflow}
 
--- a node of the run loads a collection of which the position of a number is damaged, where that is visible, and keeps
--- the labels of this position
+-- a node, which is that of a step of the run and so one that the result needs, loads a collection of which the position
+-- of a number is damaged, where that is visible, and keeps the labels of this position
 pub record KeepsDamage (c : CheckedGraph) (rows : List Row) (node number : ℕ) : Type 0 where
   pub step : ℕ
   pub id : List ℕ
   pub index : ℕ
   pub loaded : IsLoadedBy c step id
-  pub node_is : collection_of_node c node ≡ Some id
+  pub node_is : slice_index (steps_of c) step ≡ node
   pub mounted : IsMountedAt c rows id index
   pub position : Position
   pub inside : IsPosition (source_at rows index).shape position

@@ -64,10 +64,11 @@ pub can_be_named : (c : CheckedGraph) (rows : List Row) → HaveValidIds rows �
 can_be_named c rows valid run.SourceFailed says = tt
 can_be_named c rows valid (run.SourceDamaged node number) says =
     let keeps = says node number refl in
+    let loads = subst (λ (n : ℕ). collection_of_node c n ≡ Some keeps.id) keeps.node_is keeps.loaded.loads in
     record {
-      within = node_there c node keeps.id keeps.node_is;
+      within = node_there c node keeps.id loads;
       id = keeps.id;
-      loads = keeps.node_is;
+      loads = loads;
       short = short_name keeps.id (valid keeps.id keeps.index keeps.mounted.index_is);
     }
 can_be_named c rows valid run.SpoolFailed says = tt
