@@ -20,7 +20,7 @@ use Rattle.oe_engine.specs.Runs.{HasDone, HasRunRecords, RunOf, chunk_total, chu
 use Rattle.oe_engine.proofs.CatalogueLemmas.{same_meaning, visible_at}
 use Rattle.oe_engine.proofs.GridLemmas.{all_inside, chunks_inside}
 use Rattle.oe_engine.proofs.MountLemmas.{has_collections}
-use Rattle.oe_engine.proofs.ReadLemmas.{AreRead-refl, AreRead-trans, has_same, rose_first, rose_later, says_same, shows_same}
+use Rattle.oe_engine.proofs.ReadLemmas.{AreRead-refl, AreRead-trans, dims_same, given_same, has_same, rose_first, rose_later, says_same, shows_same}
 use Rattle.oe_engine.proofs.RenderLemmas.{result_shape_is, result_whole}
 
 pub are_mounted : AreMounted
@@ -48,6 +48,8 @@ stay_after_reads = record {
   mounted = λ c before after read has. has_same before after read.same c has;
   shows = λ c before after read collections. (shows_same c after before (sym read.same) collections, shows_same c before after read.same collections);
   shown = λ before after read. sym (shown_without after) ∙ (ap collections_shown read.same ∙ shown_without before);
+  dims = λ before after read. dims_same before after read.same;
+  given = λ before after read. given_same before after read.same;
   rose_first = rose_first;
   rose_later = rose_later;
   says = λ c before after read refusal says. says_same c after before (sym read.same) refusal says;

@@ -28,4 +28,5 @@ pub mod RenderLemmas
 pub mod MountLemmas
 pub mod CatalogueLemmas
 pub mod LawLemmas
+pub mod GoingLemmas
 pub mod RoundLemmas

@@ -1,10 +1,13 @@
 -- What reads of collections leave: all but two counters as it was.
-use Rattle.std.proofs.Common.{◌≡◌, ℕ, zero, suc, ◌+◌, ◌<◌, ◌≤◌, cond, List, [], ◌∷◌, length, map, Option, Some, IfSome, Contains, refl, sym, ap, ◌∙◌, subst, arith, Result, Ok, Err}
-use Rattle.std.specs.Option.{option_map}
+use Rattle.std.proofs.Common.{◌≡◌, ℕ, zero, suc, ◌+◌, ◌<◌, ◌≤◌, Bool, true, false, cond, List, [], ◌∷◌, length, map, unwrap_or, Option, Some, IsSome, IfSome, Contains, refl, sym, ap, ◌∙◌, subst, arith, Result, Ok, Err}
+use Rattle.std.specs.Option.{option_and_then, option_map}
+use Rattle.std.proofs.Math.Path.{fun_ext}
 use Rattle.std.specs.Result.{IsErrAnd, IfErr}
 use Rattle.std.proofs.lemmas.List.{length-map}
 use Rattle.oe_cell.specs.declared.cell.Cell.{Cell}
+use Rattle.oe_cube.specs.Collections.{Collection}
 use Rattle.oe_dims.specs.Names.{same_name}
+use Rattle.oe_dims.specs.declared.dims.DimsRow.{DimsRow}
 use Rattle.oe_dims.specs.Positions.{IsPosition, number_of}
 use Rattle.oe_ops.specs.Needs.{HasLabelsOf}
 use Rattle.oe_outside.specs.Faults.{NeverFalls}
@@ -12,11 +15,14 @@ use Rattle.oe_outside.proofs.Causes.{NeverFalls-refl, NeverFalls-trans, Rose-the
 use Rattle.oe_plan.specs.Figures.{shape_of_node}
 use Rattle.oe_shape.specs.Checked.{CheckedGraph}
 use Rattle.oe_shape.specs.Graphs.{Collections}
-use Rattle.oe_sources.specs.Catalogue.{ReadsRow, Row, row_index, rows_at, source_at}
+use Rattle.oe_shape.specs.Laws.{AreCollectionsOf}
+use Rattle.oe_sources.specs.Catalogue.{ReadsRow, Row, row_index, row_of, rows_at, source_at}
+use Rattle.oe_sources.specs.CatalogueDims.{dims_of, dims_row, put_row, put_rows}
 use Rattle.oe_sources.specs.Source.{Source, collection_of}
 use Rattle.oe_sources.specs.declared.source.SourceFail.{SourceFail}
 use Rattle.oe_window.specs.declared.window.Window.{Window}
 use Rattle.oe_engine.specs.Collections.{AreRead, HasCollections, IsMountedAt, LoadRose, Shows, without_counts}
+use Rattle.oe_engine.specs.Laws.{GivesCollections, LoadsVisible, collection_at, collection_named_by, collections_of, null_collection}
 use Rattle.oe_engine.specs.Loads.{HasRead}
 use Rattle.oe_engine.specs.Rounds.{IsOfSource, KeepsDamage, RefusalSays}
 use Rattle.oe_engine.specs.declared.rounds.RunFail.{RunFail}
@@ -128,6 +134,46 @@ module _ (c : CheckedGraph) (before after : List Row) (same : map without_counts
   says_same (SourceDamaged load position) says = damage_same load position says
   says_same SpoolFailed says = says
   says_same (Overflow number) says = says
+
+-- ---- what the catalogue gives
+
+dims_without : (done : List DimsRow) (rows : List Row) → put_rows done (map without_counts rows) ≡ put_rows done rows
+dims_without done [] = refl
+dims_without done (row ∷ rows) = dims_without (put_row (dims_row row) done) rows
+
+collection_without : (rows : List Row) (id : List ℕ) → collection_at (map without_counts rows) id ≡ collection_at rows id
+collection_without [] id = refl
+collection_without (row ∷ rows) id = by (same_name row.id id) (collection_without rows id)
+  where
+    by : (same : Bool) → collection_at (map without_counts rows) id ≡ collection_at rows id
+        → option_and_then (λ (r : Row). collection_of r.source) (cond same (Some (without_counts row)) (row_of (map without_counts rows) id))
+        ≡ option_and_then (λ (r : Row). collection_of r.source) (cond same (Some row) (row_of rows id))
+    by true rest = refl
+    by false rest = rest
+
+module _ (before after : List Row) (same : map without_counts after ≡ map without_counts before) where
+  pub dims_same : dims_of after ≡ dims_of before
+  dims_same = sym (dims_without [] after) ∙ (ap dims_of same ∙ dims_without [] before)
+
+  named_same : (row : DimsRow) → collection_named_by after row ≡ collection_named_by before row
+  named_same row =
+      ap (λ (o : Option Collection). (row.id, unwrap_or o (null_collection row)))
+      (sym (collection_without after row.id) ∙ (ap (λ (rows : List Row). collection_at rows row.id) same ∙ collection_without before row.id))
+
+  collections_same : collections_of after ≡ collections_of before
+  collections_same = ap (λ named. map named (dims_of after)) (fun_ext named_same) ∙ ap (map (collection_named_by before)) dims_same
+
+  loads_same : (c : CheckedGraph) → LoadsVisible c after → LoadsVisible c before
+  loads_same c visible step id index loaded mounted =
+      subst (λ (s : Source). IsSome s.contents) (source_same before after same index)
+      (visible step id index loaded (mounted_same before after same c id index mounted))
+
+  pub given_same : GivesCollections before → GivesCollections after
+  given_same given = record {
+    valid = λ c rows. subst (AreCollectionsOf c) (sym collections_same) (given.valid c (rows ∙ dims_same));
+    shown = λ c rows visible. subst (Shows c after) (sym collections_same)
+        (shows_same c before after same (collections_of before) (given.shown c (rows ∙ dims_same) (loads_same c visible)));
+  }
 
 pub rose_first : (c : CheckedGraph) (a b d : List Row) → LoadRose c a b → AreRead b d → LoadRose c a d
 rose_first c a b d rose later = record {

@@ -72,8 +72,8 @@ pub record AreShown : Type 0 where
   pub meaning : (rows : List Row) → AreVisible rows → AreDimsOf rows (dims_of rows) → (c : CheckedGraph) (node : ℕ)
       → meaning_of_node (collections_of rows) c node ≡ meaning_of_node (collections_shown rows) c node
 
--- Reading leaves what is mounted and what is visible as it was. What is said of reads one after the other is said of
--- all of them together.
+-- Reading leaves what is mounted, what is visible and what the catalogue gives to graphs as it was. What is said of
+-- reads one after the other is said of all of them together.
 pub record StayAfterReads : Type 0 where
   pub none : (rows : List Row) → AreRead rows rows
   pub both : (first second third : List Row) → AreRead first second → AreRead second third → AreRead first third
@@ -82,6 +82,8 @@ pub record StayAfterReads : Type 0 where
   pub shows : (c : CheckedGraph) (before after : List Row) → AreRead before after → (collections : Collections)
       → Shows c after collections ↔ Shows c before collections
   pub shown : (before after : List Row) → AreRead before after → collections_shown after ≡ collections_shown before
+  pub dims : (before after : List Row) → AreRead before after → dims_of after ≡ dims_of before
+  pub given : (before after : List Row) → AreRead before after → GivesCollections before → GivesCollections after
   pub rose_first : (c : CheckedGraph) (first second third : List Row) → LoadRose c first second → AreRead second third
       → LoadRose c first third
   pub rose_later : (c : CheckedGraph) (first second third : List Row) → AreRead first second → LoadRose c second third

@@ -9,3 +9,4 @@ pub mod Workspaces
 pub mod Chunks
 pub mod Hulls
 pub mod Laws
+pub mod Going

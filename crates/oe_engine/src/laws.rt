@@ -3,6 +3,7 @@ ghost use Rattle.std.specs.Prelude.{◌≡◌};
 ghost use Rattle.oe_dims.specs.Plain.{HaveRisingIds, plain_rows};
 ghost use Rattle.oe_sources.specs.CatalogueDims.{AreDimsOf, dims_of};
 ghost use Rattle.oe_sources.specs.CatalogueRows.{rows_of};
+ghost use Rattle.oe_engine.specs.Going.{RunsGoOn, RunsStayApart};
 ghost use Rattle.oe_engine.specs.Laws.{AreMounted, AreShown, BeginAndEnd, GivesCollections, HasValid, StayAfterReads};
 
 use oe_dims::{Dims, DimsRow, Kind};
@@ -45,7 +46,8 @@ pub fn collections_are_shown()
     ensures { AreShown }
 {}
 
-/// Does nothing. Its contract says that reading a catalogue leaves what is mounted and what is visible as it was.
+/// Does nothing. Its contract says that reading a catalogue leaves what is mounted, what is visible and what it gives
+/// to graphs as it was.
 #[tactic(auto, using(crate::proofs::LawLemmas::stay_after_reads))]
 pub fn reads_change_nothing()
     ensures { StayAfterReads }
@@ -56,4 +58,18 @@ pub fn reads_change_nothing()
 #[tactic(auto, using(crate::proofs::LawLemmas::begin_and_end))]
 pub fn over_is_of_the_result()
     ensures { BeginAndEnd }
+{}
+
+/// Does nothing. Its contract says that a run is under way before its first round and after each one, over the
+/// catalogue and the store as they are then.
+#[tactic(auto, using(crate::proofs::GoingLemmas::runs_go_on))]
+pub fn runs_go_on()
+    ensures { RunsGoOn }
+{}
+
+/// Does nothing. Its contract says that the records of a run stay where a store changes only at those of another run
+/// that stand behind them, and that a round changes none but its own.
+#[tactic(auto, using(crate::proofs::GoingLemmas::runs_stay_apart))]
+pub fn runs_stay_apart()
+    ensures { RunsStayApart }
 {}

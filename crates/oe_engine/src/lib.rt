@@ -22,7 +22,7 @@ mod workspace;
 pub use bench::{Bench, State};
 pub use laws::{
     collections_are_mounted, collections_are_shown, collections_are_valid, over_is_of_the_result,
-    reads_change_nothing,
+    reads_change_nothing, runs_go_on, runs_stay_apart,
 };
 pub use over::first_over;
 pub use rounds::{Progress, Run, RunFail};

@@ -69,7 +69,7 @@ impl Model for Run {
 }
 
 impl Run {
-    ghost use Rattle.std.specs.Prelude.{◌≡◌, ◌≤◌, ◌^◌, None, IfErr, OnErr, OnOk};
+    ghost use Rattle.std.specs.Prelude.{◌≡◌, ◌≤◌, ◌+◌, ◌^◌, None, IfErr, OnErr, OnOk};
     ghost use Rattle.oe_dims.specs.Cube.{Cube};
     ghost use Rattle.oe_cell.specs.declared.cell.Cell.{Cell};
     ghost use Rattle.oe_outside.specs.Visible.{Appends, AppendsPrefix};
@@ -81,6 +81,7 @@ impl Run {
     ghost use Rattle.oe_shape.specs.Laws.{AreCollectionsOf};
     ghost use Rattle.oe_sources.specs.CatalogueRows.{rows_of};
     ghost use Rattle.oe_engine.specs.Collections.{HasCollections};
+    ghost use Rattle.oe_engine.specs.Going as spec;
     ghost use Rattle.oe_engine.specs.Rounds.{Advances, HasCauses, ReadsChunks, WritesChunks};
     ghost use Rattle.oe_engine.specs.Runs.{HasRunRecords, IsHiddenDamage, ShowsDone, chunk_total, overflow_of, result_cube};
     ghost use Rattle.oe_engine.specs.Workspaces.{AreBenchesFor};
@@ -187,6 +188,31 @@ impl Run {
         // A plan has a worker at least, so that there is a bench.
         let _workers = self.plan.workers();
         self.benches[0].render(&self.plan, spool, self.base, out, pending)
+    }
+
+    /// How many chunks it has, up to 2^48.
+    pub fn chunks(&self) -> u64
+        ensures value { result ≡ chunk_total self.now.plan }
+        ensures most { result ≤ 2 ^ 48 }
+    {
+        self.plan.chunks()
+    }
+
+    /// How many of them are done.
+    pub fn done(&self) -> u64
+        ensures value { result ≡ self.now.done }
+        ensures most { result ≤ chunk_total self.now.plan }
+    {
+        self.done
+    }
+
+    /// The byte of the spool at which its records end, one of 17 bytes for each cell of the result: those of another
+    /// run may begin there.
+    pub fn records_end(&self) -> u64
+        ensures value { result ≡ spec.records_end self.now }
+        ensures most { result ≤ self.now.base + 2 ^ 45 }
+    {
+        self.base + 17 * self.plan.shape().cells()
     }
 
     /// How many chunks were evaluated, up to 2^64 − 1.

@@ -2,16 +2,18 @@
 use Rattle.std.proofs.Common.{◌≡◌, ℕ, zero, suc, ◌+◌, ◌-◌, ◌*◌, ◌<◌, ◌≤◌, min, List, Option, Some, None, Result, Ok, Err, refl, sym, ap, ◌∙◌, subst, arith, inl, inr, ◌⊎◌}
 use Rattle.std.proofs.Math.Nat.{add-mul, mul-le-mul_right}
 use Rattle.std.specs.Result.{IsErrOf}
+use Rattle.oe_dims.specs.Positions.{IsPosition}
 use Rattle.oe_outside.proofs.Causes.{NeverFalls-trans, then-Rose}
 use Rattle.oe_outside.specs.Faults.{NeverFalls}
 use Rattle.oe_plan.specs.Plans.{IsPlan, PlanOf}
 use Rattle.oe_shape.specs.Laws.{AreCollectionsOf}
 use Rattle.oe_sources.specs.Catalogue.{Row, cells_asked}
-use Rattle.oe_spool.specs.Spooled.{KeepsBytesBut}
+use Rattle.oe_spool.specs.Spooled.{ChangesOnly, KeepsBytesBut}
 use Rattle.oe_engine.specs.Collections.{AreRead, HasCollections, LoadRose, Shows}
+use Rattle.oe_engine.specs.Going.{ChangesOwnRecords, RunsStayApart}
 use Rattle.oe_engine.specs.Laws.{BeginAndEnd, StayAfterReads}
 use Rattle.oe_engine.specs.Rounds.{Advances, HasCauses, ReadsChunks, RefusalSays, WritesChunks}
-use Rattle.oe_engine.specs.Runs.{HasDone, RunOf, chunk_total, chunks_in_round, overflow_of, result_cube}
+use Rattle.oe_engine.specs.Runs.{HasDone, RunOf, chunk_total, chunks_in_round, overflow_of, result_cube, result_shape}
 use Rattle.oe_engine.specs.declared.rounds.Progress.{Progress}
 use Rattle.oe_engine.specs.declared.rounds.Progress.TheVariants.{Complete, More}
 use Rattle.oe_engine.specs.declared.rounds.RunFail.{RunFail}
@@ -32,8 +34,8 @@ pub record Stands (before now : RunOf) (rows rows_now : List Row) (store store_n
   pub turned : turns ≤ now.done
 
 pub begun : (r : RunOf) (rows : List Row) (store : Option (List ℕ)) (faults : ℕ) → IsBegun r → StayAfterReads → BeginAndEnd
-    → NeverFalls faults faults → Stands r r rows rows store store faults faults 0
-begun r rows store faults b reads ends never =
+    → RunsStayApart → NeverFalls faults faults → Stands r r rows rows store store faults faults 0
+begun r rows store faults b reads ends apart never =
     let none = b.none_done in
     let start = ends.begun r b.none_done b.none_over store in
     record {
@@ -44,6 +46,7 @@ begun r rows store faults b reads ends never =
         records = start.0;
         values = λ collections are shows. start.1 (result_cube collections r.plan);
         read = reads.none rows;
+        changes = apart.none r store;
         visible = λ v. v;
       };
       asked = omega arith;
@@ -63,7 +66,7 @@ still_mounted {before} {now} {rows} {rows_now} reads s mounted =
     (reads.mounted before.plan.graph rows rows_now s.goes.read mounted)
 
 module _ (before now after : RunOf) (rows rows_now rows_after : List Row) (store store_now store_after : Option (List ℕ))
-    (faults faults_now faults_after turns : ℕ) (is : IsPlan before.plan) (reads : StayAfterReads)
+    (faults faults_now faults_after turns : ℕ) (is : IsPlan before.plan) (reads : StayAfterReads) (apart : RunsStayApart)
     (s : Stands before now rows rows_now store store_now faults faults_now turns) where
   abbrev total : ℕ
   total = chunk_total before.plan
@@ -78,6 +81,12 @@ module _ (before now after : RunOf) (rows rows_now rows_after : List Row) (store
       (writes : WritesChunks now rows_now store_now after store_after) (round : ReadsChunks now rows_now rows_after) where
     read_all : AreRead rows rows_after
     read_all = reads.both rows rows_now rows_after s.goes.read round.read
+
+    round_changed : ChangesOwnRecords before store_now store_after
+    round_changed =
+        let own = apart.round now after rows_now store_now store_after (subst IsPlan (sym s.goes.plan) is) writes in
+        subst (λ (base : ℕ). ChangesOnly base (result_shape before.plan) (IsPosition (result_shape before.plan)) store_now store_after) s.goes.base
+        (subst (λ (p : PlanOf). ChangesOnly now.base (result_shape p) (IsPosition (result_shape p)) store_now store_after) s.goes.plan own)
 
     -- what goes on, whatever the round answered
     goes_on : after.done ≤ total → Goes before after rows rows_after store store_after
@@ -96,6 +105,7 @@ module _ (before now after : RunOf) (rows rows_now rows_after : List Row) (store
           subst (λ (p : PlanOf). HasDone now store_now (result_cube collections p)) (sym same) (s.goes.values collections are shows) in
           subst (λ (p : PlanOf). HasDone after store_after (result_cube collections p)) same (writes.values collections are_now shows_now had);
       read = read_all;
+      changes = apart.both before store store_now store_after s.goes.changes round_changed;
       visible = λ v. still_visible _ store_now store_after writes.changes (s.goes.visible v);
     }
 

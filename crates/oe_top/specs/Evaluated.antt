@@ -4,6 +4,7 @@ use Rattle.std.specs.declared.alloc.Global.{Global}
 use Rattle.oe_cell.specs.declared.cell.Cell.{Cell}
 use Rattle.oe_dims.specs.Cube.{Cube}
 use Rattle.oe_engine.specs.Collections.{AreRead, LoadRose, Shows}
+use Rattle.oe_engine.specs.Going.{ChangesOwnRecords}
 use Rattle.oe_engine.specs.Laws.{LoadsVisible, collections_of}
 use Rattle.oe_engine.specs.Rounds.{KeepsDamage}
 use Rattle.oe_engine.specs.Runs.{HasDone, HasRunRecords, RunOf, chunk_total, load_count, result_cube}
@@ -82,6 +83,8 @@ pub record Goes (before after : RunOf) (rows rows_after : List Row) (store store
   pub values : (collections : Collections) → AreCollectionsOf before.plan.graph collections
       → Shows before.plan.graph rows collections → HasDone after store_after (result_cube collections before.plan)
   pub read : AreRead rows rows_after
+  -- no byte is changed but of its records
+  pub changes : ChangesOwnRecords before store store_after
   pub visible : IsVisible store → IsVisible store_after
 
 -- all rounds of a run: all chunks are done, or the cause why not

@@ -9,7 +9,8 @@ ghost use Rattle.oe_top.specs.Evaluated.{CanBeNamed, Completes, GoesThrough, IsB
 
 use crate::line::Line;
 use crate::refusal::Refusal;
-use oe_engine::{Progress, Run, RunFail, Workspace, over_is_of_the_result, reads_change_nothing};
+use oe_engine::{Progress, Run, RunFail, Workspace};
+use oe_engine::{over_is_of_the_result, reads_change_nothing, runs_stay_apart};
 use oe_outside::{Gate, Store};
 use oe_plan::{Plan, PlanFail};
 use oe_render::RenderFail;
@@ -82,6 +83,7 @@ fn go_through<P: Store, G: Gate>(
 {
     reads_change_nothing();
     over_is_of_the_result();
+    runs_stay_apart();
     for _ in 0..chunks {
         match run.round(catalogue, spool, gate) {
             Ok(Progress::Complete) => return Ok(()),

@@ -7,17 +7,17 @@ round-requires-clause-mounted g c κs within =
 
 pub returns-in-Ok-Complete-clause-through : goal.returns-in-Ok-Complete-clause-through
 returns-in-Ok-Complete-clause-through g c =
-    last_one _ _ _ _ _ _ _ _ _ _ _ _ _ c.requires.begun.planned c.reads_change_nothing.ensures c.loop.invariant
+    last_one _ _ _ _ _ _ _ _ _ _ _ _ _ c.requires.begun.planned c.reads_change_nothing.ensures c.runs_stay_apart.ensures c.loop.invariant
     c.in-Ok-Complete.field-0 c.in-Ok-Complete.ensures.advances c.in-Ok-Complete.ensures.writes c.in-Ok-Complete.ensures.reads
     c.in-Ok-Complete.ensures.causes.spool_cause.count c.in-Ok-Complete.field-0-is
 
 pub returns-in-Err-clause-through : goal.returns-in-Err-clause-through
 returns-in-Err-clause-through g c =
-    refused _ _ _ _ _ _ _ _ _ _ _ _ _ c.requires.begun.planned c.reads_change_nothing.ensures c.loop.invariant
+    refused _ _ _ _ _ _ _ _ _ _ _ _ _ c.requires.begun.planned c.reads_change_nothing.ensures c.runs_stay_apart.ensures c.loop.invariant
     c.in-Err.fail c.in-Err.ensures.advances c.in-Err.ensures.writes c.in-Err.ensures.reads c.in-Err.ensures.causes
 
 pub loop-preserved : goal.loop-preserved
 loop-preserved g c =
-    one_more _ _ _ _ _ _ _ _ _ _ _ _ _ c.requires.begun.planned c.reads_change_nothing.ensures c.loop.invariant
+    one_more _ _ _ _ _ _ _ _ _ _ _ _ _ c.requires.begun.planned c.reads_change_nothing.ensures c.runs_stay_apart.ensures c.loop.invariant
     c.in-Ok-More.field-0 c.in-Ok-More.ensures.advances c.in-Ok-More.ensures.writes c.in-Ok-More.ensures.reads
     c.in-Ok-More.ensures.causes.spool_cause.count (more_is_left c.in-Ok-More.field-0 c.in-Ok-More.field-0-is)
