@@ -10,3 +10,4 @@ pub mod HaloLemmas
 pub mod TakeLemmas
 pub mod FitLemmas
 mod Worked
+pub mod CrossLemmas

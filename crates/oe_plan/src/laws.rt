@@ -1,4 +1,6 @@
 // What holds of every plan.
+ghost use denote.Param.Send.{IsSend, IsSync};
+ghost use Rattle.oe_plan.specs.contracts.plan.Plan as plan;
 ghost use Rattle.oe_plan.specs.Fits.{FitMemory};
 
 /// Does nothing. Its contract says that two benches a worker, each of as many buffers of the largest window as the plan
@@ -6,4 +8,11 @@ ghost use Rattle.oe_plan.specs.Fits.{FitMemory};
 #[tactic(auto, using(crate::proofs::FitLemmas::fit_memory))]
 pub fn plans_fit()
     ensures { FitMemory }
+{}
+
+/// Does nothing. Its contract says that threads may share plans and hand them on.
+#[tactic(auto, using(crate::proofs::CrossLemmas::plan_send, crate::proofs::CrossLemmas::plan_sync))]
+pub fn plans_cross_threads()
+    ensures send { IsSend plan.the_row }
+    ensures sync { IsSync plan.the_row }
 {}

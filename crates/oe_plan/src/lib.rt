@@ -14,6 +14,6 @@ mod plan;
 mod windows;
 
 pub use bound::{PlanFigures, figures};
-pub use laws::plans_fit;
+pub use laws::{plans_cross_threads, plans_fit};
 pub use plan::{Plan, PlanFail};
 pub use windows::windows_of;

@@ -51,3 +51,4 @@ pub mod LoadLemmas
 pub mod CheckedLemmas
 pub mod CountLemmas
 pub mod WholeLemmas
+pub mod CrossLemmas

@@ -1,4 +1,6 @@
 // What holds of every meaning.
+ghost use denote.Param.Send.{IsSend, IsSync};
+ghost use Rattle.oe_shape.specs.contracts.checked.Checked as checked;
 ghost use Rattle.oe_shape.specs.Brings.{BringValidLabels};
 ghost use Rattle.oe_shape.specs.CellKinds.{GiveCellsOfKind};
 ghost use Rattle.oe_shape.specs.Laws.{AreFoundWithoutCells, AreInOneAtLeast, GiveCubes, KeepAllLabels, ReferToCubes};
@@ -80,4 +82,11 @@ pub fn nodes_give_cubes()
 #[tactic(auto, using(crate::proofs::ReachLemmas::fold_date_by_date))]
 pub fn folds_are_reductions()
     ensures { FoldDateByDate }
+{}
+
+/// Does nothing. Its contract says that threads may share checked graphs and hand them on.
+#[tactic(auto, using(crate::proofs::CrossLemmas::checked_send, crate::proofs::CrossLemmas::checked_sync))]
+pub fn graphs_cross_threads()
+    ensures send { IsSend checked.the_row }
+    ensures sync { IsSync checked.the_row }
 {}

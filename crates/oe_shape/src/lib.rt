@@ -40,8 +40,8 @@ pub use extent::{BoundingBox, Interval, TemporalExtent};
 pub use graph_check::check;
 pub use laws::{
     callbacks_have_scopes, cells_are_of_their_kind, faults_stand_lowest, folds_are_reductions,
-    labels_are_kept, meanings_are_sound, nodes_give_cubes, references_are_cubes, shapes_are_valid,
-    shapes_need_no_cells,
+    graphs_cross_threads, labels_are_kept, meanings_are_sound, nodes_give_cubes,
+    references_are_cubes, shapes_are_valid, shapes_need_no_cells,
 };
 pub use operation::{Operation, Restriction};
 pub use operation_request::operation_for;
