@@ -4,7 +4,7 @@ use Rattle.std.specs.Option.{option_map}
 use Rattle.std.proofs.lemmas.List.{take-append-drop, length-append}
 use Rattle.std.proofs.Math.Seq.{take-append_seam, drop-append_seam, take-length}
 use Rattle.std.proofs.lemmas.Grind.{common_steps}
-use Rattle.oe_outside.specs.Visible.{TakesFront, Gave, Appends, AddsBytes}
+use Rattle.oe_outside.specs.Visible.{TakesFront, Gave, Appends, AddsBytes, AddsSome}
 
 -- over no read nothing was given
 pub Gave-none : (left : Option (List ℕ)) → Gave left [] left
@@ -66,3 +66,12 @@ AddsBytes-more None (Some m) c first second one two = cc
 AddsBytes-more (Some n) None c first second one two = absurd one
 AddsBytes-more (Some n) (Some m) None first second one two = absurd two
 AddsBytes-more (Some n) (Some m) (Some k) first second one two = omega arith
+
+-- at most so many, and so at most more
+pub AddsSome-less : (a b : Option ℕ) (few many : ℕ) → few ≤ many → AddsSome a few b → AddsSome a many b
+AddsSome-less a b few many fewer adds = (adds.0, omega (arith, fewer, adds.1), adds.2)
+
+-- some writes, and then one that stopped
+pub AddsSome-more : (a b c : Option ℕ) (first second : ℕ) → AddsBytes a first b → AddsSome b second c → AddsSome a (first + second) c
+AddsSome-more a b c first second one two =
+    (first + two.0, omega (arith, two.1), AddsBytes-more a b c first two.0 one two.2)

@@ -28,6 +28,16 @@ sink_code =
     (coded× coded_ℕ (coded× script_code coded_ℕ))) (λ s. (s.written, (s.capacity, (s.script, s.faults))))
     (λ p. record { written = p.0; capacity = p.1.0; script = p.1.1.0; faults = p.1.1.1 }) (λ _. refl)
 
+-- a sink with room for 1048577 bytes
+pub record BoundedState : Type 0 where
+  pub written : List ℕ
+  pub faults : ℕ
+
+abbrev pub bounded_code : Coded BoundedState
+bounded_code =
+    code_by (List ℕ × ℕ) (coded× (coded_list coded_ℕ) coded_ℕ) (λ s. (s.written, s.faults))
+    (λ p. record { written = p.0; faults = p.1 }) (λ _. refl)
+
 pub record StoreState : Type 0 where
   -- the bytes, and the length that no write may pass
   pub bytes : List ℕ

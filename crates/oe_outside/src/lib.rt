@@ -7,6 +7,7 @@
 //! bodies do over real ones. [`Pending`] gathers what goes to a sink, and [`read_up_to`] takes what a source has.
 #![tactic(auto)]
 
+mod bounded;
 mod clock;
 mod count_sink;
 mod door;
@@ -28,6 +29,7 @@ mod source;
 mod store;
 mod stream;
 
+pub use bounded::BoundedSink;
 pub use clock::Clock;
 pub use count_sink::CountSink;
 pub use door::{Door, Next};

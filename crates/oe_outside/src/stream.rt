@@ -71,7 +71,8 @@ impl Pending {
 /// Refuses: only where the sink's fault counter rose. Then a prefix of what was pending was written, and all of it is
 /// pending still.
 pub fn flush<O: Sink>(out: &mut O, pending: &mut Pending) -> Result<(), Failed>
-    ensures sent { HasSent O.written O.faults out.old pending.old [] out.new pending.new result }
+    ensures sent { HasSent O.written O.size O.faults out.old pending.old [] out.new pending.new
+        result }
     ensures empty { OnOk result (pending.new ≡ []) }
     ensures kept { OnErr result (pending.new ≡ pending.old) }
 {
@@ -85,7 +86,8 @@ pub fn flush<O: Sink>(out: &mut O, pending: &mut Pending) -> Result<(), Failed>
 ///
 /// Refuses: only where the sink's fault counter rose. Then a prefix of what was pending and the piece was written.
 pub fn send<O: Sink>(out: &mut O, pending: &mut Pending, piece: &[u8]) -> Result<(), Failed>
-    ensures { HasSent O.written O.faults out.old pending.old piece.now out.new pending.new result }
+    ensures { HasSent O.written O.size O.faults out.old pending.old piece.now out.new pending.new
+        result }
 {
     if piece.len() <= ROOM - pending.len() {
         pending.push(piece);
@@ -98,7 +100,7 @@ pub fn send<O: Sink>(out: &mut O, pending: &mut Pending, piece: &[u8]) -> Result
 /// Sends a piece where nothing is pending. A piece that is longer than the room is written at once.
 fn send_alone<O: Sink>(out: &mut O, pending: &mut Pending, piece: &[u8]) -> Result<(), Failed>
     requires { pending.old ≡ [] }
-    ensures { HasSent O.written O.faults out.old [] piece.now out.new pending.new result }
+    ensures { HasSent O.written O.size O.faults out.old [] piece.now out.new pending.new result }
 {
     if piece.len() <= ROOM {
         pending.push(piece);
