@@ -1,7 +1,9 @@
 pub mod Ahead
 pub mod Batches
 pub mod Fractions
+pub mod LawLemmas
 pub mod Leaves
+pub mod Lengths
 pub mod OneCube
 pub mod ReadBack
 pub mod Records

@@ -34,7 +34,7 @@ one_cube bytes a b k l xs ys p q =
     let same = same_data (read bytes) p.value q.value p.text.is_read q.text.is_read in
     one_value q.value a b k l xs ys (subst (λ d. IsCubeValue d a k xs) same p.cube) q.cube
 
-fit_from : (cells : List Cell) → All IsCell cells → All (λ c. c ≢ Over) cells → AreFit cells
+pub fit_from : (cells : List Cell) → All IsCell cells → All (λ c. c ≢ Over) cells → AreFit cells
 fit_from [] h k = tt
 fit_from (c ∷ cells) h k =
     (h 0 c (omega arith), k 0 c (omega arith), fit_from cells (λ i d below. h (suc i) d (omega (arith, below))) (λ i d below. k (suc i) d (omega (arith, below))))

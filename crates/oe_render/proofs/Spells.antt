@@ -96,7 +96,7 @@ time_text seconds = quoted (instant_text seconds)
 abbrev pub whole_data : ℤ → Data
 whole_data z = number (of_integer z)
 
-is_between : (low high z : ℤ) → (le_z low z && le_z z high) ≡ true → (low ≤ℤ z) × (z ≤ℤ high)
+pub is_between : (low high z : ℤ) → (le_z low z && le_z z high) ≡ true → (low ≤ℤ z) × (z ≤ℤ high)
 is_between low high z h = let parts = and_parts (le_z low z) (le_z z high) h in (le_from low z parts.0, le_from z high parts.1)
 
 pub time_leaves : (labels : List ℤ) → all_between first_instant last_instant labels ≡ true → AreLeaves time_data time_text labels
@@ -121,14 +121,14 @@ pub each_name : (names : List (List ℕ)) → Each SpellsName (items string name
 each_name [] = tt
 each_name (name ∷ names) = (refl, each_name names)
 
-near : (z : ℤ) → neg_ℤ (pos 1000000000) ≤ℤ z → z ≤ℤ pos 1000000000 → unsigned_abs z < 2 ^ 63
+pub near : (z : ℤ) → neg_ℤ (pos 1000000000) ≤ℤ z → z ≤ℤ pos 1000000000 → unsigned_abs z < 2 ^ 63
 near z low high = grind (arith, ints, low, high)
 
 whole_back : (z : ℤ) → unsigned_abs z < 2 ^ 63 → as_i64 (of_integer z) ≡ Some z
 whole_back (pos n) fits = rw (lt-ltb n (2 ^ 63) fits) refl
 whole_back (negsuc n) fits = refl
 
-abbrev are_near : List ℤ → Bool
+abbrev pub are_near : List ℤ → Bool
 are_near labels = all_between (neg_ℤ (pos farthest_coordinate)) (pos farthest_coordinate) labels
 
 pub coordinate_leaves : (labels : List ℤ) → are_near labels ≡ true → AreLeaves whole_data signed_decimal labels

@@ -82,11 +82,11 @@ listed_front (a ∷ b ∷ front) back =
     (more.0, ap (λ text. a ++ (44 ∷ text)) more.1 ∙ sym (append_assoc a (44 ∷ listed_text (b ∷ front)) more.0))
 
 -- the next part was sent after those before it
-pub sends_next : {O T U E F : Type 0} {written : O → Option (List ℕ)} {faults : O → ℕ} {before after end : O} {held left rest : List ℕ} {x : T} {r : Result U F} (parts : List (List ℕ)) (index : ℕ) (part : List ℕ) → HasSent {E = E} written faults before held (listed_text (take index parts)) after left (Ok x) → HasSent written faults after left (separator index ++ part) end rest r → index < length parts → get_or parts index [] ≡ part → HasSent written faults before held (listed_text (take (index + 1) parts)) end rest r
+pub sends_next : {O T U E F : Type 0} {written : O → Option (List ℕ)} {size : O → Option ℕ} {faults : O → ℕ} {before after end : O} {held left rest : List ℕ} {x : T} {r : Result U F} (parts : List (List ℕ)) (index : ℕ) (part : List ℕ) → HasSent {E = E} written size faults before held (listed_text (take index parts)) after left (Ok x) → HasSent written size faults after left (separator index ++ part) end rest r → index < length parts → get_or parts index [] ≡ part → HasSent written size faults before held (listed_text (take (index + 1) parts)) end rest r
 sends_next parts index part sent next below same = rw (listed_take parts index below, same) (has_sent_then sent next)
 
 -- where a part stopped, all the parts did
-pub stops_among : {O T E : Type 0} {written : O → Option (List ℕ)} {faults : O → ℕ} {before after : O} {held left : List ℕ} {r : Result T E} (parts : List (List ℕ)) (count : ℕ) → IsErr r → HasSent written faults before held (listed_text (take count parts)) after left r → HasSent written faults before held (listed_text parts) after left r
+pub stops_among : {O T E : Type 0} {written : O → Option (List ℕ)} {size : O → Option ℕ} {faults : O → ℕ} {before after : O} {held left : List ℕ} {r : Result T E} (parts : List (List ℕ)) (count : ℕ) → IsErr r → HasSent written size faults before held (listed_text (take count parts)) after left r → HasSent written size faults before held (listed_text parts) after left r
 stops_among parts count is stopped =
     let others = listed_front (take count parts) (drop count parts) in
     rw (ap listed_text (sym (take-append-drop count parts)) ∙ others.1) (has_stopped_more others.0 is stopped)
@@ -128,11 +128,11 @@ more_range text xs first index end below within =
     ∙ ap (λ n. more_text first front ++ more_text n (map text (slice_range xs index end))) size
 
 -- the next range, behind so many other parts, was sent after the parts before it
-pub sends_range : {A O T U E F : Type 0} {written : O → Option (List ℕ)} {faults : O → ℕ} {before after last : O} {held left rest : List ℕ} {x : T} {r : Result U F} (text : A → List ℕ) (xs : List A) (first index end : ℕ) → index ≤ end → index ≤ length xs → HasSent {E = E} written faults before held (more_text first (map text (take index xs))) after left (Ok x) → HasSent written faults after left (more_text (first + index) (map text (slice_range xs index end))) last rest r → HasSent written faults before held (more_text first (map text (take end xs))) last rest r
+pub sends_range : {A O T U E F : Type 0} {written : O → Option (List ℕ)} {size : O → Option ℕ} {faults : O → ℕ} {before after last : O} {held left rest : List ℕ} {x : T} {r : Result U F} (text : A → List ℕ) (xs : List A) (first index end : ℕ) → index ≤ end → index ≤ length xs → HasSent {E = E} written size faults before held (more_text first (map text (take index xs))) after left (Ok x) → HasSent written size faults after left (more_text (first + index) (map text (slice_range xs index end))) last rest r → HasSent written size faults before held (more_text first (map text (take end xs))) last rest r
 sends_range text xs first index end below within sent next = rw (more_range text xs first index end below within) (has_sent_then sent next)
 
 -- where the parts up to an end stopped, all did
-pub stops_within : {A O T E : Type 0} {written : O → Option (List ℕ)} {faults : O → ℕ} {before after : O} {held left : List ℕ} {r : Result T E} (text : A → List ℕ) (xs : List A) (first end : ℕ) → IsErr r → HasSent written faults before held (more_text first (map text (take end xs))) after left r → HasSent written faults before held (more_text first (map text xs)) after left r
+pub stops_within : {A O T E : Type 0} {written : O → Option (List ℕ)} {size : O → Option ℕ} {faults : O → ℕ} {before after : O} {held left : List ℕ} {r : Result T E} (text : A → List ℕ) (xs : List A) (first end : ℕ) → IsErr r → HasSent written size faults before held (more_text first (map text (take end xs))) after left r → HasSent written size faults before held (more_text first (map text xs)) after left r
 stops_within text xs first end is stopped =
     rw (ap (λ ys. more_text first (map text ys)) (sym (take-append-drop end xs)) ∙ ap (more_text first) (map-append text (take end xs) (drop end xs)) ∙ more_both first (map text (take end xs)) (map text (drop end xs)))
     (has_stopped_more _ is stopped)

@@ -74,13 +74,16 @@ epsg_within : (d : Dimensions) (there : Bool) → (if there then nat_le 1 d.epsg
 epsg_within d true h = leb-true d.epsg 999999 (and_parts _ _ h).1
 epsg_within d false h = let none : d.epsg ≡ 0 = eqb-true d.epsg 0 h in omega (arith, none)
 
+pub epsg_of_shape : (d : Dimensions) → IsShape d → d.epsg ≤ 999999
+epsg_of_shape d valid = epsg_within d (is_some d.y || is_some d.x) (fitting_epsg d valid)
+
 leaves_of : (d : Dimensions) → IsShape d → HasLeaves d
 leaves_of d valid = record {
   t = time_leaves (number_labels d Time) (t_in_range d valid);
   bands = name_leaves (band_names d) (bands_are_names d valid);
   y = coordinate_leaves (number_labels d Y) (y_in_range d valid);
   x = coordinate_leaves (number_labels d X) (x_in_range d valid);
-  epsg = epsg_within d (is_some d.y || is_some d.x) (fitting_epsg d valid);
+  epsg = epsg_of_shape d valid;
 }
 
 value_text : (d : Dimensions) (kind : Kind) → HasLeaves d → compact_text (dimension_value d kind) ≡ dimension_text d kind
@@ -241,6 +244,13 @@ dimensions_read d valid =
     (y_along d.epsg d.y (y_in_range d valid)) (x_along d.epsg d.x (x_in_range d valid))
     (system_along d.epsg d.y d.x (fitting_epsg d valid))
 
+-- the text of a valid cube is UTF-8
+pub text_utf8 : (d : Dimensions) (cells : List Cell) → IsShape d → AreFit cells → IsUtf8 (cube_text (record { shape = d; cells = cells }))
+text_utf8 d cells valid fit =
+    let h = leaves_of d valid in
+    let k = cell_leaves cells fit in
+    subst IsUtf8 (cube_value_text d cells h k) (written_utf8 (cube_value d cells) (cube_value_written d cells h k))
+
 -- the text of a cube of one kind is a cube text, and says that cube
 pub cube_text_read : (d : Dimensions) (kind : CellKind) (cells : List Cell) → IsShape d → AreFit cells → IsCube (record { shape = d; cells = cells }) → kind_of cells ≡ Some kind
     → length (cube_text (record { shape = d; cells = cells })) ≤ most_text → IsCubeText (cube_text (record { shape = d; cells = cells })) d kind cells
@@ -253,7 +263,7 @@ cube_text_read d kind cells valid fit cube is within =
       value = ordered (cube_value d cells);
       text = record {
         within = within;
-        utf8 = subst IsUtf8 text (written_utf8 (cube_value d cells) w);
+        utf8 = text_utf8 d cells valid fit;
         is_read = ap read (sym text) ∙ written_read (cube_value d cells) w (cube_value_shallow d cells h k);
       };
       cube = record {

@@ -1,5 +1,6 @@
 pub mod Backwards
 pub mod CubeText
+pub mod Laws
 pub mod Rendered
 pub mod Seen
 pub mod Stored

@@ -1,11 +1,11 @@
 -- What rendering leaves: the text of the cells that stand in a store, or a prefix of it.
-use Rattle.std.specs.Prelude.{◌≡◌, ⊤, ℕ, ◌<◌, ◌≤◌, List, map, Option, None, Result, Ok, Err, OnOk, OnErr}
+use Rattle.std.specs.Prelude.{◌≡◌, ⊤, ℕ, ◌<◌, ◌≤◌, List, length, map, Option, None, Result, Ok, Err, OnOk, OnErr}
 use Rattle.oe_cell.specs.Spelling.{cell_text}
 use Rattle.oe_cell.specs.declared.cell.Cell.{Cell}
 use Rattle.oe_dims.specs.Dimensions.{Dimensions, cell_count}
 use Rattle.oe_outside.specs.Faults.{HasCauseOf}
 use Rattle.oe_outside.specs.Stream.{Sends, Stops}
-use Rattle.oe_outside.specs.Visible.{Appends, AppendsPrefix}
+use Rattle.oe_outside.specs.Visible.{Appends, AppendsPrefix, AddsBytes, AddsSome}
 use Rattle.oe_outside.specs.declared.failed.Failed.{Failed}
 use Rattle.oe_render.specs.Stored.{AreStored}
 use Rattle.oe_render.specs.Text.{cube_text, more_text}
@@ -24,6 +24,18 @@ AppendsCubePrefix store at shape before after =
     (cells : List Cell) × AreStored store at (cell_count shape) cells
     × AppendsPrefix before (cube_text (record { shape = shape; cells = cells })) after
 
+-- the number of bytes of their text is counted
+abbrev pub CountsCube : Option (List ℕ) → ℕ → Dimensions → Option ℕ → Option ℕ → Type 0
+CountsCube store at shape size size_after =
+    (cells : List Cell) × AreStored store at (cell_count shape) cells
+    × AddsBytes size (length (cube_text (record { shape = shape; cells = cells }))) size_after
+
+-- the same of a prefix of their text
+abbrev pub CountsCubePrefix : Option (List ℕ) → ℕ → Dimensions → Option ℕ → Option ℕ → Type 0
+CountsCubePrefix store at shape size size_after =
+    (cells : List Cell) × AreStored store at (cell_count shape) cells
+    × AddsSome size (length (cube_text (record { shape = shape; cells = cells }))) size_after
+
 -- what may be refused at the cells from an index to before an end: damage only in a store whose bytes are hidden
 abbrev pub IsRefusalWithin : Option (List ℕ) → ℕ → ℕ → RenderFail → Type 0
 IsRefusalWithin store from end SpoolFailed = ⊤
@@ -36,15 +48,15 @@ sink_answer (Ok x) = Ok x
 sink_answer (Err e) = Err SinkFailed
 
 -- What a call that sends a text, part of which may have to be read first, promises of a sink of type O.
-pub record HasRendered {O T : Type 0} (written : O → Option (List ℕ)) (faults : O → ℕ) (before : O)
-    (held text : List ℕ) (after : O) (left : List ℕ) (result : Result T RenderFail) : Type 0 where
-  pub sent : OnOk result (Sends (written before) held text (written after) left)
-  pub stopped : OnErr result (Stops (written before) held text (written after))
+pub record HasRendered {O T : Type 0} (written : O → Option (List ℕ)) (size : O → Option ℕ) (faults : O → ℕ)
+    (before : O) (held text : List ℕ) (after : O) (left : List ℕ) (result : Result T RenderFail) : Type 0 where
+  pub sent : OnOk result (Sends (written before) (size before) held text (written after) (size after) left)
+  pub stopped : OnErr result (Stops (written before) (size before) held text (written after) (size after))
   pub cause : HasCauseOf SinkFailed (faults before) (faults after) result
 
 -- The same of cells that are stored at an offset, after so many others were sent.
-abbrev pub HasSentStored : {O T : Type 0} → Option (List ℕ) → ℕ → ℕ → ℕ → (O → Option (List ℕ)) → (O → ℕ)
-    → O → List ℕ → O → List ℕ → Result T RenderFail → Type 0
-HasSentStored store at count index written faults before held after left result =
+abbrev pub HasSentStored : {O T : Type 0} → Option (List ℕ) → ℕ → ℕ → ℕ → (O → Option (List ℕ))
+    → (O → Option ℕ) → (O → ℕ) → O → List ℕ → O → List ℕ → Result T RenderFail → Type 0
+HasSentStored store at count index written size faults before held after left result =
     (cells : List Cell) × AreStored store at count cells
-    × HasRendered written faults before held (more_text index (map cell_text cells)) after left result
+    × HasRendered written size faults before held (more_text index (map cell_text cells)) after left result

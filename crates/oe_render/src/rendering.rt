@@ -3,7 +3,7 @@ ghost use Rattle.std.specs.Prelude.{◌≡◌, ◌+◌, ◌*◌, ◌≤◌, ◌<
 ghost use Rattle.oe_dims.specs.Dimensions.{cell_count};
 ghost use Rattle.oe_outside.specs.Faults.{HasCauseOf};
 ghost use Rattle.oe_outside.specs.Stream.{HasSent};
-ghost use Rattle.oe_render.specs.Rendered.{AppendsCube, AppendsCubePrefix, HasRendered, HasSentStored, IsRefusalWithin, sink_answer};
+ghost use Rattle.oe_render.specs.Rendered.{AppendsCube, AppendsCubePrefix, CountsCube, CountsCubePrefix, HasRendered, HasSentStored, IsRefusalWithin, sink_answer};
 ghost use Rattle.oe_render.specs.Stored.{HasCells};
 ghost use Rattle.oe_render.specs.Text.{head_text};
 
@@ -54,6 +54,11 @@ pub fn render<P: Store, O: Sink>(
         (O.written out.old) (O.written out.new)) }
     ensures prefix { OnErr result (AppendsCubePrefix (P.bytes spool.old) base shape.now
         (O.written out.old) (O.written out.new)) }
+    // and how many bytes it has, where they are visible
+    ensures counted { OnOk result (CountsCube (P.bytes spool.old) base shape.now
+        (O.size out.old) (O.size out.new)) }
+    ensures counted_prefix { OnErr result (CountsCubePrefix (P.bytes spool.old) base shape.now
+        (O.size out.old) (O.size out.new)) }
     // what is refused, and why
     ensures spool_cause { HasCauseOf RenderFail.SpoolFailed (P.faults spool.old)
         (P.faults spool.new) result }
@@ -98,7 +103,7 @@ fn send_stored<P: Store, O: Sink>(
     requires base { base ≤ 2 ^ 62 }
     requires few { count ≤ 2 ^ 40 }
     requires stored { HasCells (P.bytes spool.old) base count }
-    ensures sent { HasSentStored (P.bytes spool.old) base count 0 O.written O.faults out.old
+    ensures sent { HasSentStored (P.bytes spool.old) base count 0 O.written O.size O.faults out.old
         pending.old out.new pending.new result }
     ensures cause { HasCauseOf RenderFail.SpoolFailed (P.faults spool.old)
         (P.faults spool.new) result }
@@ -140,7 +145,7 @@ fn send_batch<P: Store, O: Sink>(
     requires few { index + length cells.old ≤ 2 ^ 40 }
     requires stored { HasCells (P.bytes spool.old) (base + 17 * index) (length cells.old) }
     ensures sent { HasSentStored (P.bytes spool.old) (base + 17 * index) (length cells.old) index
-        O.written O.faults out.old pending.old out.new pending.new result }
+        O.written O.size O.faults out.old pending.old out.new pending.new result }
     ensures cause { HasCauseOf RenderFail.SpoolFailed (P.faults spool.old)
         (P.faults spool.new) result }
     ensures damage { IfErr result (IsRefusalWithin (P.bytes spool.old) index

@@ -7,7 +7,7 @@ ghost use Rattle.oe_cell.specs.declared.cell.Cell.TheVariants.{Over};
 ghost use Rattle.oe_dims.specs.Dimensions.{IsShape, all_kinds, label_count, number_labels};
 ghost use Rattle.oe_dims.specs.Instant.{instant_text};
 ghost use Rattle.oe_outside.specs.Faults.{HasCause};
-ghost use Rattle.oe_outside.specs.Visible.{Appends, AppendsPrefix};
+ghost use Rattle.oe_outside.specs.Visible.{Appends, AppendsPrefix, AddsBytes, AddsSome};
 ghost use Rattle.oe_outside.specs.Stream.{HasSent};
 ghost use Rattle.oe_render.specs.Text as spec;
 
@@ -33,6 +33,10 @@ pub fn write_text<O: Sink>(
         (spec.cube_text (record { shape = shape.now; cells = cells.now })) (O.written out.new)) }
     ensures prefix { OnErr result (AppendsPrefix (O.written out.old)
         (spec.cube_text (record { shape = shape.now; cells = cells.now })) (O.written out.new)) }
+    ensures counted { OnOk result (AddsBytes (O.size out.old) (length
+        (spec.cube_text (record { shape = shape.now; cells = cells.now }))) (O.size out.new)) }
+    ensures counted_prefix { OnErr result (AddsSome (O.size out.old) (length
+        (spec.cube_text (record { shape = shape.now; cells = cells.now }))) (O.size out.new)) }
     ensures cause { HasCause (O.faults out.old) (O.faults out.new) result }
 {
     send_text(out, pending, shape, cells)
@@ -45,7 +49,7 @@ fn send_text<O: Sink>(
     cells: &[Cell],
 ) -> Result<(), Failed>
     requires { All (λ c. c ≢ Over) cells.now }
-    ensures sent { HasSent O.written O.faults out.old pending.old (spec.cube_text
+    ensures sent { HasSent O.written O.size O.faults out.old pending.old (spec.cube_text
         (record { shape = shape.now; cells = cells.now })) out.new pending.new result }
     ensures empty { OnOk result (pending.new ≡ []) }
 {
@@ -60,7 +64,7 @@ pub(crate) fn send_front<O: Sink>(
     pending: &mut Pending,
     shape: &Shape,
 ) -> Result<(), Failed>
-    ensures sent { HasSent O.written O.faults out.old pending.old
+    ensures sent { HasSent O.written O.size O.faults out.old pending.old
         (spec.head_text shape.now) out.new pending.new result }
     ensures empty { OnOk result (pending.new ≡ []) }
 {
@@ -70,7 +74,7 @@ pub(crate) fn send_front<O: Sink>(
 
 /// The end of the text, and what is still held.
 pub(crate) fn send_end<O: Sink>(out: &mut O, pending: &mut Pending) -> Result<(), Failed>
-    ensures sent { HasSent O.written O.faults out.old pending.old
+    ensures sent { HasSent O.written O.size O.faults out.old pending.old
         (codes "]}") out.new pending.new result }
     ensures empty { OnOk result (pending.new ≡ []) }
 {
@@ -79,7 +83,7 @@ pub(crate) fn send_end<O: Sink>(out: &mut O, pending: &mut Pending) -> Result<()
 }
 
 fn send_head<O: Sink>(out: &mut O, pending: &mut Pending, shape: &Shape) -> Result<(), Failed>
-    ensures { HasSent O.written O.faults out.old pending.old
+    ensures { HasSent O.written O.size O.faults out.old pending.old
         (spec.head_text shape.now) out.new pending.new result }
 {
     send(out, pending, b"{\"type\":\"FractionCube\",\"dimensions\":[")?;
@@ -95,7 +99,7 @@ pub fn send_dimensions<O: Sink>(
     pending: &mut Pending,
     shape: &Shape,
 ) -> Result<(), Failed>
-    ensures { HasSent O.written O.faults out.old pending.old (spec.listed_text (filter_map
+    ensures { HasSent O.written O.size O.faults out.old pending.old (spec.listed_text (filter_map
         (spec.present_text shape.now) all_kinds)) out.new pending.new result }
 {
     let sent = send_present(out, pending, shape, Kind::Time, 0)?;
@@ -114,7 +118,7 @@ fn send_present<O: Sink>(
     sent: u32,
 ) -> Result<u32, Failed>
     requires { sent < 4 }
-    ensures sent { HasSent O.written O.faults out.old pending.old (spec.part_text
+    ensures sent { HasSent O.written O.size O.faults out.old pending.old (spec.part_text
         (spec.present_text shape.now kind) sent) out.new pending.new result }
     ensures count { IfOk result (λ n. n ≡ spec.parts_after
         (spec.present_text shape.now kind) sent) }
@@ -138,7 +142,7 @@ fn send_dimension<O: Sink>(
 ) -> Result<(), Failed>
     requires valid { IsShape shape.now }
     requires count { label_count shape.now kind ≡ Some count }
-    ensures { HasSent O.written O.faults out.old pending.old
+    ensures { HasSent O.written O.size O.faults out.old pending.old
         (spec.dimension_text shape.now kind) out.new pending.new result }
 {
     send_dimension_head(out, pending, shape, kind)?;
@@ -153,7 +157,7 @@ fn send_dimension_head<O: Sink>(
     shape: &Shape,
     kind: Kind,
 ) -> Result<(), Failed>
-    ensures { HasSent O.written O.faults out.old pending.old
+    ensures { HasSent O.written O.size O.faults out.old pending.old
         (spec.dimension_head shape.now kind) out.new pending.new result }
 {
     match kind {
@@ -183,7 +187,7 @@ fn send_reference_system<O: Sink>(
     pending: &mut Pending,
     shape: &Shape,
 ) -> Result<(), Failed>
-    ensures { HasSent O.written O.faults out.old pending.old
+    ensures { HasSent O.written O.size O.faults out.old pending.old
         (spec.reference_system shape.now) out.new pending.new result }
 {
     let mut digits = Buffer::new();
@@ -201,7 +205,7 @@ fn send_labels<O: Sink>(
 ) -> Result<(), Failed>
     requires valid { IsShape shape.now }
     requires count { label_count shape.now kind ≡ Some count }
-    ensures { HasSent O.written O.faults out.old pending.old (spec.listed_text
+    ensures { HasSent O.written O.size O.faults out.old pending.old (spec.listed_text
         (spec.label_texts shape.now kind)) out.new pending.new result }
 {
     for index in 0..count {
@@ -219,7 +223,7 @@ fn send_next_label<O: Sink>(
 ) -> Result<(), Failed>
     requires valid { IsShape shape.now }
     requires there { index < length (spec.label_texts shape.now kind) }
-    ensures { HasSent O.written O.faults out.old pending.old
+    ensures { HasSent O.written O.size O.faults out.old pending.old
         (spec.separator index ++ slice_index_or (spec.label_texts shape.now kind) index []) out.new
         pending.new result }
 {
@@ -236,7 +240,7 @@ fn send_label<O: Sink>(
 ) -> Result<(), Failed>
     requires valid { IsShape shape.now }
     requires there { index < length (spec.label_texts shape.now kind) }
-    ensures { HasSent O.written O.faults out.old pending.old (slice_index_or
+    ensures { HasSent O.written O.size O.faults out.old pending.old (slice_index_or
         (spec.label_texts shape.now kind) index []) out.new pending.new result }
 {
     match kind {
@@ -254,7 +258,7 @@ fn send_instant<O: Sink>(
 ) -> Result<(), Failed>
     requires valid { IsShape shape.now }
     requires there { index < length (number_labels shape.now Kind.Time) }
-    ensures { HasSent O.written O.faults out.old pending.old (spec.quoted (instant_text
+    ensures { HasSent O.written O.size O.faults out.old pending.old (spec.quoted (instant_text
         (slice_index_or (number_labels shape.now Kind.Time) index
         (pos 0)))) out.new pending.new result }
 {
@@ -263,7 +267,7 @@ fn send_instant<O: Sink>(
 }
 
 fn send_quoted<O: Sink>(out: &mut O, pending: &mut Pending, text: &[u8]) -> Result<(), Failed>
-    ensures { HasSent O.written O.faults out.old pending.old
+    ensures { HasSent O.written O.size O.faults out.old pending.old
         (spec.quoted text.now) out.new pending.new result }
 {
     send(out, pending, b"\"")?;
@@ -272,7 +276,7 @@ fn send_quoted<O: Sink>(out: &mut O, pending: &mut Pending, text: &[u8]) -> Resu
 }
 
 fn send_number<O: Sink>(out: &mut O, pending: &mut Pending, number: i64) -> Result<(), Failed>
-    ensures { HasSent O.written O.faults out.old pending.old
+    ensures { HasSent O.written O.size O.faults out.old pending.old
         (signed_decimal number) out.new pending.new result }
 {
     let mut digits = Buffer::new();
@@ -288,7 +292,7 @@ pub(crate) fn send_cells<O: Sink>(
 ) -> Result<(), Failed>
     requires numbered { All (λ c. c ≢ Over) cells.now }
     requires few { before + length cells.now < 2 ^ 64 }
-    ensures { HasSent O.written O.faults out.old pending.old
+    ensures { HasSent O.written O.size O.faults out.old pending.old
         (spec.more_text before (map cell_text cells.now)) out.new pending.new result }
 {
     let mut bytes = [0; ROOM];
@@ -318,7 +322,7 @@ fn send_piece<O: Sink>(
     requires numbered { All (λ c. c ≢ Over) cells.now }
     requires some { length cells.now ≤ 64 }
     requires few { before + length cells.now < 2 ^ 64 }
-    ensures { HasSent O.written O.faults out.old pending.old
+    ensures { HasSent O.written O.size O.faults out.old pending.old
         (spec.more_text before (map cell_text cells.now)) out.new pending.new result }
 {
     let start = spell_cells(cells, before, bytes);
@@ -327,7 +331,7 @@ fn send_piece<O: Sink>(
 
 /// A comma before each part but the first.
 fn send_separator<O: Sink>(out: &mut O, pending: &mut Pending, index: u64) -> Result<(), Failed>
-    ensures { HasSent O.written O.faults out.old pending.old
+    ensures { HasSent O.written O.size O.faults out.old pending.old
         (spec.separator index) out.new pending.new result }
 {
     if index == 0 {

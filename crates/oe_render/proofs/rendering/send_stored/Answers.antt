@@ -1,10 +1,18 @@
-use Rattle.std.proofs.Common.{◌≡◌, ◌+◌, ◌*◌, ◌≤◌, length, take, sym, ◌∙◌, subst, arith}
+use Rattle.std.proofs.Common.{[], refl, ◌≡◌, ◌+◌, ◌*◌, ◌≤◌, length, take, sym, ◌∙◌, subst, arith}
 use Rattle.std.proofs.lemmas.List.{length-take}
-use Rattle.oe_outside.proofs.Causes.{NeverFalls-trans}
+use Rattle.oe_outside.proofs.Causes.{NeverFalls-refl, NeverFalls-trans}
 use Rattle.oe_render.specs.Stored.{HasCells}
-use Rattle.oe_render.proofs.Records.{HasCells-part}
-use Rattle.oe_render.proofs.Sending.{stored_next, stored_stops}
+use Rattle.oe_render.proofs.Records.{AreStored-none, HasCells-part}
+use Rattle.oe_render.proofs.Sending.{rendered_none, stored_next, stored_stops}
 use Rattle.oe_render.proofs.rendering.send_stored.Goals as goal
+
+pub loop-index-init : goal.loop-index-init
+loop-index-init g c = record {
+  sent = ([], AreStored-none (g.P.Store.bytes c.args.spool.now) c.args.base, rendered_none c.args.out.now c.args.pending.now (tt {0}));
+  same = refl;
+  falls = NeverFalls-refl (g.P.Store.faults c.args.spool.now);
+  within = omega arith;
+}
 
 pub send_batch-requires-clause-stored : goal.send_batch-requires-clause-stored
 send_batch-requires-clause-stored g c =

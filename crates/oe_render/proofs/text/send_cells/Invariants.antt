@@ -7,7 +7,7 @@ use Rattle.oe_render.proofs.text.send_cells.Given as goal
 
 abbrev pub invariant-loop-index : goal.invariant-loop-index
 invariant-loop-index g l = record {
-  sent : HasSent {E = Failed} g.O.Sink.written g.O.Sink.faults l.fn.out l.fn.pending (more_text l.before (map cell_text (take l.index l.cells))) l.out l.pending (Ok (tt {0}));
+  sent : HasSent {E = Failed} g.O.Sink.written g.O.Sink.size g.O.Sink.faults l.fn.out l.fn.pending (more_text l.before (map cell_text (take l.index l.cells))) l.out l.pending (Ok (tt {0}));
   within : l.index ≤ length l.cells;
 }
 

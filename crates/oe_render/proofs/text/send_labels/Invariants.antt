@@ -6,4 +6,4 @@ use Rattle.oe_render.proofs.text.send_labels.Given as goal
 
 abbrev pub invariant-loop-index : goal.invariant-loop-index
 invariant-loop-index g l =
-    HasSent {E = Failed} g.O.Sink.written g.O.Sink.faults l.fn.out l.fn.pending (listed_text (take l.index (label_texts l.shape l.kind))) l.out l.pending (Ok (tt {0}))
+    HasSent {E = Failed} g.O.Sink.written g.O.Sink.size g.O.Sink.faults l.fn.out l.fn.pending (listed_text (take l.index (label_texts l.shape l.kind))) l.out l.pending (Ok (tt {0}))
