@@ -14,6 +14,7 @@ mod ReplyHeads
 mod ReplyMessages
 mod ReplyStepLemmas
 mod StepLemmas
+mod Taken
 mod Targets
 mod Visible
 mod WrittenFields

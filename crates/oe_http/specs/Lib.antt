@@ -13,6 +13,7 @@ pub mod Replies
 pub mod ReplyParts
 pub mod ReplySteps
 pub mod Requests
+pub mod Sent
 pub mod Steps
 pub mod Responses
 pub mod Written

@@ -1,6 +1,7 @@
 // The body of a message.
 ghost use Rattle.std.specs.Prelude.{◌≡◌, ◌<◌, ◌≤◌, ◌^◌, length, take, vec_len, IfOk, OnOk};
 ghost use Rattle.oe_outside.specs.Faults.{HasCauseOf};
+ghost use Rattle.oe_outside.specs.Input.{TakesAtMost};
 ghost use Rattle.oe_http.specs.Reading.{ReadsBody};
 
 use crate::front::read_more;
@@ -20,6 +21,7 @@ pub(crate) fn read_body<L: Link>(
     ensures read { IfOk result
         (λ body. ReadsBody number (L.left link.old) (take number held.now) body.items
         (L.left link.new)) }
+    ensures taken { TakesAtMost (L.left link.old) number (L.left link.new) }
     ensures same { L.written link.new ≡ L.written link.old }
     ensures cause { HasCauseOf ReadRefusal.Failed (L.faults link.old) (L.faults link.new) result }
 {
@@ -41,6 +43,7 @@ fn read_rest<L: Link>(
     requires room { vec_len body.old ≤ number }
     ensures read { OnOk result
         (ReadsBody number (L.left link.old) body.old.items body.new.items (L.left link.new)) }
+    ensures taken { TakesAtMost (L.left link.old) number (L.left link.new) }
     ensures same { L.written link.new ≡ L.written link.old }
     ensures cause { HasCauseOf ReadRefusal.Failed (L.faults link.old) (L.faults link.new) result }
 {

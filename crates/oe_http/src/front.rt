@@ -1,7 +1,8 @@
 // The front of what a link gives, read in any pieces up to its first CR LF CR LF.
-ghost use Rattle.std.specs.Prelude.{◌≡◌, ◌↔◌, ◌<◌, ◌≤◌, ◌^◌, [], length, vec_len, IsTrue, IfOk, MatchOption};
+ghost use Rattle.std.specs.Prelude.{◌≡◌, ◌↔◌, ◌-◌, ◌<◌, ◌≤◌, ◌^◌, [], length, vec_len, IsTrue, IfOk, MatchOption};
 ghost use Rattle.oe_outside.specs.Faults.{HasCauseOf};
-ghost use Rattle.oe_http.specs.Front.{EndsAt, EndsNowhere, HasNoHead, IsHeadEnd, line_ends};
+ghost use Rattle.oe_outside.specs.Input.{TakesAtMost};
+ghost use Rattle.oe_http.specs.Front.{EndsAt, EndsNowhere, HasNoHead, IsHeadEnd, line_ends, most_head};
 ghost use Rattle.oe_http.specs.Reading.{ReadsMore, ReadsFront};
 
 use oe_outside::{Link, ReadRefusal};
@@ -26,6 +27,7 @@ pub(crate) fn read_front<L: Link>(
     requires none { bytes.old.items ≡ [] }
     ensures read { IfOk result
         (λ end. ReadsFront (L.left link.old) bytes.new.items end (L.left link.new)) }
+    ensures taken { TakesAtMost (L.left link.old) most_head (L.left link.new) }
     ensures same { L.written link.new ≡ L.written link.old }
     ensures cause { HasCauseOf ReadRefusal.Failed (L.faults link.old) (L.faults link.new) result }
 {
@@ -55,6 +57,7 @@ pub(crate) fn read_more<L: Link>(
     ensures read { IfOk result
         (λ n. ReadsMore limit (L.left link.old) n bytes.old.items bytes.new.items
         (L.left link.new)) }
+    ensures taken { TakesAtMost (L.left link.old) (limit - vec_len bytes.old) (L.left link.new) }
     ensures same { L.written link.new ≡ L.written link.old }
     ensures cause { HasCauseOf ReadRefusal.Failed (L.faults link.old) (L.faults link.new) result }
 {

@@ -1,17 +1,18 @@
 // Responses as a client reads them.
-ghost use Rattle.std.specs.Prelude.{◌≡◌, ◌<◌, ◌≤◌, length, take, All, IfOk, IfErr, IfSome, IfNone};
+ghost use Rattle.std.specs.Prelude.{◌≡◌, ◌+◌, ◌<◌, ◌≤◌, length, take, All, IfOk, IfErr, IfSome, IfNone};
 ghost use Rattle.httparse.specs.Grammar.{ResponseHead};
 ghost use Rattle.httparse.specs.Spans.{IsHeaderWithin, IsResponseAt, IsResponseWithin};
 ghost use Rattle.oe_outside.specs.Faults.{HasCauseOf};
+ghost use Rattle.oe_outside.specs.Input.{TakesAtMost};
 ghost use Rattle.oe_http.specs.Again.{ReadsReply};
 ghost use Rattle.oe_http.specs.Fields.{values_of, content_length, said_length};
-ghost use Rattle.oe_http.specs.Front.{line_ends, most_line_ends};
+ghost use Rattle.oe_http.specs.Front.{line_ends, most_head, most_line_ends};
 ghost use Rattle.oe_http.specs.Heads.{most_fields};
 ghost use Rattle.oe_http.specs.Parts.{texts_of};
 ghost use Rattle.oe_http.specs.Replies.{plain_response};
 ghost use Rattle.oe_http.specs.ReplyParts.{HasReplySpans, HasReplyParts, RefusesReplyFields, RefusesReplyHead, RefusesReplyHeadless, IsOfReplyBytes, reply_refusal};
 ghost use Rattle.oe_http.specs.ReplySteps.{IsCutOrBinary, IsReplyHeadIn, IsReplyHeadRead, IsReplyMadeOf, IsReplyRefusedAfter, IsReplyRefusedOf, IsResponseRead};
-ghost use Rattle.oe_http.specs.Responses.{IsWholeReply, IsResponseOf, RefusesResponse, SaysOneLength};
+ghost use Rattle.oe_http.specs.Responses.{IsWholeReply, IsResponseOf, RefusesResponse, SaysOneLength, most_response_body};
 ghost use Rattle.oe_http.specs.declared.reply.ResponseRefusal.TheVariants as refusal;
 
 use crate::Response;
@@ -85,8 +86,9 @@ pub(crate) struct ReplyParts {
 }
 
 /// Reads the response that stands at the front of what a link gives (RFC 9112). Its status and its body are read, and
-/// no other field than its length is looked at. Bytes behind its body may be taken too. Of a reply that
-/// `write_response` wrote, the status and the body are read as they were.
+/// no other field than its length is looked at. Bytes behind its body may be taken too, but no more in all than a head
+/// and a body may have, 16384 and 16777216. Of a reply that `write_response` wrote, the status and the body are read as
+/// they were.
 ///
 /// Refuses: `TooLong` where the head passes the limits of a request's head, or the body 16777216 bytes. `Malformed`
 /// where the head is not as a whole a response head of HTTP/1.0 or 1.1 with at most 64 fields, a status from 100 on and
@@ -102,6 +104,8 @@ pub fn read_response<L: Link>(alloc: Global, link: &mut L) -> Result<Response, R
     // a reply of the service is read again, whatever follows it
     ensures again { IfSome (L.left link.old) (λ bytes. ReadsReply bytes result) }
     // over every link
+    ensures taken { TakesAtMost (L.left link.old) (most_head + most_response_body)
+        (L.left link.new) }
     ensures same { L.written link.new ≡ L.written link.old }
     ensures cause { HasCauseOf ResponseRefusal.LinkFailed (L.faults link.old)
         (L.faults link.new) result }
@@ -130,6 +134,7 @@ fn read_head<L: Link>(
     requires some { 0 < length piece.old }
     ensures read { IfOk result (λ head. IsReplyHeadRead (L.left link.old) head (L.left link.new)) }
     ensures refused { IfErr result (IsReplyRefusedOf (L.left link.old)) }
+    ensures taken { TakesAtMost (L.left link.old) most_head (L.left link.new) }
     ensures same { L.written link.new ≡ L.written link.old }
     ensures cause { HasCauseOf ResponseRefusal.LinkFailed (L.faults link.old)
         (L.faults link.new) result }
@@ -166,6 +171,7 @@ fn read_whole<L: Link>(
         (λ response. IsResponseRead head.now response (L.left link.old)) }
     ensures refused { IfErr result
         (λ refusal. IsReplyRefusedAfter head.now refusal (L.left link.old)) }
+    ensures taken { TakesAtMost (L.left link.old) most_response_body (L.left link.new) }
     ensures same { L.written link.new ≡ L.written link.old }
     ensures cause { HasCauseOf ResponseRefusal.LinkFailed (L.faults link.old)
         (L.faults link.new) result }

@@ -1,11 +1,13 @@
 // Requests.
-ghost use Rattle.std.specs.Prelude.{◌≡◌, ◌==◌, ◌<◌, ◌≤◌, length, take, IfOk, IfErr, IfSome};
+ghost use Rattle.std.specs.Prelude.{◌≡◌, ◌==◌, ◌+◌, ◌<◌, ◌≤◌, length, take, IfOk, IfErr, IfSome};
 ghost use Rattle.std.specs.List.{before_first, after_first};
 ghost use Rattle.oe_outside.specs.Faults.{HasCauseOf};
+ghost use Rattle.oe_outside.specs.Input.{TakesAtMost};
+ghost use Rattle.oe_http.specs.Front.{most_head};
 ghost use Rattle.oe_http.specs.Again.{ReadsWritten};
 ghost use Rattle.oe_http.specs.Parts.{HasParts, RefusesHead};
 ghost use Rattle.oe_http.specs.Plain.{plain_request};
-ghost use Rattle.oe_http.specs.Requests.{IsRequestOf, Refuses, IsOfBytes, question_mark, request_of};
+ghost use Rattle.oe_http.specs.Requests.{IsRequestOf, Refuses, IsOfBytes, most_body, question_mark, request_of};
 ghost use Rattle.oe_http.specs.Refused.{of_reading, RefusesHeadless};
 ghost use Rattle.oe_http.specs.Steps.{IsCutOrOutOfMemory, IsHeadIn, IsHeadRead, IsMadeOf, IsRefusedAfter, IsRefusedOf, IsRequestRead};
 ghost use Rattle.oe_http.specs.declared.request.RequestRefusal.TheVariants as refusal;
@@ -93,8 +95,9 @@ impl From<ReadRefusal> for RequestRefusal {
     }
 }
 
-/// Reads the request that stands at the front of what a link gives (RFC 9112). Bytes behind its body may be taken too.
-/// A request that `write_request` wrote is read as it was.
+/// Reads the request that stands at the front of what a link gives (RFC 9112). Bytes behind its body may be taken too,
+/// but no more in all than a head and a body may have, 16384 and 1048576. A request that `write_request` wrote is read
+/// as it was.
 ///
 /// Refuses: with the first of these that stands. `HeadTooLong` where the first 16384 bytes have no CR LF CR LF, or
 /// there are over 66 line ends up to the first. `Malformed` where these bytes are not as a whole a request head of
@@ -111,6 +114,7 @@ pub fn read_request<L: Link>(alloc: Global, link: &mut L) -> Result<Request, Req
     // a written request is read again, whatever follows it
     ensures again { IfSome (L.left link.old) (λ bytes. ReadsWritten bytes result) }
     // over every link
+    ensures taken { TakesAtMost (L.left link.old) (most_head + most_body) (L.left link.new) }
     ensures same { L.written link.new ≡ L.written link.old }
     ensures cause { HasCauseOf RequestRefusal.LinkFailed (L.faults link.old) (L.faults link.new)
         result }
@@ -139,6 +143,7 @@ fn read_head<L: Link>(
     requires some { 0 < length piece.old }
     ensures read { IfOk result (λ head. IsHeadRead (L.left link.old) head (L.left link.new)) }
     ensures refused { IfErr result (IsRefusedOf (L.left link.old)) }
+    ensures taken { TakesAtMost (L.left link.old) most_head (L.left link.new) }
     ensures same { L.written link.new ≡ L.written link.old }
     ensures cause { HasCauseOf RequestRefusal.LinkFailed (L.faults link.old) (L.faults link.new)
         result }
@@ -173,6 +178,7 @@ fn read_whole<L: Link>(
     requires parts { HasParts (take head.now.end head.now.bytes.items) head.now.parts }
     ensures request { IfOk result (λ request. IsRequestRead head.now request (L.left link.old)) }
     ensures refused { IfErr result (λ refusal. IsRefusedAfter head.now refusal (L.left link.old)) }
+    ensures taken { TakesAtMost (L.left link.old) most_body (L.left link.new) }
     ensures same { L.written link.new ≡ L.written link.old }
     ensures cause { HasCauseOf RequestRefusal.LinkFailed (L.faults link.old) (L.faults link.new)
         result }

@@ -4,7 +4,7 @@ ghost use Rattle.std.specs.Option.{option_map};
 ghost use Rattle.http.specs.StatusCode.{reason_phrase};
 ghost use Rattle.oe_outside.specs.Faults.{HasCause};
 ghost use Rattle.oe_outside.specs.Visible.{Appends, AppendsPrefix};
-ghost use Rattle.oe_outside.specs.Stream.{HasSent};
+ghost use Rattle.oe_http.specs.Sent.{HasSent};
 ghost use Rattle.oe_http.specs.Replies.{code_line, end_lines, field_lines, further_lines, has_body, has_length, length_line, name_lines, plain_response, reply_bytes, reply_head, sent_body, status_line, type_line};
 
 use crate::write::{

@@ -3,7 +3,7 @@ ghost use Rattle.std.specs.Prelude.{◌≡◌, ◌++◌, ◌+◌, ◌≤◌, len
 ghost use Rattle.std.specs.Option.{option_map};
 ghost use Rattle.http.specs.StatusCode.{reason_phrase};
 ghost use Rattle.oe_http.specs.Replies.{field_line, has_body, has_length};
-ghost use Rattle.oe_outside.specs.Stream.{HasSent};
+ghost use Rattle.oe_http.specs.Sent.{HasSent};
 
 use http::StatusCode;
 use oe_dims::Text;

@@ -3,7 +3,7 @@ ghost use Rattle.std.specs.Prelude.{◌≡◌, ◌++◌, codes, OnOk, OnErr};
 ghost use Rattle.oe_outside.specs.Faults.{HasCause};
 ghost use Rattle.oe_outside.specs.Visible.{Appends, AppendsPrefix};
 ghost use Rattle.oe_http.specs.Plain.{plain_request};
-ghost use Rattle.oe_outside.specs.Stream.{HasSent};
+ghost use Rattle.oe_http.specs.Sent.{HasSent};
 ghost use Rattle.oe_http.specs.Written.{host_line, last_lines, lines_behind, mark_before, query_part, request_bytes, request_head, request_line, target_line};
 ghost use Rattle.oe_http.specs.Replies.{field_line};
 

@@ -1,6 +1,10 @@
 use Rattle.oe_http.proofs.Again.{reply_again_read, reply_again_refused}
 use Rattle.oe_http.proofs.StepLemmas.{then-HasCauseOf, handed_on}
 use Rattle.oe_http.proofs.ReplyStepLemmas.{response_of_head, reply_refusal_of_head}
+use Rattle.std.proofs.Common.{◌+◌, arith}
+use Rattle.oe_http.specs.Front.{most_head}
+use Rattle.oe_http.specs.Responses.{most_response_body}
+use Rattle.oe_http.proofs.Taken.{takes_both, takes_fewer, takes_none}
 use Rattle.oe_http.proofs.reply.read_response.Goals as goal
 
 pub returns-in-Ok-clause-response : goal.returns-in-Ok-clause-response
@@ -23,3 +27,12 @@ returns-in-Ok-clause-again g c =
 
 pub returns-clause-again : goal.returns-clause-again
 returns-clause-again g c = reply_again_refused (g.L.Link.left c.args.link.now) c.in-Err.refusal c.in-Err.ensures.refused
+
+pub returns-in_err-piece-clause-taken : goal.returns-in_err-piece-clause-taken
+returns-in_err-piece-clause-taken g c = takes_none _ _
+
+pub returns-in-Ok-clause-taken : goal.returns-in-Ok-clause-taken
+returns-in-Ok-clause-taken g c = takes_both _ _ _ most_head most_response_body c.in-Ok.ensures.taken c.read_whole.ensures.taken
+
+pub returns-clause-taken : goal.returns-clause-taken
+returns-clause-taken g c = takes_fewer _ _ most_head (most_head + most_response_body) (omega arith) c.in-Err.ensures.taken

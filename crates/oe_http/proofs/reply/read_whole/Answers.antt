@@ -3,6 +3,8 @@ use Rattle.std.proofs.lemmas.Result.{IfErr-weaker, IfOk-weaker}
 use Rattle.oe_http.specs.Reading.{ReadsBody}
 use Rattle.oe_http.proofs.StepLemmas.{take_of_rest}
 use Rattle.oe_http.proofs.ReplyStepLemmas.{reply_made, reply_cut}
+use Rattle.oe_http.specs.Responses.{most_response_body}
+use Rattle.oe_http.proofs.Taken.{takes_fewer}
 use Rattle.oe_http.proofs.reply.read_whole.Goals as goal
 
 pub returns-in-Ok-clause-response : goal.returns-in-Ok-clause-response
@@ -26,3 +28,9 @@ returns-in-Ok-clause-refused g c =
     subst Q (take_of_rest c.args.head.now.parts.length c.args.head.now.end c.deref.result.now) c.in-Ok.ensures.read in
     let got : P c.args.head.now.bytes.items = subst P c.deref.ensures.value held in
     IfErr-weaker c.with_body.result _ _ (λ refusal is. reply_cut c.args.head.now refusal got is) c.with_body.ensures.refused
+
+pub returns-in-Ok-clause-taken : goal.returns-in-Ok-clause-taken
+returns-in-Ok-clause-taken g c = takes_fewer _ _ c.args.head.now.parts.length most_response_body c.requires.parts.most c.in-Ok.ensures.taken
+
+pub returns-in-Err-clause-taken : goal.returns-in-Err-clause-taken
+returns-in-Err-clause-taken g c = takes_fewer _ _ c.args.head.now.parts.length most_response_body c.requires.parts.most c.in-Err.ensures.taken

@@ -1,5 +1,9 @@
 use Rattle.oe_http.proofs.Again.{again_read, again_refused}
 use Rattle.oe_http.proofs.StepLemmas.{request_of_head, refusal_of_head, then-HasCauseOf, handed_on}
+use Rattle.std.proofs.Common.{◌+◌, arith}
+use Rattle.oe_http.specs.Front.{most_head}
+use Rattle.oe_http.specs.Requests.{most_body}
+use Rattle.oe_http.proofs.Taken.{takes_both, takes_fewer, takes_none}
 use Rattle.oe_http.proofs.request.read_request.Goals as goal
 
 pub returns-in-Ok-clause-request : goal.returns-in-Ok-clause-request
@@ -22,3 +26,12 @@ returns-in-Ok-clause-again g c =
 
 pub returns-clause-again : goal.returns-clause-again
 returns-clause-again g c = again_refused (g.L.Link.left c.args.link.now) c.in-Err.refusal c.in-Err.ensures.refused
+
+pub returns-in_err-piece-clause-taken : goal.returns-in_err-piece-clause-taken
+returns-in_err-piece-clause-taken g c = takes_none _ _
+
+pub returns-in-Ok-clause-taken : goal.returns-in-Ok-clause-taken
+returns-in-Ok-clause-taken g c = takes_both _ _ _ most_head most_body c.in-Ok.ensures.taken c.read_whole.ensures.taken
+
+pub returns-clause-taken : goal.returns-clause-taken
+returns-clause-taken g c = takes_fewer _ _ most_head (most_head + most_body) (omega arith) c.in-Err.ensures.taken

@@ -1,5 +1,5 @@
 use Rattle.std.proofs.Common.{◌≡◌, ◌++◌, ℕ, arith, codes, length, subst}
-use Rattle.oe_outside.specs.Stream.{HasSent}
+use Rattle.oe_http.specs.Sent.{HasSent}
 use Rattle.oe_http.specs.Replies.{field_line}
 use Rattle.oe_http.specs.Written.{last_lines}
 use Rattle.oe_outside.proofs.Streams.{has_sent_then, has_stopped, has_stopped_more}

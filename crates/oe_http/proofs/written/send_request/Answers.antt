@@ -1,5 +1,5 @@
 use Rattle.std.proofs.Common.{◌++◌, List, ℕ, subst}
-use Rattle.oe_outside.specs.Stream.{HasSent}
+use Rattle.oe_http.specs.Sent.{HasSent}
 use Rattle.oe_http.specs.Plain.{plain_request}
 use Rattle.oe_http.specs.Written.{request_head}
 use Rattle.oe_outside.proofs.Streams.{has_sent_then, has_stopped, has_stopped_more}
