@@ -1,32 +1,8 @@
 -- What the program itself answers, before and beside its command.
-use Rattle.std.specs.Prelude.{◌≡◌, ℕ, List, [], ◌∷◌, ◌++◌, ◌⊎◌, codes}
+use Rattle.std.specs.Prelude.{◌≡◌, ℕ, List, [], ◌∷◌, ◌⊎◌, codes}
+use Rattle.oe_adapters.specs.Setup.{fault_status, program_fault_line}
+use Rattle.oe_adapters.specs.declared.fault.Fault.{Fault}
 use Rattle.oe_top.specs.Lines.{ErrorOutput, Says}
-use Rattle.openeo.specs.declared.fault.Fault.{Fault}
-use Rattle.openeo.specs.declared.fault.Fault.TheVariants.{Setup, Write, OutOfMemory}
-
--- the exit status of a fault of the program's own
-abbrev pub fault_status : Fault → ℕ
-fault_status (Setup line) = 14
-fault_status Write = 8
-fault_status OutOfMemory = 9
-
--- and its line on standard error
-abbrev pub program_fault_line : Fault → List ℕ
-program_fault_line (Setup line) = line.items
-program_fault_line Write = codes "openeo: WriteFault\n"
-program_fault_line OutOfMemory = codes "openeo: OutOfMemory\n"
-
--- the line that names a file which could not be set up
-abbrev pub setup_line : List ℕ → List ℕ
-setup_line name = codes "openeo: Setup " ++ name ++ codes "\n"
-
--- the fault says that the file of this name could not be set up
-abbrev pub IsSetupOf : List ℕ → Fault → Type 0
-IsSetupOf name fault = (fault_status fault ≡ 14) × (program_fault_line fault ≡ setup_line name)
-
--- it says that, or that memory was refused
-abbrev pub IsSetupFault : List ℕ → Fault → Type 0
-IsSetupFault name fault = IsSetupOf name fault ⊎ (fault ≡ OutOfMemory)
 
 -- the word asks for a text about the program or a command
 abbrev pub IsTextWord : List ℕ → Type 0

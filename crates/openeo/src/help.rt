@@ -25,21 +25,23 @@ SEED, SIDE  what a generated collection is made from, from 0 to 1000000000, and 
 ID          the id of a collection: 1 to 64 letters, digits, '_', '-' and '.'
 
 Collections are the files collections/*.cube below the working directory, 64 at most; each is loaded by the id that
-stands in the file. A file openeo.spool is made beside that folder, where runs keep their cells.
+stands in the file. A run keeps its cells in a file of its own, which is made beside that folder as openeo.spool and has
+no name from then on.
 
 Exit status, and the line on standard error:
   0   the whole text was written
   1   Usage: the words are no command
-  2   CODE NODE: the least fault of a graph; CubeTextInvalid: the input of pack; CollectionNotFound: the id of repack
+  2   CODE NODE: the least fault of a graph; CubeTextInvalid: the input of pack, also one over 1048576 bytes;
+      CollectionNotFound: the id of repack
   3   PlanTooLarge CELLS: a run would hold more than 67108864 cells; try smaller chunks or extents
   4   NumberOverflow POSITION: a number of the result is out of range
   5   ReadFault: the input or a collection could not be read
   6   SourceDamaged ID POSITION: this position of the collection is damaged
-  7   SpoolFault: openeo.spool could not be read or written
+  7   SpoolFault: the file of the run's cells could not be read or written
   8   WriteFault: standard output could not be written
   9   OutOfMemory: an allocation was refused
-  14  Setup NAME: this file could not be opened, made or mounted
-  15  SpoolDamaged POSITION: openeo.spool gave back what was not written
+  14  Setup NAME: this file could not be opened, made or mounted; bytes that do not print are \\x and two digits
+  15  SpoolDamaged POSITION: the file of the run's cells gave back what was not written
 ";
 
 const RUN: &str = "\
@@ -79,17 +81,21 @@ Exit status: 0, 1 Usage, 3 PlanTooLarge, 4 NumberOverflow, 7 SpoolFault, 8 Write
 ";
 
 const PACK: &str = "\
-openeo pack ID < TEXT > collections/ID.cube
+openeo pack ID < TEXT > ID.cube && mv ID.cube collections/
 
-Reads a result text from standard input and writes it as a cube file of the collection ID: 1 to 64 letters, digits, '_',
-'-' and '.'. The file may have any name that ends in .cube.
+Reads a result text of at most 1048576 bytes from standard input and writes it as a cube file of the collection ID: 1 to
+64 letters, digits, '_', '-' and '.'. The file may have any name that ends in .cube. It is written beside the folder and
+moved in once it is whole: each command opens all files of the folder before it begins.
+A cube whose text is longer is written as a cube file by a program of one's own; docs/formats.md has the form, and
+bench/year.py writes such files. repack then brings its cells to the least widths.
 Exit status: 0, 1 Usage, 2 CubeTextInvalid, 5 ReadFault, 8 WriteFault, 9 OutOfMemory, 14 Setup.
 ";
 
 const REPACK: &str = "\
-openeo repack ID > FILE
+openeo repack ID > ID.cube && mv ID.cube collections/
 
-Writes the cube file of the mounted collection ID in the least widths that hold its cells.
+Writes the cube file of the mounted collection ID in the least widths that hold its cells. It is written beside the
+folder and moved in: written onto the file that is mounted it would empty it first.
 Exit status: 0, 1 Usage, 2 CollectionNotFound, 5 ReadFault, 6 SourceDamaged, 8 WriteFault, 9 OutOfMemory, 14 Setup.
 ";
 

@@ -1,39 +1,27 @@
 //! The program `openeo`: an openEO back end over exact datacubes.
 //!
 //! `main` makes a text of each word and prints a text about the program where they ask for one. Else it sets up what a
-//! command works on, the cube files of the folder `collections` and the file `openeo.spool`, and calls `oe_top`, whose
-//! answer is the exit status. The boxed collections are made in `main` itself; all else runs over traits, so that tests
-//! can make it fail. The bytes that pass the adapters are hidden, so over them the causes by fault counters hold; what
-//! the top call writes is its own contract.
+//! command works on, the cube files of the folder `collections` and a file for the records of a run, and calls `oe_top`,
+//! whose answer is the exit status. The boxed collections are made in `main` itself; all else runs over traits, so that
+//! it can be made to fail. The bytes that pass the adapters of `oe_adapters` are hidden, so over them the causes by fault
+//! counters hold; what the top call writes is its own contract.
 #![tactic(auto)]
 
-mod collections;
-#[cfg(test)]
-mod fake;
-mod fault;
-mod files;
 mod help;
 mod program;
-mod spool;
-mod streams;
-#[cfg(test)]
-mod tests;
-mod words;
 
-use collections::{mount_outcome, open_collection};
-use fault::Fault;
+use oe_adapters::{Fault, Reader, Writer, mount_outcome, open_collection, open_spool, words_of};
 use oe_outside::NoGate;
 use oe_sources::Catalogue;
 use program::{end, set_up};
-use spool::open_spool;
+use std::env;
 use std::process::ExitCode;
-use streams::{Reader, Writer};
 
 fn main(rt: HostRuntime) -> ExitCode {
     let alloc = rt.alloc();
     let mut out = Writer::new(rt.stdout());
     let mut err = Writer::new(rt.stderr());
-    let start = match set_up(alloc, &rt, words::of_process(&rt), &mut out) {
+    let start = match set_up(alloc, &rt, words_of(alloc, env::args(&rt)), &mut out) {
         Ok(Some(start)) => start,
         Ok(None) => return ExitCode::SUCCESS,
         Err(fault) => return ExitCode::from(end(&fault, &mut err)),

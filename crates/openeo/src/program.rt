@@ -3,10 +3,8 @@ ghost use Rattle.std.specs.Prelude.{◌≡◌, ◌↔◌, IfErr, IfOk, IsErrOf, 
 ghost use Rattle.oe_top.specs.Lines.{error_output};
 ghost use Rattle.openeo.specs.Ends.{AsksForText, EndsByFault};
 
-use crate::collections::cube_files;
-use crate::fault::Fault;
 use crate::help::text_of;
-use crate::streams::hold_standard;
+use oe_adapters::{Fault, cube_files, hold_standard};
 use oe_dims::Text;
 use oe_outside::Sink;
 use std::alloc::Global;

@@ -1,15 +1,16 @@
 // The cube files of the folder `collections`.
 ghost use Rattle.std.specs.Prelude.{◌↔◌, ◌⊎◌, IfErr, IsOk, codes};
-ghost use Rattle.openeo.specs.Ends.{IsSetupFault};
+ghost use Rattle.oe_adapters.specs.Setup.{HasMountFault, HasOpenFault, IsSetupFault};
 
 use crate::fault::Fault;
 use crate::files::FileStore;
 use crate::streams::read_again;
 use oe_dims::Text;
+use oe_outside::Store;
 use oe_sources::{FileSource, MountFail, OpenFail};
 use std::alloc::Global;
-use std::fs::{File, Files};
-use std::io::{ErrorKind, Read};
+use std::fs::{File, Files, metadata};
+use std::io::{ErrorKind, Read, Result as IoResult, Seek};
 use std::os::unix::fs::FileExt;
 
 /// The folder's name, by which a file is named whose own name is not UTF-8.
@@ -81,10 +82,11 @@ fn push(names: &mut Vec<Vec<u8>>, name: Vec<u8>) -> Result<(), Fault>
     }
 }
 
-/// The id that a cube file of the folder has, and the file as a collection.
+/// The id that a cube file of the folder has, and the file as a collection. Only a plain file is opened: opening a pipe
+/// would wait for what is never written.
 ///
-/// Refuses: the set-up fault of the file where it could not be opened or is no cube file, and that of the folder where
-/// its name is not UTF-8; out of memory.
+/// Refuses: the set-up fault of the file where it is no plain file, could not be opened or is no cube file, and that of
+/// the folder where its name is not UTF-8; out of memory.
 pub fn open_collection<R: Files>(
     alloc: Global,
     files: &R,
@@ -99,15 +101,44 @@ where
         return Err(Fault::setup(alloc, FOLDER));
     };
     let path = format!(in alloc; "collections/{text}")?;
-    let file = match File::open(files, path.as_str()) {
-        Ok(file) => file,
-        Err(error) => return Err(Fault::of_error(alloc, &error, name)),
-    };
+    match open_plain(files, path.as_str()) {
+        Ok(Some(file)) => open_cube(alloc, file, name),
+        Ok(None) => Err(Fault::setup(alloc, name)),
+        Err(error) => Err(Fault::of_error(alloc, &error, name)),
+    }
+}
+
+/// A plain file, opened to be read; `None` where something else has the path.
+fn open_plain<R: Files>(files: &R, path: &str) -> IoResult<Option<R::File>> {
+    if metadata(files, path)?.is_file() {
+        Ok(Some(File::open(files, path)?))
+    } else {
+        Ok(None)
+    }
+}
+
+/// The id that an opened cube file has, and the file as a collection.
+fn open_cube<F: FileExt + Seek + Drop>(
+    alloc: Global,
+    file: F,
+    name: &[u8],
+) -> Result<(Text, FileSource<FileStore<F>>), Fault>
+    ensures { IfErr result (IsSetupFault name.now) }
+{
     match FileSource::open(alloc, FileStore::new(file)) {
         Ok(source) => Ok((Text::of(alloc, source.id().as_str())?, source)),
-        Err(OpenFail::OutOfMemory(_)) => Err(Fault::OutOfMemory),
-        Err(OpenFail::Failed(_)) => Err(Fault::setup(alloc, name)),
-        Err(OpenFail::Invalid(_)) => Err(Fault::setup(alloc, name)),
+        Err(fail) => Err(open_fault(alloc, name, &fail)),
+    }
+}
+
+/// What is said of a file that is no collection.
+fn open_fault<S: Store + Drop>(alloc: Global, name: &[u8], fail: &OpenFail<S>) -> Fault
+    ensures { HasOpenFault name.now fail.now result }
+{
+    match fail {
+        OpenFail::OutOfMemory(_) => Fault::OutOfMemory,
+        OpenFail::Failed(_) => Fault::setup(alloc, name),
+        OpenFail::Invalid(_) => Fault::setup(alloc, name),
     }
 }
 
@@ -120,7 +151,7 @@ pub fn mount_outcome(
     outcome: Result<(), MountFail>,
 ) -> Result<(), Fault>
     ensures mounted { IsOk result ↔ IsOk outcome }
-    ensures refused { IfErr result (IsSetupFault name.now) }
+    ensures refused { IfErr outcome (λ fail. IfErr result (HasMountFault name.now fail)) }
 {
     match outcome {
         Ok(()) => Ok(()),

@@ -21,6 +21,13 @@ impl<F: FileExt + Seek> FileStore<F> {
         FileStore { file, faults: 0 }
     }
 
+    /// How many calls have failed, for tests.
+    pub fn faults(&self) -> u64
+        ensures { result ≡ self.now.faults }
+    {
+        self.faults
+    }
+
     /// Counts a fault.
     fn fail(&mut self) -> Failed
         ensures counted { Rose self.old.faults self.new.faults }
@@ -107,54 +114,4 @@ fn read_again<F: FileExt>(file: &F, at: u64, into: &mut [u8]) -> Option<usize>
         }
     }
     None
-}
-
-#[cfg(test)]
-mod tests {
-    use super::*;
-    use crate::fake::FakeFile;
-    use std::test::Fail;
-
-    // A file takes and gives two bytes a call. A gap behind its end reads as zeros, what is behind its new end is not
-    // given, and a call that is interrupted is repeated.
-    #[test]
-    fn reads_what_was_written(rt: HostRuntime) -> Result<(), Fail> {
-        for interrupted in 0..8 {
-            let file = FakeFile::stumbles_at(rt.alloc(), interrupted, ErrorKind::Interrupted);
-            let mut store = FileStore::new(file);
-            assert_eq!(rt; store.write_at(3, b"abcde"), Ok(()), "{interrupted}");
-            assert_eq!(rt; store.length(), Ok(8), "{interrupted}");
-            let mut into = [9u8; 10];
-            assert_eq!(rt; store.read_at(1, &mut into), Ok(7), "{interrupted}");
-            assert_eq!(rt;
-                into.as_slice(),
-                b"\0\0abcde\x09\x09\x09".as_slice(),
-                "{interrupted}"
-            );
-            assert_eq!(rt; store.read_at(8, &mut into), Ok(0), "{interrupted}");
-            assert_eq!(rt; store.faults, 0, "{interrupted}");
-        }
-        Ok(())
-    }
-
-    // A call that fails is a fault, counted once, and the next one is answered again.
-    #[test]
-    fn counts_each_fault(rt: HostRuntime) -> Result<(), Fail> {
-        let mut into = [0u8; 4];
-        let first = FakeFile::stumbles_at(rt.alloc(), 0, ErrorKind::Other);
-        let mut store = FileStore::new(first);
-        assert_eq!(rt; store.read_at(0, &mut into), Err(Failed));
-        assert_eq!(rt; store.read_at(0, &mut into), Ok(0));
-        assert_eq!(rt; store.faults, 1);
-        let second = FakeFile::stumbles_at(rt.alloc(), 1, ErrorKind::Other);
-        let mut store = FileStore::new(second);
-        assert_eq!(rt; store.write_at(0, b"abcde"), Err(Failed));
-        assert_eq!(rt; store.length(), Ok(2));
-        assert_eq!(rt; store.faults, 1);
-        let third = FakeFile::stumbles_at(rt.alloc(), 0, ErrorKind::Other);
-        let mut store = FileStore::new(third);
-        assert_eq!(rt; store.length(), Err(Failed));
-        assert_eq!(rt; store.faults, 1);
-        Ok(())
-    }
 }

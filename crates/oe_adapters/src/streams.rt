@@ -1,6 +1,6 @@
 // The streams of the process as the top call sees them. The bytes that pass are hidden.
 ghost use Rattle.std.specs.Prelude.{◌≡◌, ◌≤◌, length, None, IfErr, IfSome, codes};
-ghost use Rattle.openeo.specs.Ends.{IsSetupFault};
+ghost use Rattle.oe_adapters.specs.Setup.{IsSetupFault};
 
 use crate::fault::Fault;
 use oe_outside::{Failed, Sink, Source};
@@ -21,6 +21,13 @@ impl<R: Read> Reader<R> {
         ensures { result.faults ≡ 0 }
     {
         Reader { from, faults: 0 }
+    }
+
+    /// How many calls have failed, for tests.
+    pub fn faults(&self) -> u64
+        ensures { result ≡ self.now.faults }
+    {
+        self.faults
     }
 }
 
@@ -72,6 +79,13 @@ impl<W: Write> Writer<W> {
     {
         Writer { to, faults: 0 }
     }
+
+    /// How many calls have failed, for tests.
+    pub fn faults(&self) -> u64
+        ensures { result ≡ self.now.faults }
+    {
+        self.faults
+    }
 }
 
 impl<W: Write> Sink for Writer<W> {
@@ -111,95 +125,5 @@ fn open_empty<R: Files>(alloc: Global, files: &R) -> Result<R::File, Fault>
     match File::open(files, "/dev/null") {
         Ok(file) => Ok(file),
         Err(error) => Err(Fault::of_error(alloc, &error, b"/dev/null")),
-    }
-}
-
-#[cfg(test)]
-mod tests {
-    use super::*;
-    use std::io::Error;
-    use std::test::Fail;
-
-    /// A stream of the system in memory. The call with the number `stumbles` answers the error, and every other call
-    /// passes two bytes at most, of the letter `a` where it gives them.
-    #[derive(Drop)]
-    struct Stream {
-        calls: u64,
-        stumbles: u64,
-        error: ErrorKind,
-        taken: Vec<u8>,
-    }
-
-    impl Stream {
-        fn stumbles_at(alloc: Global, number: u64, error: ErrorKind) -> Stream {
-            Stream {
-                calls: 0,
-                stumbles: number,
-                error,
-                taken: Vec::new(alloc),
-            }
-        }
-
-        /// Counts a call, and answers whether it is the one that stumbles.
-        fn stumbles_now(&mut self) -> bool {
-            let number = self.calls;
-            self.calls = self.calls.saturating_add(1);
-            number == self.stumbles
-        }
-    }
-
-    impl Read for Stream {
-        fn read(&mut self, into: &mut [u8]) -> std::io::Result<usize> {
-            if self.stumbles_now() {
-                return Err(Error::from(self.error));
-            }
-            let count = into.len().min(2);
-            into[..count].fill(b'a');
-            Ok(count)
-        }
-    }
-
-    impl Write for Stream {
-        fn write(&mut self, piece: &[u8]) -> std::io::Result<usize> {
-            if self.stumbles_now() {
-                return Err(Error::from(self.error));
-            }
-            let count = piece.len().min(2);
-            self.taken.extend_from_slice(&piece[..count])?;
-            Ok(count)
-        }
-
-        fn flush(&mut self) -> std::io::Result<()> {
-            Ok(())
-        }
-    }
-
-    // A read that fails is a fault and no end of the input; one that is interrupted is neither.
-    #[test]
-    fn reads_on_after_an_interruption(rt: HostRuntime) -> Result<(), Fail> {
-        let mut into = [0u8; 8];
-        let mut reader = Reader::new(Stream::stumbles_at(rt.alloc(), 0, ErrorKind::Interrupted));
-        assert_eq!(rt; reader.read(&mut into), Ok(2));
-        assert_eq!(rt; &into[..3], b"aa\0".as_slice());
-        let mut broken = Reader::new(Stream::stumbles_at(rt.alloc(), 0, ErrorKind::BrokenPipe));
-        assert_eq!(rt; broken.read(&mut into), Err(Failed));
-        assert_eq!(rt; broken.read(&mut into), Ok(2));
-        Ok(())
-    }
-
-    // A write goes on until the whole piece is taken, also after an interruption; one that fails, or takes nothing, is
-    // a fault.
-    #[test]
-    fn writes_the_whole_piece(rt: HostRuntime) -> Result<(), Fail> {
-        let mut writer = Writer::new(Stream::stumbles_at(rt.alloc(), 1, ErrorKind::Interrupted));
-        assert_eq!(rt; writer.write(b"abcde"), Ok(()));
-        assert_eq!(rt; writer.to.taken.as_slice(), b"abcde".as_slice());
-        let mut broken = Writer::new(Stream::stumbles_at(rt.alloc(), 1, ErrorKind::BrokenPipe));
-        assert_eq!(rt; broken.write(b"abcde"), Err(Failed));
-        assert_eq!(rt; broken.to.taken.as_slice(), b"ab".as_slice());
-        let mut room = [0u8; 3];
-        let mut full = Writer::new(room.as_mut_slice());
-        assert_eq!(rt; full.write(b"abcde"), Err(Failed));
-        Ok(())
     }
 }

@@ -1,7 +1,9 @@
 // Why the program ended before its command began.
-ghost use Rattle.std.specs.Prelude.{◌≡◌, IfOk};
-ghost use Rattle.openeo.specs.Ends.{IsSetupFault, program_fault_line, fault_status, setup_line};
-ghost use Rattle.openeo.specs.declared.fault.Fault.TheVariants as variant;
+ghost use Rattle.std.specs.Prelude.{◌≡◌, ◌++◌, ◌<◌, IfOk, OnOk};
+ghost use Rattle.core.specs.Char.{digit_char};
+ghost use Rattle.std_io.specs.IoError.{error_kind};
+ghost use Rattle.oe_adapters.specs.Setup.{IsSetupFault, program_fault_line, fault_status, setup_line, spelled_byte, spelled_name};
+ghost use Rattle.oe_adapters.specs.declared.fault.Fault.TheVariants as variant;
 
 use oe_memory::OutOfMemory;
 use std::alloc::{AllocError, Global};
@@ -32,7 +34,9 @@ impl Fault {
 
     /// That the system refused a file: out of memory where that is the cause.
     pub fn of_error(alloc: Global, error: &Error, name: &[u8]) -> Fault
-        ensures { IsSetupFault name.now result }
+        ensures setup { IsSetupFault name.now result }
+        ensures memory { error_kind error.now ≡ ErrorKind.OutOfMemory
+            → result ≡ variant.OutOfMemory }
     {
         if error.kind() == ErrorKind::OutOfMemory {
             Fault::OutOfMemory
@@ -70,9 +74,41 @@ fn spell_setup(alloc: Global, name: &[u8]) -> Result<Vec<u8>, AllocError>
 {
     let mut line = Vec::new(alloc);
     line.extend_from_slice(b"openeo: Setup ")?;
-    line.extend_from_slice(name)?;
+    spell_name(&mut line, name)?;
     line.push(b'\n')?;
     Ok(line)
+}
+
+/// Appends a name as a line spells it.
+fn spell_name(line: &mut Vec<u8>, name: &[u8]) -> Result<(), AllocError>
+    ensures { OnOk result (line.new.items ≡ line.old.items ++ spelled_name name.now) }
+{
+    for index in 0..name.len() {
+        spell_byte(line, name[index])?;
+    }
+    Ok(())
+}
+
+/// Appends a byte of a name: a terminal is not to act on what a name has.
+fn spell_byte(line: &mut Vec<u8>, byte: u8) -> Result<(), AllocError>
+    ensures { OnOk result (line.new.items ≡ line.old.items ++ spelled_byte byte) }
+{
+    match byte {
+        b'\\' => line.extend_from_slice(b"\\\\"),
+        b' '..=b'~' => line.extend_from_slice(&[byte]),
+        _ => line.extend_from_slice(&[b'\\', b'x', hex_digit(byte / 16), hex_digit(byte % 16)]),
+    }
+}
+
+fn hex_digit(value: u8) -> u8
+    requires { value < 16 }
+    ensures { result ≡ digit_char value }
+{
+    if value < 10 {
+        b'0' + value
+    } else {
+        b'a' + (value - 10)
+    }
 }
 
 impl From<OutOfMemory> for Fault {
