@@ -1,11 +1,11 @@
 -- What is said where the program cannot begin: the status and the line of a fault of its own.
 use Rattle.std.specs.Prelude.{◌≡◌, ℕ, ◌/◌, ◌%◌, ◌==◌, ◌&&◌, nat_le, if◌then◌else◌, List, [], ◌∷◌, ◌++◌, ◌⊎◌, codes}
 use Rattle.std.specs.List.{flat_map}
-use Rattle.core.specs.Char.{digit_char}
+use Rattle.std.specs.Char.{digit_char}
 use Rattle.oe_sources.specs.declared.catalogue.MountFail.{MountFail}
 use Rattle.oe_sources.specs.declared.catalogue.MountFail.TheVariants as mount
 use Rattle.oe_sources.specs.declared.file_source.OpenFail.{OpenFail}
-use Rattle.oe_sources.specs.declared.file_source.OpenFail.TheVariants as open
+use Rattle.oe_sources.specs.declared.file_source.OpenFail.TheVariants as fails
 use Rattle.oe_adapters.specs.declared.fault.Fault.{Fault}
 use Rattle.oe_adapters.specs.declared.fault.Fault.TheVariants.{Setup, Write, OutOfMemory}
 
@@ -47,9 +47,9 @@ IsSetupFault name fault = IsSetupOf name fault ⊎ (fault ≡ OutOfMemory)
 
 -- what is said of a file that was not opened as a collection: its name, but where memory was refused that alone
 abbrev pub HasOpenFault : {S : Type 0} → List ℕ → OpenFail S → Fault → Type 0
-HasOpenFault name (open.OutOfMemory store) fault = fault ≡ OutOfMemory
-HasOpenFault name (open.Failed store) fault = IsSetupFault name fault
-HasOpenFault name (open.Invalid store) fault = IsSetupFault name fault
+HasOpenFault name (fails.OutOfMemory store) fault = fault ≡ OutOfMemory
+HasOpenFault name (fails.Failed store) fault = IsSetupFault name fault
+HasOpenFault name (fails.Invalid store) fault = IsSetupFault name fault
 
 -- the same of a file whose collection was not mounted
 abbrev pub HasMountFault : List ℕ → MountFail → Fault → Type 0

@@ -1,7 +1,7 @@
 // Why the program ended before its command began.
 ghost use Rattle.std.specs.Prelude.{◌≡◌, ◌++◌, ◌<◌, IfOk, OnOk};
-ghost use Rattle.core.specs.Char.{digit_char};
-ghost use Rattle.std_io.specs.IoError.{error_kind};
+ghost use Rattle.std.specs.Char.{digit_char};
+ghost use Rattle.std.specs.IoError.{error_kind};
 ghost use Rattle.oe_adapters.specs.Setup.{IsSetupFault, program_fault_line, fault_status, setup_line, spelled_byte, spelled_name};
 ghost use Rattle.oe_adapters.specs.declared.fault.Fault.TheVariants as variant;
 
@@ -83,8 +83,8 @@ fn spell_setup(alloc: Global, name: &[u8]) -> Result<Vec<u8>, AllocError>
 fn spell_name(line: &mut Vec<u8>, name: &[u8]) -> Result<(), AllocError>
     ensures { OnOk result (line.new.items ≡ line.old.items ++ spelled_name name.now) }
 {
-    for index in 0..name.len() {
-        spell_byte(line, name[index])?;
+    for byte in name {
+        spell_byte(line, *byte)?;
     }
     Ok(())
 }
