@@ -52,7 +52,8 @@ HasOpenFault name (fails.Failed store) fault = IsSetupFault name fault
 HasOpenFault name (fails.Invalid store) fault = IsSetupFault name fault
 
 -- the same of a file whose collection was not mounted
-abbrev pub HasMountFault : List ℕ → MountFail → Fault → Type 0
+abbrev pub HasMountFault : {Source : Type 0} {IsOf : Source → Type 0}
+    → List ℕ → MountFail Source IsOf → Fault → Type 0
 HasMountFault name (mount.OutOfMemory cube) fault = fault ≡ OutOfMemory
 HasMountFault name (mount.IdInvalid cube) fault = IsSetupFault name fault
 HasMountFault name (mount.IdTaken cube) fault = IsSetupFault name fault

@@ -16,15 +16,17 @@
 //! | `spool SYSTEM` | the file of a run's records |
 //! | `standard SYSTEM` | the files that stand in for closed standard streams |
 //!
-//! CALLS has the calls that fail, as `NUMBER:KIND` from 0 on with commas between them, and `-` stands for none, and for
-//! no byte. Every other call passes two bytes at most. A KIND is `interrupted`, `missing`, `denied`, `exists`, `memory`,
-//! `invalid` or `broken`. SYSTEM has the calls that are expected, in their order and from the first again behind the
-//! last, each as `CALL:PATH=ANSWER`; a call that is not the next one expected is refused. CALL is `about` (what the path
-//! has), `open` (to read), `create` (to read and write, where there is no file), `write` (any other way), `remove` or
-//! `list`. An ANSWER is `!KIND`; of `about` `file`, `folder` or `link`; of `open` and `create` `cube`, which is the file
-//! of a single null under the id `A`, `cut`, which is the same without its first byte, `failing`, which is the same with
-//! a first read that fails, or `empty`; of `list` the names that each read gives, with commas between the reads and `+`
-//! between the names, where `?` stands for the byte 255.
+//! CALLS has the calls that fail, as `NUMBER:KIND` from 0 on with commas between them, and `-` stands for none, and
+//! for no byte. Every other call passes two bytes at most. A KIND is `interrupted`, `missing`, `denied`, `exists`,
+//! `memory`, `invalid` or `broken`.
+//!
+//! SYSTEM has the calls that are expected, in their order and from the first again behind the last, each as
+//! `CALL:PATH=ANSWER`; a call that is not the next one expected is refused. CALL is `about` (what the path has), `open`
+//! (to read), `create` (to read and write, where there is no file), `write` (in any other way), `remove` or `list`. An
+//! ANSWER is `!KIND`; of `about` `file`, `folder` or `link`; of `open` and `create` `cube`, which is the file of a
+//! single null under the id `A`, `cut`, which is the same without its first byte, `failing`, which is the same with a
+//! second call that fails, or `empty`; of `list` the names that each read gives, with commas between the reads and `+`
+//! between the names, where `?` stands for the byte 255. NAME is a name, and `?.cube` the byte 255 before `.cube`.
 //!
 //! An answer is `ok` or `Failed` with the bytes of the buffer of a read, which is full of `-` before, and behind a bar
 //! what the stream took, and how many calls failed; of a SYSTEM `ok`, what was found and behind a bar how many calls

@@ -1,10 +1,10 @@
 //! The program `openeo`: an openEO back end over exact datacubes.
 //!
 //! `main` makes a text of each word and prints a text about the program where they ask for one. Else it sets up what a
-//! command works on, the cube files of the folder `collections` and a file for the records of a run, and calls `oe_top`,
+//! command works on, the cube files of the folder `collections` and a file for the cells of a run, and calls `oe_top`,
 //! whose answer is the exit status. The boxed collections are made in `main` itself; all else runs over traits, so that
-//! it can be made to fail. The bytes that pass the adapters of `oe_adapters` are hidden, so over them the causes by fault
-//! counters hold; what the top call writes is its own contract.
+//! it can be made to fail. The bytes that pass the adapters of `oe_adapters` are hidden, so over them the causes by
+//! fault counters hold; what the top call writes is its own contract.
 #![tactic(auto)]
 
 mod help;
