@@ -9,8 +9,9 @@ ghost use Rattle.oe_top.specs.Evaluated.{CanBeNamed, Completes, GoesThrough, IsB
 
 use crate::line::Line;
 use crate::refusal::Refusal;
-use oe_engine::{Progress, Run, RunFail, Workspace};
-use oe_engine::{over_is_of_the_result, reads_change_nothing, runs_stay_apart};
+use oe_engine::{
+    Progress, Run, RunFail, Workspace, over_is_of_the_result, reads_change_nothing, runs_stay_apart,
+};
 use oe_outside::{Gate, Store};
 use oe_plan::{Plan, PlanFail};
 use oe_render::RenderFail;
