@@ -1,7 +1,7 @@
 // Links in memory, as a line describes them.
 use crate::fault::Fault;
 use crate::spelling::spell_number;
-use oe_outside::MemoryLink;
+use oe_outside::{MemoryLink, MemorySink};
 use std::alloc::Global;
 
 /// How many written bytes a link has room for.
@@ -46,6 +46,27 @@ pub(crate) fn incoming_link(
 /// A link that has room for what is written to it.
 pub(crate) fn outgoing_link(alloc: Global, calls: &str) -> Result<MemoryLink, Fault> {
     Ok(MemoryLink::new(alloc, Vec::new(alloc), 1, ROOM, numbers_of(alloc, calls)?)?)
+}
+
+/// A link that gives these bytes, in pieces of the first size, and has room for what is written to it.
+pub(crate) fn peer_link(
+    alloc: Global,
+    bytes: Vec<u8>,
+    links: Links<'_>,
+) -> Result<MemoryLink, Fault> {
+    let Ok(piece) = links.pieces.parse::<usize>() else {
+        return Err(Fault::Line);
+    };
+    if piece == 0 {
+        return Err(Fault::Line);
+    }
+    Ok(MemoryLink::new(alloc, bytes, piece, ROOM, numbers_of(alloc, links.calls)?)?)
+}
+
+/// An output with room, some of whose writes fail; `-` stands for none.
+pub(crate) fn sink_of(alloc: Global, calls: &str) -> Result<MemorySink, Fault> {
+    let calls = if calls == "-" { "" } else { calls };
+    Ok(MemorySink::new(alloc, ROOM, numbers_of(alloc, calls)?)?)
 }
 
 /// Numbers with commas between them, or none.

@@ -1,4 +1,4 @@
-//! HTTP messages that are read from links in memory and written to them, whose answers were found by hand from RFC
+//! HTTP messages that are read from links in memory and written to them, and calls of a client, whose answers were found by hand from RFC
 //! 9112, RFC 9110 and the limits of this profile.
 //!
 //! The input has a line for each step; each line but those of links has lines of answers in the output.
@@ -14,6 +14,7 @@
 //! | `reply STATUS TYPE LOCATION IDENTIFIER BODY` | writes a reply; TYPE is `json` or `-` |
 //! | `head STATUS LENGTH` | writes the head of a reply whose body of so many bytes follows |
 //! | `written HOST METHOD PATH QUERY AUTHORIZATION BODY` | writes a request to a host |
+//! | `call FAILING VERB ARGUMENT TOKEN INPUT RESPONSE` | sends the request of a client's verb to a peer that gives this response, to an output whose writes of these numbers fail |
 //!
 //! Bytes are spelled as they are, with `\r` and `\n` for the bytes of a line end, `\HH` for any byte in two hexadecimal
 //! digits, and bars between parts, of which one as `N*BYTES` has its bytes N times. In the lines that write, the words
@@ -25,12 +26,14 @@
 //! spelled as `|N*B|`.
 #![tactic(auto)]
 
+mod client;
 mod fault;
 mod link;
 mod reading;
 mod spelling;
 mod writing;
 
+use client::answer_call;
 use fault::Fault;
 use link::{Links, links_of};
 use reading::{Message, answer_read, answer_texts};
@@ -86,6 +89,7 @@ fn answer_line(
         "texts" => answer_texts(alloc, answers),
         "request" => answer_read(alloc, links, Message::Request, rest, answers),
         "response" => answer_read(alloc, links, Message::Response, rest, answers),
+        "call" => answer_call(alloc, links, rest, answers),
         _ => answer_written(alloc, links, word, rest, answers),
     }
 }

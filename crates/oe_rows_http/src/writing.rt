@@ -164,14 +164,14 @@ fn bare_request(alloc: Global, method: &str, path: &str, query: &str) -> Result<
     }
 }
 
-fn set_text(alloc: Global, word: &str, text: &mut Option<Text>) -> Result<(), Fault> {
+pub(crate) fn set_text(alloc: Global, word: &str, text: &mut Option<Text>) -> Result<(), Fault> {
     if word != "-" {
         *text = Some(text_of(alloc, word)?);
     }
     Ok(())
 }
 
-fn push_body(alloc: Global, word: &str, body: &mut Vec<u8>) -> Result<(), Fault> {
+pub(crate) fn push_body(alloc: Global, word: &str, body: &mut Vec<u8>) -> Result<(), Fault> {
     match word {
         "-" => Ok(()),
         _ => push_bytes(alloc, word, body),
