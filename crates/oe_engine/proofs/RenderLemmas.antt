@@ -12,9 +12,9 @@ use Rattle.oe_dims.specs.Cube.{Cube, IsCube}
 use Rattle.oe_dims.specs.Dimensions.{cell_count}
 use Rattle.oe_dims.specs.Positions.{IsPosition, Position, number_of}
 use Rattle.oe_dims.proofs.CubeLemmas.{length-tuples, number_below, position_there}
-use Rattle.oe_outside.specs.Visible.{Appends, AppendsPrefix}
+use Rattle.oe_outside.specs.Visible.{AddsBytes, AddsSome, Appends, AppendsPrefix}
 use Rattle.oe_plan.specs.Plans.{IsPlan, PlanOf}
-use Rattle.oe_render.specs.Rendered.{AppendsCube, AppendsCubePrefix, IsRefusalWithin}
+use Rattle.oe_render.specs.Rendered.{AppendsCube, AppendsCubePrefix, CountsCube, CountsCubePrefix, IsRefusalWithin}
 use Rattle.oe_render.specs.Stored.{AreStored, HasCells}
 use Rattle.oe_render.specs.Text.{cube_text}
 use Rattle.oe_render.specs.declared.rendering.RenderFail.{RenderFail}
@@ -153,6 +153,18 @@ module _ (p : PlanOf) (is : IsPlan p) (r : RunOf) (plan_is : r.plan ≡ p) (comp
     prefix_is None before after done h = absurd done
     prefix_is (Some bytes) before after done h =
         subst (λ text. AppendsPrefix before text after) (same_cube h.0 (same_cells bytes done h.0 h.1)) h.2
+
+    pub count_is : (store : Option (List ℕ)) (before after : Option ℕ) → ShowsDone r store cube
+        → CountsCube store r.base (result_shape p) before after → AddsBytes before (length (cube_text cube)) after
+    count_is None before after done h = absurd done
+    count_is (Some bytes) before after done h =
+        subst (λ text. AddsBytes before (length text) after) (same_cube h.0 (same_cells bytes done h.0 h.1)) h.2
+
+    pub part_count_is : (store : Option (List ℕ)) (before after : Option ℕ) → ShowsDone r store cube
+        → CountsCubePrefix store r.base (result_shape p) before after → AddsSome before (length (cube_text cube)) after
+    part_count_is None before after done h = absurd done
+    part_count_is (Some bytes) before after done h =
+        subst (λ text. AddsSome before (length text) after) (same_cube h.0 (same_cells bytes done h.0 h.1)) h.2
 
 -- the cube of the result over collections
 pub result_whole : (p : PlanOf) → IsPlan p → (collections : Collections) → AreCollectionsOf p.graph collections

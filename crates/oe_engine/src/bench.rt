@@ -10,7 +10,7 @@ ghost use Rattle.oe_engine.specs.declared.bench.State.TheVariants.{Idle, Loaded,
 ghost use Rattle.oe_dims.specs.Dimensions.{cell_count};
 ghost use Rattle.oe_outside.specs.Faults.{HasCauseOf};
 ghost use Rattle.oe_plan.specs.Figures.{largest_window, shape_of_node};
-ghost use Rattle.oe_render.specs.Rendered.{AppendsCube, AppendsCubePrefix, IsRefusalWithin};
+ghost use Rattle.oe_render.specs.Rendered.{AppendsCube, AppendsCubePrefix, CountsCube, CountsCubePrefix, IsRefusalWithin};
 ghost use Rattle.oe_render.specs.Stored.{HasCells};
 ghost use Rattle.oe_render.specs.declared.rendering.RenderFail.{RenderFail};
 ghost use Rattle.oe_sources.specs.CatalogueRows.{rows_of};
@@ -294,6 +294,10 @@ impl Bench {
             (O.written out.old) (O.written out.new)) }
         ensures prefix { OnErr result (AppendsCubePrefix (P.bytes spool.old) base
             (result_shape plan.now) (O.written out.old) (O.written out.new)) }
+        ensures counted { OnOk result (CountsCube (P.bytes spool.old) base (result_shape plan.now)
+            (O.size out.old) (O.size out.new)) }
+        ensures counted_prefix { OnErr result (CountsCubePrefix (P.bytes spool.old) base
+            (result_shape plan.now) (O.size out.old) (O.size out.new)) }
         ensures spool_cause { HasCauseOf RenderFail.SpoolFailed (P.faults spool.old)
             (P.faults spool.new) result }
         ensures sink_cause { HasCauseOf RenderFail.SinkFailed (O.faults out.old)

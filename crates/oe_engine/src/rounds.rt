@@ -69,10 +69,10 @@ impl Model for Run {
 }
 
 impl Run {
-    ghost use Rattle.std.specs.Prelude.{◌≡◌, ◌≤◌, ◌+◌, ◌^◌, None, IfErr, OnErr, OnOk};
+    ghost use Rattle.std.specs.Prelude.{◌≡◌, ◌≤◌, ◌+◌, ◌^◌, None, IfErr, OnErr, OnOk, length};
     ghost use Rattle.oe_dims.specs.Cube.{Cube};
     ghost use Rattle.oe_cell.specs.declared.cell.Cell.{Cell};
-    ghost use Rattle.oe_outside.specs.Visible.{Appends, AppendsPrefix};
+    ghost use Rattle.oe_outside.specs.Visible.{AddsBytes, AddsSome, Appends, AppendsPrefix};
     ghost use Rattle.oe_outside.specs.Faults.{HasCauseOf};
     ghost use Rattle.oe_plan.specs.Figures.{shape_of_node};
     ghost use Rattle.oe_render.specs.Text.{cube_text};
@@ -177,6 +177,17 @@ impl Run {
             → ShowsDone self.old (P.bytes spool.old) (result_cube collections self.old.plan)
             → AppendsPrefix (O.written out.old) (cube_text (result_cube collections self.old.plan))
             (O.written out.new)) }
+        // and how many bytes it has
+        ensures counted { OnOk result ((collections : Collections)
+            → AreCollectionsOf self.old.plan.graph collections
+            → ShowsDone self.old (P.bytes spool.old) (result_cube collections self.old.plan)
+            → AddsBytes (O.size out.old)
+            (length (cube_text (result_cube collections self.old.plan))) (O.size out.new)) }
+        ensures counted_prefix { OnErr result ((collections : Collections)
+            → AreCollectionsOf self.old.plan.graph collections
+            → ShowsDone self.old (P.bytes spool.old) (result_cube collections self.old.plan)
+            → AddsSome (O.size out.old)
+            (length (cube_text (result_cube collections self.old.plan))) (O.size out.new)) }
         ensures spool_cause { HasCauseOf RenderFail.SpoolFailed (P.faults spool.old)
             (P.faults spool.new) result }
         ensures sink_cause { HasCauseOf RenderFail.SinkFailed (O.faults out.old)

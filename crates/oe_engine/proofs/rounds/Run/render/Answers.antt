@@ -3,11 +3,11 @@ use Rattle.std.proofs.lemmas.List.{length-set}
 use Rattle.std.proofs.lemmas.List.Elements.{All-set}
 use Rattle.oe_dims.specs.Dimensions.{cell_count}
 use Rattle.oe_plan.specs.Plans.{IsPlan, PlanOf}
-use Rattle.oe_render.specs.Rendered.{AppendsCube, AppendsCubePrefix}
+use Rattle.oe_render.specs.Rendered.{AppendsCube, AppendsCubePrefix, CountsCube, CountsCubePrefix}
 use Rattle.oe_render.specs.Stored.{HasCells}
 use Rattle.oe_engine.specs.Benches.{IsBenchFor}
 use Rattle.oe_engine.specs.Runs.{RunOf, chunk_total, result_cube, result_shape}
-use Rattle.oe_engine.proofs.RenderLemmas.{has_cells, prefix_is, result_shape_is, result_whole, text_is}
+use Rattle.oe_engine.proofs.RenderLemmas.{count_is, has_cells, part_count_is, prefix_is, result_shape_is, result_whole, text_is}
 use Rattle.oe_engine.proofs.rounds.Run.render.Goals as goal
 
 on_ok : {T E : Type 0} (X Y : Type 0) (r : Result T E) → (X → Y) → OnOk r X → OnOk r Y
@@ -60,6 +60,38 @@ returns-clause-prefix g c =
     (subst (λ (n : ℕ). AppendsCubePrefix store n (result_shape r.plan) before after) (sym base)
     (subst (λ (plan : PlanOf). AppendsCubePrefix store c.self.inside.base (result_shape plan) before after) (sym same) h)))
     c.render.ensures.prefix
+
+pub returns-clause-counted : goal.returns-clause-counted
+returns-clause-counted g c =
+    let r = c.args.self.now in
+    let same : r.plan ≡ c.self.inside.plan = ap (λ (r : RunOf). r.plan) (sym c.self.view_is) in
+    let base : r.base ≡ c.self.inside.base = ap (λ (r : RunOf). r.base) (sym c.self.view_is) in
+    let is : IsPlan r.plan = subst IsPlan (sym same) c.workers-workers.ensures.valid in
+    let store = g.P.Store.bytes c.args.spool.now in
+    let before = g.O.Sink.size c.args.out.now in
+    let after = g.O.Sink.size c.render.new.out in
+    on_ok (CountsCube store c.self.inside.base (result_shape c.self.inside.plan) before after) _ c.render.result
+    (λ h collections has done. count_is r.plan is r refl c.requires.complete (result_cube collections r.plan)
+    (result_shape_is r.plan is collections has) (result_whole r.plan is collections has) store before after done
+    (subst (λ (n : ℕ). CountsCube store n (result_shape r.plan) before after) (sym base)
+    (subst (λ (plan : PlanOf). CountsCube store c.self.inside.base (result_shape plan) before after) (sym same) h)))
+    c.render.ensures.counted
+
+pub returns-clause-counted_prefix : goal.returns-clause-counted_prefix
+returns-clause-counted_prefix g c =
+    let r = c.args.self.now in
+    let same : r.plan ≡ c.self.inside.plan = ap (λ (r : RunOf). r.plan) (sym c.self.view_is) in
+    let base : r.base ≡ c.self.inside.base = ap (λ (r : RunOf). r.base) (sym c.self.view_is) in
+    let is : IsPlan r.plan = subst IsPlan (sym same) c.workers-workers.ensures.valid in
+    let store = g.P.Store.bytes c.args.spool.now in
+    let before = g.O.Sink.size c.args.out.now in
+    let after = g.O.Sink.size c.render.new.out in
+    on_err (CountsCubePrefix store c.self.inside.base (result_shape c.self.inside.plan) before after) _ c.render.result
+    (λ h collections has done. part_count_is r.plan is r refl c.requires.complete (result_cube collections r.plan)
+    (result_shape_is r.plan is collections has) (result_whole r.plan is collections has) store before after done
+    (subst (λ (n : ℕ). CountsCubePrefix store n (result_shape r.plan) before after) (sym base)
+    (subst (λ (plan : PlanOf). CountsCubePrefix store c.self.inside.base (result_shape plan) before after) (sym same) h)))
+    c.render.ensures.counted_prefix
 
 pub invariant_of-self : goal.invariant_of-self
 invariant_of-self g c =
