@@ -19,7 +19,7 @@ use Rattle.oe_shape.specs.Laws.{AreCollectionsOf}
 use Rattle.oe_sources.specs.Catalogue.{Row}
 use Rattle.oe_sources.specs.CatalogueDims.{dims_of}
 use Rattle.oe_spool.specs.Least.{least_over_of}
-use Rattle.oe_top.specs.Evaluated.{Completes, Goes, IsRefusalOfRun, IsRefusalOfText, IsVisible, OfMeaning, ReadsForPlan, result_of}
+use Rattle.oe_top.specs.Evaluated.{Completes, Goes, IsRefusalOfRun, IsRefusalOfText, IsVisible, IsWithoutOver, OfMeaning, ReadsForPlan, result_of}
 use Rattle.oe_top.specs.Objects.{Objects, objects}
 use Rattle.oe_top.specs.RunAnswer.{EvaluationEnds, Evaluates}
 use Rattle.oe_top.specs.declared.refusal.Refusal.{Refusal}
@@ -132,11 +132,14 @@ module _ (r after : RunOf) (rows rows_after : List Row) (store store_after : Opt
       spool_count = NeverFalls-trans c.through.spool_cause.count count;
     }
 
+    no_over : OfMeaning rows p.graph IsWithoutOver
+    no_over loads = sym (over_is c.through.goes c.through.done loads) ∙ c.numbers
+
     pub written : Holds (λ cube. Appends out (cube_text cube) out_after) → NeverFalls faults_after faults_last
         → NeverFalls out_faults out_faults_after
         → Evaluates p begun ended (Ok tt)
     written appends count out_count = last (Ok tt) count out_count (record {
-      numbers = λ loads. sym (over_is c.through.goes c.through.done loads) ∙ c.numbers;
+      numbers = no_over;
       text = λ visible. of_meaning (λ cube. Appends out (cube_text cube) out_after) appends visible;
     })
 
@@ -164,7 +167,7 @@ module _ (r after : RunOf) (rows rows_after : List Row) (store store_after : Opt
     stopped (text.SpoolDamaged number) refusal (line, same, line_is) prefix spool sink damage =
         subst (λ (e : Refusal). Evaluates p begun ended (Err e)) (sym same)
         (last (Err (SpoolDamaged line)) spool.count sink.count
-        (record { number = number; line_is = line_is; hidden = hidden damage }))
+        (record { number = number; line_is = line_is; numbers = no_over; hidden = hidden damage }))
     stopped text.SinkFailed refusal same prefix spool sink damage = subst (λ (e : Refusal). Evaluates p begun ended (Err e)) (sym same)
         (last (Err WriteFault) spool.count sink.count
-        (sink.failed refl, of_meaning (λ cube. AppendsPrefix out (cube_text cube) out_after) prefix))
+        (record { rose = sink.failed refl; numbers = no_over; prefix = of_meaning (λ cube. AppendsPrefix out (cube_text cube) out_after) prefix }))

@@ -29,10 +29,16 @@ module _ (p : PlanOf) (before after : Objects) where
     pub text : IsVisible before.spool → OfMeaning before.collections p.graph
         (λ cube. Appends before.out (cube_text cube) after.out)
 
-  -- 7 and 8: a prefix of that text follows what the output held
+  -- a prefix of that text follows what the output held
   abbrev pub WritesPrefix : Type 0
   WritesPrefix = IsVisible before.spool → OfMeaning before.collections p.graph
       (λ cube. AppendsPrefix before.out (cube_text cube) after.out)
+
+  -- 8: the output failed at the text of a result no cell of which is Over
+  pub record StopsAtText : Type 0 where
+    pub rose : Rose before.out_faults after.out_faults
+    pub numbers : OfMeaning before.collections p.graph IsWithoutOver
+    pub prefix : WritesPrefix
 
   -- 4: this is the least number of a cell of the result that is Over
   pub record Overflows (line : List ℕ) : Type 0 where
@@ -51,10 +57,12 @@ module _ (p : PlanOf) (before after : Objects) where
     pub line_is : line ≡ damage_line id number
     pub unwritten : IsUnwritten before after
 
-  -- 15: what was read back from the spool is no record of a number, which never comes of one whose bytes are visible
+  -- 15: no cell of the result is Over, but what was read back from the spool for one of its cells is no record, or that
+  -- of Over, which never comes of a spool whose bytes are visible
   pub record MeetsSpoolDamage (line : List ℕ) : Type 0 where
     pub number : ℕ
     pub line_is : line ≡ number_line (codes "SpoolDamaged") number
+    pub numbers : OfMeaning before.collections p.graph IsWithoutOver
     pub hidden : before.spool ≡ None
 
   abbrev pub EvaluationEnds : Result (Unit {0}) Refusal → Type 0
@@ -68,7 +76,7 @@ module _ (p : PlanOf) (before after : Objects) where
   EvaluationEnds (Err ReadFault) = LoadRose p.graph before.collections after.collections × IsUnwritten before after
   EvaluationEnds (Err (Damaged line)) = MeetsDamage line.items
   EvaluationEnds (Err SpoolFault) = Rose before.spool_faults after.spool_faults × WritesPrefix
-  EvaluationEnds (Err WriteFault) = Rose before.out_faults after.out_faults × WritesPrefix
+  EvaluationEnds (Err WriteFault) = StopsAtText
   EvaluationEnds (Err OutOfMemory) = ⊥
   EvaluationEnds (Err (SpoolDamaged line)) = MeetsSpoolDamage line.items
 
