@@ -3,6 +3,7 @@ ghost use Rattle.oe_plan.specs.Ranges.{IsWithinRanges};
 
 use crate::attempt::{Counts, Failing, attempt};
 use crate::fault::Fault;
+use crate::gate::CountGate;
 use crate::line::Sizes;
 use itoa::Buffer;
 use std::alloc::Global;
@@ -18,8 +19,8 @@ enum Object {
     Output,
 }
 
-/// Spells the number of chunks, the number of evaluations, the text and the bytes of the spool of a run in which no call
-/// fails.
+/// Spells the number of chunks, the number of evaluations, how often the gate was entered for each chunk, the text and
+/// the bytes of the spool of a run in which no call fails.
 pub(crate) fn spell_run(
     alloc: Global,
     cubes: &[(&str, &str)],
@@ -29,17 +30,27 @@ pub(crate) fn spell_run(
 ) -> Result<(), Fault>
     requires { IsWithinRanges sizes.0 sizes.1 }
 {
+    let gate = CountGate::new(alloc)?;
     let mut left = Vec::new(alloc);
-    let counts = attempt(alloc, cubes, sizes, graph, none_failing(), &mut left)?;
-    spell_counts(counts, &left, answers)
-}
-
-fn spell_counts(counts: Counts, left: &[u8], answers: &mut Vec<u8>) -> Result<(), Fault> {
+    let counts = attempt(alloc, cubes, sizes, graph, none_failing(), &gate, &mut left)?;
     answers.extend_from_slice(Buffer::new().format(counts.chunks).as_bytes())?;
     spell_number(counts.evaluations, answers)?;
+    spell_entries(&gate, counts.chunks, answers)?;
     answers.push(b' ')?;
-    answers.extend_from_slice(left)?;
+    answers.extend_from_slice(&left)?;
     answers.push(b'\n')?;
+    Ok(())
+}
+
+/// Spells behind a blank how often a gate was entered for each of so many chunks, with commas between the numbers.
+fn spell_entries(gate: &CountGate, chunks: u64, answers: &mut Vec<u8>) -> Result<(), Fault> {
+    for chunk in 0..chunks {
+        let Some(count) = gate.entered(chunk) else {
+            return Err(Fault::Line);
+        };
+        answers.push(if chunk == 0 { b' ' } else { b',' })?;
+        answers.extend_from_slice(Buffer::new().format(count).as_bytes())?;
+    }
     Ok(())
 }
 
@@ -54,7 +65,16 @@ pub(crate) fn spell_resumed(
     requires { IsWithinRanges sizes.0 sizes.1 }
 {
     let mut whole = Vec::new(alloc);
-    attempt(alloc, cubes, sizes, graph, none_failing(), &mut whole)?;
+    let gate = CountGate::new(alloc)?;
+    attempt(
+        alloc,
+        cubes,
+        sizes,
+        graph,
+        none_failing(),
+        &gate,
+        &mut whole,
+    )?;
     for object in [Object::Collections, Object::Spool, Object::Output] {
         spell_calls(alloc, cubes, sizes, graph, object, &whole, answers)?;
     }
@@ -78,8 +98,9 @@ fn spell_calls(
     for number in 0..MOST_CALLS {
         let calls = [number];
         let failing = failing_of(object, &calls);
+        let gate = CountGate::new(alloc)?;
         let mut left = Vec::new(alloc);
-        let counts = attempt(alloc, cubes, sizes, graph, failing, &mut left)?;
+        let counts = attempt(alloc, cubes, sizes, graph, failing, &gate, &mut left)?;
         if counts.refusals == 0 {
             break;
         }

@@ -8,6 +8,7 @@ ghost use Rattle.oe_sources.specs.CatalogueRows.{rows_of};
 
 use crate::catalogue::cube_of;
 use crate::fault::Fault;
+use crate::gate::CountGate;
 use crate::line::Sizes;
 use oe_dims::Dims;
 use oe_engine::{
@@ -15,7 +16,7 @@ use oe_engine::{
     reads_change_nothing,
 };
 use oe_graph::read_graph;
-use oe_outside::{MemorySink, MemoryStore, NoGate, Pending};
+use oe_outside::{MemorySink, MemoryStore, Pending};
 use oe_plan::Plan;
 use oe_render::RenderFail;
 use oe_resolve::resolve;
@@ -64,6 +65,7 @@ pub(crate) fn attempt(
     sizes: Sizes,
     graph: &str,
     failing: Failing<'_>,
+    gate: &CountGate,
     left: &mut Vec<u8>,
 ) -> Result<Counts, Fault>
     requires { IsWithinRanges sizes.0 sizes.1 }
@@ -76,7 +78,7 @@ pub(crate) fn attempt(
             return Err(Fault::Line);
         }
     }
-    carry_out(alloc, &mut catalogue, sizes, graph, failing, left)
+    carry_out(alloc, &mut catalogue, sizes, graph, failing, gate, left)
 }
 
 /// Evaluates a graph over the collections of a catalogue, likewise.
@@ -86,6 +88,7 @@ fn carry_out(
     sizes: Sizes,
     graph: &str,
     failing: Failing<'_>,
+    gate: &CountGate,
     left: &mut Vec<u8>,
 ) -> Result<Counts, Fault>
     requires { IsWithinRanges sizes.0 sizes.1 }
@@ -99,6 +102,7 @@ fn carry_out(
         catalogue,
         &mut spool,
         failing.writes,
+        gate,
         left,
     )
 }
@@ -117,13 +121,14 @@ fn evaluate(
     catalogue: &mut Catalogue,
     spool: &mut MemoryStore,
     failing: &[u64],
+    gate: &CountGate,
     left: &mut Vec<u8>,
 ) -> Result<Counts, Fault>
     requires mounted { HasCollections run.old.plan.graph (rows_of seen catalogue.old) }
     requires none_done { run.old.done ≡ 0 }
 {
     over_is_of_the_result();
-    let stopped = complete(run, catalogue, spool)?;
+    let stopped = complete(run, catalogue, spool, gate)?;
     let evaluations = run.evaluations();
     if run.finish().is_err() {
         return Err(Fault::Run);
@@ -186,7 +191,12 @@ fn checked_of(alloc: Global, graph: &str, dims: &Dims) -> Result<Checked, Fault>
 }
 
 /// Makes rounds until no chunk is left. Answers how many were refused.
-fn complete(run: &mut Run, catalogue: &mut Catalogue, spool: &mut MemoryStore) -> Result<u64, Fault>
+fn complete(
+    run: &mut Run,
+    catalogue: &mut Catalogue,
+    spool: &mut MemoryStore,
+    gate: &CountGate,
+) -> Result<u64, Fault>
     requires mounted { HasCollections run.old.plan.graph (rows_of seen catalogue.old) }
     requires records { HasRunRecords run.old (Some spool.old.bytes) }
     ensures complete { IfOk result (λ count. run.new.done ≡ chunk_total run.new.plan) }
@@ -195,7 +205,7 @@ fn complete(run: &mut Run, catalogue: &mut Catalogue, spool: &mut MemoryStore) -
     reads_change_nothing();
     let mut refused: u64 = 0;
     for _ in 0..MOST_ROUNDS {
-        let answer = run.round(catalogue, spool, &NoGate);
+        let answer = run.round(catalogue, spool, gate);
         if is_complete(&answer) {
             return Ok(refused);
         }

@@ -6,14 +6,14 @@
 //! |---|---|
 //! | `catalogue` | forgets the collections before it |
 //! | `cube ID TEXT` | has a collection of this cube text |
-//! | `run SIZES < GRAPH` | evaluates a graph in chunks: the number of chunks, how many were evaluated, the text, and the bytes of the spool in hexadecimal digits |
+//! | `run SIZES < GRAPH` | evaluates a graph in chunks: the number of chunks, how many were evaluated, how often the gate was entered for each, with commas between, the text, and the bytes of the spool in hexadecimal digits |
 //! | `resume SIZES < GRAPH` | evaluates it again and again, while each read of a collection, then each call of the spool, then each write of the output fails once, and the run is taken up where it stands: how many chunks were evaluated each time, and `?` behind it where the records or the text are others than without the failure |
 //!
 //! Sizes are the sides of chunks along x, y and t and the number of workers. The spool begins with the bytes `front`.
 //!
 //! How the expected lines were found:
 //!
-//! - A run evaluates each chunk once. The chunks of a round whose read failed are not evaluated, so a failed read adds
+//! - A run evaluates each chunk once, and enters the gate once with its number before. The chunks of a round whose read failed are not evaluated, so a failed read adds
 //!   none; those of a round whose write failed are evaluated again, so that adds the two a worker that the round takes. A
 //!   call that fails while the text is written adds none.
 //! - Chunks of a round that stand beside one another along x are read by one call for each row of the hull of their
@@ -28,6 +28,7 @@ mod answer;
 mod attempt;
 mod catalogue;
 mod fault;
+mod gate;
 mod line;
 
 use answer::{spell_resumed, spell_run};
