@@ -1,7 +1,8 @@
 -- The changed lists of a book, as the code finds an index and changes the list there. `show` gives the plain value.
 use Rattle.std.proofs.Common.{◌≡◌, ℕ, zero, suc, ◌+◌, ◌<◌, Bool, true, false, cond, List, [], ◌∷◌, ◌++◌, length, get_or, map, set, Option, Some, None, refl, ap, sym, ◌∙◌, arith, inl, inr}
+use Rattle.std.specs.Prelude.{find}
 use Rattle.std.specs.List.{insert, remove, slice_get, list_any}
-use Rattle.std.specs.Option.{option_map}
+use Rattle.std.specs.Option.{option_map, option_and_then}
 use Rattle.std.proofs.lemmas.Bool.{cases_Bool}
 use Rattle.std.proofs.lemmas.Option.{same_Some}
 use Rattle.oe_dims.specs.Indices.{index_where}
@@ -131,6 +132,33 @@ module _ {X Y : Type 0} (show : X → Y) (test : Y → Bool) where
         | inl t ↦ rw t refl
         | inr f ↦ rw f (any_at xs i (later_index (index_where (λ x. test (show x)) xs) i (rw f at found)))
       ]
+
+  find_at : (xs : List X) (i : ℕ) → index_where (λ x. test (show x)) xs ≡ Some i → slice_get (map show xs) i ≡ find test (map show xs)
+  find_at [] i found = cc
+  find_at (a ∷ xs) zero found =
+      elim (cases_Bool (test (show a))) [
+        | inl t ↦ rw t refl
+        | inr f ↦ absurd (not_first (index_where (λ x. test (show x)) xs) (rw f at found))
+      ]
+  find_at (a ∷ xs) (suc i) found =
+      elim (cases_Bool (test (show a))) [
+        | inl t ↦ let first : 0 ≡ suc i = same_Some _ _ (rw t at found) in absurd (omega arith)
+        | inr f ↦ rw f (find_at xs i (later_index (index_where (λ x. test (show x)) xs) i (rw f at found)))
+      ]
+
+  find_none : (xs : List X) → index_where (λ x. test (show x)) xs ≡ None → None ≡ find test (map show xs)
+  find_none [] none = refl
+  find_none (a ∷ xs) none =
+      elim (cases_Bool (test (show a))) [
+        | inl t ↦ let some = rw t at none in cc
+        | inr f ↦ rw f (find_none xs (no_index (index_where (λ x. test (show x)) xs) (rw f at none)))
+      ]
+
+  -- what is found stands at the index
+  pub found_at : (xs : List X) (o : Option ℕ) → o ≡ index_where (λ x. test (show x)) xs
+      → option_and_then (slice_get (map show xs)) o ≡ find test (map show xs)
+  found_at xs (Some i) is = find_at xs i (sym is)
+  found_at xs None is = find_none xs (sym is)
 
   -- ---- where none passes
 

@@ -5,7 +5,10 @@ mod RoomLemmas
 mod LineLemmas
 mod ValidLemmas
 mod KeepLemmas
-mod PutLemmas
+pub mod PutLemmas
 mod StoredLemmas
-mod RanLemmas
+pub mod RanLemmas
 mod DecideLemmas
+mod DueLemmas
+mod NumberLemmas
+mod TextLemmas

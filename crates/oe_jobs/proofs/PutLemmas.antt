@@ -20,7 +20,7 @@ use Rattle.oe_jobs.proofs.ValidLemmas.{Replaces, here, later, all_append, all_ma
 pub ids_differ : (m n : ℕ) → m ≤ last_next → n ≤ last_next → job_id m ≡ job_id n → m ≡ n
 ids_differ m n a b e = let same : decimal m ≡ decimal n = cc in decimal_injective m n (omega arith) (omega arith) same
 
-found_number : (test : PlainJob → Bool) (low next : ℕ) (jobs : List PlainJob) (job : PlainJob) → AreNumbered low jobs next
+pub found_number : (test : PlainJob → Bool) (low next : ℕ) (jobs : List PlainJob) (job : PlainJob) → AreNumbered low jobs next
     → find test jobs ≡ Some job → (n : ℕ) × (job.id ≡ job_id n) × (low ≤ n) × (n < next)
 found_number test low next [] job numbered e = cc
 found_number test low next (a ∷ jobs) job numbered e =

@@ -18,7 +18,7 @@ module _ (user : List ℕ) where
   abbrev of : List PlainOwned → List PlainStored
   of processes = map (λ (owned : PlainOwned). owned.process) (filter (is_process_of user) processes)
 
-  stored_all : (processes : List PlainOwned) → AllByRecursion (λ (owned : PlainOwned). IsStored owned.process) processes
+  pub stored_all : (processes : List PlainOwned) → AllByRecursion (λ (owned : PlainOwned). IsStored owned.process) processes
       → AllByRecursion IsStored (of processes)
   stored_all [] all = tt
   stored_all (a ∷ processes) all =
@@ -57,7 +57,7 @@ module _ (user : List ℕ) where
         | inr f ↦ rw f (no_id a processes own parts.1)
       ]
 
-  stored_distinct : (processes : List PlainOwned) → OwnedDiffer processes → are_distinct (stored_ids (of processes)) ≡ true
+  pub stored_distinct : (processes : List PlainOwned) → OwnedDiffer processes → are_distinct (stored_ids (of processes)) ≡ true
   stored_distinct [] differ = refl
   stored_distinct (a ∷ processes) differ =
       elim (cases_Bool (is_process_of user a)) [

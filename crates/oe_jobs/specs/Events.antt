@@ -1,9 +1,10 @@
 -- What the run of a job, and the opening of a book after a stop, change in the book.
-use Rattle.std.specs.Prelude.{◌≡◌, ℕ, ℤ, List, Option, Some, None, find, true}
+use Rattle.std.specs.Prelude.{◌≡◌, ℕ, ℤ, List, Option, Some, None, find, true, Bool, not, ◌&&◌, nat_lt}
+use Rattle.std.specs.List.{list_all, list_any}
 use Rattle.std.specs.Option.{option_map}
 use Rattle.oe_jobs.specs.Changes.{at_first, is_job}
 use Rattle.oe_jobs.specs.Machine as machine
-use Rattle.oe_jobs.specs.Machine.{Event, may_come, step_at, moved, is_running, kept, course, asset_message}
+use Rattle.oe_jobs.specs.Machine.{Event, may_come, step_at, moved, is_busy, is_queued, is_running, kept, course, asset_message}
 use Rattle.oe_jobs.specs.Plain.{PlainBook, PlainChange, PlainJob, put_job, add_asset}
 use Rattle.oe_jobs.specs.declared.event.JobEvent.{JobEvent}
 use Rattle.oe_jobs.specs.declared.event.JobEvent.TheVariants.{Start, Asset, Finish, Fail}
@@ -13,6 +14,19 @@ job_named id book = find (is_job id) book.jobs
 
 abbrev pub running_job : PlainBook → Option PlainJob
 running_job book = find (λ (job : PlainJob). is_running job.status) book.jobs
+
+-- no queued job has a lesser turn than this one
+abbrev pub is_first : PlainBook → PlainJob → Bool
+is_first book job =
+    list_all (λ (other : PlainJob). not (is_queued other.status && nat_lt other.turn job.turn)) book.jobs
+
+-- the queued job of least turn
+abbrev pub next_queued : PlainBook → Option PlainJob
+next_queued book = find (λ (job : PlainJob). is_queued job.status && is_first book job) book.jobs
+
+-- a job is queued or runs
+abbrev pub has_busy_job : PlainBook → Bool
+has_busy_job book = list_any (λ (job : PlainJob). is_busy job.status) book.jobs
 
 -- the event of the status machine
 abbrev pub event_of : JobEvent → ℤ → Event
@@ -53,3 +67,19 @@ step book id event now = option_map (λ job. job_step book job event now) (job_n
 -- the running job, where there is one, is queued again with its old turn and without assets
 abbrev pub reopen : PlainBook → Option PlainChange
 reopen book = option_map (λ job. put_job (moved machine.reopen job) book.next) (running_job book)
+
+-- ---- what may come to the jobs that a tick finds
+
+abbrev pub IsOfRun : JobEvent → Type 0
+IsOfRun Start = ⊥
+IsOfRun (Asset new) = Unit {0}
+IsOfRun Finish = Unit {0}
+IsOfRun (Fail code) = Unit {0}
+
+-- each event of a run may come to the job of an id
+abbrev pub AnyComes : PlainBook → List ℕ → Type 0
+AnyComes book id = (event : JobEvent) (now : ℤ) → IsOfRun event → MayCome book id event now
+
+-- it may start where no job runs
+abbrev pub StartComes : PlainBook → List ℕ → Type 0
+StartComes book id = (now : ℤ) → running_job book ≡ None → MayCome book id Start now

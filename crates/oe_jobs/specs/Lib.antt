@@ -6,3 +6,4 @@ pub mod Events
 pub mod Valid
 pub mod Room
 pub mod Kept
+pub mod Texts

@@ -171,6 +171,14 @@ is_busy Canceled = false
 is_busy Finished = false
 is_busy Error = false
 
+abbrev pub is_queued : Status → Bool
+is_queued Created = false
+is_queued Queued = true
+is_queued Running = false
+is_queued Canceled = false
+is_queued Finished = false
+is_queued Error = false
+
 abbrev pub is_running : Status → Bool
 is_running Created = false
 is_running Queued = false

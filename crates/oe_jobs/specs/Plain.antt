@@ -1,5 +1,5 @@
 -- What contracts compare of a job book: its texts, numbers and lists, and no allocator or capacity.
-use Rattle.std.specs.Prelude.{ℕ, ℤ, List, map, Option}
+use Rattle.std.specs.Prelude.{ℕ, ℤ, List, [], map, Option}
 use Rattle.std.specs.Option.{option_map}
 use Rattle.oe_graph.specs.Plain.{plain_stored}
 use Rattle.oe_graph.specs.Tree.{PlainStored}
@@ -53,6 +53,10 @@ pub record PlainBook : Type 0 where
   pub next : ℕ
   pub jobs : List PlainJob
   pub processes : List PlainOwned
+
+-- without jobs and stored processes: the first job draws the number 1
+abbrev pub empty_book : PlainBook
+empty_book = record { next = 1; jobs = []; processes = [] }
 
 -- what changes in a book
 pub data PlainChange : Type 0 where

@@ -6,7 +6,7 @@ use Rattle.std.specs.Option.{option_map_or}
 use Rattle.oe_dims.specs.Names.{same_name}
 use Rattle.oe_graph.specs.Catalogue.{process_named}
 use Rattle.oe_graph.specs.Tree.{PlainStored}
-use Rattle.oe_jobs.specs.Changes.{is_job, is_owned}
+use Rattle.oe_jobs.specs.Changes.{changed, is_job, is_owned}
 use Rattle.oe_jobs.specs.Machine as machine
 use Rattle.oe_jobs.specs.Machine.{Event, step_at, has_effect, is_busy, moved}
 use Rattle.oe_jobs.specs.Plain.{PlainBook, PlainChange, PlainCommand, PlainJob, PlainOwned, PlainRan, PlainVerdict, put_job, drop_job, put_process, drop_process, create, patch, delete, queue, cancel, store, forget}
@@ -36,8 +36,11 @@ job_id number = codes "j-" ++ decimal number
 abbrev pub is_job_of : List ℕ → PlainJob → Bool
 is_job_of user job = same_name job.user user
 
+abbrev pub is_found : List ℕ → List ℕ → PlainJob → Bool
+is_found user id job = is_job id job && is_job_of user job
+
 abbrev pub job_of : List ℕ → List ℕ → PlainBook → Option PlainJob
-job_of user id book = find (λ job. is_job id job && is_job_of user job) book.jobs
+job_of user id book = find (is_found user id) book.jobs
 
 abbrev pub is_process_of : List ℕ → PlainOwned → Bool
 is_process_of user owned = same_name owned.user user
@@ -150,3 +153,13 @@ decide book user (queue id) now =
 decide book user (cancel id) now = of_job book user id (λ job. cancel_verdict book job (machine.cancel now))
 decide book user (store process) now = store_verdict book user process
 decide book user (forget id) now = forget_verdict book user id
+
+-- ---- the book afterwards
+
+-- the changed book, or the same where nothing changes
+abbrev pub after_verdict : PlainBook → PlainVerdict → PlainBook
+after_verdict book verdict = option_map_or (changed book) verdict.change book
+
+-- the book after a command of a user at a moment
+abbrev pub next : PlainBook → List ℕ → PlainCommand → ℤ → PlainBook
+next book user command now = after_verdict book (decide book user command now)

@@ -1,10 +1,11 @@
-// Copies of jobs and books.
+// Copies of jobs, books and changes.
 ghost use Rattle.std.specs.Prelude.{◌≡◌, IfOk, None, [], map};
 ghost use Rattle.std.specs.Option.{option_map};
 ghost use Rattle.oe_graph.specs.Plain.{plain_stored};
-ghost use Rattle.oe_jobs.specs.Plain.{plain_book, plain_job, plain_owned, plain_ran};
+ghost use Rattle.oe_jobs.specs.Plain.{plain_book, plain_change, plain_job, plain_owned, plain_ran};
 
 use crate::book::{Book, Owned};
+use crate::change::Change;
 use crate::job::{Asset, Job, LogEntry, Ran};
 use oe_dims::Text;
 use oe_graph::StoredProcess;
@@ -36,6 +37,85 @@ impl Job {
         copy.logs = copy_logs(alloc, &self.logs)?;
         copy.assets = copy_assets(alloc, &self.assets)?;
         Ok(copy)
+    }
+}
+
+impl LogEntry {
+    /// A copy with equal contents. Refuses: out of memory.
+    pub fn copy(&self) -> Result<LogEntry, OutOfMemory>
+        ensures { IfOk result (λ e. e ≡ self.now) }
+    {
+        Ok(LogEntry {
+            level: self.level,
+            code: copy_text(&self.code)?,
+            message: self.message.copy()?,
+        })
+    }
+}
+
+impl Asset {
+    /// A copy with equal contents. Refuses: out of memory.
+    pub fn copy(&self) -> Result<Asset, OutOfMemory>
+        ensures { IfOk result (λ a. a ≡ self.now) }
+    {
+        Ok(Asset {
+            name: self.name.copy()?,
+            text: self.text.copy()?,
+        })
+    }
+}
+
+impl Owned {
+    /// A copy with equal contents. Refuses: out of memory.
+    pub fn copy(&self) -> Result<Owned, OutOfMemory>
+        ensures { IfOk result (λ o. plain_owned o ≡ plain_owned self.now) }
+    {
+        Ok(Owned {
+            user: self.user.copy()?,
+            process: self.process.copy()?,
+        })
+    }
+}
+
+impl Change {
+    /// A copy with equal contents. Refuses: out of memory.
+    pub fn copy(&self) -> Result<Change, OutOfMemory>
+        ensures { IfOk result (λ c. plain_change c ≡ plain_change self.now) }
+    {
+        match self {
+            Change::PutJob { job, next } => Ok(Change::PutJob {
+                job: job.copy()?,
+                next: *next,
+            }),
+            Change::AddAsset {
+                job,
+                asset,
+                log,
+                updated,
+            } => Ok(Change::AddAsset {
+                job: job.copy()?,
+                asset: asset.copy()?,
+                log: copy_log(log)?,
+                updated: *updated,
+            }),
+            Change::DropJob { id } => Ok(Change::DropJob { id: id.copy()? }),
+            Change::PutProcess { owned } => Ok(Change::PutProcess {
+                owned: owned.copy()?,
+            }),
+            Change::DropProcess { user, id } => Ok(Change::DropProcess {
+                user: user.copy()?,
+                id: id.copy()?,
+            }),
+        }
+    }
+}
+
+fn copy_log(log: &Option<LogEntry>) -> Result<Option<LogEntry>, OutOfMemory>
+    ensures { IfOk result (λ copy. copy ≡ log.now) }
+{
+    match log {
+        Some(entry) => Ok(Some(entry.copy()?)),
+        None => Ok(None),
     }
 }
 
@@ -100,19 +180,9 @@ pub(crate) fn copy_logs(alloc: Global, logs: &Vec<LogEntry>) -> Result<Vec<LogEn
 {
     let mut copy = Vec::with_capacity(alloc, logs.len())?;
     for entry in logs {
-        copy.push(copy_entry(entry)?)?;
+        copy.push(entry.copy()?)?;
     }
     Ok(copy)
-}
-
-fn copy_entry(entry: &LogEntry) -> Result<LogEntry, OutOfMemory>
-    ensures { IfOk result (λ e. e ≡ entry.now) }
-{
-    Ok(LogEntry {
-        level: entry.level,
-        code: copy_text(&entry.code)?,
-        message: entry.message.copy()?,
-    })
 }
 
 pub(crate) fn copy_assets(alloc: Global, assets: &Vec<Asset>) -> Result<Vec<Asset>, OutOfMemory>
@@ -120,18 +190,9 @@ pub(crate) fn copy_assets(alloc: Global, assets: &Vec<Asset>) -> Result<Vec<Asse
 {
     let mut copy = Vec::with_capacity(alloc, assets.len())?;
     for asset in assets {
-        copy.push(copy_asset(asset)?)?;
+        copy.push(asset.copy()?)?;
     }
     Ok(copy)
-}
-
-fn copy_asset(asset: &Asset) -> Result<Asset, OutOfMemory>
-    ensures { IfOk result (λ a. a ≡ asset.now) }
-{
-    Ok(Asset {
-        name: asset.name.copy()?,
-        text: asset.text.copy()?,
-    })
 }
 
 fn copy_jobs(alloc: Global, jobs: &Vec<Job>) -> Result<Vec<Job>, OutOfMemory>
@@ -149,16 +210,7 @@ fn copy_processes(alloc: Global, processes: &Vec<Owned>) -> Result<Vec<Owned>, O
 {
     let mut copy = Vec::with_capacity(alloc, processes.len())?;
     for owned in processes {
-        copy.push(copy_owned(owned)?)?;
+        copy.push(owned.copy()?)?;
     }
     Ok(copy)
-}
-
-fn copy_owned(owned: &Owned) -> Result<Owned, OutOfMemory>
-    ensures { IfOk result (λ o. plain_owned o ≡ plain_owned owned.now) }
-{
-    Ok(Owned {
-        user: owned.user.copy()?,
-        process: owned.process.copy()?,
-    })
 }

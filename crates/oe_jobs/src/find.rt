@@ -5,7 +5,7 @@ ghost use Rattle.oe_dims.specs.Indices.{index_where};
 ghost use Rattle.oe_dims.specs.Names as names;
 ghost use Rattle.oe_jobs.specs.Changes as changes;
 ghost use Rattle.oe_jobs.specs.Events as events;
-ghost use Rattle.oe_jobs.specs.Machine.{is_running};
+ghost use Rattle.oe_jobs.specs.Machine.{is_queued, is_running};
 ghost use Rattle.oe_jobs.specs.Plain.{plain_book, plain_job, plain_owned};
 ghost use Rattle.oe_jobs.specs.Room.{has_id};
 ghost use Rattle.oe_jobs.specs.Verdicts as spec;
@@ -15,7 +15,7 @@ use crate::job::Job;
 use oe_dims::Text;
 
 /// The two texts have the same bytes.
-pub(crate) fn is_same(a: &Text, b: &Text) -> bool
+pub fn is_same(a: &Text, b: &Text) -> bool
     ensures { result ≡ names.same_name a.now b.now }
 {
     a.as_str() == b.as_str()
@@ -27,8 +27,29 @@ pub(crate) fn job_of<'a>(book: &'a Book, user: &Text, id: &Text) -> Option<&'a J
         ≡ spec.job_of user.now id.now (plain_book book.now) }
 {
     for job in &book.jobs {
-        if is_same(&job.id, id) && is_same(&job.user, user) {
+        if is_job_of(job, user, id) {
             return Some(job);
+        }
+    }
+    None
+}
+
+/// This is the user's job of an id.
+fn is_job_of(job: &Job, user: &Text, id: &Text) -> bool
+    ensures { result ≡ spec.is_found user.now id.now (plain_job job.now) }
+{
+    is_same(&job.id, id) && is_same(&job.user, user)
+}
+
+/// Where the user's job of an id stands.
+pub(crate) fn index_of(jobs: &[Job], user: &Text, id: &Text) -> Option<usize>
+    ensures index { result
+        ≡ index_where (λ j. spec.is_found user.now id.now (plain_job j)) jobs.now }
+    ensures within { IfSome result (λ i. i < length jobs.now) }
+{
+    for index in 0..jobs.len() {
+        if is_job_of(&jobs[index], user, id) {
+            return Some(index);
         }
     }
     None
@@ -61,6 +82,44 @@ pub(crate) fn running_job(book: &Book) -> Option<&Job>
     None
 }
 
+/// No queued job has a lesser turn.
+fn is_first(book: &Book, job: &Job) -> bool
+    ensures { result ≡ events.is_first (plain_book book.now) (plain_job job.now) }
+{
+    for other in &book.jobs {
+        if other.status.is_queued() && other.turn < job.turn {
+            return false;
+        }
+    }
+    true
+}
+
+/// The queued job of least turn, which starts next.
+pub(crate) fn next_queued(book: &Book) -> Option<&Job>
+    ensures job { option_map (λ j. plain_job j.now) result
+        ≡ events.next_queued (plain_book book.now) }
+    ensures queued { IfSome result (λ j. is_queued j.now.status ≡ true) }
+{
+    for job in &book.jobs {
+        if job.status.is_queued() && is_first(book, job) {
+            return Some(job);
+        }
+    }
+    None
+}
+
+/// Whether a job is queued or runs.
+pub(crate) fn has_busy_job(book: &Book) -> bool
+    ensures { result ≡ events.has_busy_job (plain_book book.now) }
+{
+    for job in &book.jobs {
+        if job.status.is_busy() {
+            return true;
+        }
+    }
+    false
+}
+
 /// Where the job of an id stands.
 pub(crate) fn index_of_job(jobs: &[Job], id: &Text) -> Option<usize>
     ensures index { result ≡ index_where (has_id id.now) jobs.now }
@@ -75,7 +134,7 @@ pub(crate) fn index_of_job(jobs: &[Job], id: &Text) -> Option<usize>
 }
 
 /// How many jobs a user has.
-pub(crate) fn count_jobs(book: &Book, user: &Text) -> usize
+pub fn count_jobs(book: &Book, user: &Text) -> usize
     ensures count { result
         ≡ count_by (spec.is_job_of user.now) (map plain_job book.now.jobs.items) }
     ensures within { result ≤ length book.now.jobs.items }
@@ -90,7 +149,7 @@ pub(crate) fn count_jobs(book: &Book, user: &Text) -> usize
 }
 
 /// How many stored processes a user has.
-pub(crate) fn count_processes(book: &Book, user: &Text) -> usize
+pub fn count_processes(book: &Book, user: &Text) -> usize
     ensures count { result
         ≡ count_by (spec.is_process_of user.now) (map plain_owned book.now.processes.items) }
     ensures within { result ≤ length book.now.processes.items }

@@ -1,5 +1,5 @@
 // What the commands of users change.
-ghost use Rattle.std.specs.Prelude.{◌≡◌, IfOk, IfSome, map, if◌then◌else◌, unwrap_or};
+ghost use Rattle.std.specs.Prelude.{◌≡◌, IfOk, IfSome, if◌then◌else◌, unwrap_or};
 ghost use Rattle.oe_graph.specs.Plain.{plain_stored};
 ghost use Rattle.oe_dims.specs.Instant.{IsInstant};
 ghost use Rattle.oe_jobs.specs.Changes.{changed};
@@ -12,10 +12,11 @@ use crate::book::{Book, Owned};
 use crate::change::Change;
 use crate::command::{Command, JobFault, Outcome, Verdict};
 use crate::copy::{copy_assets, copy_logs, copy_ran, copy_text};
-use crate::find::{count_jobs, count_processes, has_process, is_same, job_of};
+use crate::find::{count_jobs, count_processes, has_process, job_of};
 use crate::job::{Job, Ran};
 use crate::level::Level;
 use crate::log::log;
+use crate::number::job_id;
 use crate::status::Status;
 use oe_dims::Text;
 use oe_graph::{StoredProcess, process_entry};
@@ -165,14 +166,6 @@ fn create(
     })
 }
 
-/// The id of the job of a number.
-fn job_id(alloc: Global, number: u64) -> Result<Text, OutOfMemory>
-    ensures { IfOk result (λ id. id ≡ spec.job_id number) }
-{
-    let id = format!(in alloc; "j-{number}")?;
-    Text::of(alloc, id.as_str())
-}
-
 fn patch(
     book: &Book,
     job: &Job,
@@ -283,23 +276,9 @@ fn queue_job(alloc: Global, book: &Book, job: &Job, now: i64) -> Result<Job, Out
     queued.turn = book.next;
     queued.ran = Some(Ran {
         process: job.process.copy()?,
-        stored: stored_of(alloc, book, &job.user)?,
+        stored: book.stored_of(alloc, &job.user)?,
     });
     Ok(queued)
-}
-
-/// Copies of a user's stored processes.
-fn stored_of(alloc: Global, book: &Book, user: &Text) -> Result<Vec<StoredProcess>, OutOfMemory>
-    ensures { IfOk result
-        (λ v. map plain_stored v.items ≡ spec.stored_of user.now (plain_book book.now)) }
-{
-    let mut stored = Vec::new(alloc);
-    for owned in &book.processes {
-        if is_same(&owned.user, user) {
-            stored.push(owned.process.copy()?)?;
-        }
-    }
-    Ok(stored)
 }
 
 fn cancel(alloc: Global, book: &Book, job: &Job, now: i64) -> Result<Verdict, OutOfMemory>

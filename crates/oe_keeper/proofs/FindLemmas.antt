@@ -1,5 +1,5 @@
 -- What a search of an entry finds, from what was found on the way.
-use Rattle.std.proofs.Common.{◌≡◌, ◌≢◌, ℕ, ℤ, ◌<◌, ◌^◌, true, false, is_some, true≢false, codes, decimal, List, [], ◌∷◌, ◌++◌, Option, Some, None, option_and_then, refl, ap, ◌∙◌, sym, subst}
+use Rattle.std.proofs.Common.{◌≡◌, ℕ, ℤ, true, false, is_some, true≢false, codes, decimal, List, [], ◌∷◌, ◌++◌, Option, Some, None, option_and_then, refl, ap, ◌∙◌, sym, subst}
 use Rattle.std.specs.Prelude.{MatchOption}
 use Rattle.serde_json.specs.Data.{Data, null, boolean, number, string, array, object, Items}
 use Rattle.serde_json.specs.Find.{as_null, as_str, as_array, get}
@@ -12,12 +12,11 @@ use Rattle.oe_graph.specs.Read.{ReadsStored}
 use Rattle.oe_graph.specs.Tree.{PlainStored}
 use Rattle.oe_graph.specs.declared.fault.Fault.{Fault}
 use Rattle.oe_jobs.specs.Plain.{PlainJob, PlainRan}
+use Rattle.oe_jobs.specs.Texts.{Finds, SpellsNumber, level_text}
 use Rattle.oe_jobs.specs.declared.level.Level.{Level}
 use Rattle.oe_jobs.specs.declared.level.Level.TheVariants as levels
-use Rattle.oe_jobs.specs.declared.status.Status.{Status}
-use Rattle.oe_jobs.specs.declared.status.Status.TheVariants.{Created, Queued, Running, Canceled, Finished, Error}
-use Rattle.oe_keeper.specs.Entry.{level_text, status_text, text_data}
-use Rattle.oe_keeper.specs.Reading.{Each, Finds, HasInstant, HasList, HasRan, HasTurn, IsEntry, IsLevel, IsRanEntry, IsRanOrNull, IsStoredEntry, ReadsJob, whole_in}
+use Rattle.oe_keeper.specs.Entry.{text_data}
+use Rattle.oe_keeper.specs.Reading.{Each, HasInstant, HasList, HasRan, HasTurn, IsEntry, IsLevel, IsRanEntry, IsRanOrNull, IsStoredEntry, ReadsJob, whole_in}
 
 -- a search for things that are so is one for things that are so in another sense, where both hold of the same things
 pub finds_same : {A : Type 0} (P Q : A → Type 0) (found : Option A) → ((a : A) → P a → Q a) → ((a : A) → Q a → P a)
@@ -111,23 +110,7 @@ instant_found name d seconds (Some s) is read =
 pub no_instant : (name : List ℕ) (d : Data) (s : ℤ) → None ≡ whole_in name d → HasInstant name d s → ⊥
 no_instant name d s none has = let both : None ≡ Some s = none ∙ has.value in absurd cc
 
--- ---- statuses and levels
-
-pub no_status : (text : List ℕ) (status : Status) → text ≢ codes "created" → text ≢ codes "queued" → text ≢ codes "running"
-    → text ≢ codes "canceled" → text ≢ codes "finished" → text ≢ codes "error" → text ≡ status_text status → ⊥
-no_status text Created created queued running canceled finished error is = created is
-no_status text Queued created queued running canceled finished error is = queued is
-no_status text Running created queued running canceled finished error is = running is
-no_status text Canceled created queued running canceled finished error is = canceled is
-no_status text Finished created queued running canceled finished error is = finished is
-no_status text Error created queued running canceled finished error is = error is
-
-pub no_level : (text : List ℕ) (level : Level) → text ≢ codes "error" → text ≢ codes "warning" → text ≢ codes "info"
-    → text ≢ codes "debug" → text ≡ level_text level → ⊥
-no_level text levels.Error error warning info debug is = error is
-no_level text levels.Warning error warning info debug is = warning is
-no_level text levels.Info error warning info debug is = info is
-no_level text levels.Debug error warning info debug is = debug is
+-- ---- levels
 
 -- the level of a member that there is
 pub level_found : (found : Option Data) (d : Data) (read : Option Level) → Some d ≡ found
@@ -217,8 +200,11 @@ each_none Is (e ∷ before) d behind (a ∷ list) none each = each_none Is befor
 
 -- the turn that a text spells
 pub turn_found : (d : Data) (text : List ℕ) (read : Option ℕ) → get (codes "turn") d ≡ Some (string text)
-    → MatchOption read ((turn : ℕ) → turn < 2 ^ 64 → text ≡ decimal turn → ⊥) (λ (turn : ℕ). (text ≡ decimal turn) × (turn < 2 ^ 64))
-    → Finds (HasTurn d) read
+    → Finds (SpellsNumber text) read → Finds (HasTurn d) read
 turn_found d text None is none = λ turn has.
-    none turn has.in_range (let e : Some (string text) ≡ Some (string (decimal turn)) = sym is ∙ has.value in cc)
-turn_found d text (Some turn) is read = record { value = is ∙ ap (λ (s : List ℕ). Some (string s)) read.0; in_range = read.1 }
+    none turn (record {
+      spelled = (let e : Some (string text) ≡ Some (string (decimal turn)) = sym is ∙ has.value in cc);
+      in_range = has.in_range;
+    })
+turn_found d text (Some turn) is read =
+    record { value = is ∙ ap (λ (s : List ℕ). Some (string s)) read.spelled; in_range = read.in_range }

@@ -3,4 +3,4 @@ mod FindLemmas
 mod ItemLemmas
 mod Memories
 mod OneLemmas
-mod Turns
+mod RestoreLemmas

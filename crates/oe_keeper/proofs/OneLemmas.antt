@@ -7,6 +7,7 @@ use Rattle.oe_graph.specs.Read.{ReadsStored}
 use Rattle.oe_graph.proofs.ReadAgain.{ReadsStored-unique}
 use Rattle.oe_graph.specs.Tree.{PlainStored}
 use Rattle.oe_jobs.specs.Plain.{PlainJob, PlainRan}
+use Rattle.oe_jobs.specs.Texts.{Finds, level_text, status_text}
 use Rattle.oe_jobs.specs.declared.job.Asset.{Asset}
 use Rattle.oe_jobs.specs.declared.job.LogEntry.{LogEntry}
 use Rattle.oe_jobs.specs.declared.level.Level.{Level}
@@ -14,8 +15,8 @@ use Rattle.oe_jobs.specs.declared.level.Level.TheVariants as levels
 use Rattle.oe_jobs.specs.declared.status.Status.{Status}
 use Rattle.oe_jobs.specs.declared.status.Status.TheVariants.{Created, Queued, Running, Canceled, Finished, Error}
 use Rattle.oe_keeper.proofs.FindLemmas.{same_value}
-use Rattle.oe_keeper.specs.Entry.{level_text, status_text, text_data}
-use Rattle.oe_keeper.specs.Reading.{Each, Finds, HasInstant, HasList, HasRan, HasTurn, IsEntry, IsLevel, IsLog, IsRanEntry, IsRanOrNull, IsStoredEntry, ReadsJob}
+use Rattle.oe_keeper.specs.Entry.{text_data}
+use Rattle.oe_keeper.specs.Reading.{Each, HasInstant, HasList, HasRan, HasTurn, IsEntry, IsLevel, IsLog, IsRanEntry, IsRanOrNull, IsStoredEntry, ReadsJob}
 
 -- ---- words
 

@@ -5,26 +5,8 @@ use Rattle.serde_json.specs.Find.{of_integer}
 use Rattle.serde_json.specs.View.{items_of}
 use Rattle.oe_graph.specs.Tree.{PlainStored}
 use Rattle.oe_jobs.specs.Plain.{PlainJob, PlainRan}
+use Rattle.oe_jobs.specs.Texts.{level_text, status_text}
 use Rattle.oe_jobs.specs.declared.job.LogEntry.{LogEntry}
-use Rattle.oe_jobs.specs.declared.level.Level.{Level}
-use Rattle.oe_jobs.specs.declared.level.Level.TheVariants as levels
-use Rattle.oe_jobs.specs.declared.status.Status.{Status}
-use Rattle.oe_jobs.specs.declared.status.Status.TheVariants.{Created, Queued, Running, Canceled, Finished, Error}
-
--- a status and a level, as the openEO API spells them
-abbrev pub status_text : Status → List ℕ
-status_text Created = codes "created"
-status_text Queued = codes "queued"
-status_text Running = codes "running"
-status_text Canceled = codes "canceled"
-status_text Finished = codes "finished"
-status_text Error = codes "error"
-
-abbrev pub level_text : Level → List ℕ
-level_text levels.Error = codes "error"
-level_text levels.Warning = codes "warning"
-level_text levels.Info = codes "info"
-level_text levels.Debug = codes "debug"
 
 -- a text, or null where there is none
 abbrev pub text_data : Option (List ℕ) → Data

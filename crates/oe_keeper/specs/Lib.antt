@@ -2,3 +2,4 @@ pub mod Scripts
 pub mod Memory
 pub mod Entry
 pub mod Reading
+pub mod Laws

@@ -8,16 +8,12 @@ use Rattle.oe_graph.specs.Form.{IsReading}
 use Rattle.oe_graph.specs.Read.{ReadsStored}
 use Rattle.oe_graph.specs.Tree.{PlainStored}
 use Rattle.oe_jobs.specs.Plain.{PlainJob, PlainRan}
+use Rattle.oe_jobs.specs.Texts.{level_text, status_text}
 use Rattle.oe_jobs.specs.declared.job.LogEntry.{LogEntry}
 use Rattle.oe_jobs.specs.declared.level.Level.{Level}
 use Rattle.oe_jobs.specs.declared.level.Level.TheVariants as levels
 use Rattle.oe_jobs.specs.declared.status.Status.{Status}
-use Rattle.oe_keeper.specs.Entry.{level_text, status_text, text_data}
-
--- what a search finds: a thing that is so, and none only where there is none
-abbrev pub Finds : {A : Type 0} → (A → Type 0) → Option A → Type 0
-Finds {A} Is None = (a : A) → ¬ Is a
-Finds Is (Some a) = Is a
+use Rattle.oe_keeper.specs.Entry.{text_data}
 
 -- the items of a list are these things, one each and in order
 abbrev pub Each : {A : Type 0} → (Data → A → Type 0) → Items → List A → Type 0

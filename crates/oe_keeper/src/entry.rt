@@ -11,7 +11,7 @@ ghost use Rattle.oe_keeper.specs.Reading.{IsRestorable, ReadsJob, without_assets
 
 use oe_dims::Text;
 use oe_graph::StoredProcess;
-use oe_jobs::{Job, Level, LogEntry, Ran, Status};
+use oe_jobs::{Job, LogEntry, Ran};
 use oe_memory::OutOfMemory;
 use serde_json::{Map, Value, put};
 use std::alloc::Global;
@@ -49,7 +49,7 @@ fn job_json(alloc: Global, job: &Job) -> Result<Value, OutOfMemory>
         &mut entry,
         alloc,
         "level",
-        str_json(alloc, level_text(job.level))?,
+        str_json(alloc, job.level.as_str())?,
     )?;
     put(
         &mut entry,
@@ -68,7 +68,7 @@ fn job_json(alloc: Global, job: &Job) -> Result<Value, OutOfMemory>
         &mut entry,
         alloc,
         "status",
-        str_json(alloc, status_text(job.status))?,
+        str_json(alloc, job.status.as_str())?,
     )?;
     put(&mut entry, alloc, "title", words_json(alloc, &job.title)?)?;
     put(&mut entry, alloc, "turn", turn_json(alloc, job.turn)?)?;
@@ -96,7 +96,7 @@ fn log_json(alloc: Global, log: &LogEntry) -> Result<Value, OutOfMemory>
         &mut entry,
         alloc,
         "level",
-        str_json(alloc, level_text(log.level))?,
+        str_json(alloc, log.level.as_str())?,
     )?;
     put(
         &mut entry,
@@ -175,30 +175,4 @@ fn str_json(alloc: Global, text: &str) -> Result<Value, OutOfMemory>
     ensures { IfOk result (λ v. view v ≡ string text.now) }
 {
     Ok(Value::String(String::from_str(alloc, text)?))
-}
-
-/// A status, as the openEO API spells it.
-pub(crate) fn status_text(status: Status) -> &'static str
-    ensures { result.now ≡ spec.status_text status }
-{
-    match status {
-        Status::Created => "created",
-        Status::Queued => "queued",
-        Status::Running => "running",
-        Status::Canceled => "canceled",
-        Status::Finished => "finished",
-        Status::Error => "error",
-    }
-}
-
-/// A level, as the openEO API spells it.
-pub(crate) fn level_text(level: Level) -> &'static str
-    ensures { result.now ≡ spec.level_text level }
-{
-    match level {
-        Level::Error => "error",
-        Level::Warning => "warning",
-        Level::Info => "info",
-        Level::Debug => "debug",
-    }
 }

@@ -7,11 +7,13 @@
 
 mod change;
 mod entry;
+mod laws;
 mod members;
 mod memory;
 mod reading;
 mod script;
 
 pub use entry::job_text;
+pub use laws::jobs_are_restorable;
 pub use memory::MemoryKeeper;
 pub use reading::read_job;

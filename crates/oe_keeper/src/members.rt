@@ -1,27 +1,21 @@
 // Members of the entry of a job.
-ghost use Rattle.std.specs.Prelude.{◌≡◌, ◌≢◌, ◌↔◌, ℕ, ℤ, ◌<◌, ◌^◌, IfOk, IsTrue, List, MatchOption, Option, Some, codes, decimal, option_and_then};
+ghost use Rattle.std.specs.Prelude.{◌≡◌, ◌<◌, IfOk, MatchOption, Option, Some, codes, decimal, option_and_then};
 ghost use Rattle.std.specs.Option.{option_map};
 ghost use Rattle.serde_json.specs.Data.{string};
 ghost use Rattle.serde_json.specs.Find.{as_array, as_str, get};
 ghost use Rattle.serde_json.specs.View.{items_view, view};
 ghost use Rattle.oe_dims.specs.Instant.{IsInstant};
-ghost use Rattle.oe_jobs.specs.declared.level.Level.{Level as AnyLevel};
-ghost use Rattle.oe_jobs.specs.declared.status.Status.{Status as AnyStatus};
+ghost use Rattle.oe_jobs.specs.Texts as texts;
+ghost use Rattle.oe_jobs.specs.Texts.{Finds};
 ghost use Rattle.oe_keeper.specs.Entry as spec;
 ghost use Rattle.oe_keeper.specs.Reading as reading;
-ghost use Rattle.oe_keeper.specs.Reading.{Finds, HasInstant, HasTurn, IsLevel};
+ghost use Rattle.oe_keeper.specs.Reading.{HasInstant, HasTurn, IsLevel};
 
-use itoa::Buffer;
 use oe_dims::Text;
-use oe_jobs::{Level, Status};
+use oe_jobs::{Level, Status, is_instant, read_number};
 use oe_memory::OutOfMemory;
 use serde_json::Value;
 use std::alloc::Global;
-
-/// The first and the last second of the years 1 to 9999, in seconds since 1970-01-01T00:00:00Z.
-const FIRST_INSTANT: i64 = -62135596800;
-
-const LAST_INSTANT: i64 = 253402300799;
 
 /// The member of a name, where it is a text.
 pub(crate) fn str_in<'a>(value: &'a Value, name: &str) -> Option<&'a str>
@@ -98,13 +92,11 @@ fn whole_in(value: &Value, name: &str) -> Option<i64>
 fn instant_of(seconds: i64) -> Option<i64>
     ensures { MatchOption result (¬ IsInstant seconds) (λ s. (s ≡ seconds) × IsInstant s) }
 {
-    if seconds < FIRST_INSTANT {
-        return None;
+    if is_instant(seconds) {
+        Some(seconds)
+    } else {
+        None
     }
-    if seconds > LAST_INSTANT {
-        return None;
-    }
-    Some(seconds)
 }
 
 /// The member `turn`, where it is a number in decimal without leading zeros.
@@ -112,56 +104,19 @@ pub(crate) fn turn_in(value: &Value) -> Option<u64>
     ensures { Finds (HasTurn (view value.now)) result }
 {
     match str_in(value, "turn") {
-        Some(text) => read_turn(text),
+        Some(text) => read_number(text),
         None => None,
     }
-}
-
-/// The number that a text spells in decimal.
-fn read_turn(text: &str) -> Option<u64>
-    ensures { MatchOption result ((turn : ℕ) → turn < 2 ^ 64 → text.now ≢ decimal turn)
-        (λ turn. (text.now ≡ decimal turn) × (turn < 2 ^ 64)) }
-{
-    match text.parse::<u64>() {
-        Ok(turn) => {
-            if is_decimal(text, turn) {
-                Some(turn)
-            } else {
-                None
-            }
-        }
-        Err(_) => None,
-    }
-}
-
-fn is_decimal(text: &str, number: u64) -> bool
-    ensures { IsTrue result ↔ text.now ≡ decimal number }
-{
-    Buffer::new().format(number) == text
 }
 
 /// The member `status`, where it is a status.
 pub(crate) fn status_in(value: &Value) -> Option<Status>
     ensures { Finds (λ status. get (codes "status") (view value.now)
-        ≡ Some (string (spec.status_text status))) result }
+        ≡ Some (string (texts.status_text status))) result }
 {
     match str_in(value, "status") {
-        Some(text) => status_of(text),
+        Some(text) => Status::of(text),
         None => None,
-    }
-}
-
-fn status_of(text: &str) -> Option<Status>
-    ensures { Finds (λ status. text.now ≡ spec.status_text status) result }
-{
-    match text {
-        "created" => Some(Status::Created),
-        "queued" => Some(Status::Queued),
-        "running" => Some(Status::Running),
-        "canceled" => Some(Status::Canceled),
-        "finished" => Some(Status::Finished),
-        "error" => Some(Status::Error),
-        _ => None,
     }
 }
 
@@ -178,22 +133,10 @@ pub(crate) fn level_in(value: &Value) -> Option<Level>
 /// The member `level`, where it is a level.
 pub(crate) fn level_at(value: &Value) -> Option<Level>
     ensures { Finds (λ level. get (codes "level") (view value.now)
-        ≡ Some (string (spec.level_text level))) result }
+        ≡ Some (string (texts.level_text level))) result }
 {
     match str_in(value, "level") {
-        Some(text) => level_of(text),
+        Some(text) => Level::of(text),
         None => None,
-    }
-}
-
-fn level_of(text: &str) -> Option<Level>
-    ensures { Finds (λ level. text.now ≡ spec.level_text level) result }
-{
-    match text {
-        "error" => Some(Level::Error),
-        "warning" => Some(Level::Warning),
-        "info" => Some(Level::Info),
-        "debug" => Some(Level::Debug),
-        _ => None,
     }
 }

@@ -8,10 +8,11 @@ ghost use Rattle.oe_graph.specs.Form.{IsReading};
 ghost use Rattle.oe_graph.specs.Plain.{plain_stored};
 ghost use Rattle.oe_graph.specs.Read.{ReadsStored};
 ghost use Rattle.oe_jobs.specs.Plain.{PlainJob, plain_job, plain_ran};
+ghost use Rattle.oe_jobs.specs.Texts.{Finds};
 ghost use Rattle.oe_jobs.specs.declared.level.Level.{Level as AnyLevel};
 ghost use Rattle.oe_jobs.specs.declared.status.Status.{Status as AnyStatus};
 ghost use Rattle.oe_keeper.specs.Reading as spec;
-ghost use Rattle.oe_keeper.specs.Reading.{Each, Finds, HasInstant, HasList, HasRan, HasState, HasTurn, HasTexts, IsEntry, IsLevel, IsLog, IsRanEntry, IsRanOrNull, IsStoredEntry, ReadsJob};
+ghost use Rattle.oe_keeper.specs.Reading.{Each, HasInstant, HasList, HasRan, HasState, HasTurn, HasTexts, IsEntry, IsLevel, IsLog, IsRanEntry, IsRanOrNull, IsStoredEntry, ReadsJob};
 
 use crate::members::{
     instant_in, level_at, level_in, list_in, status_in, str_in, text_in, turn_in, words_in,

@@ -6,8 +6,8 @@ use Rattle.oe_keeper.proofs.members.turn_in.Goals as goal
 
 pub returns-in-Some : goal.returns-in-Some
 returns-in-Some c =
-    turn_found (view c.args.value.now) c.in-Some.text.now c.read_turn.result
-    (member_str (get (codes "turn") (view c.args.value.now)) c.in-Some.text.now c.in-Some.ensures) c.read_turn.ensures
+    turn_found (view c.args.value.now) c.in-Some.text.now c.read_number.result
+    (member_str (get (codes "turn") (view c.args.value.now)) c.in-Some.text.now c.in-Some.ensures) c.read_number.ensures
 
 pub returns-in-None : goal.returns-in-None
 returns-in-None c = λ turn has.

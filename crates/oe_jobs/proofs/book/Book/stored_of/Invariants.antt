@@ -3,7 +3,7 @@ use Rattle.std.specs.Prelude.{filter}
 use Rattle.oe_graph.specs.Plain.{plain_stored}
 use Rattle.oe_jobs.specs.Plain.{PlainOwned, plain_owned}
 use Rattle.oe_jobs.specs.Verdicts.{is_process_of}
-use Rattle.oe_jobs.proofs.verdict.stored_of.Given as goal
+use Rattle.oe_jobs.proofs.book.Book.stored_of.Given as goal
 
 abbrev pub invariant-loop-owned : goal.invariant-loop-owned
 invariant-loop-owned l =

@@ -1,5 +1,5 @@
-use Rattle.oe_keeper.proofs.FindLemmas.{no_status}
-use Rattle.oe_keeper.proofs.members.status_of.Goals as goal
+use Rattle.oe_jobs.proofs.TextLemmas.{no_status}
+use Rattle.oe_jobs.proofs.status.Status.of.Goals as goal
 
 pub returns-in_default : goal.returns-in_default
 returns-in_default c = λ status is.

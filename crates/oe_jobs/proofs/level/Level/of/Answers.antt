@@ -1,5 +1,5 @@
-use Rattle.oe_keeper.proofs.FindLemmas.{no_level}
-use Rattle.oe_keeper.proofs.members.level_of.Goals as goal
+use Rattle.oe_jobs.proofs.TextLemmas.{no_level}
+use Rattle.oe_jobs.proofs.level.Level.of.Goals as goal
 
 pub returns-in_default : goal.returns-in_default
 returns-in_default c = λ level is.
