@@ -1,0 +1,6 @@
+mod RunningLemmas
+mod StoredLemmas
+mod ProcessLemmas
+mod AssetLemmas
+mod IdLemmas
+mod IdleLemmas

@@ -1,0 +1,14 @@
+use Rattle.std.proofs.Common.{◌≡◌, List, ◌++◌, drop}
+use Rattle.serde_json.specs.View.{items_view, members_view}
+use Rattle.serde_json.specs.Written.{items_have_float, members_have_float}
+use Rattle.serde_json.proofs.Views.{Entry}
+use Rattle.oe_book.proofs.floats.+floats.Given as goal
+
+abbrev pub invariant-has_float_item-loop-item : goal.invariant-has_float_item-loop-item
+invariant-has_float_item-loop-item l =
+    items_have_float (items_view l.item-items) ≡ items_have_float (items_view (drop l.item-index l.item-items))
+
+abbrev pub invariant-has_float_member-loop-member : goal.invariant-has_float_member-loop-member
+invariant-has_float_member-loop-member l =
+    (done : List Entry) × (l.members.entries ≡ done ++ l.member-iterator)
+    × (members_have_float (members_view l.members.entries) ≡ members_have_float (members_view l.member-iterator))

@@ -1,0 +1,3 @@
+pub mod Assets
+pub mod Laws
+pub mod Process

@@ -1,0 +1,16 @@
+//! What is read off a job book: the assets of a job, the text of a process as a book holds it, and what a valid book
+//! gives to those who use it.
+//!
+//! [`assets_of`] finds the nodes of a job's graph that make an asset, [`asset_ids`] their ids and [`asset_name`] the
+//! name of an asset. [`process_text`] makes the text of a process. [`keeps_running`], [`idle_without_busy`],
+//! [`stored_is_valid`] and [`id_leaves_faults`] do nothing: their contracts are laws, which the layers above use.
+#![tactic(auto)]
+
+mod assets;
+mod floats;
+mod laws;
+mod process;
+
+pub use assets::{asset_ids, asset_name, assets_of};
+pub use laws::{id_leaves_faults, idle_without_busy, keeps_running, stored_is_valid};
+pub use process::{ProcessRefusal, is_process_text, process_text};
