@@ -1,4 +1,6 @@
 // The files of a system, as a row tells them.
+ghost use Rattle.std.specs.Prelude.{◌≤◌, length};
+
 use crate::fake_file::{FakeFile, refuse};
 use crate::script::{Script, kind_of};
 use std::alloc::{Allocator, Global};
@@ -46,7 +48,8 @@ impl<'a> FakeFiles<'a> {
 /// The answer of an expected call, where it is this one.
 fn answer_of<'a>(step: &'a str, call: &str, path: &str) -> IoResult<&'a str> {
     let (asked, answer) = step.split_once('=').unwrap_or((step, ""));
-    if asked.split_once(':') != Some((call, path)) {
+    let (asked_call, asked_path) = asked.split_once(':').unwrap_or((asked, ""));
+    if asked_call != call || asked_path != path {
         return Err(Error::from(ErrorKind::Unsupported));
     }
     match answer.strip_prefix('!') {
@@ -110,7 +113,9 @@ impl Read for FakeNames<'_> {
 }
 
 /// Ends each name by a zero byte.
-fn copy_names(names: &[u8], into: &mut [u8]) -> usize {
+fn copy_names(names: &[u8], into: &mut [u8]) -> usize
+    ensures { result ≤ length into.old }
+{
     let count = into.len().min(names.len() + 1);
     for index in 0..count {
         into[index] = match names.get(index) {
