@@ -11,6 +11,9 @@
 //! | `count BYTES ROOM ROUNDS` | a source and a sink that only counts, to which it is copied |
 //! | `source BYTES CALLS` | `read N`, `all LIMIT` |
 //! | `sink CAPACITY CALLS` | `write BYTES`, and by a buffer `send BYTES`, `long N`, which sends so many `x`, `flush` |
+//! | `counter` | a sink that only counts: the calls of a sink |
+//! | `bounded` | a sink with room for 1048577 bytes: the calls of a sink, and then its bytes are taken |
+//! | `over N` | nothing: `over` where a text of N bytes has more than 1048576, found by such a sink, else `within` |
 //! | `link BYTES PIECE CAPACITY CALLS` | `read N`, which gives PIECE bytes at most, and the calls of a sink |
 //! | `store BYTES CAPACITY CALLS` | `read AT N`, `fill AT N`, `write AT BYTES`, `length` |
 //! | `door CALLS LINKS DIALLED` | `next MARK`, `busy MARK`, `dial MARK`, `done` |
@@ -26,7 +29,8 @@
 //!
 //! An answer is what the call answered, with the buffer of one that reads: of a copy `end` where the end was reached,
 //! `more` where it was not, or whose call failed; of `fill` `whole` or `short`. Behind a bar stands what the object
-//! has: of a source how many calls failed; of a sink that counts how many bytes; of any other sink, a link or a store
+//! has: of a source how many calls failed; of a sink that counts how many bytes; of one with room for a text `full` or
+//! `open`, and at the end how many bytes and the first of them; of any other sink, a link or a store
 //! how many bytes, the first 16 of them, with `.` for a zero, and how many calls failed; of a copy the bytes, and the
 //! faults of the source and of the sink; of a door the faults of `next`, of `dial` and of connections, and what was
 //! written to each connection that was given back.
@@ -34,6 +38,7 @@
 
 mod clocks;
 mod copies;
+mod counted;
 mod doors;
 mod fault;
 mod spelling;
@@ -89,6 +94,9 @@ fn answer_line(
         "count" => copies::answer_count(alloc, words, answers),
         "source" => streams::answer_source(alloc, words, calls, answers),
         "sink" => streams::answer_sink(alloc, words, calls, answers),
+        "counter" => counted::answer_counter(alloc, calls, answers),
+        "bounded" => counted::answer_bounded(alloc, calls, answers),
+        "over" => counted::answer_over(alloc, words, answers),
         "link" => streams::answer_link(alloc, words, calls, answers),
         "store" => stores::answer_store(alloc, words, calls, answers),
         "door" => doors::answer_door(alloc, words, calls, answers),

@@ -3,7 +3,7 @@ ghost use Rattle.std.specs.Prelude.{◌≡◌, ◌≤◌, IfOk};
 
 use crate::fault::Fault;
 use crate::spelling::{end_line, spell_bytes, spell_held, spell_outcome, spell_read, spell_word};
-use crate::words::{WORDS, bytes_of, count_of, numbers_of, words_of};
+use crate::words::{WORDS, bytes_of, count_of, number_of, numbers_of, words_of};
 use oe_outside::{
     Link, MemoryLink, MemorySink, MemorySource, Pending, ReadRefusal, Sink, Source, flush,
     read_up_to, send,
@@ -115,7 +115,7 @@ fn sink_calls(
 }
 
 /// One call, through the bound.
-fn sink_call<O: Sink>(
+pub(crate) fn sink_call<O: Sink>(
     alloc: Global,
     out: &mut O,
     pending: &mut Pending,
@@ -132,9 +132,10 @@ fn sink_call<O: Sink>(
     spell_outcome(outcome, answers)
 }
 
-fn long_piece(alloc: Global, word: &str) -> Result<Vec<u8>, Fault> {
+/// So many `x`.
+pub(crate) fn long_piece(alloc: Global, word: &str) -> Result<Vec<u8>, Fault> {
     let mut bytes = Vec::new(alloc);
-    for _ in 0..count_of(word)? {
+    for _ in 0..number_of(word)? {
         bytes.push(b'x')?;
     }
     Ok(bytes)
