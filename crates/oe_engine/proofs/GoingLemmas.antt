@@ -1,10 +1,10 @@
 -- Runs that are under way, and two of them in one store.
-use Rattle.std.proofs.Common.{◌≡◌, ℕ, ◌+◌, ◌-◌, ◌*◌, ◌<◌, ◌≤◌, min, List, length, Option, None, Result, Ok, Err, refl, sym, ap, ◌∙◌, subst, arith}
+use Rattle.std.proofs.Common.{◌≡◌, ℕ, ◌+◌, ◌-◌, ◌*◌, ◌<◌, ◌≤◌, min, List, Option, None, Result, Ok, Err, refl, sym, ap, ◌∙◌, subst, arith}
 use Rattle.oe_cell.specs.Record.{record_of}
 use Rattle.oe_cell.proofs.RecordLemmas.{length-record_of}
 use Rattle.oe_dims.specs.Cube.{Cube}
 use Rattle.oe_cell.specs.declared.cell.Cell.{Cell}
-use Rattle.oe_dims.specs.Dimensions.{Dimensions, cell_count}
+use Rattle.oe_dims.specs.Dimensions.{Dimensions}
 use Rattle.oe_dims.specs.Positions.{IsPosition, Position, number_of}
 use Rattle.oe_dims.proofs.CubeLemmas.{number_below}
 use Rattle.oe_plan.specs.Plans.{IsPlan, PlanOf}
@@ -12,13 +12,13 @@ use Rattle.oe_shape.specs.Graphs.{Collections}
 use Rattle.oe_shape.specs.Laws.{AreCollectionsOf}
 use Rattle.oe_sources.specs.Catalogue.{Row}
 use Rattle.oe_sources.specs.CatalogueDims.{dims_of}
-use Rattle.oe_spool.specs.Spooled.{ChangesOnly, HoldsRecords, IsInSome, IsRecordByte, record_offset}
+use Rattle.oe_spool.specs.Spooled.{IsInSome, IsRecordByte, record_offset}
 use Rattle.oe_spool.proofs.KeptLemmas.{bytes_kept, change_of_more, kept_then, records_kept, store_piece_kept}
 use Rattle.oe_engine.specs.Collections.{AreRead, HasCollections, Shows}
-use Rattle.oe_engine.specs.Going.{ChangesOwnRecords, IsGoing, RunsGoOn, RunsStayApart, StandsBehind, records_end}
+use Rattle.oe_engine.specs.Going.{ChangesOwnRecords, IsGoing, RunsGoOn, RunsStayApart, StandsBehind}
 use Rattle.oe_engine.specs.Laws.{GivesCollections}
 use Rattle.oe_engine.specs.Rounds.{Advances, ReadsChunks, WritesChunks}
-use Rattle.oe_engine.specs.Runs.{HasDone, HasRunRecords, HasSome, RunOf, chunk_total, chunks_from, chunks_in_round, result_cube, result_shape}
+use Rattle.oe_engine.specs.Runs.{HasDone, HasRunRecords, RunOf, chunk_total, chunks_from, chunks_in_round, result_cube, result_shape}
 use Rattle.oe_engine.specs.declared.rounds.Progress.{Progress}
 use Rattle.oe_engine.specs.declared.rounds.RunFail.{RunFail}
 use Rattle.oe_engine.proofs.GridLemmas.{chunks_inside}
@@ -40,9 +40,6 @@ behind r other apart d same q inside k high touched =
 
 module _ (r other : RunOf) (is : IsPlan r.plan) (apart : StandsBehind r other) (store store_after : Option (List ℕ))
     (changes : ChangesOwnRecords other store store_after) where
-  touched : ℕ → Type 0
-  touched = IsRecordByte other.base (result_shape other.plan) (IsPosition (result_shape other.plan))
-
   pub records_apart : HasRunRecords r store → HasRunRecords r store_after
   records_apart records q h =
       let some = records q h in

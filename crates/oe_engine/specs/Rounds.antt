@@ -1,5 +1,5 @@
 -- How a round of a run ends.
-use Rattle.std.specs.Prelude.{◌≡◌, ◌≤◌, ◌↔◌, ⊤, ℕ, ◌+◌, ◌*◌, List, Contains, slice_index, Option, Some, Result, IsErrOf, IfSome, OnOk, OnErr, IfOk, IfErr}
+use Rattle.std.specs.Prelude.{◌≡◌, ◌≤◌, ◌↔◌, ⊤, ℕ, ◌+◌, ◌*◌, List, Contains, slice_index, Option, Result, IsErrOf, IfSome, OnOk, OnErr, IfOk, IfErr}
 use Rattle.oe_dims.specs.Positions.{IsPosition, Position, number_of}
 use Rattle.oe_ops.specs.Needs.{HasLabelsOf}
 use Rattle.oe_outside.specs.Faults.{HasCauseOf}
