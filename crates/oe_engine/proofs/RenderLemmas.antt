@@ -1,7 +1,6 @@
 -- The records of a run that is complete: those of all cells, which rendering reads.
-use Rattle.std.proofs.Common.{◌≡◌, ◌≢◌, ℕ, zero, suc, ◌+◌, ◌*◌, ◌<◌, List, [], ◌∷◌, length, take, drop, get_or, map, Option, Some, None, IfSome, refl, sym, ap, ◌∙◌, subst, arith, Result, Ok, Err}
+use Rattle.std.proofs.Common.{◌≡◌, ◌≢◌, ℕ, zero, suc, ◌+◌, ◌*◌, ◌<◌, List, [], ◌∷◌, length, take, drop, get_or, map, Option, Some, None, IfSome, refl, sym, ap, ◌∙◌, subst, arith}
 use Rattle.std.specs.List.{All}
-use Rattle.std.specs.Result.{IfErr}
 use Rattle.std.proofs.lemmas.List.Elements.{All-from_get_or}
 use Rattle.oe_cell.specs.Cells.{IsCell}
 use Rattle.oe_cell.specs.Record.{records_of}
@@ -14,18 +13,16 @@ use Rattle.oe_dims.specs.Positions.{IsPosition, Position, number_of}
 use Rattle.oe_dims.proofs.CubeLemmas.{length-tuples, number_below, position_there}
 use Rattle.oe_outside.specs.Visible.{AddsBytes, AddsSome, Appends, AppendsPrefix}
 use Rattle.oe_plan.specs.Plans.{IsPlan, PlanOf}
-use Rattle.oe_render.specs.Rendered.{AppendsCube, AppendsCubePrefix, CountsCube, CountsCubePrefix, IsRefusalWithin}
+use Rattle.oe_render.specs.Rendered.{AppendsCube, AppendsCubePrefix, CountsCube, CountsCubePrefix}
 use Rattle.oe_render.specs.Stored.{AreStored, HasCells}
 use Rattle.oe_render.specs.Text.{cube_text}
-use Rattle.oe_render.specs.declared.rendering.RenderFail.{RenderFail}
-use Rattle.oe_render.specs.declared.rendering.RenderFail.TheVariants.{SpoolFailed, SpoolDamaged, SinkFailed}
 use Rattle.oe_shape.specs.Graphs.{Collections}
 use Rattle.oe_shape.specs.Laws.{AreCollectionsOf}
 use Rattle.oe_shape.specs.Operations.{Outline}
 use Rattle.oe_shape.proofs.CheckedLemmas.{give_cubes}
 use Rattle.oe_spool.specs.Spooled.{HoldsRecord, IsInSome}
 use Rattle.oe_spool.proofs.CubeRecords.{cells_counted, cube_from_positions, cube_from_windows}
-use Rattle.oe_engine.specs.Runs.{HasDone, HasRunRecords, HasSome, IsHiddenDamage, RunOf, ShowsDone, chunk_total, chunks_from, result_cube, result_shape}
+use Rattle.oe_engine.specs.Runs.{HasDone, HasRunRecords, HasSome, RunOf, ShowsDone, chunk_total, chunks_from, result_cube, result_shape}
 use Rattle.oe_engine.proofs.GridLemmas.{all_inside}
 
 -- ---- lists of cells
@@ -57,15 +54,6 @@ record IsStoredCell (store : Option (List ℕ)) (base k : ℕ) (c : Cell) : Type
   valid : IsCell c
   held : HoldsRecord store base k c
   numbered : c ≢ Over
-
--- ---- refusals
-
-pub hidden_damage : (store : Option (List ℕ)) (n : ℕ) (result : Result (Unit {0}) RenderFail) → IfErr result (IsRefusalWithin store 0 n)
-    → IfErr result (IsHiddenDamage store)
-hidden_damage store n (Ok u) h = tt
-hidden_damage store n (Err SpoolFailed) h = tt
-hidden_damage store n (Err SinkFailed) h = tt
-hidden_damage store n (Err (SpoolDamaged number)) h = h.0
 
 -- ---- a run that is complete
 

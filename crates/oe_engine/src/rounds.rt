@@ -71,10 +71,12 @@ impl Model for Run {
 impl Run {
     ghost use Rattle.std.specs.Prelude.{◌≡◌, ◌≤◌, ◌+◌, ◌^◌, None, IfErr, OnErr, OnOk, length};
     ghost use Rattle.oe_dims.specs.Cube.{Cube};
+    ghost use Rattle.oe_dims.specs.Dimensions.{cell_count};
     ghost use Rattle.oe_cell.specs.declared.cell.Cell.{Cell};
     ghost use Rattle.oe_outside.specs.Visible.{AddsBytes, AddsSome, Appends, AppendsPrefix};
     ghost use Rattle.oe_outside.specs.Faults.{HasCauseOf};
     ghost use Rattle.oe_plan.specs.Figures.{shape_of_node};
+    ghost use Rattle.oe_render.specs.Rendered.{IsRefusalWithin};
     ghost use Rattle.oe_render.specs.Text.{cube_text};
     ghost use Rattle.oe_render.specs.declared.rendering.RenderFail.{RenderFail};
     ghost use Rattle.oe_shape.specs.Graphs.{Collections};
@@ -83,7 +85,7 @@ impl Run {
     ghost use Rattle.oe_engine.specs.Collections.{HasCollections};
     ghost use Rattle.oe_engine.specs.Going as spec;
     ghost use Rattle.oe_engine.specs.Rounds.{Advances, HasCauses, ReadsChunks, WritesChunks};
-    ghost use Rattle.oe_engine.specs.Runs.{HasRunRecords, IsHiddenDamage, ShowsDone, chunk_total, overflow_of, result_cube};
+    ghost use Rattle.oe_engine.specs.Runs.{HasRunRecords, ShowsDone, chunk_total, overflow_of, result_cube, result_shape};
     ghost use Rattle.oe_engine.specs.Workspaces.{AreBenchesFor};
 
     /// A run of a plan at its first chunk, whose records are to stand in a spool from byte `base` on.
@@ -192,7 +194,8 @@ impl Run {
             (P.faults spool.new) result }
         ensures sink_cause { HasCauseOf RenderFail.SinkFailed (O.faults out.old)
             (O.faults out.new) result }
-        ensures damage { IfErr result (IsHiddenDamage (P.bytes spool.old)) }
+        ensures damage { IfErr result (IsRefusalWithin (P.bytes spool.old) 0
+            (cell_count (result_shape self.old.plan))) }
         ensures same { P.bytes spool.new ≡ P.bytes spool.old }
         ensures run { self.new ≡ self.old }
     {

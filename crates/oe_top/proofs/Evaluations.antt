@@ -1,16 +1,18 @@
 -- How the evaluation of a graph ends, by what its rounds left and by what was written of its text.
-use Rattle.std.proofs.Common.{◌≡◌, ℕ, List, Option, Some, None, Result, Ok, Err, refl, sym, ap, ◌∙◌, subst}
+use Rattle.std.proofs.Common.{◌≡◌, ◌<◌, ℕ, List, Option, Some, None, Result, Ok, Err, refl, sym, ap, ◌∙◌, subst}
 use Rattle.std.proofs.lemmas.List.{append-nil}
 use Rattle.oe_cell.specs.declared.cell.Cell.{Cell}
 use Rattle.oe_dims.specs.Cube.{Cube}
+use Rattle.oe_dims.specs.Dimensions.{cell_count}
 use Rattle.oe_engine.specs.Laws.{BeginAndEnd, GivesCollections, LoadsVisible, collections_of}
-use Rattle.oe_engine.specs.Runs.{HasDone, IsHiddenDamage, RunOf, ShowsDone, chunk_total, result_cube}
+use Rattle.oe_engine.specs.Runs.{HasDone, RunOf, ShowsDone, chunk_total, result_cube, result_shape}
 use Rattle.oe_engine.specs.declared.rounds.RunFail.{RunFail}
 use Rattle.oe_engine.specs.declared.rounds.RunFail.TheVariants as run
 use Rattle.oe_outside.proofs.Causes.{NeverFalls-refl, NeverFalls-trans, then-Rose}
 use Rattle.oe_outside.specs.Faults.{HasCauseOf, NeverFalls}
 use Rattle.oe_outside.specs.Visible.{Appends, AppendsPrefix}
 use Rattle.oe_plan.specs.Plans.{IsPlan, PlanOf}
+use Rattle.oe_render.specs.Rendered.{IsRefusalWithin}
 use Rattle.oe_render.specs.Text.{cube_text}
 use Rattle.oe_render.specs.declared.rendering.RenderFail.{RenderFail}
 use Rattle.oe_render.specs.declared.rendering.RenderFail.TheVariants as text
@@ -157,7 +159,7 @@ module _ (r after : RunOf) (rows rows_after : List Row) (store store_after : Opt
         → Holds (λ cube. AppendsPrefix out (cube_text cube) out_after)
         → HasCauseOf {T = Unit {0}} text.SpoolFailed faults_after faults_last (Err fail)
         → HasCauseOf {T = Unit {0}} text.SinkFailed out_faults out_faults_after (Err fail)
-        → IsHiddenDamage store_after fail
+        → IsRefusalWithin store_after 0 (cell_count (result_shape after.plan)) fail
         → Evaluates p begun ended (Err refusal)
     stopped text.SpoolFailed refusal same prefix spool sink damage = subst (λ (e : Refusal). Evaluates p begun ended (Err e)) (sym same)
         (last (Err SpoolFault) spool.count sink.count (
@@ -167,7 +169,13 @@ module _ (r after : RunOf) (rows rows_after : List Row) (store store_after : Opt
     stopped (text.SpoolDamaged number) refusal (line, same, line_is) prefix spool sink damage =
         subst (λ (e : Refusal). Evaluates p begun ended (Err e)) (sym same)
         (last (Err (SpoolDamaged line)) spool.count sink.count
-        (record { number = number; line_is = line_is; numbers = no_over; hidden = hidden damage }))
+        (record {
+          number = number;
+          line_is = line_is;
+          within = subst (λ (q : PlanOf). number < cell_count (result_shape q)) c.through.goes.plan damage.2;
+          numbers = no_over;
+          hidden = hidden damage.0;
+        }))
     stopped text.SinkFailed refusal same prefix spool sink damage = subst (λ (e : Refusal). Evaluates p begun ended (Err e)) (sym same)
         (last (Err WriteFault) spool.count sink.count
         (record { rose = sink.failed refl; numbers = no_over; prefix = of_meaning (λ cube. AppendsPrefix out (cube_text cube) out_after) prefix }))

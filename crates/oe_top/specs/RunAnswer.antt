@@ -1,12 +1,13 @@
 -- How the command `run` ends: the table of its statuses, one case a row.
 use Rattle.std.specs.Prelude.{◌≡◌, ◌<◌, ◌⊎◌, ℕ, ◌+◌, List, None, Some, Result, Ok, Err, codes}
+use Rattle.oe_dims.specs.Dimensions.{cell_count}
 use Rattle.oe_engine.specs.Collections.{LoadRose}
 use Rattle.oe_engine.specs.Rounds.{KeepsDamage}
 use Rattle.oe_graph.specs.Form.{most_input}
 use Rattle.oe_outside.specs.Faults.{NeverFalls, Rose}
 use Rattle.oe_outside.specs.Input.{TakesAtMost}
 use Rattle.oe_outside.specs.Visible.{Appends, AppendsPrefix}
-use Rattle.oe_plan.specs.Figures.{bound_of, most_held_cells}
+use Rattle.oe_plan.specs.Figures.{bound_of, most_held_cells, shape_of_node}
 use Rattle.oe_plan.specs.Plans.{PlanOf}
 use Rattle.oe_render.specs.Text.{cube_text}
 use Rattle.oe_shape.specs.Checked.{CheckedGraph, collection_of_node}
@@ -62,6 +63,7 @@ module _ (p : PlanOf) (before after : Objects) where
   pub record MeetsSpoolDamage (line : List ℕ) : Type 0 where
     pub number : ℕ
     pub line_is : line ≡ number_line (codes "SpoolDamaged") number
+    pub within : number < cell_count (shape_of_node p.graph p.graph.result)
     pub numbers : OfMeaning before.collections p.graph IsWithoutOver
     pub hidden : before.spool ≡ None
 

@@ -1,9 +1,9 @@
-use Rattle.std.proofs.Common.{◌≡◌, ℕ, Result, Ok, Err, OnOk, OnErr, refl, sym, ap, ◌∙◌, subst}
+use Rattle.std.proofs.Common.{◌≡◌, ℕ, Result, Ok, Err, IfErr, OnOk, OnErr, refl, sym, ap, ◌∙◌, subst}
 use Rattle.std.proofs.lemmas.List.{length-set}
 use Rattle.std.proofs.lemmas.List.Elements.{All-set}
 use Rattle.oe_dims.specs.Dimensions.{cell_count}
 use Rattle.oe_plan.specs.Plans.{IsPlan, PlanOf}
-use Rattle.oe_render.specs.Rendered.{AppendsCube, AppendsCubePrefix, CountsCube, CountsCubePrefix}
+use Rattle.oe_render.specs.Rendered.{AppendsCube, AppendsCubePrefix, CountsCube, CountsCubePrefix, IsRefusalWithin}
 use Rattle.oe_render.specs.Stored.{HasCells}
 use Rattle.oe_engine.specs.Benches.{IsBenchFor}
 use Rattle.oe_engine.specs.Runs.{RunOf, chunk_total, result_cube, result_shape}
@@ -92,6 +92,12 @@ returns-clause-counted_prefix g c =
     (subst (λ (n : ℕ). CountsCubePrefix store n (result_shape r.plan) before after) (sym base)
     (subst (λ (plan : PlanOf). CountsCubePrefix store c.self.inside.base (result_shape plan) before after) (sym same) h)))
     c.render.ensures.counted_prefix
+
+pub returns-clause-damage : goal.returns-clause-damage
+returns-clause-damage g c =
+    let same : c.self.inside.plan ≡ c.args.self.now.plan = ap (λ (r : RunOf). r.plan) c.self.view_is in
+    subst (λ (p : PlanOf). IfErr c.render.result (IsRefusalWithin (g.P.Store.bytes c.args.spool.now) 0 (cell_count (result_shape p)))) same
+    c.render.ensures.damage
 
 pub invariant_of-self : goal.invariant_of-self
 invariant_of-self g c =
