@@ -1,5 +1,5 @@
 -- The laws of the texts of cubes.
-use Rattle.std.proofs.Common.{ℕ, ◌≤◌, ◌^◌, length, sym, ◌∙◌, arith}
+use Rattle.std.proofs.Common.{◌≤◌, ◌^◌, length, ◌∙◌, arith}
 use Rattle.oe_dims.proofs.CubeLemmas.{length-tuples}
 use Rattle.oe_dims.proofs.ShapeLemmas.{cell_count_within}
 use Rattle.oe_render.specs.Laws.{CountsAreExact, TextsAreShort, TextsAreUtf8}

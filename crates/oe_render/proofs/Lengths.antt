@@ -1,6 +1,6 @@
 -- How many bytes the text of a cube has at most.
-use Rattle.std.proofs.Common.{◌≡◌, ◌≢◌, ℕ, suc, ◌+◌, ◌*◌, ◌<◌, ◌≤◌, ◌^◌, ◌==◌, ◌&&◌, nat_le, ℤ, pos, negsuc, neg_ℤ, unsigned_abs, List, [], ◌∷◌, ◌++◌, length, map, codes, decimal, Bool, true, false, Option, Some, None, is_some, refl, ap, sym, ◌∙◌, subst, arith}
-use Rattle.std.specs.Prelude.{⊤, if◌then◌else◌}
+use Rattle.std.proofs.Common.{◌≡◌, ℕ, suc, ◌+◌, ◌*◌, ◌<◌, ◌≤◌, ◌^◌, ◌==◌, ◌&&◌, nat_le, ℤ, pos, negsuc, neg_ℤ, unsigned_abs, List, [], ◌∷◌, ◌++◌, length, map, codes, decimal, Bool, true, false, Option, Some, None, is_some, refl, arith}
+use Rattle.std.specs.Prelude.{if◌then◌else◌}
 use Rattle.std.specs.Fmt.{signed_decimal}
 use Rattle.std.specs.List.{filter_map, cons_option, list_all}
 use Rattle.std.proofs.lemmas.Bool.{and_parts, leb-true}
@@ -8,16 +8,16 @@ use Rattle.std.proofs.lemmas.Fmt.{length-decimal-le}
 use Rattle.std.proofs.lemmas.List.{length-append}
 use Rattle.oe_cell.specs.Cells.{IsCell}
 use Rattle.oe_cell.specs.Fraction.{Fraction, IsNumber}
-use Rattle.oe_cell.specs.Spelling.{cell_text, number_text}
+use Rattle.oe_cell.specs.Spelling.{cell_text}
 use Rattle.oe_cell.specs.declared.cell.Cell.{Cell}
 use Rattle.oe_cell.specs.declared.cell.Cell.TheVariants.{Empty, Flag, Number, Over}
-use Rattle.oe_dims.specs.Dimensions.{Dimensions, IsShape, all_between, all_kinds, farthest_coordinate, number_labels, band_names, label_count}
+use Rattle.oe_dims.specs.Dimensions.{Dimensions, IsShape, all_kinds, farthest_coordinate, number_labels, band_names, label_count}
 use Rattle.oe_dims.specs.Instant.{instant_text}
 use Rattle.oe_dims.specs.Names.{is_name, is_name_byte}
 use Rattle.oe_dims.specs.declared.kind.Kind.{Kind}
 use Rattle.oe_dims.specs.declared.kind.Kind.TheVariants.{Time, Bands, Y, X}
 use Rattle.oe_dims.proofs.ShapeLemmas.{bands_are_names, names_within, numbers_within, x_in_range, y_in_range}
-use Rattle.oe_render.specs.Text.{listed_text, quoted, label_texts, reference_system, dimension_head, dimension_text, present_text, head_text, cube_text}
+use Rattle.oe_render.specs.Text.{listed_text, quoted, label_texts, reference_system, dimension_head, dimension_text, present_text, cube_text}
 use Rattle.oe_render.proofs.Spells.{AreFit, are_near, is_between, near, time_text}
 use Rattle.oe_render.proofs.WrittenCube.{epsg_of_shape}
 
@@ -83,7 +83,7 @@ name_short name h =
 names_total : (names : List (List ℕ)) → list_all is_name names ≡ true → total (map quoted names) ≤ 70 * length names
 names_total [] h = omega arith
 names_total (name ∷ names) h =
-    let parts = and_parts _ _ h in
+    let parts = and_parts (is_name name) (list_all is_name names) h in
     omega (arith, quoted_length name, name_short name parts.0, names_total names parts.1)
 
 coordinates_total : (labels : List ℤ) → are_near labels ≡ true → total (map signed_decimal labels) ≤ 70 * length labels
