@@ -15,6 +15,9 @@
 //! | `reopen` | the book is opened after a stop |
 //! | `keeper CALLS -`, `keeper CALLS N kept`, `keeper CALLS N lost` | a keeper in memory whose calls of these numbers fail (`-` for none), and which stops in the call N, where it keeps or loses what is committed, is asked to keep two stored processes and to load the book |
 //! | `entry TEXT` | reads the text as the entry of the job j-3, and writes the entry of that job |
+//! | `running`, `next`, `busy` | the job that runs, the queued job of least turn, whether a job is queued or runs |
+//! | `place USER ID` | where the user's job stands among the jobs, from 0 |
+//! | `assets TEXT` | the names of the assets of the graph that the text is |
 //!
 //! An answer to a command is its outcome, then the kind of the change, then the book: its next number, its jobs and its
 //! stored processes, with bars between them. An answer to an event or to `reopen` has no outcome. `keeper` is answered
@@ -22,6 +25,7 @@
 //! crash leaves; `entry` by the job that was read and, behind a bar, the entry that is written of it, or by `none`.
 #![tactic(auto)]
 
+mod asked;
 mod book;
 mod command;
 mod entry;
@@ -32,6 +36,7 @@ mod keeper;
 mod spell;
 mod words;
 
+use asked::{answer_assets, answer_busy, answer_job, answer_place};
 use book::{ask, begin, empty_book, happen, open};
 use entry::read_entry;
 use fault::Fault;
@@ -85,6 +90,11 @@ fn answer_line(
         "event" => happen(alloc, rest, book, answers),
         "reopen" => open(alloc, book, answers),
         "keeper" => keep_both(alloc, rest, answers),
+        "running" => answer_job(book.running(), answers),
+        "next" => answer_job(book.next_queued(), answers),
+        "busy" => answer_busy(book, answers),
+        "place" => answer_place(alloc, rest, book, answers),
+        "assets" => answer_assets(alloc, rest, answers),
         "entry" => read_entry(alloc, rest, answers),
         _ => ask(alloc, word, rest, book, answers),
     }
