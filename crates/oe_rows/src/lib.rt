@@ -3,8 +3,8 @@
 //!
 //! Nothing stands on this crate. The contracts of [`laws`] and [`laws_of_cells`] follow from those of the calls in their
 //! bodies. That a value may be shared by threads, or moved into one, is seen in a test that does so and is proved.
-//! Worked values stand in the crates beside this one: `oe_rows_shapes` has those of dimensions, windows and orders,
-//! `oe_rows_outside` those of objects in memory, `oe_rows_cells` those of cells, reducers and kernels.
+//! Worked values stand in the programs beside this one: `oe_rows_values` has those of cells, reducers, kernels,
+//! dimensions, windows and orders, `oe_rows_messages` those of objects in memory.
 #![tactic(auto)]
 
 pub mod laws;

@@ -1,0 +1,194 @@
+// Runs of graphs, in which calls of objects fail.
+ghost use Rattle.oe_plan.specs.Ranges.{IsWithinRanges};
+
+use crate::attempt::{Counts, Failing, attempt};
+use crate::checked::{Sizes, sizes_of};
+use crate::failures::spell_failures;
+use crate::gate::CountGate;
+use oe_lines::{Fault, end_line, first_word, parts_of, push, push_number};
+use std::alloc::Global;
+
+/// No call of an object has this number.
+pub(crate) const MOST_CALLS: u64 = 1000;
+
+/// What a run is carried out over.
+#[derive(Clone, Copy)]
+pub(crate) enum Object {
+    Input,
+    Collections,
+    Spool,
+    Output,
+}
+
+/// Appends the answers to lines about runs.
+pub(crate) fn answer_runs(alloc: Global, text: &str, answers: &mut Vec<u8>) -> Result<(), Fault> {
+    let mut cubes = Vec::new(alloc);
+    for line in text.lines() {
+        let (word, rest) = first_word(line);
+        match word {
+            "#" => {}
+            "catalogue" => cubes.clear(),
+            "cube" => cubes.push(first_word(rest))?,
+            _ => answer_run(alloc, word, rest, &cubes, answers)?,
+        }
+    }
+    Ok(())
+}
+
+/// Appends the answer of a line that evaluates a graph or calls `openeo`.
+fn answer_run(
+    alloc: Global,
+    word: &str,
+    rest: &str,
+    cubes: &[(&str, &str)],
+    answers: &mut Vec<u8>,
+) -> Result<(), Fault> {
+    let (words, input) = parts_of(rest, " < ")?;
+    match word {
+        "run" => spell_run(alloc, cubes, sizes_of(words)?, input, answers),
+        "resume" => spell_resumed(alloc, cubes, sizes_of(words)?, input, answers),
+        "fails" => spell_failures(alloc, cubes, words, input, answers),
+        _ => Err(Fault::Line),
+    }
+}
+
+/// Spells the number of chunks, the number of evaluations, how often the gate was entered for each chunk, the text and
+/// the bytes of the spool of a run in which no call fails.
+fn spell_run(
+    alloc: Global,
+    cubes: &[(&str, &str)],
+    sizes: Sizes,
+    graph: &str,
+    answers: &mut Vec<u8>,
+) -> Result<(), Fault>
+    requires { IsWithinRanges sizes.0 sizes.1 }
+{
+    let gate = CountGate::new(alloc)?;
+    let mut left = Vec::new(alloc);
+    let counts = attempt(alloc, cubes, sizes, graph, none_failing(), &gate, &mut left)?;
+    push_number("", counts.chunks, answers)?;
+    push_number(" ", counts.evaluations, answers)?;
+    spell_entries(&gate, counts.chunks, answers)?;
+    push(" ", answers)?;
+    answers.extend_from_slice(&left)?;
+    end_line(answers)
+}
+
+/// Spells behind a blank how often a gate was entered for each of so many chunks, with commas between the numbers.
+fn spell_entries(gate: &CountGate, chunks: u64, answers: &mut Vec<u8>) -> Result<(), Fault> {
+    for chunk in 0..chunks {
+        let Some(count) = gate.entered(chunk) else {
+            return Err(Fault::Line);
+        };
+        push_number(if chunk == 0 { " " } else { "," }, count, answers)?;
+    }
+    Ok(())
+}
+
+/// Spells of each object, for each of its calls in turn, the number of evaluations of the run in which that call failed.
+fn spell_resumed(
+    alloc: Global,
+    cubes: &[(&str, &str)],
+    sizes: Sizes,
+    graph: &str,
+    answers: &mut Vec<u8>,
+) -> Result<(), Fault>
+    requires { IsWithinRanges sizes.0 sizes.1 }
+{
+    let mut whole = Vec::new(alloc);
+    let gate = CountGate::new(alloc)?;
+    attempt(
+        alloc,
+        cubes,
+        sizes,
+        graph,
+        none_failing(),
+        &gate,
+        &mut whole,
+    )?;
+    for object in [Object::Collections, Object::Spool, Object::Output] {
+        spell_calls(alloc, cubes, sizes, graph, object, &whole, answers)?;
+    }
+    end_line(answers)
+}
+
+/// Spells the same of one object. `whole` is what a run leaves in which no call fails.
+fn spell_calls(
+    alloc: Global,
+    cubes: &[(&str, &str)],
+    sizes: Sizes,
+    graph: &str,
+    object: Object,
+    whole: &[u8],
+    answers: &mut Vec<u8>,
+) -> Result<(), Fault>
+    requires { IsWithinRanges sizes.0 sizes.1 }
+{
+    push(object_word(object), answers)?;
+    for number in 0..MOST_CALLS {
+        let calls = [number];
+        let failing = failing_of(object, &calls);
+        let gate = CountGate::new(alloc)?;
+        let mut left = Vec::new(alloc);
+        let counts = attempt(alloc, cubes, sizes, graph, failing, &gate, &mut left)?;
+        if counts.refusals == 0 {
+            break;
+        }
+        spell_resumption(counts, &left, whole, answers)?;
+    }
+    Ok(())
+}
+
+fn object_word(object: Object) -> &'static str {
+    match object {
+        Object::Input => "input",
+        Object::Collections => "reads",
+        Object::Spool => " spool",
+        Object::Output => " writes",
+    }
+}
+
+/// Spells the number of evaluations, and `?` where a run left others records or another text.
+fn spell_resumption(
+    counts: Counts,
+    left: &[u8],
+    whole: &[u8],
+    answers: &mut Vec<u8>,
+) -> Result<(), Fault> {
+    push_number(" ", counts.evaluations, answers)?;
+    if left != whole {
+        answers.push(b'?')?;
+    }
+    Ok(())
+}
+
+pub(crate) fn none_failing<'a>() -> Failing<'a> {
+    Failing {
+        input: &[],
+        reads: &[],
+        spool: &[],
+        writes: &[],
+    }
+}
+
+/// These calls of an object.
+pub(crate) fn failing_of(object: Object, calls: &[u64]) -> Failing<'_> {
+    match object {
+        Object::Input => Failing {
+            input: calls,
+            ..none_failing()
+        },
+        Object::Collections => Failing {
+            reads: calls,
+            ..none_failing()
+        },
+        Object::Spool => Failing {
+            spool: calls,
+            ..none_failing()
+        },
+        Object::Output => Failing {
+            writes: calls,
+            ..none_failing()
+        },
+    }
+}

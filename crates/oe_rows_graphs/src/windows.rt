@@ -1,0 +1,45 @@
+// The answers to lines about the windows of steps.
+use oe_lines::{Fault, push_number, push_window, window_of};
+use oe_order::order;
+use oe_plan::windows_of;
+use oe_shape::Checked;
+use oe_window::{Window, holds, whole};
+use std::alloc::Global;
+use std::thread::{self, Threads};
+
+/// Spells the windows of all steps for a chunk.
+pub(crate) fn spell_windows(
+    rt: &impl Threads,
+    alloc: Global,
+    checked: Checked,
+    words: &str,
+    answers: &mut Vec<u8>,
+) -> Result<(), Fault> {
+    let windows = windows_for(rt, alloc, &checked, &window_of(words)?, answers)?;
+    for window in &windows {
+        push_window(" | ", window, answers)?;
+    }
+    Ok(())
+}
+
+/// The windows of the steps for a chunk that lies in the result and is not empty.
+fn windows_for(
+    rt: &impl Threads,
+    alloc: Global,
+    checked: &Checked,
+    chunk: &Window,
+    answers: &mut Vec<u8>,
+) -> Result<Vec<Window>, Fault> {
+    // There are fewer than 2^32 nodes, since their number is a u32.
+    let _count = checked.nodes();
+    let steps = order(alloc, checked.links(), checked.result())?;
+    let (count, width) = thread::join(rt, || steps.steps().len(), || steps.width());
+    push_number("steps ", count, answers)?;
+    push_number(" width ", width, answers)?;
+    if chunk.is_empty() || !holds(&whole(checked.shape(checked.result())), chunk) {
+        return Err(Fault::Line);
+    }
+    let mut windows = vec![in alloc; *chunk; steps.steps().len()]?;
+    windows_of(checked, &steps, chunk, &mut windows);
+    Ok(windows)
+}

@@ -1,0 +1,50 @@
+// What is asked of a book, and of the graph of a job.
+use oe_book::{asset_ids, asset_name};
+use oe_dims::Text;
+use oe_graph::read_graph;
+use oe_jobs::{Book, Job};
+use oe_lines::{Fault, end_line, first_word, push, push_number};
+use std::alloc::Global;
+
+/// Appends the id of a job, or `none`.
+pub(crate) fn answer_job(job: Option<&Job>, answers: &mut Vec<u8>) -> Result<(), Fault> {
+    match job {
+        Some(job) => push(job.id.as_str(), answers)?,
+        None => push("none", answers)?,
+    }
+    end_line(answers)
+}
+
+/// Appends whether a job is queued or runs.
+pub(crate) fn answer_busy(book: &Book, answers: &mut Vec<u8>) -> Result<(), Fault> {
+    push(if book.is_busy() { "yes\n" } else { "no\n" }, answers)
+}
+
+/// Appends where the user's job of an id stands, or `none`.
+pub(crate) fn answer_place(
+    alloc: Global,
+    line: &str,
+    book: &Book,
+    answers: &mut Vec<u8>,
+) -> Result<(), Fault> {
+    let (user, id) = first_word(line);
+    match book.find(&Text::of(alloc, user)?, &Text::of(alloc, id)?) {
+        Some(index) => push_number("", index, answers)?,
+        None => push("none", answers)?,
+    }
+    end_line(answers)
+}
+
+/// Appends the names of the assets of a graph, each behind a blank, or `none` where the text is no graph.
+pub(crate) fn answer_assets(alloc: Global, text: &str, answers: &mut Vec<u8>) -> Result<(), Fault> {
+    match read_graph(alloc, text.as_bytes()) {
+        Ok(graph) => {
+            for id in &asset_ids(alloc, &graph)? {
+                push(" ", answers)?;
+                push(asset_name(alloc, id)?.as_str(), answers)?;
+            }
+        }
+        Err(_) => push(" none", answers)?,
+    }
+    end_line(answers)
+}

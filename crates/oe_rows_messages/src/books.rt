@@ -1,0 +1,123 @@
+// Commands and events on a book of jobs, and the entries that are kept of them.
+use crate::asked::{answer_assets, answer_busy, answer_job, answer_place};
+use crate::commands::command_of;
+use crate::events::change_of;
+use crate::jobs::add_job;
+use crate::keepers::keep_both;
+use crate::spelling::{change_word, outcome_word, spell_book, spell_job};
+use oe_dims::Text;
+use oe_jobs::{Book, Change, Verdict, decide, reopen};
+use oe_keeper::{job_text, read_job};
+use oe_lines::{Fault, first_word, number_of, push, push_all};
+use std::alloc::Global;
+
+/// When commands are given.
+const ASKED: i64 = 50;
+
+/// Appends the answers to lines about jobs.
+pub(crate) fn answer_jobs(alloc: Global, text: &str, answers: &mut Vec<u8>) -> Result<(), Fault> {
+    let mut book = empty_book(alloc, 1);
+    for line in text.lines() {
+        let (word, rest) = first_word(line);
+        answer_line(alloc, word, rest, &mut book, answers)?;
+    }
+    Ok(())
+}
+
+/// Appends the answer of a line that begins with this word.
+fn answer_line(
+    alloc: Global,
+    word: &str,
+    rest: &str,
+    book: &mut Book,
+    answers: &mut Vec<u8>,
+) -> Result<(), Fault> {
+    match word {
+        "#" => Ok(()),
+        "book" => begin(alloc, rest, book),
+        "job" => add_job(alloc, rest, &mut book.jobs),
+        "event" => answer_change(change_of(alloc, rest, book)?, book, answers),
+        "reopen" => answer_change(reopen(alloc, book)?, book, answers),
+        "keeper" => keep_both(alloc, rest, answers),
+        "entry" => read_entry(alloc, rest, answers),
+        "running" => answer_job(book.running(), answers),
+        "next" => answer_job(book.next_queued(), answers),
+        "busy" => answer_busy(book, answers),
+        "place" => answer_place(alloc, rest, book, answers),
+        "assets" => answer_assets(alloc, rest, answers),
+        _ => ask(alloc, word, rest, book, answers),
+    }
+}
+
+/// Begins a book without jobs and stored processes, and with this next number.
+fn begin(alloc: Global, next: &str, book: &mut Book) -> Result<(), Fault> {
+    *book = empty_book(alloc, number_of(next)?);
+    Ok(())
+}
+
+fn empty_book(alloc: Global, next: u64) -> Book {
+    Book {
+        next,
+        jobs: Vec::new(alloc),
+        processes: Vec::new(alloc),
+    }
+}
+
+/// Does a user's command, and appends what is answered, the change and the book after it.
+fn ask(
+    alloc: Global,
+    user: &str,
+    line: &str,
+    book: &mut Book,
+    answers: &mut Vec<u8>,
+) -> Result<(), Fault> {
+    let verdict = verdict_on(alloc, user, line, book)?;
+    answer_verdict(verdict, book, answers)
+}
+
+fn verdict_on(alloc: Global, user: &str, line: &str, book: &Book) -> Result<Verdict, Fault> {
+    let command = command_of(alloc, line)?;
+    let user = Text::of(alloc, user)?;
+    Ok(decide(alloc, book, &user, &command, ASKED)?)
+}
+
+fn answer_verdict(verdict: Verdict, book: &mut Book, answers: &mut Vec<u8>) -> Result<(), Fault> {
+    push_all(&[outcome_word(&verdict.outcome), " "], answers)?;
+    let Verdict { change, outcome: _ } = verdict;
+    answer_change(change, book, answers)
+}
+
+/// Makes a change, and appends which it was and the book after it.
+fn answer_change(
+    change: Option<Change>,
+    book: &mut Book,
+    answers: &mut Vec<u8>,
+) -> Result<(), Fault> {
+    push(change_word(&change), answers)?;
+    install(change, book)?;
+    spell_book(book, answers)
+}
+
+fn install(change: Option<Change>, book: &mut Book) -> Result<(), Fault> {
+    match change {
+        Some(change) => {
+            book.ready(&change)?;
+            book.install(change);
+            Ok(())
+        }
+        None => Ok(()),
+    }
+}
+
+/// Reads a text as the entry of the job j-3. Appends that job and, behind a bar, the entry that is written of it, or
+/// `none` where the text is no entry.
+fn read_entry(alloc: Global, text: &str, answers: &mut Vec<u8>) -> Result<(), Fault> {
+    let id = Text::of(alloc, "j-3")?;
+    match read_job(alloc, &id, text.as_bytes())? {
+        Some(job) => {
+            spell_job(&job, answers)?;
+            push_all(&[" | ", job_text(alloc, &job)?.as_str(), "\n"], answers)
+        }
+        None => push("none\n", answers),
+    }
+}

@@ -1,0 +1,112 @@
+// Calls of a client.
+use crate::bytes::{push_bytes, spell_part};
+use crate::links::{Links, peer_link, spell_end};
+use crate::streams::sink_of;
+use crate::writing::{push_body, set_text};
+use oe_client::{
+    ClientCommand, ClientFail, client_call, client_command, find_verb, is_argument_of,
+};
+use oe_dims::Text;
+use oe_lines::{Fault, first_word, push, push_number};
+use std::alloc::Global;
+
+/// The host that requests are written to.
+const HOST: &str = "example.org:80";
+
+/// How many bytes the output has room for.
+const ROOM: &str = "65535";
+
+/// A call as the line spells it.
+#[derive(Clone, Copy)]
+struct Call<'a> {
+    /// The writes of the output that fail.
+    failing: &'a str,
+    verb: &'a str,
+    argument: &'a str,
+    token: &'a str,
+    input: &'a str,
+    /// The bytes of the peer.
+    response: &'a str,
+}
+
+/// Makes the call that `FAILING VERB ARGUMENT TOKEN INPUT RESPONSE` spell, and appends what was sent, the answer, and what
+/// the output holds.
+pub(crate) fn answer_call(
+    alloc: Global,
+    links: Links<'_>,
+    rest: &str,
+    answers: &mut Vec<u8>,
+) -> Result<(), Fault> {
+    let call = call_of(rest);
+    match command_of(alloc, call)? {
+        Some(command) => make_call(alloc, links, call, &command, answers),
+        None => push("no call\n", answers),
+    }
+}
+
+fn call_of(rest: &str) -> Call<'_> {
+    let (failing, rest) = first_word(rest);
+    let (verb, rest) = first_word(rest);
+    let (argument, rest) = first_word(rest);
+    let (token, rest) = first_word(rest);
+    let (input, response) = first_word(rest);
+    Call {
+        failing,
+        verb,
+        argument,
+        token,
+        input,
+        response,
+    }
+}
+
+/// The request of the call, `None` where no verb has the word, or the argument does not stand behind it.
+fn command_of(alloc: Global, call: Call<'_>) -> Result<Option<ClientCommand>, Fault> {
+    let Some(verb) = find_verb(call.verb) else {
+        return Ok(None);
+    };
+    let mut argument = None;
+    set_text(alloc, call.argument, &mut argument)?;
+    if !is_argument_of(verb.3, argument.as_ref()) {
+        return Ok(None);
+    }
+    let mut token = None;
+    set_text(alloc, call.token, &mut token)?;
+    let mut input = Vec::new(alloc);
+    push_body(alloc, call.input, &mut input)?;
+    let host = Text::of(alloc, HOST)?;
+    let command = client_command(alloc, verb, argument.as_ref(), token.as_ref(), host, input)?;
+    Ok(Some(command))
+}
+
+fn make_call(
+    alloc: Global,
+    links: Links<'_>,
+    call: Call<'_>,
+    command: &ClientCommand,
+    answers: &mut Vec<u8>,
+) -> Result<(), Fault> {
+    let mut response = Vec::new(alloc);
+    push_bytes(alloc, call.response, &mut response)?;
+    let mut link = peer_link(alloc, response, links)?;
+    let mut out = sink_of(alloc, ROOM, call.failing)?;
+    let outcome = client_call(alloc, command, &mut link, &mut out);
+    spell_part("sent ", link.written(), answers)?;
+    spell_outcome(&outcome, answers)?;
+    spell_part(" out ", out.bytes(), answers)?;
+    spell_end(&link, answers)
+}
+
+fn spell_outcome(outcome: &Result<(), ClientFail>, answers: &mut Vec<u8>) -> Result<(), Fault> {
+    match outcome {
+        Ok(()) => push(" done", answers),
+        Err(ClientFail::LinkFailed) => push(" LinkFailed", answers),
+        Err(ClientFail::PeerInvalid) => push(" PeerInvalid", answers),
+        Err(ClientFail::Refused { status, body }) => {
+            push_number(" Refused ", *status, answers)?;
+            spell_part(" ", body, answers)
+        }
+        Err(ClientFail::SinkFailed) => push(" SinkFailed", answers),
+        Err(ClientFail::OutOfMemory) => Err(Fault::OutOfMemory),
+    }
+}

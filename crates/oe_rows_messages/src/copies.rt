@@ -1,0 +1,121 @@
+// Copies of a source to a sink, which hand faults of both on.
+ghost use Rattle.std.specs.Prelude.{◌≡◌, ◌≤◌, ℕ, List, length, IsTrue, IfOk, IfSome, OnOk, []};
+ghost use Rattle.oe_outside.specs.Faults.{HasCauseOf};
+ghost use Rattle.oe_outside.specs.Visible.{Gave, Appends};
+
+use crate::objects::{WORDS, count_of, end_faults, spell_bytes};
+use crate::streams::{sink_of, source_of};
+use oe_lines::{Fault, number_of, push, push_number};
+use oe_outside::{CountSink, MemorySink, MemorySource, Sink, Source};
+use std::alloc::Global;
+
+/// Why a copy stopped early.
+#[derive(Clone, Copy)]
+enum Stopped {
+    Source,
+    Sink,
+}
+
+/// Copies what a source has left to a sink, in at most so many rounds, and answers whether the end was reached.
+fn copy<S: Source, K: Sink>(
+    source: &mut S,
+    sink: &mut K,
+    buffer: &mut [u8],
+    rounds: u64,
+) -> Result<bool, Stopped>
+    requires { 1 ≤ length buffer.old }
+    ensures source_fault { HasCauseOf Stopped.Source
+        (S.faults source.old) (S.faults source.new) result }
+    ensures sink_fault { HasCauseOf Stopped.Sink (K.faults sink.old) (K.faults sink.new) result }
+    ensures moved { OnOk result ((given : List ℕ)
+        × Gave (S.left source.old) given (S.left source.new)
+        × Appends (K.written sink.old) given (K.written sink.new)) }
+    ensures ended { IfOk result (λ end. IsTrue end
+        → IfSome (S.left source.new) (λ rest. rest ≡ [])) }
+{
+    for _round in 0..rounds {
+        let Ok(count) = source.read(buffer) else {
+            return Err(Stopped::Source);
+        };
+        if count == 0 {
+            return Ok(true);
+        }
+        let Ok(()) = sink.write(&buffer[..count]) else {
+            return Err(Stopped::Sink);
+        };
+    }
+    Ok(false)
+}
+
+/// Copies by a buffer of this room, and spells what the copy answered.
+fn spell_copy<S: Source, K: Sink>(
+    source: &mut S,
+    sink: &mut K,
+    room: usize,
+    rounds: u64,
+    answers: &mut Vec<u8>,
+) -> Result<(), Fault> {
+    let mut buffer = [b'-'; 8];
+    let word = match copy(source, sink, &mut buffer[..room.max(1).min(8)], rounds) {
+        Ok(true) => "end |",
+        Ok(false) => "more |",
+        Err(Stopped::Source) => "Source |",
+        Err(Stopped::Sink) => "Sink |",
+    };
+    push(word, answers)
+}
+
+pub(crate) fn answer_copy(
+    alloc: Global,
+    words: &[&str; WORDS],
+    answers: &mut Vec<u8>,
+) -> Result<(), Fault> {
+    let mut source = source_of(alloc, words[1], words[2])?;
+    let mut sink = sink_of(alloc, words[3], words[4])?;
+    copy_times(
+        &mut source,
+        &mut sink,
+        count_of(words[5])?,
+        words[6],
+        answers,
+    )
+}
+
+fn copy_times(
+    source: &mut MemorySource,
+    sink: &mut MemorySink,
+    room: usize,
+    rounds: &str,
+    answers: &mut Vec<u8>,
+) -> Result<(), Fault> {
+    for most in rounds.split(',') {
+        spell_copy(source, sink, room, number_of(most)?, answers)?;
+        spell_bytes(sink.bytes(), answers)?;
+        push_number(" ", source.faults(), answers)?;
+        end_faults(sink.faults(), answers)?;
+    }
+    Ok(())
+}
+
+pub(crate) fn answer_count(
+    alloc: Global,
+    words: &[&str; WORDS],
+    answers: &mut Vec<u8>,
+) -> Result<(), Fault> {
+    let mut source = source_of(alloc, words[1], "-")?;
+    count_times(&mut source, count_of(words[2])?, words[3], answers)
+}
+
+fn count_times(
+    source: &mut MemorySource,
+    room: usize,
+    rounds: &str,
+    answers: &mut Vec<u8>,
+) -> Result<(), Fault> {
+    let mut sink = CountSink::new();
+    for most in rounds.split(',') {
+        spell_copy(source, &mut sink, room, number_of(most)?, answers)?;
+        end_faults(sink.count(), answers)?;
+    }
+    Ok(())
+}

@@ -1,0 +1,110 @@
+// Doors by which connections in memory come.
+ghost use Rattle.std.specs.Prelude.{All, IfOk};
+ghost use Rattle.oe_outside.specs.ScriptDoors.{IsSound};
+
+use crate::objects::{WORDS, spell_bytes};
+use crate::streams::link_of;
+use oe_lines::{Fault, end_line, numbers_of, push, push_number, words_of};
+use oe_outside::{Door, Failed, Link, MemoryLink, Next, ScriptDoor};
+use std::alloc::Global;
+
+/// How many written bytes a connection has room for.
+const ROOM: usize = 9;
+
+/// Begins with a connection in hand that the door did not give.
+pub(crate) fn answer_door(
+    alloc: Global,
+    words: &[&str; WORDS],
+    calls: &str,
+    answers: &mut Vec<u8>,
+) -> Result<(), Fault> {
+    let mut door = door_of(alloc, words)?;
+    let mut held = Some(link_of(alloc, "-", 1, ROOM, "-")?);
+    for call in calls.split("; ") {
+        let words = words_of(call);
+        push(
+            take_step(&mut door, &mut held, words[0], words[1].as_bytes())?,
+            answers,
+        )?;
+        spell_door(&door, answers)?;
+    }
+    Ok(())
+}
+
+fn door_of(alloc: Global, words: &[&str; WORDS]) -> Result<ScriptDoor, Fault> {
+    let failing = numbers_of(alloc, words[1])?;
+    let coming = links_of(alloc, words[2])?;
+    let dialled = links_of(alloc, words[3])?;
+    Ok(ScriptDoor::new(alloc, coming, dialled, failing)?)
+}
+
+/// A connection for each word, which gives nothing and whose call of that number fails.
+fn links_of(alloc: Global, calls: &str) -> Result<Vec<MemoryLink>, Fault>
+    ensures { IfOk result (λ links. All IsSound links.items) }
+{
+    let mut links = Vec::new(alloc);
+    if calls == "none" {
+        return Ok(links);
+    }
+    for call in calls.split(',') {
+        links.push(link_of(alloc, "-", 1, ROOM, call)?)?;
+    }
+    Ok(links)
+}
+
+/// Takes a step at a door with one connection in hand at most, through the bound.
+fn take_step<D: Door>(
+    door: &mut D,
+    held: &mut Option<D::Conn>,
+    step: &str,
+    mark: &[u8],
+) -> Result<&'static str, Fault>
+where
+    D::Conn: Drop,
+{
+    match step {
+        "next" => Ok(keep(door.next(false), held, mark)),
+        "busy" => Ok(keep(door.next(true), held, mark)),
+        "dial" => Ok(keep(dial(door), held, mark)),
+        "done" => {
+            if let Some(conn) = held.take() {
+                door.done(conn);
+            }
+            Ok("done")
+        }
+        _ => Err(Fault::Line),
+    }
+}
+
+fn dial<D: Door>(door: &mut D) -> Next<D::Conn> {
+    match door.dial("localhost", 80) {
+        Ok(conn) => Next::Conn(conn),
+        Err(Failed) => Next::Failed,
+    }
+}
+
+/// Writes the mark to a connection that came, and keeps it.
+fn keep<C: Link + Drop>(found: Next<C>, held: &mut Option<C>, mark: &[u8]) -> &'static str {
+    match found {
+        Next::Conn(mut conn) => {
+            let _ = Link::write(&mut conn, mark);
+            *held = Some(conn);
+            "Conn"
+        }
+        Next::Nobody => "Nobody",
+        Next::Closed => "Closed",
+        Next::Failed => "Failed",
+    }
+}
+
+/// Ends a line with the faults of a door, and what was written to the connections that were given back.
+fn spell_door(door: &ScriptDoor, answers: &mut Vec<u8>) -> Result<(), Fault> {
+    push(" |", answers)?;
+    push_number(" ", door.faults(), answers)?;
+    push_number(" ", door.dial_faults(), answers)?;
+    push_number(" ", door.link_faults(), answers)?;
+    for link in door.given_back() {
+        spell_bytes(link.written(), answers)?;
+    }
+    end_line(answers)
+}

@@ -1,0 +1,153 @@
+//! HTTP messages and a client's calls, the job book and its keepers, and objects in memory.
+//!
+//! The input has parts, each of which begins with a line `== NAME`, and a line for each step; a line that begins with
+//! `#` says what the next ones show, and has no answer. `oe_lines` says how words are spelled.
+//!
+//! **`messages`**: HTTP messages that are read from links in memory and written to them, whose answers were found by hand
+//! from RFC 9112, RFC 9110 and the limits of this profile. Each line but those of links has lines of answers.
+//!
+//! | Line | What it does |
+//! |---|---|
+//! | `links PIECES CALLS` | says how the links of the lines behind it give their bytes: sizes with commas between them, one link for each, which gives at most so many bytes in a read; and which of their reads and writes fail, counted from 0 |
+//! | `texts all` | prints the text of each refusal of a request, then of each refusal of a response, one a line |
+//! | `request BYTES` | reads a request from links that give these bytes and end |
+//! | `response BYTES` | reads a response from them |
+//! | `reply STATUS TYPE LOCATION IDENTIFIER BODY` | writes a reply; TYPE is `json` or `-` |
+//! | `head STATUS LENGTH` | writes the head of a reply whose body of so many bytes follows |
+//! | `written HOST METHOD PATH QUERY AUTHORIZATION BODY` | writes a request to a host |
+//! | `call FAILING VERB ARGUMENT TOKEN INPUT RESPONSE` | sends the request of a client's verb to a peer that gives this response, to an output whose writes of these numbers fail |
+//!
+//! Bytes are spelled as they are, with `\r` and `\n` for the bytes of a line end, `\HH` for any byte in two hexadecimal
+//! digits, and bars between parts, of which one as `N*BYTES` has its bytes N times. In the lines that write, the words
+//! have no blanks (a blank is `\20`), and `-` stands for none.
+//!
+//! An answer is a refusal, or all that was read, or the bytes that were written, behind `Failed` where a write failed;
+//! then the number of the link's calls that failed, if any did. Of several links each has a line where its answer
+//! differs from that of the one before it, so one line says that all agree. Over 16 equal bytes side by side are
+//! spelled as `|N*B|`.
+//!
+//! **`jobs`**: the job book and its keepers, whose answers were written from the table of statuses of the openEO API's
+//! batch jobs and from the project's own rules, by no code of these crates.
+//!
+//! The lines `book` and `job` have no answer, and every other line has one.
+//!
+//! | Line | What it does |
+//! |---|---|
+//! | `book NEXT` | begins a book without jobs and stored processes whose next number is this |
+//! | `job ID USER STATUS LEVEL COUNT` | the book gets a job, created at 10 and changed at 20, with the turn 3, an entry `old` in its logs and so many assets `a.json` |
+//! | `USER create LEVEL`, `USER create LEVEL TITLE` | the user creates a job at 50 |
+//! | `USER patch ID`, with `level L`, `title T`, `description D` or `null` behind it | the user patches a job at 50; `null` takes both texts away |
+//! | `USER queue ID`, `cancel`, `delete` | the user queues, cancels or deletes a job at 50 |
+//! | `USER store ID`, `forget` | the user stores or deletes a process |
+//! | `event ID start`, `asset NAME`, `finish`, `fail CODE` | the event comes to a job at 60, where it may come |
+//! | `reopen` | the book is opened after a stop |
+//! | `keeper CALLS -`, `keeper CALLS N kept`, `keeper CALLS N lost` | a keeper in memory whose calls of these numbers fail (`-` for none), and which stops in the call N, where it keeps or loses what is committed, is asked to keep two stored processes and to load the book |
+//! | `running`, `next`, `busy` | the job that runs, the queued job of least turn, whether a job is queued or runs |
+//! | `place USER ID` | where the user's job stands among the jobs, from 0 |
+//! | `assets TEXT` | the names of the assets of the graph that the text is |
+//! | `entry TEXT` | reads the text as the entry of the job j-3, and writes the entry of that job |
+//!
+//! An answer to a command is its outcome, then the kind of the change, then the book: its next number, its jobs and its
+//! stored processes, with bars between them. An answer to an event or to `reopen` has no outcome. `keeper` is answered
+//! by what the two processes and the load are answered, by how many calls failed, and by the stored processes that a
+//! crash leaves; `entry` by the job that was read and, behind a bar, the entry that is written of it, or by `none`.
+//!
+//! **`objects`**: calls of the objects in memory, some of which fail by a script, and of small callers of them, whose
+//! answers were found by hand from what the objects promise. A line has an object, and the calls on it behind semicolons;
+//! the output has a line for each call: for each number of rounds of a copy, two of a clock and three of the texts.
+//!
+//! | Line | What it makes, and its calls |
+//! |---|---|
+//! | `copy BYTES CALLS CAPACITY CALLS ROOM ROUNDS` | a source and a sink to which it is copied by a buffer with ROOM |
+//! | `count BYTES ROOM ROUNDS` | a source and a sink that only counts, to which it is copied |
+//! | `source BYTES CALLS` | `read N`, `all LIMIT` |
+//! | `sink CAPACITY CALLS` | `write BYTES`, and by a buffer `send BYTES`, `long N`, which sends so many `x`, `flush` |
+//! | `counter` | a sink that only counts: the calls of a sink |
+//! | `bounded` | a sink with room for 1048577 bytes: the calls of a sink, and then its bytes are taken |
+//! | `over N` | nothing: `over` where a text of N bytes has more than 1048576, found by such a sink, else `within` |
+//! | `link BYTES PIECE CAPACITY CALLS` | `read N`, which gives PIECE bytes at most, and the calls of a sink |
+//! | `store BYTES CAPACITY CALLS` | `read AT N`, `fill AT N`, `write AT BYTES`, `length` |
+//! | `door CALLS LINKS DIALLED` | `next MARK`, `busy MARK`, `dial MARK`, `done` |
+//! | `clock SECONDS` | a clock that stands still, which is asked twice |
+//! | `texts` | nothing: the text of the fault is printed, and those of two refusals to read |
+//!
+//! CALLS has the numbers of the calls that fail, with commas between them. LINKS and DIALLED are `none`, or have for
+//! each connection the number of its one call that fails. ROUNDS has how many rounds each copy takes at most. `-` is no
+//! byte, and no number. Buffers have up to 8 bytes, and are full of `-` before a call.
+//!
+//! At a door a connection that comes is in hand from then on, and the mark, if there is one, is written to it; at first
+//! one is in hand that the door did not give.
+//!
+//! An answer is what the call answered, with the buffer of one that reads: of a copy `end` where the end was reached,
+//! `more` where it was not, or whose call failed; of `fill` `whole` or `short`. Behind a bar stands what the object
+//! has: of a source how many calls failed; of a sink that counts how many bytes; of one with room for a text `full` or
+//! `open`, and at the end how many bytes and the first of them; of any other sink, a link or a store
+//! how many bytes, the first 16 of them, with `.` for a zero, and how many calls failed; of a copy the bytes, and the
+//! faults of the source and of the sink; of a door the faults of `next`, of `dial` and of connections, and what was
+//! written to each connection that was given back.
+#![tactic(auto)]
+
+mod asked;
+mod books;
+mod bytes;
+mod client;
+mod clocks;
+mod commands;
+mod copies;
+mod counted;
+mod doors;
+mod events;
+mod jobs;
+mod keepers;
+mod links;
+mod messages;
+mod objects;
+mod reading;
+mod spelling;
+mod stores;
+mod streams;
+mod writing;
+
+use books::answer_jobs;
+use messages::answer_messages;
+use objects::answer_objects;
+use oe_lines::Fault;
+use std::alloc::Global;
+use std::io::{Read, Write};
+use std::process::ExitCode;
+
+fn main(rt: HostRuntime) -> ExitCode {
+    let alloc = rt.alloc();
+    let mut text = String::new(alloc);
+    if rt.stdin().read_to_string(&mut text).is_err() {
+        return ExitCode::from(5);
+    }
+    let mut answers = Vec::new(alloc);
+    if let Err(fault) = answer_parts(alloc, &text, &mut answers) {
+        return ExitCode::from(fault.status());
+    }
+    match rt.stdout().write_all(answers.as_slice()) {
+        Ok(()) => ExitCode::from(0),
+        Err(_) => ExitCode::from(8),
+    }
+}
+
+/// Appends the answers to all parts.
+fn answer_parts(alloc: Global, text: &str, answers: &mut Vec<u8>) -> Result<(), Fault> {
+    for part in text.split("== ") {
+        let (name, lines) = part.split_once('\n').unwrap_or((part, ""));
+        answer_part(alloc, name, lines, answers)?;
+    }
+    Ok(())
+}
+
+/// Appends the answers to the lines of a part, of which the first has no name and no lines.
+fn answer_part(alloc: Global, name: &str, lines: &str, answers: &mut Vec<u8>) -> Result<(), Fault> {
+    match name {
+        "" => Ok(()),
+        "messages" => answer_messages(alloc, lines, answers),
+        "jobs" => answer_jobs(alloc, lines, answers),
+        "objects" => answer_objects(alloc, lines, answers),
+        _ => Err(Fault::Line),
+    }
+}

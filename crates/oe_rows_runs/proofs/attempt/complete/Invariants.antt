@@ -1,8 +1,0 @@
-use Rattle.std.proofs.Common.{Some}
-use Rattle.oe_sources.specs.CatalogueRows.{rows_of}
-use Rattle.oe_rows_runs.proofs.Rounds.{IsBetweenRounds}
-use Rattle.oe_rows_runs.proofs.attempt.complete.Given as goal
-
-abbrev pub invariant-loop : goal.invariant-loop
-invariant-loop g l =
-    IsBetweenRounds l.run (rows_of (λ z. (goal.CubeSource-dyn g z).seen z.1) l.catalogue) (Some l.spool.bytes)

@@ -1,0 +1,239 @@
+// Kernels over planes: cell by cell, row by row, and as a block.
+ghost use Rattle.std.specs.Prelude.{◌≡◌, ◌<◌, ◌≤◌, ℕ, IsTrue};
+ghost use Rattle.oe_kernel.specs.Convolution.{CoversWindow, IsPlane, IsPositionIn};
+
+use crate::kernels::{border_of, kernel_of};
+use oe_cell::{Cell, Frac};
+use oe_kernel::{Border, Kernel, Plane, convolve_at, convolve_block, convolve_row};
+use oe_lines::{Fault, cells_of, first_word, frac_of, pair_of, parts_of, push_cells, push_word};
+use std::alloc::Global;
+
+/// The longest side of a plane.
+const LONGEST_SIDE: u32 = 65536;
+
+/// What a plane is weighed with. A null counts as `replace`.
+#[derive(Drop)]
+struct Weights {
+    kernel: Kernel,
+    border: Border,
+    factor: Frac,
+    replace: Frac,
+}
+
+/// The part that a word as `2..6,1..4` names, or the whole plane for `-`: its columns, from a first one to before an
+/// end, and its rows.
+fn part_of(word: &str, side_x: u32, side_y: u32) -> Result<[u32; 4], Fault> {
+    match word {
+        "-" => Ok([0, side_x, 0, side_y]),
+        _ => spans_of(word),
+    }
+}
+
+fn spans_of(word: &str) -> Result<[u32; 4], Fault> {
+    let (columns, rows) = parts_of(word, ",")?;
+    let (from_x, to_x) = pair_of(columns, "..")?;
+    let (from_y, to_y) = pair_of(rows, "..")?;
+    Ok([from_x, to_x, from_y, to_y])
+}
+
+/// The cells of a part of a plane, by each of the three calls.
+pub(crate) fn convolution(alloc: Global, words: &str, answer: &mut Vec<u8>) -> Result<(), Fault> {
+    let (kernel, rest) = first_word(words);
+    match kernel_of(alloc, kernel)? {
+        Ok(kernel) => weigh(alloc, kernel, rest, answer),
+        Err(_) => Err(Fault::Line),
+    }
+}
+
+fn weigh(alloc: Global, kernel: Kernel, words: &str, answer: &mut Vec<u8>) -> Result<(), Fault> {
+    let (border, rest) = first_word(words);
+    let (factor, rest) = first_word(rest);
+    let (border, factor, replace) = (border_of(border)?, frac_of(factor)?, Frac::whole(5));
+    let weights = Weights {
+        kernel,
+        border,
+        factor,
+        replace,
+    };
+    weigh_plane(alloc, &weights, rest, answer)
+}
+
+fn weigh_plane(
+    alloc: Global,
+    weights: &Weights,
+    words: &str,
+    answer: &mut Vec<u8>,
+) -> Result<(), Fault> {
+    let (sides, rest) = first_word(words);
+    let (held, rest) = first_word(rest);
+    let (part, cells) = first_word(rest);
+    let (side_x, side_y) = pair_of(sides, "x")?;
+    let held = part_of(held, side_x, side_y)?;
+    let part = part_of(part, side_x, side_y)?;
+    let cells = cells_of(alloc, cells)?;
+    let plane = Plane {
+        cells: &cells,
+        from_x: held[0],
+        to_x: held[1],
+        from_y: held[2],
+        to_y: held[3],
+        side_x,
+        side_y,
+    };
+    push_part(
+        alloc, weights, &plane, part[0], part[1], part[2], part[3], answer,
+    )
+}
+
+fn push_part(
+    alloc: Global,
+    weights: &Weights,
+    plane: &Plane,
+    from_x: u32,
+    to_x: u32,
+    from_y: u32,
+    to_y: u32,
+    answer: &mut Vec<u8>,
+) -> Result<(), Fault> {
+    push_cells(
+        &by_cell(alloc, weights, plane, from_x, to_x, from_y, to_y)?,
+        answer,
+    )?;
+    push_word("|", answer)?;
+    push_rows(alloc, weights, plane, from_x, to_x, from_y, to_y, answer)?;
+    push_word("|", answer)?;
+    push_cells(
+        &at_once(alloc, weights, plane, from_x, to_x, from_y, to_y)?,
+        answer,
+    )
+}
+
+/// Whether the plane holds the columns that the kernel needs for some.
+fn has_columns(kernel: &Kernel, border: &Border, plane: &Plane, from: u32, to: u32) -> bool
+    ensures some { IsTrue result → from < to }
+    ensures side { IsTrue result → to ≤ plane.now.side_x }
+    ensures covers { IsTrue result → (at : ℕ) → IsPositionIn from to at
+        → CoversWindow border.now at kernel.now.width plane.now.side_x plane.now.from_x
+        plane.now.to_x }
+{
+    if to <= from || plane.side_x < to || LONGEST_SIDE < plane.side_x {
+        return false;
+    }
+    let (first, end) = kernel.need_x(*border, plane.side_x, from, to);
+    plane.from_x <= first && end <= plane.to_x
+}
+
+/// Whether the plane holds the rows that the kernel needs for some.
+fn has_rows(kernel: &Kernel, border: &Border, plane: &Plane, from: u32, to: u32) -> bool
+    ensures some { IsTrue result → from < to }
+    ensures side { IsTrue result → to ≤ plane.now.side_y }
+    ensures covers { IsTrue result → (at : ℕ) → IsPositionIn from to at
+        → CoversWindow border.now at kernel.now.height plane.now.side_y plane.now.from_y
+        plane.now.to_y }
+{
+    if to <= from || plane.side_y < to || LONGEST_SIDE < plane.side_y {
+        return false;
+    }
+    let (first, end) = kernel.need_y(*border, plane.side_y, from, to);
+    plane.from_y <= first && end <= plane.to_y
+}
+
+fn by_cell(
+    alloc: Global,
+    weights: &Weights,
+    plane: &Plane,
+    from_x: u32,
+    to_x: u32,
+    from_y: u32,
+    to_y: u32,
+) -> Result<Vec<Cell>, Fault> {
+    let (kernel, border) = (&weights.kernel, &weights.border);
+    if !plane.is_valid()
+        || !has_columns(kernel, border, plane, from_x, to_x)
+        || !has_rows(kernel, border, plane, from_y, to_y)
+    {
+        return Err(Fault::Line);
+    }
+    let mut cells = Vec::new(alloc);
+    for y in from_y..to_y {
+        for x in from_x..to_x {
+            cells.push(convolve_at(
+                kernel,
+                weights.factor,
+                *border,
+                weights.replace,
+                plane,
+                x,
+                y,
+            ))?;
+        }
+    }
+    Ok(cells)
+}
+
+fn push_rows(
+    alloc: Global,
+    weights: &Weights,
+    plane: &Plane,
+    from_x: u32,
+    to_x: u32,
+    from_y: u32,
+    to_y: u32,
+    answer: &mut Vec<u8>,
+) -> Result<(), Fault> {
+    let (kernel, border) = (&weights.kernel, &weights.border);
+    if !plane.is_valid()
+        || !has_columns(kernel, border, plane, from_x, to_x)
+        || !has_rows(kernel, border, plane, from_y, to_y)
+    {
+        return Err(Fault::Line);
+    }
+    for y in from_y..to_y {
+        let mut row = vec![in alloc; Cell::Empty; (to_x - from_x) as usize]?;
+        convolve_row(
+            kernel,
+            weights.factor,
+            *border,
+            weights.replace,
+            plane,
+            from_x,
+            y,
+            &mut row,
+        );
+        push_cells(&row, answer)?;
+    }
+    Ok(())
+}
+
+fn at_once(
+    alloc: Global,
+    weights: &Weights,
+    plane: &Plane,
+    from_x: u32,
+    to_x: u32,
+    from_y: u32,
+    to_y: u32,
+) -> Result<Vec<Cell>, Fault> {
+    let (kernel, border) = (&weights.kernel, &weights.border);
+    if !plane.is_valid()
+        || !has_columns(kernel, border, plane, from_x, to_x)
+        || !has_rows(kernel, border, plane, from_y, to_y)
+    {
+        return Err(Fault::Line);
+    }
+    let (wide, high) = (to_x - from_x, to_y - from_y);
+    let mut block = vec![in alloc; Cell::Empty; high as usize * wide as usize]?;
+    convolve_block(
+        kernel,
+        weights.factor,
+        *border,
+        weights.replace,
+        plane,
+        from_x,
+        from_y,
+        high,
+        wide,
+        &mut block,
+    );
+    Ok(block)
+}
