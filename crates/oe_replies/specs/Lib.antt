@@ -1,0 +1,8 @@
+pub mod Words
+pub mod Json
+pub mod Codes
+pub mod Bodies
+pub mod Collections
+pub mod Jobs
+pub mod Logs
+pub mod Answers

@@ -1,0 +1,259 @@
+// Collections, with and without their dimensions.
+ghost use Rattle.std.specs.Prelude.{◌≡◌, [], ◌∷◌, IfOk, map};
+ghost use Rattle.std.specs.Option.{option_copied, option_map};
+ghost use Rattle.serde_json.specs.Data.{object};
+ghost use Rattle.serde_json.specs.View.{members_view, view};
+ghost use Rattle.serde_json.specs.Written.{compact_text};
+ghost use Rattle.oe_dims.specs.Dimensions.{number_labels};
+ghost use Rattle.oe_dims.specs.declared.kind.Kind.TheVariants as Kind;
+ghost use Rattle.oe_replies.specs.Collections as spec;
+ghost use Rattle.oe_replies.specs.Json.{list_data, moment_data, whole_data};
+
+use crate::json::{compact_body, empty_list, listing_json, put_where, single, str_json};
+use crate::moment::moment_json;
+use crate::root::text_values;
+use oe_dims::{Dims, DimsRow, Kind, Shape};
+use oe_memory::OutOfMemory;
+use serde_json::{Map, Value, put};
+use std::alloc::Global;
+
+/// The mounted collections, without their dimensions (openEO API, collections).
+///
+/// Refuses: out of memory.
+#[tactic(auto, using(crate::proofs::Floats::collections_whole))]
+pub fn collections_body(alloc: Global, dims: &Dims) -> Result<Vec<u8>, OutOfMemory>
+    ensures { IfOk result
+        (λ body. body.items ≡ compact_text (spec.collections_data dims.now.rows.items)) }
+{
+    let value = collections_json(alloc, &dims.rows)?;
+    compact_body(alloc, &value)
+}
+
+fn collections_json(alloc: Global, rows: &[DimsRow]) -> Result<Value, OutOfMemory>
+    ensures { IfOk result (λ v. view v ≡ spec.collections_data rows.now) }
+{
+    listing_json(alloc, "collections", row_values(alloc, rows)?)
+}
+
+fn row_values(alloc: Global, rows: &[DimsRow]) -> Result<Vec<Value>, OutOfMemory>
+    ensures { IfOk result (λ values. map view values.items
+        ≡ map (λ row. object (spec.collection_members row)) rows.now) }
+{
+    let mut values = Vec::with_capacity(alloc, rows.len())?;
+    for row in rows {
+        values.push(Value::Object(collection_map(alloc, row)?))?;
+    }
+    Ok(values)
+}
+
+/// A mounted collection with its dimensions (openEO API, collections).
+///
+/// Refuses: out of memory.
+#[tactic(auto, using(crate::proofs::Floats::collection_whole))]
+pub fn collection_body(alloc: Global, row: &DimsRow) -> Result<Vec<u8>, OutOfMemory>
+    ensures { IfOk result (λ body. body.items ≡ compact_text (spec.collection_data row.now)) }
+{
+    let value = collection_json(alloc, row)?;
+    compact_body(alloc, &value)
+}
+
+fn collection_json(alloc: Global, row: &DimsRow) -> Result<Value, OutOfMemory>
+    ensures { IfOk result (λ v. view v ≡ spec.collection_data row.now) }
+{
+    let mut entry = collection_map(alloc, row)?;
+    put(
+        &mut entry,
+        alloc,
+        "cube:dimensions",
+        dimensions_json(alloc, &row.shape)?,
+    )?;
+    Ok(Value::Object(entry))
+}
+
+/// The members of a collection but its dimensions.
+fn collection_map(alloc: Global, row: &DimsRow) -> Result<Map<String, Value>, OutOfMemory>
+    ensures { IfOk result (λ m. members_view m.entries ≡ spec.collection_members row.now) }
+{
+    let id = row.id.as_str();
+    let mut entry = Map::new(alloc);
+    put(&mut entry, alloc, "description", str_json(alloc, id)?)?;
+    put(&mut entry, alloc, "extent", extent_json(alloc, &row.shape)?)?;
+    put(&mut entry, alloc, "id", str_json(alloc, id)?)?;
+    put(
+        &mut entry,
+        alloc,
+        "license",
+        str_json(alloc, "proprietary")?,
+    )?;
+    put(&mut entry, alloc, "links", empty_list(alloc))?;
+    put(&mut entry, alloc, "stac_version", str_json(alloc, "1.0.0")?)?;
+    put(&mut entry, alloc, "type", str_json(alloc, "Collection")?)?;
+    Ok(entry)
+}
+
+fn extent_json(alloc: Global, shape: &Shape) -> Result<Value, OutOfMemory>
+    ensures { IfOk result (λ v. view v ≡ spec.extent_data shape.now) }
+{
+    let bbox = whole_earth(alloc)?;
+    let interval = list_of(alloc, instants_extent(alloc, shape)?)?;
+    let mut entry = Map::new(alloc);
+    put(&mut entry, alloc, "spatial", single(alloc, "bbox", bbox)?)?;
+    put(
+        &mut entry,
+        alloc,
+        "temporal",
+        single(alloc, "interval", interval)?,
+    )?;
+    Ok(Value::Object(entry))
+}
+
+/// The whole earth, in degrees.
+fn whole_earth(alloc: Global) -> Result<Value, OutOfMemory>
+    ensures { IfOk result (λ v. view v ≡ spec.whole_earth) }
+{
+    let mut bounds = Vec::with_capacity(alloc, 4)?;
+    bounds.push(Value::from(-180i64))?;
+    bounds.push(Value::from(-90i64))?;
+    bounds.push(Value::from(180i64))?;
+    bounds.push(Value::from(90i64))?;
+    list_of(alloc, Value::Array(bounds))
+}
+
+/// A list of one value.
+fn list_of(alloc: Global, value: Value) -> Result<Value, OutOfMemory>
+    ensures { IfOk result (λ v. view v ≡ list_data (view value ∷ [])) }
+{
+    let mut values = Vec::with_capacity(alloc, 1)?;
+    values.push(value)?;
+    Ok(Value::Array(values))
+}
+
+/// A list of two values.
+fn pair_json(alloc: Global, first: Value, second: Value) -> Result<Value, OutOfMemory>
+    ensures { IfOk result (λ v. view v ≡ spec.pair_data (view first) (view second)) }
+{
+    let mut values = Vec::with_capacity(alloc, 2)?;
+    values.push(first)?;
+    values.push(second)?;
+    Ok(Value::Array(values))
+}
+
+/// The dimensions of a shape, under their names.
+fn dimensions_json(alloc: Global, shape: &Shape) -> Result<Value, OutOfMemory>
+    ensures { IfOk result (λ v. view v ≡ spec.dimensions_data shape.now) }
+{
+    let bands = dimension_json(alloc, shape, Kind::Bands)?;
+    let t = dimension_json(alloc, shape, Kind::Time)?;
+    let x = dimension_json(alloc, shape, Kind::X)?;
+    let y = dimension_json(alloc, shape, Kind::Y)?;
+    let mut entry = Map::new(alloc);
+    put_where(&mut entry, alloc, "bands", bands)?;
+    put_where(&mut entry, alloc, "t", t)?;
+    put_where(&mut entry, alloc, "x", x)?;
+    put_where(&mut entry, alloc, "y", y)?;
+    Ok(Value::Object(entry))
+}
+
+/// A dimension, where the shape has it.
+fn dimension_json(alloc: Global, shape: &Shape, kind: Kind) -> Result<Option<Value>, OutOfMemory>
+    ensures { IfOk result (λ v. option_map view v ≡ spec.dimension_where shape.now kind) }
+{
+    if shape.count(kind).is_none() {
+        return Ok(None);
+    }
+    match kind {
+        Kind::Time => Ok(Some(time_json(alloc, shape)?)),
+        Kind::Bands => Ok(Some(bands_json(alloc, shape)?)),
+        Kind::Y => Ok(Some(y_json(alloc, shape)?)),
+        Kind::X => Ok(Some(x_json(alloc, shape)?)),
+    }
+}
+
+fn time_json(alloc: Global, shape: &Shape) -> Result<Value, OutOfMemory>
+    ensures { IfOk result (λ v. view v ≡ spec.dimension_data shape.now Kind.Time) }
+{
+    let mut entry = Map::new(alloc);
+    put(&mut entry, alloc, "extent", instants_extent(alloc, shape)?)?;
+    put(&mut entry, alloc, "type", str_json(alloc, "temporal")?)?;
+    Ok(Value::Object(entry))
+}
+
+fn bands_json(alloc: Global, shape: &Shape) -> Result<Value, OutOfMemory>
+    ensures { IfOk result (λ v. view v ≡ spec.dimension_data shape.now Kind.Bands) }
+{
+    let values = text_values(alloc, shape.bands())?;
+    let mut entry = Map::new(alloc);
+    put(&mut entry, alloc, "type", str_json(alloc, "bands")?)?;
+    put(&mut entry, alloc, "values", Value::Array(values))?;
+    Ok(Value::Object(entry))
+}
+
+fn x_json(alloc: Global, shape: &Shape) -> Result<Value, OutOfMemory>
+    ensures { IfOk result (λ v. view v ≡ spec.dimension_data shape.now Kind.X) }
+{
+    let labels = shape.labels(Kind::X);
+    let extent = pair_json(alloc, whole_end(labels.first()), whole_end(labels.last()))?;
+    spatial_json(alloc, shape, "x", extent)
+}
+
+fn y_json(alloc: Global, shape: &Shape) -> Result<Value, OutOfMemory>
+    ensures { IfOk result (λ v. view v ≡ spec.dimension_data shape.now Kind.Y) }
+{
+    let labels = shape.labels(Kind::Y);
+    let extent = pair_json(alloc, whole_end(labels.last()), whole_end(labels.first()))?;
+    spatial_json(alloc, shape, "y", extent)
+}
+
+/// A spatial dimension of this axis and extent.
+fn spatial_json(
+    alloc: Global,
+    shape: &Shape,
+    axis: &str,
+    extent: Value,
+) -> Result<Value, OutOfMemory>
+    ensures { IfOk result (λ v. view v ≡ spec.spatial_data shape.now axis.now (view extent)) }
+{
+    let mut entry = Map::new(alloc);
+    put(&mut entry, alloc, "axis", str_json(alloc, axis)?)?;
+    put(&mut entry, alloc, "extent", extent)?;
+    put(
+        &mut entry,
+        alloc,
+        "reference_system",
+        Value::from(shape.epsg()),
+    )?;
+    put(&mut entry, alloc, "type", str_json(alloc, "spatial")?)?;
+    Ok(Value::Object(entry))
+}
+
+/// From the first to the last instant.
+fn instants_extent(alloc: Global, shape: &Shape) -> Result<Value, OutOfMemory>
+    ensures { IfOk result
+        (λ v. view v ≡ spec.instants_extent (number_labels shape.now Kind.Time)) }
+{
+    let labels = shape.labels(Kind::Time);
+    let from = instant_end(alloc, labels.first())?;
+    let to = instant_end(alloc, labels.last())?;
+    pair_json(alloc, from, to)
+}
+
+/// A label of `t`, null where there is none.
+fn instant_end(alloc: Global, label: Option<&i64>) -> Result<Value, OutOfMemory>
+    ensures { IfOk result
+        (λ v. view v ≡ spec.end_data moment_data (option_copied label.entry)) }
+{
+    match label {
+        Some(label) => moment_json(alloc, *label),
+        None => Ok(Value::Null),
+    }
+}
+
+/// A label of `x` or `y`, null where there is none.
+fn whole_end(label: Option<&i64>) -> Value
+    ensures { view result ≡ spec.end_data whole_data (option_copied label.entry) }
+{
+    match label {
+        Some(label) => Value::from(*label),
+        None => Value::Null,
+    }
+}

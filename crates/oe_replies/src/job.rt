@@ -1,0 +1,150 @@
+// Batch jobs, by themselves and in a list.
+ghost use Rattle.std.specs.Prelude.{◌≡◌, IfOk, false, filter, map};
+ghost use Rattle.serde_json.specs.Data.{string};
+ghost use Rattle.serde_json.specs.View.{members_view, view};
+ghost use Rattle.serde_json.specs.Written.{compact_text, has_float};
+ghost use Rattle.oe_dims.specs.Names as names;
+ghost use Rattle.oe_jobs.specs.Plain.{plain_book, plain_job};
+ghost use Rattle.oe_jobs.specs.Verdicts.{is_job_of};
+ghost use Rattle.oe_replies.specs.Jobs as spec;
+ghost use Rattle.oe_replies.specs.Words as words;
+
+use crate::json::{compact_body, listing_json, put_where, str_json, words_json};
+use crate::moment::moment_json;
+use crate::words::{level_text, status_text};
+use oe_jobs::{Book, Job};
+use oe_memory::OutOfMemory;
+use serde_json::{Map, Value, put};
+use std::alloc::Global;
+
+/// A job with its description, its process and the level of its logs (openEO API, batch jobs). The process of a job of a
+/// valid book holds no fraction.
+///
+/// Refuses: out of memory.
+#[tactic(auto, using(crate::proofs::Floats::job_whole))]
+pub fn job_body(alloc: Global, job: &Job) -> Result<Vec<u8>, OutOfMemory>
+    ensures { IfOk result (λ body. has_float (spec.process_data job.now.process) ≡ false
+        → body.items ≡ compact_text (spec.job_data (plain_job job.now))) }
+{
+    let value = job_json(alloc, job)?;
+    let text = value.to_string(alloc)?;
+    Ok(text.into_bytes())
+}
+
+fn job_json(alloc: Global, job: &Job) -> Result<Value, OutOfMemory>
+    ensures { IfOk result (λ v. view v ≡ spec.job_data (plain_job job.now)) }
+{
+    let mut entry = job_map(alloc, job)?;
+    put_where(&mut entry, alloc, "title", words_json(alloc, &job.title)?)?;
+    put_where(
+        &mut entry,
+        alloc,
+        "description",
+        words_json(alloc, &job.description)?,
+    )?;
+    Ok(Value::Object(entry))
+}
+
+/// The members that every job has.
+fn job_map(alloc: Global, job: &Job) -> Result<Map<String, Value>, OutOfMemory>
+    ensures { IfOk result (λ m. members_view m.entries ≡ spec.job_members (plain_job job.now)) }
+{
+    let level = str_json(alloc, level_text(job.level))?;
+    let process = process_json(alloc, job.process.as_str())?;
+    let mut entry = Map::new(alloc);
+    put(
+        &mut entry,
+        alloc,
+        "created",
+        moment_json(alloc, job.created)?,
+    )?;
+    put(&mut entry, alloc, "id", str_json(alloc, job.id.as_str())?)?;
+    put(&mut entry, alloc, "log_level", level)?;
+    put(&mut entry, alloc, "process", process)?;
+    put(&mut entry, alloc, "status", status_json(alloc, job)?)?;
+    put(
+        &mut entry,
+        alloc,
+        "updated",
+        moment_json(alloc, job.updated)?,
+    )?;
+    Ok(entry)
+}
+
+fn status_json(alloc: Global, job: &Job) -> Result<Value, OutOfMemory>
+    ensures { IfOk result (λ v. view v ≡ string (words.status_text job.now.status)) }
+{
+    str_json(alloc, status_text(job.status))
+}
+
+/// The JSON value of a process.
+fn process_json(alloc: Global, text: &str) -> Result<Value, OutOfMemory>
+    ensures { IfOk result (λ v. view v ≡ spec.process_data text.now) }
+{
+    match Value::from_str(alloc, text) {
+        Ok(value) => Ok(value),
+        Err(error) if error.is_memory() => Err(OutOfMemory),
+        Err(_) => Ok(Value::Null),
+    }
+}
+
+/// The jobs of a user, in order of creation, without their descriptions and processes (openEO API, batch jobs).
+///
+/// Refuses: out of memory.
+#[tactic(auto, using(crate::proofs::Floats::jobs_whole))]
+pub fn jobs_body(alloc: Global, book: &Book, user: &str) -> Result<Vec<u8>, OutOfMemory>
+    ensures { IfOk result
+        (λ body. body.items ≡ compact_text (spec.jobs_data (plain_book book.now) user.now)) }
+{
+    let value = jobs_json(alloc, book, user)?;
+    compact_body(alloc, &value)
+}
+
+fn jobs_json(alloc: Global, book: &Book, user: &str) -> Result<Value, OutOfMemory>
+    ensures { IfOk result (λ v. view v ≡ spec.jobs_data (plain_book book.now) user.now) }
+{
+    listing_json(alloc, "jobs", job_values(alloc, book, user)?)
+}
+
+fn job_values(alloc: Global, book: &Book, user: &str) -> Result<Vec<Value>, OutOfMemory>
+    ensures { IfOk result (λ values. map view values.items
+        ≡ map spec.job_row_data (filter (is_job_of user.now) (plain_book book.now).jobs)) }
+{
+    let mut values = Vec::new(alloc);
+    for job in &book.jobs {
+        if is_same(job.user.as_str(), user) {
+            values.push(job_row_json(alloc, job)?)?;
+        }
+    }
+    Ok(values)
+}
+
+/// The two texts have the same bytes.
+pub(crate) fn is_same(a: &str, b: &str) -> bool
+    ensures { result ≡ names.same_name a.now b.now }
+{
+    a == b
+}
+
+/// A job in a list.
+fn job_row_json(alloc: Global, job: &Job) -> Result<Value, OutOfMemory>
+    ensures { IfOk result (λ v. view v ≡ spec.job_row_data (plain_job job.now)) }
+{
+    let mut entry = Map::new(alloc);
+    put(
+        &mut entry,
+        alloc,
+        "created",
+        moment_json(alloc, job.created)?,
+    )?;
+    put(&mut entry, alloc, "id", str_json(alloc, job.id.as_str())?)?;
+    put(&mut entry, alloc, "status", status_json(alloc, job)?)?;
+    put(
+        &mut entry,
+        alloc,
+        "updated",
+        moment_json(alloc, job.updated)?,
+    )?;
+    put_where(&mut entry, alloc, "title", words_json(alloc, &job.title)?)?;
+    Ok(Value::Object(entry))
+}

@@ -1,0 +1,44 @@
+// Moments, as the openEO API spells them.
+ghost use Rattle.std.specs.Prelude.{◌≡◌, ◌≤ℤ◌, IfOk};
+ghost use Rattle.serde_json.specs.Data.{string};
+ghost use Rattle.serde_json.specs.View.{view};
+ghost use Rattle.oe_dims.specs.Dimensions.{first_instant, last_instant};
+ghost use Rattle.oe_dims.specs.Instant.{instant_text};
+ghost use Rattle.oe_replies.specs.Json as spec;
+
+use crate::json::str_json;
+use oe_dims::print_instant;
+use oe_memory::OutOfMemory;
+use serde_json::Value;
+use std::alloc::Global;
+use std::str;
+
+/// The first and the last second of the years 1 to 9999, in seconds since 1970-01-01T00:00:00Z.
+const FIRST_INSTANT: i64 = -62135596800;
+
+const LAST_INSTANT: i64 = 253402300799;
+
+/// A moment, in seconds since 1970-01-01T00:00:00Z, in its long spelling (RFC 3339), or null outside of the years 1 to
+/// 9999.
+pub(crate) fn moment_json(alloc: Global, seconds: i64) -> Result<Value, OutOfMemory>
+    ensures { IfOk result (λ v. view v ≡ spec.moment_data seconds) }
+{
+    if FIRST_INSTANT <= seconds && seconds <= LAST_INSTANT {
+        instant_json(alloc, seconds)
+    } else {
+        Ok(Value::Null)
+    }
+}
+
+/// An instant, in its long spelling.
+fn instant_json(alloc: Global, seconds: i64) -> Result<Value, OutOfMemory>
+    requires first { first_instant ≤ℤ seconds }
+    requires last { seconds ≤ℤ last_instant }
+    ensures { IfOk result (λ v. view v ≡ string (instant_text seconds)) }
+{
+    let bytes = print_instant(seconds);
+    match str::from_utf8(&bytes) {
+        Ok(text) => str_json(alloc, text),
+        Err(_) => unreachable!(),
+    }
+}
