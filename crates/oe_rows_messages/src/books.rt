@@ -6,9 +6,9 @@ use crate::jobs::add_job;
 use crate::keepers::keep_both;
 use crate::spelling::{change_word, outcome_word, spell_book, spell_job};
 use oe_dims::Text;
-use oe_jobs::{Book, Change, Verdict, decide, reopen};
+use oe_jobs::{Book, Change, Job, Verdict, decide, reopen};
 use oe_keeper::{job_text, read_job};
-use oe_lines::{Fault, first_word, number_of, push, push_all};
+use oe_lines::{Fault, end_line, first_word, number_of, push, push_all};
 use std::alloc::Global;
 
 /// When commands are given.
@@ -114,10 +114,15 @@ fn install(change: Option<Change>, book: &mut Book) -> Result<(), Fault> {
 fn read_entry(alloc: Global, text: &str, answers: &mut Vec<u8>) -> Result<(), Fault> {
     let id = Text::of(alloc, "j-3")?;
     match read_job(alloc, &id, text.as_bytes())? {
-        Some(job) => {
-            spell_job(&job, answers)?;
-            push_all(&[" | ", job_text(alloc, &job)?.as_str(), "\n"], answers)
-        }
+        Some(job) => spell_entry(alloc, &job, answers),
         None => push("none\n", answers),
     }
+}
+
+fn spell_entry(alloc: Global, job: &Job, answers: &mut Vec<u8>) -> Result<(), Fault> {
+    spell_job(job, answers)?;
+    let entry = job_text(alloc, job)?;
+    push(" | ", answers)?;
+    push(entry.as_str(), answers)?;
+    end_line(answers)
 }
