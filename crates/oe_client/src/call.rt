@@ -31,7 +31,7 @@ pub enum ClientFail {
 /// Sends a request, reads the response, and writes its body to the output where the status is 200 to 299 (openEO API,
 /// RFC 9112). The output is written at once, when the whole response was read.
 ///
-/// Refuses: `Refused` exactly where the response has another status; `PeerInvalid` only where no response stands at the
+/// Refuses: `Refused` only where the response has another status; `PeerInvalid` only where no response stands at the
 /// front of what the peer sent; `LinkFailed` and `SinkFailed` only where the fault counter of the link or of the output
 /// rose; out of memory. But for `SinkFailed`, which leaves a prefix of the body there, the output is then as before.
 pub fn client_call<L: Link, O: Sink>(

@@ -5,8 +5,7 @@ ghost use Rattle.oe_replies.specs.Codes as spec;
 
 use oe_graph::Code;
 
-/// Why a request was refused, as its error body names it (openEO API, error handling). The order is that in which a
-/// request is tested, as far as two of them can stand at once.
+/// Why a request was refused, as its error body names it (openEO API, error handling).
 #[derive(Clone, Copy, Debug, PartialEq, Eq)]
 pub enum ReplyCode {
     // The bytes of the request.
