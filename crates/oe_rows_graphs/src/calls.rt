@@ -35,8 +35,8 @@ fn objects_of(alloc: Global, input: Vec<u8>) -> Result<Objects, Fault> {
     })
 }
 
-// Boxes for collections are made and taken out here, and the catalogue that holds them is handed to no other function
-// that does either.
+// Boxes for collections are made and taken out here, and the catalogue that holds them is handed to no function of this
+// crate: `demo` makes boxes too, and a function over a catalogue that makes some may hand them out.
 /// Appends the answers to lines about calls.
 pub(crate) fn answer_calls(alloc: Global, text: &str, answers: &mut Vec<u8>) -> Result<(), Fault> {
     let mut catalogue = Catalogue::new(alloc);
@@ -71,8 +71,26 @@ pub(crate) fn answer_calls(alloc: Global, text: &str, answers: &mut Vec<u8>) -> 
                 }
                 Err(store) => spell_refused(alloc, store.bytes(), rest, answers)?,
             },
-            "padded" => call_padded(alloc, rest, &mut catalogue, answers)?,
-            _ => call(alloc, line, 0, &mut catalogue, answers)?,
+            _ => {
+                let (words, objects) = call_of(alloc, line)?;
+                let Objects {
+                    mut input,
+                    mut out,
+                    mut err,
+                    mut spool,
+                } = objects;
+                let status = openeo(
+                    alloc,
+                    &words,
+                    &mut input,
+                    &mut out,
+                    &mut err,
+                    &mut catalogue,
+                    &mut spool,
+                    &NoGate,
+                );
+                spell_answer(alloc, status, out.bytes(), err.bytes(), answers)?;
+            }
         }
     }
     Ok(())
@@ -97,47 +115,23 @@ fn spell_refused(
     }
 }
 
-fn call_padded(
-    alloc: Global,
-    line: &str,
-    catalogue: &mut Catalogue,
-    answers: &mut Vec<u8>,
-) -> Result<(), Fault> {
-    let (size, line) = parts_of(line, " ")?;
-    call(alloc, line, number_of(size)?, catalogue, answers)
-}
-
-/// Calls `openeo` as a line says, with an input that has blanks behind it up to so many bytes.
-fn call(
-    alloc: Global,
-    line: &str,
-    size: usize,
-    catalogue: &mut Catalogue,
-    answers: &mut Vec<u8>,
-) -> Result<(), Fault> {
+/// The words of a call and its objects, whose input has blanks behind it up to as many bytes as the line says.
+fn call_of(alloc: Global, line: &str) -> Result<(Vec<Text>, Objects), Fault> {
+    let (size, line) = size_of(line)?;
     let (words, input) = line.split_once(" < ").unwrap_or((line, ""));
     let words = words_of_call(alloc, words)?;
     let input = padded_bytes(alloc, input, size)?;
-    answer_call(alloc, &words, objects_of(alloc, input)?, catalogue, answers)
+    Ok((words, objects_of(alloc, input)?))
 }
 
-fn answer_call(
-    alloc: Global,
-    words: &[Text],
-    objects: Objects,
-    catalogue: &mut Catalogue,
-    answers: &mut Vec<u8>,
-) -> Result<(), Fault> {
-    let Objects {
-        mut input,
-        mut out,
-        mut err,
-        mut spool,
-    } = objects;
-    let status = openeo(
-        alloc, words, &mut input, &mut out, &mut err, catalogue, &mut spool, &NoGate,
-    );
-    spell_answer(alloc, status, out.bytes(), err.bytes(), answers)
+/// How many bytes the input of a call has at least, and the rest of its line.
+fn size_of(line: &str) -> Result<(usize, &str), Fault> {
+    let (verb, rest) = first_word(line);
+    if verb != "padded" {
+        return Ok((0, line));
+    }
+    let (size, line) = parts_of(rest, " ")?;
+    Ok((number_of(size)?, line))
 }
 
 /// The words of a command, with blanks between them.

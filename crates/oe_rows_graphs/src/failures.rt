@@ -126,7 +126,7 @@ fn call_failing(
     input: &str,
     failing: Failing<'_>,
 ) -> Result<Called, Fault> {
-    // The boxes of collections stay in this function, which drops them.
+    // The boxes of collections stay in this function, which drops them and hands the catalogue to `openeo` alone.
     let mut catalogue = Catalogue::new(alloc);
     for (id, text) in cubes {
         let cube = Box::new(alloc, cube_of_text(alloc, text, failing.reads)?)?;
@@ -134,16 +134,6 @@ fn call_failing(
             return Err(Fault::Line);
         }
     }
-    call_over(alloc, &mut catalogue, words, input, failing)
-}
-
-fn call_over(
-    alloc: Global,
-    catalogue: &mut Catalogue,
-    words: &str,
-    input: &str,
-    failing: Failing<'_>,
-) -> Result<Called, Fault> {
     let words = words_of_call(alloc, words)?;
     let mut input = MemorySource::new(
         input.as_bytes().to_vec(alloc)?,
@@ -153,7 +143,14 @@ fn call_over(
     let mut out = MemorySink::new(alloc, ROOM, failing.writes.to_vec(alloc)?)?;
     let mut err = MemorySink::new(alloc, ROOM, Vec::new(alloc))?;
     let status = openeo(
-        alloc, &words, &mut input, &mut out, &mut err, catalogue, &mut spool, &NoGate,
+        alloc,
+        &words,
+        &mut input,
+        &mut out,
+        &mut err,
+        &mut catalogue,
+        &mut spool,
+        &NoGate,
     );
     Ok(Called { status, out, err })
 }
