@@ -1,0 +1,87 @@
+// The state of a network in memory: the answers that are left, the time, and what it was asked for.
+use crate::fault::Fault;
+use std::alloc::Global;
+use std::cell::{Cell, RefCell};
+use std::io::{Error, ErrorKind, Result as IoResult};
+use std::time::Duration;
+
+/// A network whose calls are answered by the words of a script.
+#[derive(Drop)]
+pub(crate) struct Network {
+    script: String,
+    calls: Cell<usize>,
+    milliseconds: Cell<u64>,
+    asked: RefCell<Vec<u8>>,
+}
+
+impl Network {
+    /// A network that stands until the program ends, so that what is over it has no lifetime to name.
+    pub(crate) fn new(alloc: Global, script: &str) -> Result<&'static Network, Fault> {
+        let network = Network {
+            script: String::from_str(alloc, script)?,
+            calls: Cell::new(0),
+            milliseconds: Cell::new(0),
+            asked: RefCell::new(Vec::new(alloc)),
+        };
+        Ok(Box::leak(Box::new(alloc, network)?))
+    }
+
+    /// The time since its start.
+    pub(crate) fn time(&self) -> Duration {
+        Duration::from_millis(self.milliseconds.get())
+    }
+
+    /// What it was asked for since this was asked last, each behind a blank.
+    pub(crate) fn take_asked(&self, into: &mut Vec<u8>) -> IoResult<()> {
+        let Ok(mut asked) = self.asked.try_borrow_mut() else {
+            return Err(Error::from(ErrorKind::Other));
+        };
+        into.extend_from_slice(&asked)?;
+        asked.clear();
+        Ok(())
+    }
+
+    /// Prints a word of what it is asked for.
+    pub(crate) fn print(&self, word: &str) {
+        if let Ok(mut asked) = self.asked.try_borrow_mut() {
+            let _ = asked.push(b' ');
+            let _ = asked.extend_from_slice(word.as_bytes());
+        }
+    }
+
+    /// Prints a number.
+    pub(crate) fn print_number(&self, number: u64) {
+        self.print(itoa::Buffer::new().format(number));
+    }
+
+    /// The answer of the next call: a number of bytes, which is 0 for `ok`.
+    pub(crate) fn answer(&self) -> IoResult<usize> {
+        let number = self.calls.get();
+        self.calls.set(number.saturating_add(1));
+        let Some(word) = self.script.split(' ').nth(number) else {
+            return Err(Error::from(ErrorKind::Unsupported));
+        };
+        let (word, at) = word.split_once('@').unwrap_or((word, ""));
+        if let Ok(at) = at.parse::<u64>() {
+            self.milliseconds.set(at);
+        }
+        answer_of(word)
+    }
+}
+
+fn answer_of(word: &str) -> IoResult<usize> {
+    let kind = match word {
+        "ok" => return Ok(0),
+        "interrupted" => ErrorKind::Interrupted,
+        "reset" => ErrorKind::ConnectionReset,
+        "aborted" => ErrorKind::ConnectionAborted,
+        "waits" => ErrorKind::WouldBlock,
+        "refused" => ErrorKind::ConnectionRefused,
+        "broken" => ErrorKind::BrokenPipe,
+        _ => match word.parse::<usize>() {
+            Ok(count) => return Ok(count),
+            Err(_) => ErrorKind::Unsupported,
+        },
+    };
+    Err(Error::from(kind))
+}
