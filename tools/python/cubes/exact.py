@@ -1,0 +1,163 @@
+"""Numbers of other formats as cells, many at once by numpy: exactly, or refused; and as floats again.
+
+`docs/tools.md` says in words what is done here.
+"""
+from array import array
+from dataclasses import dataclass
+from fractions import Fraction
+from typing import Optional
+
+from .cells import FLAGS, MOST, NUMBERS, Cells, cells_of, floats_of
+from .refusal import NoCell, Refusal, need
+
+# Whole numbers up to here are floats.
+MOST_EXACT = 2**53
+# The most digits behind the point: 10^18 is a denominator of cells.
+MOST_DIGITS = 18
+
+
+@dataclass(frozen=True)
+class Reading:
+    """How a raw number becomes a cell: times the scale, plus the offset; floats perhaps rounded; perhaps as a flag."""
+
+    scale: Fraction = Fraction(1)
+    offset: Fraction = Fraction(0)
+    digits: Optional[int] = None
+    kind: str = NUMBERS
+
+    def is_plain(self) -> bool:
+        """Whether neither scale nor offset changes a number."""
+        return self.scale == 1 and self.offset == 0
+
+
+def decimal_of(value: object) -> Fraction:
+    """The number that an attribute says: of a float, the shortest decimal that reads as it in its own precision.
+
+    So the float nearest to 0.0001, single or double, is 1/10000. Refuses: it is no number.
+    """
+    numpy = need("numpy", "reading numbers")
+    try:
+        if isinstance(value, float) or (isinstance(value, numpy.generic) and value.dtype.kind == "f"):
+            return Fraction(numpy.format_float_scientific(value, trim="-"))
+        return Fraction(value if isinstance(value, str) else int(value))
+    except (ValueError, TypeError, OverflowError):
+        raise Refusal(f"{value!r} is no number to scale with") from None
+
+
+def cells_from(raw, nulls, reading: Reading) -> Cells:
+    """The cells of raw numbers in a numpy array, null where `nulls` is true. Raises NoCell at one that none equals."""
+    numpy = need("numpy", "reading numbers")
+    raw, nulls = numpy.ravel(raw), numpy.ravel(nulls)
+    if raw.dtype.kind == "f":
+        nulls = nulls | numpy.isnan(raw)
+        stop_at(numpy.isinf(raw) & ~nulls, "it is infinite")
+    elif raw.dtype.kind == "b":
+        raw = raw.astype(numpy.int8)
+    elif raw.dtype.kind not in "iu":
+        raise Refusal(f"numbers of the type {raw.dtype} are neither whole numbers nor floats")
+    raw = numpy.where(nulls, raw.dtype.type(0), raw)
+    if reading.kind == FLAGS:
+        stop_at((raw != 0) & (raw != 1), "a flag is 0 or 1")
+    if raw.dtype.kind == "f":
+        return cells_of_floats(numpy, raw, nulls, reading)
+    return cells_of_integers(numpy, raw, nulls, reading)
+
+
+def stop_at(wrong, why: str) -> None:
+    """Raises NoCell at the first number that is wrong."""
+    if wrong.any():
+        raise NoCell(int(wrong.argmax()), why)
+
+
+def arrays_of(numpy, numerators, denominators, nulls) -> Cells:
+    """Cells of two numpy arrays of fractions in lowest terms."""
+    tops, bottoms = array("q"), array("q")
+    tops.frombytes(numpy.where(nulls, 0, numerators).astype(numpy.int64).tobytes())
+    bottoms.frombytes(numpy.where(nulls, 0, denominators).astype(numpy.int64).tobytes())
+    return Cells(tops, bottoms)
+
+
+def one_by_one(raw, nulls, reading: Reading) -> Cells:
+    """The cells by Python's fractions, which are exact and slow."""
+    pairs = zip(raw.tolist(), nulls.tolist())
+    return cells_of(None if null else Fraction(value) * reading.scale + reading.offset for value, null in pairs)
+
+
+def cells_of_integers(numpy, raw, nulls, reading: Reading) -> Cells:
+    """The cells of whole numbers: (n * times + plus) / over in lowest terms, where 64 bits hold all of that."""
+    over = reading.scale.denominator * reading.offset.denominator
+    times, plus = int(reading.scale * over), int(reading.offset * over)
+    farthest = max(abs(int(raw.min())), abs(int(raw.max()))) if raw.size else 0
+    if farthest * max(1, abs(times)) + abs(plus) > MOST or over > MOST:
+        return one_by_one(raw, nulls, reading)
+    numerators = raw.astype(numpy.int64) * times + plus
+    divisors = numpy.gcd(numerators, over)
+    return arrays_of(numpy, numerators // divisors, over // divisors, nulls)
+
+
+def cells_of_floats(numpy, raw, nulls, reading: Reading) -> Cells:
+    """The cells of finite floats."""
+    if reading.digits is not None:
+        return rounded(numpy, raw, nulls, reading)
+    if not reading.is_plain():
+        return one_by_one(raw, nulls, reading)
+    values = raw.astype(numpy.float64)
+    fraction, exponent = numpy.frexp(values)
+    # Each is `whole` over 2 to the power of `shift`; then its factors 2 go, so that these are lowest terms.
+    whole, shift = (fraction * MOST_EXACT).astype(numpy.int64), 53 - exponent.astype(numpy.int64)
+    twos = numpy.maximum(numpy.frexp((whole & -whole).astype(numpy.float64))[1].astype(numpy.int64) - 1, 0)
+    whole, shift = whole >> twos, numpy.where(whole == 0, 0, shift - twos)
+    stop_at(shift > 62, "the float is a fraction whose denominator is over 2^63 - 1")
+    stop_at(numpy.abs(values) >= 2.0**63, "the float is beyond 2^63 - 1")
+    return arrays_of(numpy, whole << numpy.maximum(-shift, 0), numpy.int64(1) << numpy.maximum(shift, 0), nulls)
+
+
+def rounded(numpy, raw, nulls, reading: Reading) -> Cells:
+    """The cells of finite floats, each rounded to so many digits behind the point, a half to the even digit."""
+    whole = Reading(reading.scale / 10**reading.digits, reading.offset)
+    # Python spells a float by its exact value, rounded correctly.
+    numerators = [int(f"{value:.{reading.digits}f}".replace(".", "")) for value in raw.astype(numpy.float64).tolist()]
+    stop_at(numpy.array([abs(number) > MOST for number in numerators], dtype=bool), "rounded, it is beyond 2^63 - 1")
+    return cells_of_integers(numpy, numpy.array(numerators, dtype=numpy.int64), nulls, whole)
+
+
+def advice(raw: object, reading: Reading) -> str:
+    """What `--round` would do to a raw number that is no cell, as the end of a line; empty where that does not help."""
+    value = float(raw)
+    if reading.kind == FLAGS or abs(value) > 9e18 or value != value or reading.digits is not None:
+        return ""
+    digits = 6 if abs(value) < 9e12 else 0
+    return f"; with --round {digits} it would be {value:.{digits}f}"
+
+
+def float_array(cells: Cells):
+    """The floats nearest to the cells, in a numpy array; NaN for null."""
+    numpy = need("numpy", "writing numbers")
+    tops, bottoms = numpy.array(cells.numerators), numpy.array(cells.denominators)
+    if tops.size and max(int(abs(tops).max()), int(bottoms.max())) > MOST_EXACT:
+        return numpy.array([*floats_of(cells)], dtype=numpy.float64)
+    # Both are floats, so that the one division rounds correctly.
+    with numpy.errstate(invalid="ignore"):
+        return tops.astype(numpy.float64) / bottoms.astype(numpy.float64)
+
+
+def flag_array(cells: Cells, null: int):
+    """The flags as 0 and 1 in a numpy array of bytes, with this number for null."""
+    numpy = need("numpy", "writing numbers")
+    return numpy.where(numpy.array(cells.denominators) == 0, null, numpy.array(cells.numerators))
+
+
+def pair_arrays(cells: Cells):
+    """Numerators and denominators as numpy arrays; null is 0 over 0."""
+    numpy = need("numpy", "writing numbers")
+    return numpy.array(cells.numerators, dtype=numpy.int64), numpy.array(cells.denominators, dtype=numpy.int64)
+
+
+def cells_of_pairs(tops, bottoms) -> Cells:
+    """The cells of numerators and denominators. Raises NoCell at a pair that is no fraction of 63 bits in lowest terms."""
+    numpy = need("numpy", "reading numbers")
+    tops, bottoms = numpy.ravel(tops), numpy.ravel(bottoms)
+    nulls = bottoms == 0
+    tops = numpy.where(nulls, 0, tops)
+    stop_at((bottoms < 0) | (tops < -MOST) | (numpy.gcd(tops, bottoms) != ~nulls), "it is no fraction in lowest terms")
+    return arrays_of(numpy, tops, bottoms, nulls)

@@ -1,0 +1,153 @@
+"""What a notebook calls: results as arrays of xarray, arrays as cube files, and graphs run over arrays."""
+import io
+import json
+import os
+import shutil
+import subprocess
+import tempfile
+from fractions import Fraction
+from typing import Any, Iterator, Mapping, Optional, Union
+
+from .cells import FLAGS, NUMBERS, Cells, cells_of, fractions_of
+from .exact import Reading, advice, cells_from, float_array
+from .files import Cube, TextCube, write_file
+from .grid import named_when_whole, whole_labels
+from .netcdf import NAMES
+from .refusal import NoCell, Refusal, need
+from .shapes import Place, Shape, judged
+
+ROOT = os.path.dirname(os.path.dirname(os.path.dirname(os.path.dirname(os.path.abspath(__file__)))))
+
+
+def read(text: str, exact: bool = False):
+    """The cube of a result text as an xarray.DataArray, with the EPSG code as its attribute `epsg`.
+
+    Numbers are the nearest floats and null is NaN; with `exact` they are `fractions.Fraction` and None in an array of
+    objects, and so are flags where one is null. Refuses: the text is none.
+    """
+    return array_of(TextCube("the text", lambda: io.StringIO(text)), exact)
+
+
+def write(array, name: str, path: Optional[str] = None, epsg: Optional[int] = None, digits: Optional[int] = None) -> str:
+    """Writes an xarray.DataArray as the cube file of the collection `name`, and returns the path, `name`.cube by default.
+
+    Floats are taken exactly, or rounded to so many digits behind the point; fractions in an array of objects are taken
+    as they are. The EPSG code is `epsg`, or the attribute of that name. Refuses: a number or a label is none of a cube.
+    """
+    path = path or f"{name}.cube"
+    cube = ArrayCube(array, epsg, digits)
+    with named_when_whole(path) as aside, open(aside, "wb") as out:
+        write_file(out, name, cube)
+    return path
+
+
+def run(
+    graph: Union[str, Mapping[str, Any]],
+    arrays: Optional[Mapping[str, Any]] = None,
+    exact: bool = False,
+    sides: tuple[int, int, int, int] = (64, 64, 12, 1),
+    program: Optional[str] = None,
+):
+    """The result of a graph, JSON or its text, over arrays by the ids of their collections, as `read` gives it.
+
+    Calls `openeo run` with these sides of a chunk and workers in a folder of its own. Refuses: the program does; the
+    line is its own.
+    """
+    text = graph if isinstance(graph, str) else json.dumps(graph)
+    with tempfile.TemporaryDirectory(prefix="openeo-") as folder:
+        os.mkdir(f"{folder}/collections")
+        for name, array in (arrays or {}).items():
+            write(array, name, f"{folder}/collections/{name}.cube")
+        result = f"{folder}/result.json"
+        with open(result, "wb") as out:
+            words = [program or program_path(), "run", *map(str, sides)]
+            ran = subprocess.run(words, input=text.encode(), stdout=out, stderr=subprocess.PIPE, cwd=folder)
+        if ran.returncode != 0:
+            raise Refusal(ran.stderr.decode().strip() or f"openeo ended with status {ran.returncode}")
+        return array_of(TextCube(result, lambda: open(result, encoding="utf-8")), exact)
+
+
+def program_path() -> str:
+    """The program: that of the variable OPENEO, on the path, or built in this checkout. Refuses: there is none."""
+    found = os.environ.get("OPENEO") or shutil.which("openeo") or f"{ROOT}/crates/openeo/out/openeo"
+    if not os.access(found, os.X_OK):
+        raise Refusal("there is no program openeo: make it by `make program`, or say where it is in OPENEO")
+    return os.path.abspath(found)
+
+
+def array_of(cube: Cube, exact: bool):
+    """The cube as an array of xarray."""
+    numpy, xarray = need("numpy", "cubes.read"), need("xarray", "cubes.read")
+    parts = [values_of(numpy, cells, cube.kind, exact) for _, cells in cube.blocks()]
+    values = numpy.concatenate(parts) if parts else numpy.empty(0)
+    if cube.kind == FLAGS and None not in values:
+        values = values.astype(bool)
+    labels = dict(cube.shape.dimensions())
+    if "t" in labels:
+        labels["t"] = numpy.array(labels["t"], dtype="datetime64[s]").astype("datetime64[ns]")
+    shape = [len(some) for some in labels.values()]
+    words = {"epsg": cube.shape.epsg} if cube.shape.epsg else {}
+    return xarray.DataArray(values.reshape(shape), coords=labels, dims=[*labels], attrs=words)
+
+
+def values_of(numpy, cells: Cells, kind: str, exact: bool):
+    """Cells as numpy has them: floats, fractions, or flags and None."""
+    if kind == NUMBERS and not exact:
+        return float_array(cells)
+    values = numpy.empty(len(cells.numerators), dtype=object)
+    values[:] = [value if value is None or kind == NUMBERS else bool(value) for value in fractions_of(cells)]
+    return values
+
+
+class ArrayCube:
+    """An array of xarray as a cube. Refuses: a dimension or a label of it is none of a cube."""
+
+    def __init__(self, array, epsg: Optional[int], digits: Optional[int]):
+        roles = {name: NAMES.get(str(name).lower()) for name in array.dims}
+        for name, role in roles.items():
+            if role is None or [*roles.values()].count(role) > 1:
+                raise Refusal(f"the dimension {name} is none of t, bands, y and x, or one of them twice")
+            if name not in array.coords:
+                raise Refusal(f"the dimension {name} has no coordinates")
+        for name, role in roles.items():
+            if role != "bands":
+                array = array.sortby(name, ascending=role != "y")
+        order = sorted(roles, key=lambda name: ("t", "bands", "y", "x").index(roles[name]))
+        self.values = array.transpose(*order).values
+        labels = {roles[name]: labels_of(roles[name], array.coords[name].values) for name in order}
+        self.shape = judged(Shape(epsg=epsg or int(array.attrs.get("epsg", 0)), **labels))
+        some = next((value for value in self.values.flat if value is not None), None) if self.values.size else None
+        self.kind = FLAGS if self.values.dtype.kind == "b" or isinstance(some, bool) else NUMBERS
+        self.reading = Reading(digits=digits, kind=self.kind)
+
+    def blocks(self) -> Iterator[tuple[Place, Cells]]:
+        """All cells in row-major order. Refuses: a number is none."""
+        extents = self.shape.extents()
+        values = self.values.reshape(extents)
+        for place in self.shape.places():
+            raw = values[place.t, place.band, place.row : place.row + place.rows].ravel()
+            try:
+                yield place, self.cells_in(raw)
+            except NoCell as fault:
+                value = raw[fault.number]
+                more = advice(value, self.reading).replace("--round ", "digits=") if raw.dtype.kind == "f" else ""
+                where = self.shape.labels_at(place, fault.number)
+                raise Refusal(f"{where}: {value} is no cell: {fault.why}{more}") from None
+
+    def cells_in(self, raw) -> Cells:
+        """The cells of raw values. Raises NoCell."""
+        if raw.dtype.kind == "O":
+            return cells_of(None if value is None else Fraction(value) for value in raw)
+        return cells_from(raw, need("numpy", "cubes.write").zeros(raw.shape, dtype=bool), self.reading)
+
+
+def labels_of(role: str, values) -> list:
+    """The labels of a dimension's coordinates. Refuses: one is none."""
+    if role == "bands":
+        return [str(value) for value in values.tolist()]
+    if role != "t":
+        return whole_labels(role, [Fraction(value) for value in values.tolist()])
+    seconds = values.astype("datetime64[s]")
+    if values.dtype.kind != "M" or (seconds.astype(values.dtype) != values).any():
+        raise Refusal("the coordinates of t are no dates and times in whole seconds")
+    return seconds.astype("int64").tolist()
