@@ -122,15 +122,12 @@ def picture(words: argparse.Namespace) -> None:
     choice = Choice(words.bands, words.dates, words.low, words.high)
     step = write_picture(bytes_out("a picture"), open_cube(words.file), choice)
     if step > 1:
-        print(f"cubes: the picture has every {step}th pixel along y and x", file=sys.stderr)
+        print(f"cubes: the picture has one of {step} pixels along y and along x", file=sys.stderr)
 
 
 def show(words: argparse.Namespace) -> None:
     cube = open_cube(words.file)
-    for line in lines_of(cube):
-        print(line)
-    if words.table:
-        print("\n".join(tables_of(cube)))
+    print("\n".join([*lines_of(cube), *(tables_of(cube) if words.table else [])]))
 
 
 # ---- the words of each command

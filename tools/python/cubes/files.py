@@ -136,9 +136,7 @@ class TextCube:
             head += piece
 
     def words(self) -> Iterator[str]:
-        """The texts of the cells, in order. Refuses: the text is cut, or goes on behind them."""
-        if self.shape.count() == 0:
-            return
+        """The texts of the cells, in order. Refuses: the text is cut, or no JSON behind them."""
         with self.again() as file:
             file.read(self.rest)
             left, end = "", ""
@@ -146,10 +144,12 @@ class TextCube:
                 piece = file.read(PIECE)
                 if not piece:
                     raise Refusal(f"{self.path} is cut: its list of cells has no end")
-                text, end, _ = (left + piece).partition("]")
+                text, end, rest = (left + piece).partition("]")
                 *whole, left = text.split(",")
                 yield from map(str.strip, whole)
-            yield left.strip()
+            if left.strip() or self.shape.count() > 0:
+                yield left.strip()
+            json_of('{"data":[]' + rest + file.read(), self.path)
 
     def blocks(self) -> Iterator[tuple[Place, Cells]]:
         """All cells in row-major order. Refuses: one is none, or there are more or fewer than positions."""

@@ -75,13 +75,21 @@ def write_picture(out: BinaryIO, cube: Cube, choice: Choice) -> int:
     step = math.ceil(max(height, width) / MOST_SIDE)
     planes = planes_of(cube, {(date, band) for date in dates for band in bands}, step)
     low, high = ends_of(planes.values(), choice)
-    zoom = max(1, LEAST_SIDE // max(-(-height // step), -(-width // step)))
+    zoom = math.ceil(LEAST_SIDE / math.ceil(max(height, width) / step))
     panels = [[planes[date, band] for band in bands] for date in dates]
-    titles = ["" if cube.shape.t is None else spelled("t", cube.shape.t[date]) for date in dates]
-    canvas = drawn(panels, titles, low, high, zoom)
-    draw_legend(canvas, legend_of(cube, bands, low, high), len(bands) == 1)
+    texts = legend_of(cube, bands, low, high)
+    canvas = drawn(panels, titles_of(cube.shape, dates), zoom, DOT * WIDE * len("  ".join(texts)), (low, high))
+    draw_legend(canvas, texts, len(bands) == 1)
     canvas.save(out)
     return step
+
+
+def titles_of(shape: Shape, dates: list[int]) -> list[str]:
+    """The dates as texts, without the time of day where it is midnight at all of them."""
+    if shape.t is None:
+        return [""] * len(dates)
+    texts = [spelled("t", shape.t[date]) for date in dates]
+    return [text[:10] for text in texts] if all(text.endswith("T00:00:00Z") for text in texts) else texts
 
 
 def chosen(shape: Shape, choice: Choice) -> tuple[list[int], list[int]]:
@@ -115,7 +123,7 @@ class Plane(NamedTuple):
 
 
 def planes_of(cube: Cube, wanted: set[tuple[int, int]], step: int) -> dict[tuple[int, int], Plane]:
-    """The planes by indices of t and band, of which every so-manieth pixel is kept along y and x."""
+    """The planes by indices of t and band, of which the first of `step` pixels is kept along y and along x."""
     x = cube.shape.extents()[3]
     planes = {key: Plane(-(-x // step), array("d")) for key in wanted}
     for place, cells in cube.blocks():
@@ -162,19 +170,20 @@ def colour_of(values: list[float], low: float, high: float) -> Colour:
     return red, green, blue, 255
 
 
-def drawn(panels: list[list[Plane]], titles: list[str], low: float, high: float, zoom: int) -> Canvas:
-    """A canvas with the panels beside one another under their titles, and room for a legend below."""
+def drawn(panels: list[list[Plane]], titles: list[str], zoom: int, least: int, ends: tuple[float, float]) -> Canvas:
+    """A canvas, at least so wide, with the panels beside one another under their titles, and room for a legend below."""
     width = panels[0][0].width
     height = len(panels[0][0].values) // width
-    wide = max([zoom * width, 2 * LEAST_SIDE // len(panels), *(DOT * WIDE * len(title) for title in titles)])
+    wide = max([zoom * width, *(DOT * WIDE * len(title) for title in titles)])
     top = MARGIN + (LINE if any(titles) else 0)
-    canvas = Canvas(MARGIN + len(panels) * (wide + MARGIN), top + zoom * height + MARGIN + 2 * LINE + MARGIN)
+    all_wide = MARGIN + max(len(panels) * (wide + MARGIN), least + MARGIN)
+    canvas = Canvas(all_wide, top + zoom * height + MARGIN + 2 * LINE + MARGIN)
     for number, panel in enumerate(panels):
         left = MARGIN + number * (wide + MARGIN)
         canvas.write(left, MARGIN, titles[number])
         for place, values in enumerate(zip(*(plane.values for plane in panel))):
             row, column = divmod(place, width)
-            colour = colour_of([*values], low, high)
+            colour = colour_of([*values], *ends)
             canvas.fill(left + zoom * column, top + zoom * row, zoom, zoom, colour)
     return canvas
 
@@ -184,8 +193,8 @@ def legend_of(cube: Cube, bands: list[int], low: float, high: float) -> tuple[st
     if cube.kind == FLAGS and len(bands) == 1:
         return ("false", "true") if high > low else (("true", "true") if high else ("false", "false"))
     names = [cube.shape.bands[band] for band in bands] if cube.shape.bands else []
-    left = f"{low:.6g}" if len(bands) == 1 else f"{' '.join(names)}  {low:.6g}"
-    return left, f"{high:.6g}"
+    left = f"{low:.4g}" if len(bands) == 1 else f"{' '.join(names)}  {low:.4g}"
+    return left, f"{high:.4g}"
 
 
 def draw_legend(canvas: Canvas, texts: tuple[str, str], is_ramp: bool) -> None:

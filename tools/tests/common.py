@@ -1,0 +1,71 @@
+"""What the tests of `tools/cubes` share."""
+import contextlib
+import importlib.util
+import io
+import os
+import subprocess
+import sys
+import tempfile
+import unittest
+
+ROOT = os.path.dirname(os.path.dirname(os.path.dirname(os.path.abspath(__file__))))
+sys.path.insert(0, f"{ROOT}/tools/python")
+
+from cubes.commands import main  # noqa: E402
+
+
+def program():
+    """The path of the program: that of OPENEO, else the one that is built here, None where there is none."""
+    path = os.environ.get("OPENEO") or f"{ROOT}/crates/openeo/out/openeo"
+    return os.path.abspath(path) if os.access(path, os.X_OK) else None
+
+
+def needs(*modules):
+    """Skips a test, and says so, where one of the packages is missing."""
+    missing = [module for module in modules if importlib.util.find_spec(module) is None]
+    return unittest.skipIf(missing, f"python3-{', python3-'.join(missing).lower()} is missing")
+
+
+needs_program = unittest.skipIf(program() is None, "no program openeo: `make program`, or OPENEO with its path")
+
+
+class InFolder(unittest.TestCase):
+    """Each test has a folder of its own as its current one."""
+
+    def setUp(self):
+        here = os.getcwd()
+        folder = tempfile.TemporaryDirectory(prefix="cubes-test-")
+        self.addCleanup(folder.cleanup)
+        self.addCleanup(os.chdir, here)
+        os.chdir(folder.name)
+
+    def cubes(self, *words, status=0):
+        """Does what `tools/cubes` does, and returns what it writes; where a status is asked for, the line of the refusal."""
+        out, err = io.TextIOWrapper(io.BytesIO(), encoding="utf-8"), io.StringIO()
+        with contextlib.redirect_stdout(out), contextlib.redirect_stderr(err):
+            try:
+                ended = main([*words])
+            except SystemExit as exit:
+                ended = exit.code
+        self.assertEqual(ended, status, err.getvalue())
+        out.flush()
+        if status == 0:
+            return out.buffer.getvalue()
+        self.assertEqual(out.buffer.getvalue(), b"")
+        return next(line for line in err.getvalue().splitlines() if line.startswith("cubes: "))
+
+    def keep(self, name, content):
+        """Writes a file, and returns its name."""
+        with open(name, "wb") as file:
+            file.write(content if isinstance(content, bytes) else content.encode())
+        return name
+
+    def loaded(self, name):
+        """The result text of the program for a lone `load_collection` of the cube file NAME.cube."""
+        os.makedirs("collections", exist_ok=True)
+        os.replace(f"{name}.cube", f"collections/{name}.cube")
+        load = f'{{"process_id":"load_collection","arguments":{{"id":"{name}","spatial_extent":null,"temporal_extent":null}}'
+        graph = f'{{"process_graph":{{"load":{load},"result":true}}}}}}'
+        ran = subprocess.run([program(), "run", "64", "64", "12", "1"], input=graph.encode(), capture_output=True)
+        self.assertEqual(ran.returncode, 0, ran.stderr.decode())
+        return self.keep(f"{name}.json", ran.stdout)
