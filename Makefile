@@ -3,6 +3,7 @@
 LOG = crates/openeo/out/make-program.log
 PROGRAM = crates/openeo/out/openeo
 JOBS = $(shell nproc)
+PYTHON = python3
 
 # Something that the program is made from and that is newer, or what `find` complains of where no program stands.
 NEWER = $(shell find crates.txt crates/*/src crates/*/specs crates/*/proofs \
@@ -10,19 +11,21 @@ NEWER = $(shell find crates.txt crates/*/src crates/*/specs crates/*/proofs \
 # The proved program, if it stands: else `make run` and `make examples` build it without its proofs.
 STANDING = $(if $(NEWER),,$(PROGRAM))
 
-.PHONY: help run examples bench test edits check program
+.PHONY: help run examples bench test tools-test edits check program
 
 help:
-	@echo 'make run       runs the program on examples/graphs/greenest.json and prints the text of the result'
+	@echo 'make run       runs the program on examples/graphs/greenest.json and prints the text of the result, and a table'
 	@echo 'make examples  runs all graphs of examples/graphs against the texts they give; the proved program also at its edges'
 	@echo 'make program   proves and builds the program, by as many processes as there are processors'
 	@echo 'make bench     runs the proved program on a year of 12 dates, 4 bands and 1000 x 1000 pixels (needs python3)'
 	@echo 'make test      the gate: every proof, edits that must be refused, every test, the program by two compilers'
+	@echo 'make tools-test  tests tools/cubes (needs python3); a part of `make test`'
 	@echo 'make edits     tries all edits that must be refused; with CRATE=oe_cell those of a crate'
 	@echo 'make check     proves every crate, lowest first, over what earlier checks kept'
 	@echo 'make help      prints this'
 
-# A kernel, a ratio of bands and the greatest of all dates, over a small collection.
+# A kernel, a ratio of bands and the greatest of all dates, over a small collection; its text, and where there is python3
+# a table and a picture.
 run:
 	@examples/run greenest $(STANDING)
 
@@ -41,9 +44,15 @@ program:
 bench: program
 	@bench/year.py $(PROGRAM)
 
-# The gate: every proof, the edits *.edit that must be refused, every test, and the program twice.
+# The gate: every proof, the edits *.edit that must be refused, every test, and the program twice. Beside it the tool that
+# takes cubes in and out, of which nothing is proved.
 test:
 	@rt ci
+	@$(MAKE) --no-print-directory tools-test
+
+tools-test:
+	@if command -v $(PYTHON) > /dev/null; then $(PYTHON) tools/tests/run; \
+	else echo 'tools/cubes is not tested: $(PYTHON) is missing' >&2; fi
 
 # The edits that must be refused, those that the gate only reads too: `make edits CRATE=oe_cell`, or all.
 edits:

@@ -1,9 +1,9 @@
 #!/usr/bin/env python3
 """Writes a small scene as NetCDF: `make.py FILE`. It needs netCDF4 and numpy, and nothing is downloaded.
 
-Three dates, the bands B04 (red) and B08 (near infrared), 120 x 120 pixels of 10 m in UTM zone 33 north, reflectances packed
-as whole numbers with the scale 0.0001, as Sentinel-2 has them, and the fill -9999 under a cloud. All of it is a formula:
-round fields on bare soil, greener from date to date, with a river through them.
+Three dates, the bands B04 (red) and B08 (near infrared), 120 x 120 pixels of 10 m in UTM zone 33 north, reflectances
+packed as whole numbers with the scale 0.0001, as Sentinel-2 has them, and the fill -9999 under a cloud. All of it is a
+formula: round fields on bare soil, greener from date to date, with a river through them.
 """
 import sys
 

@@ -2,6 +2,7 @@
 import contextlib
 import importlib.util
 import io
+import json
 import os
 import subprocess
 import sys
@@ -40,7 +41,7 @@ class InFolder(unittest.TestCase):
         os.chdir(folder.name)
 
     def cubes(self, *words, status=0):
-        """Does what `tools/cubes` does, and returns what it writes; where a status is asked for, the line of the refusal."""
+        """Does what `tools/cubes` does, and returns what it writes; with another status, the line of the refusal."""
         out, err = io.TextIOWrapper(io.BytesIO(), encoding="utf-8"), io.StringIO()
         with contextlib.redirect_stdout(out), contextlib.redirect_stderr(err):
             try:
@@ -64,8 +65,9 @@ class InFolder(unittest.TestCase):
         """The result text of the program for a lone `load_collection` of the cube file NAME.cube."""
         os.makedirs("collections", exist_ok=True)
         os.replace(f"{name}.cube", f"collections/{name}.cube")
-        load = f'{{"process_id":"load_collection","arguments":{{"id":"{name}","spatial_extent":null,"temporal_extent":null}}'
-        graph = f'{{"process_graph":{{"load":{load},"result":true}}}}}}'
+        words = {"id": name, "spatial_extent": None, "temporal_extent": None}
+        load = {"process_id": "load_collection", "arguments": words, "result": True}
+        graph = json.dumps({"process_graph": {"load": load}})
         ran = subprocess.run([program(), "run", "64", "64", "12", "1"], input=graph.encode(), capture_output=True)
         self.assertEqual(ran.returncode, 0, ran.stderr.decode())
         return self.keep(f"{name}.json", ran.stdout)

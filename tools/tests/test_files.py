@@ -43,7 +43,8 @@ class Files(InFolder):
     def test_widths_of_sections(self):
         """A section of nulls is 1 wide, one of whole numbers 9, one with a fraction 17."""
         dates = '{"name":"t","type":"temporal","labels":["2024-01-01","2024-01-02","2024-01-03"]}'
-        self.assertIn(b'"widths":[1,9,17]', self.packed(cube_text(dates, 'null,9223372036854775807,"1/9223372036854775807"')))
+        text = cube_text(dates, 'null,9223372036854775807,"1/9223372036854775807"')
+        self.assertIn(b'"widths":[1,9,17]', self.packed(text))
 
     def test_texts_come_back(self):
         for name in sorted(os.listdir(CUBES)):
@@ -79,7 +80,7 @@ class Files(InFolder):
 
     def test_shapes_are_refused(self):
         x = '{"name":"x","type":"spatial","axis":"x","reference_system":%d,"labels":[%s]}'
-        for code, labels in ((4326, "1,1"), (4326, "2,1"), (0, "1,2"), (1000000, "1,2"), (4326, "1,1000000001"), (4326, "1.0,2")):
+        for code, labels in ((1, "1,1"), (1, "2,1"), (0, "1,2"), (1000000, "1,2"), (1, "1,1000000001"), (1, "1.0,2")):
             self.cubes("show", self.keep("text", cube_text(x % (code, labels), "1,2")), status=2)
         bands = '{"name":"bands","type":"bands","labels":["B","%s"]}'
         for name in ("B", "", "a b", "a" * 65):

@@ -8,23 +8,12 @@ from common import InFolder, needs, needs_program, program
 
 import cubes
 
-GRAPH = {
-    "process_graph": {
-        "load": {"process_id": "load_collection", "arguments": {"id": "A", "spatial_extent": None, "temporal_extent": None}},
-        "thirds": {
-            "process_id": "apply",
-            "arguments": {
-                "data": {"from_node": "load"},
-                "process": {
-                    "process_graph": {
-                        "third": {"process_id": "divide", "arguments": {"x": {"from_parameter": "x"}, "y": 3}, "result": True}
-                    }
-                },
-            },
-            "result": True,
-        },
-    }
-}
+# Each cell of the collection A divided by 3.
+EXTENTS = {"spatial_extent": None, "temporal_extent": None}
+LOAD = {"process_id": "load_collection", "arguments": {"id": "A", **EXTENTS}}
+THIRD = {"process_id": "divide", "arguments": {"x": {"from_parameter": "x"}, "y": 3}, "result": True}
+ARGUMENTS = {"data": {"from_node": "load"}, "process": {"process_graph": {"third": THIRD}}}
+GRAPH = {"process_graph": {"load": LOAD, "all": {"process_id": "apply", "arguments": ARGUMENTS, "result": True}}}
 
 
 @needs("numpy", "xarray")
@@ -57,7 +46,8 @@ class Notebook(InFolder):
             cubes.write(self.array().drop_attrs() if hasattr(self.array(), "drop_attrs") else self.array() * 1, "A")
 
     def test_read(self):
-        text = '{"type":"FractionCube","dimensions":[{"name":"bands","type":"bands","labels":["a","b"]}],"data":["1/3",null]}'
+        bands = '{"name":"bands","type":"bands","labels":["a","b"]}'
+        text = f'{{"type":"FractionCube","dimensions":[{bands}],"data":["1/3",null]}}'
         array = cubes.read(text)
         self.assertEqual(array.dims, ("bands",))
         self.assertEqual(array.sel(bands="a").item(), 0.3333333333333333)

@@ -85,10 +85,10 @@ def woven(tags: bytes, parts: list[array], width: int) -> bytes:
     """Records of tags with numbers of 8 bytes behind them, the highest byte first; what no part fills is zero."""
     records = bytearray(width * len(tags))
     records[0::width] = tags
-    for place, part in enumerate(parts):
+    for index, part in enumerate(parts):
         digits = swapped(part).tobytes()
         for byte in range(8):
-            records[1 + 8 * place + byte :: width] = digits[byte::8]
+            records[1 + 8 * index + byte :: width] = digits[byte::8]
     return bytes(records)
 
 
@@ -106,7 +106,7 @@ def swapped(numbers: array) -> array:
 def cells_in(records: bytes, kind: str, width: int) -> Cells:
     """The cells of whole records of one width. Raises NoCell at the first damaged one."""
     tags = records[0::width]
-    parts = [numbers_in(records, 1 + 8 * place, width) for place in range(width // 8)]
+    parts = [numbers_in(records, 1 + 8 * index, width) for index in range(width // 8)]
     if kind == FLAGS:
         cells = flags_in(tags)
     else:
@@ -150,7 +150,8 @@ def is_plain(numerators: array, denominators: array, known: bytes) -> bool:
     """Whether each cell is null as 0 over 0 or a number in lowest terms, as its tag says."""
     if min(numerators, default=0) < -MOST or min(denominators, default=0) < 0:
         return False
-    return bytes(map(bool, denominators)) == known and all(map(operator.eq, map(math.gcd, numerators, denominators), known))
+    divisors = map(math.gcd, numerators, denominators)
+    return bytes(map(bool, denominators)) == known and all(map(operator.eq, divisors, known))
 
 
 def only_valid(numerators: array, denominators: array, known: bytes) -> Cells:

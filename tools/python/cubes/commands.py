@@ -91,14 +91,17 @@ def bytes_out(what: str) -> BinaryIO:
 
 
 def from_netcdf(words: argparse.Namespace) -> None:
+    """Takes a NetCDF file in."""
     write_cube(words, NetcdfCube(words.file, words.variables, options_of(words)), words.file)
 
 
 def from_geotiff(words: argparse.Namespace) -> None:
+    """Takes GeoTIFF files in."""
     write_cube(words, GeotiffCube(words.files, options_of(words)), words.files[0])
 
 
 def from_csv(words: argparse.Namespace) -> None:
+    """Takes a table in."""
     write_cube(words, TableCube(words.file, words.epsg), words.file)
 
 
@@ -106,19 +109,23 @@ def from_csv(words: argparse.Namespace) -> None:
 
 
 def to_netcdf(words: argparse.Namespace) -> None:
+    """Takes a result out as NetCDF."""
     write_netcdf(words.out, open_cube(words.file), words.name, words.exact, words.corners)
 
 
 def to_geotiff(words: argparse.Namespace) -> None:
+    """Takes a result out as GeoTIFF, and prints the names of the files."""
     for path in write_geotiff(words.out, open_cube(words.file), words.exact, words.corners, words.pixel):
         print(path)
 
 
 def to_csv(words: argparse.Namespace) -> None:
+    """Takes a result out as a table."""
     write_table(sys.stdout, open_cube(words.file), words.exact)
 
 
 def picture(words: argparse.Namespace) -> None:
+    """Writes a picture, and says where not every pixel is in it."""
     choice = Choice(words.bands, words.dates, words.low, words.high)
     step = write_picture(bytes_out("a picture"), open_cube(words.file), choice)
     if step > 1:
@@ -126,6 +133,7 @@ def picture(words: argparse.Namespace) -> None:
 
 
 def show(words: argparse.Namespace) -> None:
+    """Prints what a cube has."""
     cube = open_cube(words.file)
     print("\n".join([*lines_of(cube), *(tables_of(cube) if words.table else [])]))
 
@@ -135,9 +143,9 @@ def show(words: argparse.Namespace) -> None:
 
 def add(commands, call: Callable, text: str, example: str) -> argparse.ArgumentParser:
     """A command with its help and an example."""
-    name = call.__name__.replace("_", "-")
+    name, more = call.__name__.replace("_", "-"), f"example:\n  {example}"
     form = argparse.RawDescriptionHelpFormatter
-    words = commands.add_parser(name, help=text, description=text, epilog=f"example:\n  {example}", formatter_class=form)
+    words = commands.add_parser(name, help=text, description=text, epilog=more, formatter_class=form)
     words.set_defaults(call=call)
     return words
 
@@ -151,10 +159,10 @@ def add_readers(commands) -> None:
     words.add_argument("--bands", type=listed, help="names for the bands, also of one variable, as B04,B08")
     add_reading(words)
     text = "writes GeoTIFF files, one for each date, as a cube file"
-    words = add(commands, from_geotiff, text, "cubes from-geotiff s2-2024-06-01.tif s2-2024-06-11.tif --id S2 > S2.cube")
+    words = add(commands, from_geotiff, text, "cubes from-geotiff s2-20240601.tif s2-20240611.tif --id S2 > S2.cube")
     words.add_argument("files", metavar="FILE", nargs="+")
     words.add_argument("--bands", type=listed, help="names for the bands; else as the file describes them, or 1, 2, ..")
-    words.add_argument("--dates", type=instants, help="a date for each file, as 2024-06-01,2024-06-11; else by its name")
+    words.add_argument("--dates", type=instants, help="the date of each file, as 2024-06-01,2024-06-11; else by name")
     add_reading(words)
     text = "writes a CSV table as a cube file: columns t, bands, y, x and value, a row for each cell"
     words = add(commands, from_csv, text, "cubes from-csv stations.csv --epsg 32633 > stations.cube")
@@ -214,7 +222,7 @@ def add_views(commands) -> None:
     words.add_argument("file", metavar="RESULT")
     words.add_argument("--bands", type=listed, help="one band, or three; else all of three, or the first")
     words.add_argument("--dates", type=instants, help="which dates, as 2024-06-01,2024-06-11; else all")
-    words.add_argument("--low", type=float, help="the number that the first colour stands for; else the least cell shown")
+    words.add_argument("--low", type=float, help="the number of the first colour; else the least cell shown")
     words.add_argument("--high", type=float, help="the number of the last colour; else the greatest cell shown")
     text = "says what a cube file or a result text has: dimensions, labels, kind, least, greatest, nulls"
     words = add(commands, show, text, "cubes show result.json --table")

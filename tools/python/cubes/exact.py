@@ -154,7 +154,7 @@ def pair_arrays(cells: Cells):
 
 
 def cells_of_pairs(tops, bottoms) -> Cells:
-    """The cells of numerators and denominators. Raises NoCell at a pair that is no fraction of 63 bits in lowest terms."""
+    """The cells of numerators and denominators. Raises NoCell at a pair that is no fraction in lowest terms."""
     numpy = need("numpy", "reading numbers")
     tops, bottoms = numpy.ravel(tops), numpy.ravel(bottoms)
     nulls = bottoms == 0

@@ -7,7 +7,7 @@ from typing import BinaryIO, Callable, Iterator, Optional, Protocol, TextIO, Uni
 
 from .cells import FLAGS, NUMBERS, MOST, Cells, cells_in, least_width, records_of
 from .refusal import NoCell, Refusal
-from .shapes import Place, Shape, dimension_texts, json_of, judge_name, shape_in, spelled
+from .shapes import Window, Shape, dimension_texts, json_of, judge_name, shape_in, spelled
 
 MOST_HEADER = 8388608
 VERSIONS = {b"OEOCUBE1": 1, b"OEOCUBE2": 2}
@@ -23,22 +23,22 @@ class Cube(Protocol):
     shape: Shape
     kind: str
 
-    def blocks(self) -> Iterator[tuple[Place, Cells]]:
-        """All cells in row-major order, by the places of the shape."""
+    def blocks(self) -> Iterator[tuple[Window, Cells]]:
+        """All cells in row-major order, by the windows of the shape."""
 
 
 # ---- cube files, written
 
 
 def write_file(out: BinaryIO, name: str, cube: Cube) -> None:
-    """Writes the cube file of version 2 in least widths, in two passes: the first finds the widths and what is refused."""
+    """Writes the cube file of version 2 in least widths; a first pass finds the widths and what is refused."""
     judge_name("the id", name)
     widths = [1] * cube.shape.extents()[0]
-    for place, cells in cube.blocks():
-        widths[place.t] = max(widths[place.t], least_width(cells, cube.kind))
+    for window, cells in cube.blocks():
+        widths[window.t] = max(widths[window.t], least_width(cells, cube.kind))
     out.write(front_of(name, cube, widths))
-    for place, cells in cube.blocks():
-        out.write(records_of(cells, cube.kind, widths[place.t]))
+    for window, cells in cube.blocks():
+        out.write(records_of(cells, cube.kind, widths[window.t]))
 
 
 def front_of(name: str, cube: Cube, widths: list[int]) -> bytes:
@@ -92,17 +92,17 @@ class FileCube:
         _, bands, y, x = self.shape.extents()
         return bands * y * x
 
-    def blocks(self) -> Iterator[tuple[Place, Cells]]:
+    def blocks(self) -> Iterator[tuple[Window, Cells]]:
         """All cells in row-major order. Refuses: a record is damaged."""
         x = self.shape.extents()[3]
         with open(self.path, "rb") as file:
             file.seek(self.start)
-            for place in self.shape.places():
-                width = self.widths[place.t]
+            for window in self.shape.windows():
+                width = self.widths[window.t]
                 try:
-                    yield place, cells_in(file.read(width * place.rows * x), self.kind, width)
+                    yield window, cells_in(file.read(width * window.rows * x), self.kind, width)
                 except NoCell as fault:
-                    where = self.shape.labels_at(place, fault.number)
+                    where = self.shape.labels_at(window, fault.number)
                     raise Refusal(f"{self.path} at {where}: {fault.why}") from None
 
 
@@ -151,25 +151,25 @@ class TextCube:
                 yield left.strip()
             json_of('{"data":[]' + rest + file.read(), self.path)
 
-    def blocks(self) -> Iterator[tuple[Place, Cells]]:
+    def blocks(self) -> Iterator[tuple[Window, Cells]]:
         """All cells in row-major order. Refuses: one is none, or there are more or fewer than positions."""
         words, x = self.words(), self.shape.extents()[3]
-        for place in self.shape.places():
+        for window in self.shape.windows():
             cells = Cells(array("q"), array("q"))
-            for number in range(place.rows * x):
-                top, bottom = self.cell_in(next(words, ""), place, number)
+            for number in range(window.rows * x):
+                top, bottom = self.cell_in(next(words, ""), window, number)
                 cells.numerators.append(top)
                 cells.denominators.append(bottom)
-            yield place, cells
+            yield window, cells
         if next(words, None) is not None:
             raise Refusal(f"{self.path} has more cells than positions")
 
-    def cell_in(self, word: str, place: Place, number: int) -> tuple[int, int]:
+    def cell_in(self, word: str, window: Window, number: int) -> tuple[int, int]:
         """Numerator and denominator of a cell. Refuses: the word spells none, or one of the other kind."""
         cell = cell_of(word)
         is_flag = word in ("true", "false")
         if cell is None or (is_flag != (self.kind == FLAGS) and word != "null"):
-            raise Refusal(f"{self.path} at {self.shape.labels_at(place, number)}: {word!r} is no cell of its kind")
+            raise Refusal(f"{self.path} at {self.shape.labels_at(window, number)}: {word!r} is no cell of its kind")
         return cell
 
 

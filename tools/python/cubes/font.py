@@ -16,7 +16,7 @@ WIDE, HIGH = 4, 5
 def points_of(text: str) -> list[tuple[int, int]]:
     """The points that are set, as columns and rows; a letter that is not known is left out, small ones are large."""
     points = []
-    for place, letter in enumerate(text.upper()):
+    for index, letter in enumerate(text.upper()):
         for row, digit in enumerate(ROWS.get(letter, "00000")):
-            points += [(WIDE * place + column, row) for column in range(3) if int(digit) & 4 >> column]
+            points += [(WIDE * index + column, row) for column in range(3) if int(digit) & 4 >> column]
     return points

@@ -1,4 +1,5 @@
 """GeoTIFF files, one for each date, in and out; needs rasterio and numpy."""
+import contextlib
 import os
 import re
 from fractions import Fraction
@@ -10,7 +11,7 @@ from .files import Cube
 from .grid import centres_of, corners_of, named_when_whole, step_of, whole_labels
 from .netcdf import Options
 from .refusal import NoCell, Refusal, need
-from .shapes import NAME, Place, Shape, instant_of, instant_text, judged
+from .shapes import NAME, Window, Shape, instant_of, instant_text, judged
 
 # A date in a file's name, perhaps with a time of day: 20240601, 2024-06-01, 20240601T103000.
 DATE = re.compile(r"(?<!\d)(\d{4})-?(\d{2})-?(\d{2})(?:[T_](\d{2})[:-]?(\d{2})[:-]?(\d{2})Z?)?(?!\d)")
@@ -69,7 +70,7 @@ class GeotiffCube:
         return [(index, 0) for index in range(1, len(descriptions) + 1)]
 
     def names(self) -> Optional[list[str]]:
-        """The names of the bands: as asked, else as the file describes them, else by index; None for one that has none."""
+        """The names of the bands: as asked, as described in the file, or by index; None for one that has none."""
         said = [(self.file.descriptions[top - 1] or "") for top, _ in self.pairs]
         said = [text[: -len(TOP)] if pair[1] else text for text, pair in zip(said, self.pairs)]
         asked = self.options.bands
@@ -93,14 +94,14 @@ class GeotiffCube:
             y, x = corners_of("y", y, abs(height)), corners_of("x", x, width)
         return whole_labels("y", y), whole_labels("x", x)
 
-    def blocks(self) -> Iterator[tuple[Place, Cells]]:
+    def blocks(self) -> Iterator[tuple[Window, Cells]]:
         """All cells in row-major order. Refuses: a number is no cell, or a file has another grid than the first."""
-        for place in self.shape.places():
-            if place.t != self.index:
+        for window in self.shape.windows():
+            if window.t != self.index:
                 self.file.close()
-                self.file, self.index = self.open(place.t), place.t
+                self.file, self.index = self.open(window.t), window.t
                 self.judge_grid()
-            yield place, self.cells_at(place)
+            yield window, self.cells_at(window)
 
     def judge_grid(self) -> None:
         """Refuses: the file that is open has another grid, or other bands, than the first."""
@@ -109,27 +110,27 @@ class GeotiffCube:
         if have != (self.transform, len(self.shape.x), len(self.shape.y), count):
             raise Refusal(f"{self.paths[self.index]} has another grid or other bands than {self.paths[0]}")
 
-    def cells_at(self, place: Place) -> Cells:
-        """The cells of a place. Refuses: a number is none."""
-        top, bottom = self.pairs[place.band]
-        raw = self.piece(self.file.read, top, place)
+    def cells_at(self, window: Window) -> Cells:
+        """The cells of a window. Refuses: a number is none."""
+        top, bottom = self.pairs[window.band]
+        raw = self.piece(self.file.read, top, window)
         scale, offset = decimal_of(self.file.scales[top - 1]), decimal_of(self.file.offsets[top - 1])
         reading = Reading(scale, offset, self.options.digits, self.kind)
         try:
             if bottom:
-                return cells_of_pairs(raw, self.piece(self.file.read, bottom, place))
-            return cells_from(raw, self.piece(self.file.read_masks, top, place) == 0, reading)
+                return cells_of_pairs(raw, self.piece(self.file.read, bottom, window))
+            return cells_from(raw, self.piece(self.file.read_masks, top, window) == 0, reading)
         except NoCell as fault:
             value = raw.ravel()[fault.number]
             more = advice(value, reading) if raw.dtype.kind == "f" else ""
-            where = self.shape.labels_at(place, fault.number)
-            raise Refusal(f"{self.paths[place.t]} at {where}: {value} is no cell: {fault.why}{more}") from None
+            where = self.shape.labels_at(window, fault.number)
+            raise Refusal(f"{self.paths[window.t]} at {where}: {value} is no cell: {fault.why}{more}") from None
 
-    def piece(self, read, band: int, place: Place):
+    def piece(self, read, band: int, window: Window):
         """The raw numbers, or the mask, of some rows in the order of labels."""
         height = self.file.height
-        first = height - place.row - place.rows if self.flip else place.row
-        rows = read(band, window=((first, first + place.rows), (0, self.file.width)))
+        first = height - window.row - window.rows if self.flip else window.row
+        rows = read(band, window=((first, first + window.rows), (0, self.file.width)))
         return rows[::-1] if self.flip else rows
 
 
@@ -156,23 +157,18 @@ def write_geotiff(path: str, cube: Cube, exact: bool, corners: bool, pixel: Opti
         raise Refusal("a GeoTIFF has pixels, and the cube has none")
     words = words_of(library, cube, exact, corners, pixel)
     paths = paths_of(path, cube.shape)
-    file, index, aside = None, -1, None
-    for place, cells in cube.blocks():
-        if place.t != index:
-            close(file, aside)
-            aside, index = named_when_whole(paths[place.t]), place.t
-            file = library.open(aside.__enter__(), "w", **words)
-            describe(file, cube, exact)
-        write_rows(file, place, cells, cube, exact)
-    close(file, aside)
+    file, index = None, -1
+    with contextlib.ExitStack() as date:
+        for window, cells in cube.blocks():
+            if window.t != index:
+                # The file of the date before is whole.
+                date.close()
+                index = window.t
+                aside = date.enter_context(named_when_whole(paths[index]))
+                file = date.enter_context(library.open(aside, "w", **words))
+                describe(file, cube, exact)
+            write_rows(file, window, cells, cube, exact)
     return paths
-
-
-def close(file, aside) -> None:
-    """Closes a file that is whole, and gives it its name."""
-    if file is not None:
-        file.close()
-        aside.__exit__(None, None, None)
 
 
 def paths_of(path: str, shape: Shape) -> list[str]:
@@ -214,12 +210,12 @@ def describe(file, cube: Cube, exact: bool) -> None:
             file.set_band_description(index + 1, name)
 
 
-def write_rows(file, place: Place, cells: Cells, cube: Cube, exact: bool) -> None:
-    """Writes the cells of a place."""
+def write_rows(file, window: Window, cells: Cells, cube: Cube, exact: bool) -> None:
+    """Writes the cells of a window."""
     if cube.kind == FLAGS:
         layers = [flag_array(cells, 255).astype("uint8")]
     else:
         layers = [*pair_arrays(cells)] if exact else [float_array(cells)]
-    window = ((place.row, place.row + place.rows), (0, file.width))
+    rows = ((window.row, window.row + window.rows), (0, file.width))
     for number, layer in enumerate(layers):
-        file.write(layer.reshape(place.rows, -1), place.band * len(layers) + number + 1, window=window)
+        file.write(layer.reshape(window.rows, -1), window.band * len(layers) + number + 1, window=rows)

@@ -19,7 +19,7 @@ def whole_labels(name: str, coordinates: list[Fraction]) -> list[int]:
 
 
 def step_of(name: str, coordinates: list, pixel: Optional[Fraction]) -> Fraction:
-    """The side of a pixel, above 0. Refuses: the coordinates are not regular, or fewer than two and no side is given."""
+    """The side of a pixel, above 0. Refuses: coordinates are not regular, or fewer than two and no side is given."""
     steps = {abs(Fraction(later) - earlier) for earlier, later in zip(coordinates, coordinates[1:])}
     if len(steps) > 1:
         raise Refusal(f"{name} is no regular grid: its steps are from {min(steps)} to {max(steps)}")

@@ -9,7 +9,7 @@ from .exact import Reading, advice, cells_from, cells_of_pairs, decimal_of, flag
 from .files import Cube
 from .grid import centres_of, corners_of, named_when_whole, whole_labels
 from .refusal import NoCell, Refusal, need
-from .shapes import EPOCH, Place, Shape, judged
+from .shapes import EPOCH, Window, Shape, judged
 
 # Which dimension of a cube a name or an attribute says.
 NAMES = {"t": "t", "time": "t", "bands": "bands", "band": "bands", "y": "y", "x": "x"}
@@ -154,28 +154,28 @@ class NetcdfCube:
         found = WKT_CODE.search(str(said.get("crs_wkt", said.get("spatial_ref", ""))))
         return int(found[1]) if found else 0
 
-    def blocks(self) -> Iterator[tuple[Place, Cells]]:
+    def blocks(self) -> Iterator[tuple[Window, Cells]]:
         """All cells in row-major order. Refuses: a number is no cell."""
-        for place in self.shape.places():
-            layer = self.layers[0 if "bands" in self.axes else place.band]
+        for window in self.shape.windows():
+            layer = self.layers[0 if "bands" in self.axes else window.band]
             try:
-                yield place, layer.cells_at(lambda variable: self.piece(variable, place))
+                yield window, layer.cells_at(lambda variable: self.piece(variable, window))
             except NoCell as fault:
-                raw = self.piece(layer.variable, place).ravel()[fault.number]
-                where = self.shape.labels_at(place, fault.number)
+                raw = self.piece(layer.variable, window).ravel()[fault.number]
+                where = self.shape.labels_at(window, fault.number)
                 more = advice(raw, layer.reading) if raw.dtype.kind == "f" else ""
                 raise Refusal(f"{layer.name} at {where}: {raw} is no cell: {fault.why}{more}") from None
 
-    def piece(self, variable, place: Place):
-        """The raw numbers of a place, with y before x and both in the order of labels."""
+    def piece(self, variable, window: Window):
+        """The raw numbers of a window, with y before x and both in the order of labels."""
         index, kept = [], []
         for dimension in variable.dimensions:
             role = self.roles[dimension]
             if role in ("y", "x"):
                 kept.append(role)
-                index.append(self.span(role, place))
+                index.append(self.span(role, window))
             else:
-                number = {"t": place.t, "bands": place.band, "": 0}[role]
+                number = {"t": window.t, "bands": window.band, "": 0}[role]
                 index.append(self.axes[role].order[number] if role else 0)
         numbers = variable[tuple(index)] if index else variable[...]
         turned = [slice(None, None, -1 if self.is_turned(role) else 1) for role in kept]
@@ -187,10 +187,10 @@ class NetcdfCube:
         order = self.axes[role].order
         return len(order) > 1 and order[0] > order[1]
 
-    def span(self, role: str, place: Place) -> slice:
-        """The indices in the file of a place's labels along y or x."""
+    def span(self, role: str, window: Window) -> slice:
+        """The indices in the file of a window's labels along y or x."""
         count = len(self.axes[role].labels)
-        first, end = (place.row, place.row + place.rows) if role == "y" else (0, count)
+        first, end = (window.row, window.row + window.rows) if role == "y" else (0, count)
         return slice(count - end, count - first) if self.is_turned(role) else slice(first, end)
 
 
@@ -286,8 +286,8 @@ def write_netcdf(path: str, cube: Cube, name: str, exact: bool, corners: bool) -
         write_coordinates(file, cube.shape, corners)
         names = [name] if cube.shape.bands is None else cube.shape.bands
         layers = [OutLayer(file, band, cube, exact) for band in names]
-        for place, cells in cube.blocks():
-            layers[place.band].write(place, cells)
+        for window, cells in cube.blocks():
+            layers[window.band].write(window, cells)
 
 
 def write_coordinates(file, shape: Shape, corners: bool) -> None:
@@ -368,12 +368,12 @@ class OutLayer:
         variable.setncatts({**words, "grid_mapping": "crs"} if cube.shape.epsg else words)
         self.variables.append(variable)
 
-    def write(self, place: Place, cells: Cells) -> None:
-        """Writes the cells of a place."""
-        spans = {"t": place.t, "y": slice(place.row, place.row + place.rows), "x": slice(None)}
+    def write(self, window: Window, cells: Cells) -> None:
+        """Writes the cells of a window."""
+        spans = {"t": window.t, "y": slice(window.row, window.row + window.rows), "x": slice(None)}
         index = tuple(spans[name] for name in self.dimensions) or Ellipsis
         for variable, numbers in zip(self.variables, self.numbers_of(cells)):
-            numbers = numbers.reshape(place.rows, -1) if "x" in self.dimensions and "y" in self.dimensions else numbers
+            numbers = numbers.reshape(window.rows, -1) if "x" in self.dimensions and "y" in self.dimensions else numbers
             variable[index] = numbers
 
     def numbers_of(self, cells: Cells) -> list:

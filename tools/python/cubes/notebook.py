@@ -14,7 +14,7 @@ from .files import Cube, TextCube, write_file
 from .grid import named_when_whole, whole_labels
 from .netcdf import NAMES
 from .refusal import NoCell, Refusal, need
-from .shapes import Place, Shape, judged
+from .shapes import Window, Shape, judged
 
 ROOT = os.path.dirname(os.path.dirname(os.path.dirname(os.path.dirname(os.path.abspath(__file__)))))
 
@@ -28,8 +28,10 @@ def read(text: str, exact: bool = False):
     return array_of(TextCube("the text", lambda: io.StringIO(text)), exact)
 
 
-def write(array, name: str, path: Optional[str] = None, epsg: Optional[int] = None, digits: Optional[int] = None) -> str:
-    """Writes an xarray.DataArray as the cube file of the collection `name`, and returns the path, `name`.cube by default.
+def write(
+    array, name: str, path: Optional[str] = None, epsg: Optional[int] = None, digits: Optional[int] = None
+) -> str:
+    """Writes an xarray.DataArray as the cube file of the collection `name`, and returns the path, else `name`.cube.
 
     Floats are taken exactly, or rounded to so many digits behind the point; fractions in an array of objects are taken
     as they are. The EPSG code is `epsg`, or the attribute of that name. Refuses: a number or a label is none of a cube.
@@ -120,18 +122,18 @@ class ArrayCube:
         self.kind = FLAGS if self.values.dtype.kind == "b" or isinstance(some, bool) else NUMBERS
         self.reading = Reading(digits=digits, kind=self.kind)
 
-    def blocks(self) -> Iterator[tuple[Place, Cells]]:
+    def blocks(self) -> Iterator[tuple[Window, Cells]]:
         """All cells in row-major order. Refuses: a number is none."""
         extents = self.shape.extents()
         values = self.values.reshape(extents)
-        for place in self.shape.places():
-            raw = values[place.t, place.band, place.row : place.row + place.rows].ravel()
+        for window in self.shape.windows():
+            raw = values[window.t, window.band, window.row : window.row + window.rows].ravel()
             try:
-                yield place, self.cells_in(raw)
+                yield window, self.cells_in(raw)
             except NoCell as fault:
                 value = raw[fault.number]
                 more = advice(value, self.reading).replace("--round ", "digits=") if raw.dtype.kind == "f" else ""
-                where = self.shape.labels_at(place, fault.number)
+                where = self.shape.labels_at(window, fault.number)
                 raise Refusal(f"{where}: {value} is no cell: {fault.why}{more}") from None
 
     def cells_in(self, raw) -> Cells:

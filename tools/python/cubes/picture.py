@@ -126,11 +126,11 @@ def planes_of(cube: Cube, wanted: set[tuple[int, int]], step: int) -> dict[tuple
     """The planes by indices of t and band, of which the first of `step` pixels is kept along y and along x."""
     x = cube.shape.extents()[3]
     planes = {key: Plane(-(-x // step), array("d")) for key in wanted}
-    for place, cells in cube.blocks():
-        if (place.t, place.band) not in planes:
+    for window, cells in cube.blocks():
+        if (window.t, window.band) not in planes:
             continue
-        values = planes[place.t, place.band].values
-        for row in range(-place.row % step, place.rows, step):
+        values = planes[window.t, window.band].values
+        for row in range(-window.row % step, window.rows, step):
             some = slice(row * x, (row + 1) * x, step)
             values.extend(floats_of(Cells(cells.numerators[some], cells.denominators[some])))
     return planes
@@ -171,18 +171,18 @@ def colour_of(values: list[float], low: float, high: float) -> Colour:
 
 
 def drawn(panels: list[list[Plane]], titles: list[str], zoom: int, least: int, ends: tuple[float, float]) -> Canvas:
-    """A canvas, at least so wide, with the panels beside one another under their titles, and room for a legend below."""
+    """A canvas, at least so wide, with the panels side by side under their titles, and room for a legend below."""
     width = panels[0][0].width
     height = len(panels[0][0].values) // width
     wide = max([zoom * width, *(DOT * WIDE * len(title) for title in titles)])
     top = MARGIN + (LINE if any(titles) else 0)
     all_wide = MARGIN + max(len(panels) * (wide + MARGIN), least + MARGIN)
     canvas = Canvas(all_wide, top + zoom * height + MARGIN + 2 * LINE + MARGIN)
-    for number, panel in enumerate(panels):
-        left = MARGIN + number * (wide + MARGIN)
-        canvas.write(left, MARGIN, titles[number])
-        for place, values in enumerate(zip(*(plane.values for plane in panel))):
-            row, column = divmod(place, width)
+    for index, panel in enumerate(panels):
+        left = MARGIN + index * (wide + MARGIN)
+        canvas.write(left, MARGIN, titles[index])
+        for number, values in enumerate(zip(*(plane.values for plane in panel))):
+            row, column = divmod(number, width)
             colour = colour_of([*values], *ends)
             canvas.fill(left + zoom * column, top + zoom * row, zoom, zoom, colour)
     return canvas

@@ -15,7 +15,7 @@ class NoCell(Exception):
 
 
 def need(module: str, command: str):
-    """Imports a package that only some commands need. Refuses: it is missing; the line names it and Debian's package."""
+    """Imports a package that only some commands need. Refuses: it is missing; the line names the one of Debian."""
     import importlib
 
     try:

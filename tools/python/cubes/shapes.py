@@ -21,8 +21,8 @@ EPOCH = datetime.datetime(1970, 1, 1)
 BLOCK = 1 << 17
 
 
-class Place(NamedTuple):
-    """Some rows of a plane, which is the pixels of one label of `t` and one band: indices, and how many rows."""
+class Window(NamedTuple):
+    """Some whole rows of a plane, which is the cells of one label of `t` and one band: indices, and how many rows."""
 
     t: int
     band: int
@@ -55,19 +55,19 @@ class Shape:
         t, bands, y, x = self.extents()
         return t * bands * y * x
 
-    def places(self) -> Iterator[Place]:
+    def windows(self) -> Iterator[Window]:
         """The whole cube in row-major order, at most BLOCK cells at a time but at least a row."""
         t, bands, y, x = self.extents()
         step = max(1, BLOCK // max(1, x))
         for date in range(t if x else 0):
             for band in range(bands):
                 for row in range(0, y, step):
-                    yield Place(date, band, row, min(step, y - row))
+                    yield Window(date, band, row, min(step, y - row))
 
-    def labels_at(self, place: Place, number: int) -> str:
-        """The labels of the cell that has this number among those of a place, as a text for people."""
+    def labels_at(self, window: Window, number: int) -> str:
+        """The labels of the cell that has this number among those of a window, as a text for people."""
         x = self.extents()[3]
-        indices = {"t": place.t, "bands": place.band, "y": place.row + number // x, "x": number % x}
+        indices = {"t": window.t, "bands": window.band, "y": window.row + number // x, "x": number % x}
         words = [f"{name} {spelled(name, labels[indices[name]])}" for name, labels in self.dimensions()]
         return ", ".join(words) if words else "the one cell"
 

@@ -80,10 +80,10 @@ def cell_text(value: Optional[Fraction], kind: str) -> str:
 
 def tables_of(cube: Cube) -> Iterator[str]:
     """A table of y and x for each date and band, of the first few of each."""
-    for place, cells in cube.blocks():
-        if place.row > 0 or place.t >= MOST_SHOWN or place.band >= MOST_SHOWN:
+    for window, cells in cube.blocks():
+        if window.row > 0 or window.t >= MOST_SHOWN or window.band >= MOST_SHOWN:
             continue
-        title = title_of(cube.shape, place.t, place.band)
+        title = title_of(cube.shape, window.t, window.band)
         yield from ["", title] if title else [""]
         yield from table_of(cube, [*fractions_of(cells)])
 

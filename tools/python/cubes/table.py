@@ -10,7 +10,7 @@ from typing import Iterator, Optional, TextIO
 from .cells import FLAGS, NUMBERS, Cells, fits, floats_of, why_not
 from .files import Cube
 from .refusal import Refusal
-from .shapes import Place, Shape, instant_of, judged, spelled
+from .shapes import Window, Shape, instant_of, judged, spelled
 
 DIMENSIONS = ("t", "bands", "y", "x")
 VALUE, TOP, BOTTOM = "value", "numerator", "denominator"
@@ -74,7 +74,9 @@ class TableCube:
 
     def keep_all(self) -> None:
         """Puts each cell where it stands. A position without a row is null. Refuses: a position has two rows."""
-        indices = {name: {label: index for index, label in enumerate(labels)} for name, labels in self.shape.dimensions()}
+        indices = {}
+        for name, labels in self.shape.dimensions():
+            indices[name] = {label: index for index, label in enumerate(labels)}
         extents = dict(zip(DIMENSIONS, self.shape.extents()))
         taken = bytearray(self.shape.count() // 8 + 1)
         for line, row in self.rows():
@@ -113,13 +115,13 @@ class TableCube:
             raise Refusal(f"{self.path} line {line}: {word} is no cell: {why_not(value)}")
         return value.numerator, value.denominator
 
-    def blocks(self) -> Iterator[tuple[Place, Cells]]:
+    def blocks(self) -> Iterator[tuple[Window, Cells]]:
         """All cells in row-major order."""
         self.cells.seek(0)
         x = self.shape.extents()[3]
-        for place in self.shape.places():
-            numbers = array("q", self.cells.read(16 * place.rows * x))
-            yield place, Cells(numbers[::2], numbers[1::2])
+        for window in self.shape.windows():
+            numbers = array("q", self.cells.read(16 * window.rows * x))
+            yield window, Cells(numbers[::2], numbers[1::2])
 
 
 def ordered(name: str, labels: list) -> list:
@@ -131,16 +133,16 @@ def ordered(name: str, labels: list) -> list:
 
 
 def write_table(out: TextIO, cube: Cube, exact: bool) -> None:
-    """Writes a row for each cell in row-major order, null as nothing; numbers as floats, or by numerator and denominator."""
+    """Writes a row for each cell in row-major order, null as nothing; numbers as floats, or by both parts."""
     lines = csv.writer(out, lineterminator="\n")
     pairs = cube.shape.dimensions()
     is_exact = exact and cube.kind == NUMBERS
     lines.writerow([name for name, _ in pairs] + ([TOP, BOTTOM] if is_exact else [VALUE]))
     x = cube.shape.extents()[3]
     texts = {name: [spelled(name, label) for label in labels] for name, labels in pairs}
-    for place, cells in cube.blocks():
+    for window, cells in cube.blocks():
         for number, words in enumerate(words_of(cells, cube.kind, is_exact)):
-            index = {"t": place.t, "bands": place.band, "y": place.row + number // x, "x": number % x}
+            index = {"t": window.t, "bands": window.band, "y": window.row + number // x, "x": number % x}
             lines.writerow([texts[name][index[name]] for name in texts] + words)
 
 
