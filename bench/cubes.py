@@ -1,11 +1,11 @@
 #!/usr/bin/env python3
 """Takes the ordinary year in from NetCDF, through the program and out again, and compares it with xarray's own floats.
 
-`cubes.py PROGRAM [SIDE]` writes the cells of year.py as a NetCDF file of whole numbers into a folder of its own, 12 dates,
-4 bands and SIDE x SIDE pixels (250 where no side is given; 1444 make 10^8 cells), takes it in by `tools/cubes from-netcdf`,
-runs bench/year.json, and takes the result out by `tools/cubes to-netcdf`. It prints seconds and peak memory of each, whether
-the cube file is byte for byte the one that year.py writes, and at how many cells the result is the float that xarray gives
-for the same work. It needs netCDF4, numpy and xarray.
+`cubes.py PROGRAM [SIDE]` writes the cells of year.py as a NetCDF file of whole numbers into a folder of its own, 12
+dates, 4 bands and SIDE x SIDE pixels (250 where no side is given; 1444 make 10^8 cells), takes it in by `tools/cubes
+from-netcdf`, runs bench/year.json, and takes the result out by `tools/cubes to-netcdf`. It prints seconds and peak
+memory of each, whether the cube file is byte for byte the one that year.py writes, and at how many cells the result is
+the float that xarray gives for the same work. It needs netCDF4, numpy and xarray.
 """
 import filecmp
 import os

@@ -61,6 +61,32 @@ class Netcdf(InFolder):
         self.packed("a.nc", "A")
         self.assertEqual(cells_in("A.cube"), [255, 254, 0, 1, 2, 3])
 
+    def test_fills_of_another_type(self):
+        """A fill that no raw number of the type equals hides none: -9999 is not 241, nor 2^53 what is one more."""
+        self.make("a.nc", A=("u1", [241, 0, 255, *range(9)], {"missing_value": -9999.0, "valid_min": 1.0}))
+        self.packed("a.nc", "A")
+        self.assertEqual(cells_in("A.cube"), [241, None, 255, None, *range(1, 9)])
+        self.make("b.nc", A=("i8", [2**53 + 1, 2**53, *range(10)], {"missing_value": 2.0**53}))
+        self.packed("b.nc", "A")
+        self.assertEqual(cells_in("A.cube")[:2], [2**53 + 1, None])
+        self.make("c.nc", A=("f4", [1e20, 1.5, *range(10)], {"missing_value": 1e20}))
+        self.packed("c.nc", "A")
+        self.assertEqual(cells_in("A.cube")[:2], [None, Fraction(3, 2)])
+        self.make("d.nc", A=("i2", range(12), {"missing_value": "none"}))
+        self.assertIn("missing_value is no number", self.cubes("from-netcdf", "d.nc", "A", status=2))
+
+    def test_no_labels(self):
+        """A dimension without labels, as a filter leaves it, goes out and comes back."""
+        self.keep("A.json", '{"type":"FractionCube","dimensions":[%s,%s],"data":[]}' % (
+            '{"name":"t","type":"temporal","labels":[]}',
+            '{"name":"x","type":"spatial","axis":"x","reference_system":4326,"labels":[0,10]}',
+        ))
+        self.cubes("to-netcdf", "A.json", "A.nc")
+        self.packed("A.nc", "cells")
+        self.assertIn(b"t: 0 labels\nx: 2 labels: 0, 10\n", self.cubes("show", "A.cube"))
+        self.assertEqual(self.cubes("to-csv", "A.json"), b"t,x,value\n")
+        self.assertIn("no pixels", self.cubes("picture", "A.json", status=2))
+
     def test_floats(self):
         """Floats come exactly; one that is no cell is named with its labels and with what rounding would do."""
         values = [0.1, math.nan, -0.0, 2.5, 1e9, 2.0**-62, *range(6)]

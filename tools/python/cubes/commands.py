@@ -7,7 +7,8 @@ from typing import BinaryIO, Callable
 
 from .files import Cube, open_cube, write_file
 from .geotiff import GeotiffCube, write_geotiff
-from .netcdf import NetcdfCube, Options, write_netcdf
+from .netcdf import NetcdfCube, write_netcdf
+from .options import Options
 from .exact import MOST_DIGITS
 from .picture import Choice, write_picture
 from .refusal import Refusal

@@ -121,13 +121,15 @@ def rounded(numpy, raw, nulls, reading: Reading) -> Cells:
     return cells_of_integers(numpy, numpy.array(numerators, dtype=numpy.int64), nulls, whole)
 
 
-def advice(raw: object, reading: Reading) -> str:
-    """What `--round` would do to a raw number that is no cell, as the end of a line; empty where that does not help."""
-    value = float(raw)
-    if reading.kind == FLAGS or abs(value) > 9e18 or value != value or reading.digits is not None:
-        return ""
-    digits = 6 if abs(value) < 9e12 else 0
-    return f"; with --round {digits} it would be {value:.{digits}f}"
+def refusal_of(fault: NoCell, where: str, raw, reading: Reading, option: str = "--round ") -> Refusal:
+    """The line about one of these raw numbers that is no cell, and what rounding by the option would make of it."""
+    value = raw.ravel()[fault.number]
+    text = f"{where}: {value} is no cell: {fault.why}"
+    is_float = raw.dtype.kind == "f" and reading.is_plain() and reading.kind == NUMBERS and reading.digits is None
+    if not is_float or abs(value) > MOST:
+        return Refusal(text)
+    digits = 6 if abs(value) < MOST / 10**6 else 0
+    return Refusal(f"{text}; with {option}{digits} it would be {value:.{digits}f}")
 
 
 def float_array(cells: Cells):

@@ -6,12 +6,12 @@ from fractions import Fraction
 from typing import Iterator, Optional
 
 from .cells import FLAGS, NUMBERS, Cells
-from .exact import Reading, advice, cells_from, cells_of_pairs, decimal_of, flag_array, float_array, pair_arrays
+from .exact import Reading, cells_from, cells_of_pairs, decimal_of, flag_array, float_array, pair_arrays, refusal_of
 from .files import Cube
 from .grid import centres_of, corners_of, named_when_whole, step_of, whole_labels
-from .netcdf import Options
+from .options import Options
 from .refusal import NoCell, Refusal, need
-from .shapes import NAME, Window, Shape, instant_of, instant_text, judged
+from .shapes import NAME, Shape, Window, instant_of, instant_text, judged
 
 # A date in a file's name, perhaps with a time of day: 20240601, 2024-06-01, 20240601T103000.
 DATE = re.compile(r"(?<!\d)(\d{4})-?(\d{2})-?(\d{2})(?:[T_](\d{2})[:-]?(\d{2})[:-]?(\d{2})Z?)?(?!\d)")
@@ -121,10 +121,8 @@ class GeotiffCube:
                 return cells_of_pairs(raw, self.piece(self.file.read, bottom, window))
             return cells_from(raw, self.piece(self.file.read_masks, top, window) == 0, reading)
         except NoCell as fault:
-            value = raw.ravel()[fault.number]
-            more = advice(value, reading) if raw.dtype.kind == "f" else ""
-            where = self.shape.labels_at(window, fault.number)
-            raise Refusal(f"{self.paths[window.t]} at {where}: {value} is no cell: {fault.why}{more}") from None
+            where = f"{self.paths[window.t]} at {self.shape.labels_at(window, fault.number)}"
+            raise refusal_of(fault, where, raw, reading) from None
 
     def piece(self, read, band: int, window: Window):
         """The raw numbers, or the mask, of some rows in the order of labels."""

@@ -5,15 +5,14 @@ from fractions import Fraction
 from typing import Iterator, NamedTuple, Optional
 
 from .cells import FLAGS, NUMBERS, Cells
-from .exact import Reading, advice, cells_from, cells_of_pairs, decimal_of, flag_array, float_array, pair_arrays
+from .exact import Reading, cells_from, cells_of_pairs, decimal_of, flag_array, float_array, pair_arrays, refusal_of
 from .files import Cube
 from .grid import centres_of, corners_of, named_when_whole, whole_labels
 from .refusal import NoCell, Refusal, need
-from .shapes import EPOCH, Window, Shape, judged
+from .options import Options
+from .shapes import EPOCH, ROLES, Shape, Window, judged
 
-# Which dimension of a cube a name or an attribute says.
-NAMES = {"t": "t", "time": "t", "bands": "bands", "band": "bands", "y": "y", "x": "x"}
-NAMES |= {"lat": "y", "latitude": "y", "lon": "x", "longitude": "x"}
+# Which dimension of a cube an attribute says.
 AXES = {"T": "t", "Y": "y", "X": "x"}
 STANDARD_NAMES = {"time": "t", "latitude": "y", "longitude": "x"}
 STANDARD_NAMES |= {"projection_y_coordinate": "y", "projection_x_coordinate": "x"}
@@ -31,17 +30,6 @@ class Axis(NamedTuple):
 
     labels: list
     order: list[int]
-
-
-class Options(NamedTuple):
-    """What the words of a command say about reading."""
-
-    epsg: Optional[int] = None
-    digits: Optional[int] = None
-    flags: bool = False
-    bands: Optional[list[str]] = None
-    dates: Optional[list[int]] = None
-    corners: bool = False
 
 
 def attributes_of(variable) -> dict:
@@ -104,7 +92,7 @@ class NetcdfCube:
         role = AXES.get(said.get("axis")) or STANDARD_NAMES.get(said.get("standard_name"))
         if not role and " since " in str(said.get("units", "")):
             role = "t"
-        return role or NAMES.get(name.lower(), "")
+        return role or ROLES.get(name.lower(), "")
 
     def axis_of(self, dimension: str, role: str) -> Axis:
         """The labels along a dimension. Refuses: it has no coordinates, or one of them is no label."""
@@ -161,10 +149,8 @@ class NetcdfCube:
             try:
                 yield window, layer.cells_at(lambda variable: self.piece(variable, window))
             except NoCell as fault:
-                raw = self.piece(layer.variable, window).ravel()[fault.number]
-                where = self.shape.labels_at(window, fault.number)
-                more = advice(raw, layer.reading) if raw.dtype.kind == "f" else ""
-                raise Refusal(f"{layer.name} at {where}: {raw} is no cell: {fault.why}{more}") from None
+                where = f"{layer.name} at {self.shape.labels_at(window, fault.number)}"
+                raise refusal_of(fault, where, self.piece(layer.variable, window), layer.reading) from None
 
     def piece(self, variable, window: Window):
         """The raw numbers of a window, with y before x and both in the order of labels."""
@@ -211,27 +197,40 @@ class Layer:
         if self.bottoms is not None:
             return cells_of_pairs(piece(self.variable), piece(self.bottoms))
         raw, said = piece(self.variable), self.said
-        if str(said.get("_Unsigned", "")).lower() == "true" and raw.dtype.kind == "i":
+        if is_unsigned(said) and raw.dtype.kind == "i":
             raw = raw.view(raw.dtype.str.replace("i", "u"))
         return cells_from(raw, nulls_in(raw, said), self.reading)
 
 
 def nulls_in(raw, said: dict):
     """Where raw numbers are fills, or outside of what is said to be valid."""
-    numpy = need("numpy", "from-netcdf")
-
-    def numbers(name: str) -> list:
-        return numpy.ravel(numpy.asarray(said[name]).astype(raw.dtype)).tolist() if name in said else []
-
-    nulls = numpy.zeros(raw.shape, dtype=bool)
-    for fill in numbers("_FillValue") + numbers("missing_value"):
+    nulls = need("numpy", "from-netcdf").zeros(raw.shape, dtype=bool)
+    for fill in numbers_in(said, "_FillValue", raw) + numbers_in(said, "missing_value", raw):
         nulls |= raw == fill
-    low, high = (numbers("valid_range") + [None, None])[:2]
-    for least in [low] if low is not None else numbers("valid_min"):
+    valid = numbers_in(said, "valid_range", raw)
+    for least in valid[:1] or numbers_in(said, "valid_min", raw):
         nulls |= raw < least
-    for most in [high] if high is not None else numbers("valid_max"):
+    for most in valid[1:] or numbers_in(said, "valid_max", raw):
         nulls |= raw > most
     return nulls
+
+
+def numbers_in(said: dict, name: str, raw) -> list:
+    """The numbers of an attribute, so that raw ones compare with them exactly. Refuses: they are none."""
+    numpy = need("numpy", "from-netcdf")
+    values = numpy.ravel(numpy.asarray(said.get(name, [])))
+    try:
+        if raw.dtype.kind == "f" or is_unsigned(said):
+            return values.astype(raw.dtype).tolist()
+        # A whole number that is written as a float stays exact; one that is none equals no raw number.
+        return [int(value) if float(value).is_integer() else float(value) for value in values.tolist()]
+    except ValueError:
+        raise Refusal(f"the attribute {name} is no number but {said[name]!r}") from None
+
+
+def is_unsigned(said: dict) -> bool:
+    """Whether an attribute says that numbers which are stored as signed ones are not."""
+    return str(said.get("_Unsigned", "")).lower() == "true"
 
 
 def name_in(value) -> str:

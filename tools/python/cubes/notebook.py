@@ -9,12 +9,11 @@ from fractions import Fraction
 from typing import Any, Iterator, Mapping, Optional, Union
 
 from .cells import FLAGS, NUMBERS, Cells, cells_of, fractions_of
-from .exact import Reading, advice, cells_from, float_array
+from .exact import Reading, cells_from, float_array, refusal_of
 from .files import Cube, TextCube, write_file
 from .grid import named_when_whole, whole_labels
-from .netcdf import NAMES
 from .refusal import NoCell, Refusal, need
-from .shapes import Window, Shape, judged
+from .shapes import ROLES, Shape, Window, judged
 
 ROOT = os.path.dirname(os.path.dirname(os.path.dirname(os.path.dirname(os.path.abspath(__file__)))))
 
@@ -105,7 +104,7 @@ class ArrayCube:
     """An array of xarray as a cube. Refuses: a dimension or a label of it is none of a cube."""
 
     def __init__(self, array, epsg: Optional[int], digits: Optional[int]):
-        roles = {name: NAMES.get(str(name).lower()) for name in array.dims}
+        roles = {name: ROLES.get(str(name).lower()) for name in array.dims}
         for name, role in roles.items():
             if role is None or [*roles.values()].count(role) > 1:
                 raise Refusal(f"the dimension {name} is none of t, bands, y and x, or one of them twice")
@@ -131,10 +130,8 @@ class ArrayCube:
             try:
                 yield window, self.cells_in(raw)
             except NoCell as fault:
-                value = raw[fault.number]
-                more = advice(value, self.reading).replace("--round ", "digits=") if raw.dtype.kind == "f" else ""
                 where = self.shape.labels_at(window, fault.number)
-                raise Refusal(f"{where}: {value} is no cell: {fault.why}{more}") from None
+                raise refusal_of(fault, where, raw, self.reading, "digits=") from None
 
     def cells_in(self, raw) -> Cells:
         """The cells of raw values. Raises NoCell."""

@@ -17,6 +17,10 @@ NAME = re.compile(r"[A-Za-z0-9_.-]{1,64}")
 INSTANT = re.compile(r"(\d{4})-(\d{2})-(\d{2})(?:T(\d{2}):(\d{2}):(\d{2})Z)?")
 EPOCH = datetime.datetime(1970, 1, 1)
 
+# Which dimension of a cube the name of one in other formats says.
+ROLES = {"t": "t", "time": "t", "bands": "bands", "band": "bands", "y": "y", "x": "x"}
+ROLES |= {"lat": "y", "latitude": "y", "lon": "x", "longitude": "x"}
+
 # How many cells are worked on at once.
 BLOCK = 1 << 17
 
