@@ -13,7 +13,7 @@ from .exact import Reading, cells_from, float_array, refusal_of
 from .files import Cube, TextCube, write_file
 from .grid import named_when_whole, whole_labels
 from .refusal import NoCell, Refusal, need
-from .shapes import ROLES, Shape, Window, judged
+from .shapes import ROLES, Shape, Window, judge_name, judged
 
 ROOT = os.path.dirname(os.path.dirname(os.path.dirname(os.path.dirname(os.path.abspath(__file__)))))
 
@@ -35,7 +35,7 @@ def write(
     Floats are taken exactly, or rounded to so many digits behind the point; fractions in an array of objects are taken
     as they are. The EPSG code is `epsg`, or the attribute of that name. Refuses: a number or a label is none of a cube.
     """
-    path = path or f"{name}.cube"
+    path = path or f"{judge_name('the id', name)}.cube"
     cube = ArrayCube(array, epsg, digits)
     with named_when_whole(path) as aside, open(aside, "wb") as out:
         write_file(out, name, cube)
@@ -46,19 +46,20 @@ def run(
     graph: Union[str, Mapping[str, Any]],
     arrays: Optional[Mapping[str, Any]] = None,
     exact: bool = False,
+    digits: Optional[int] = None,
     sides: tuple[int, int, int, int] = (64, 64, 12, 1),
     program: Optional[str] = None,
 ):
     """The result of a graph, JSON or its text, over arrays by the ids of their collections, as `read` gives it.
 
-    Calls `openeo run` with these sides of a chunk and workers in a folder of its own. Refuses: the program does; the
-    line is its own.
+    Takes the arrays as `write` does, floats exactly or to so many digits, and calls `openeo run` with these sides of a
+    chunk and workers in a folder of its own. Refuses: an array is no cube, or the program refuses; the line is its own.
     """
     text = graph if isinstance(graph, str) else json.dumps(graph)
     with tempfile.TemporaryDirectory(prefix="openeo-") as folder:
         os.mkdir(f"{folder}/collections")
         for name, array in (arrays or {}).items():
-            write(array, name, f"{folder}/collections/{name}.cube")
+            write(array, name, f"{folder}/collections/{name}.cube", digits=digits)
         result = f"{folder}/result.json"
         with open(result, "wb") as out:
             words = [program or program_path(), "run", *map(str, sides)]
