@@ -49,7 +49,8 @@ class Exact(unittest.TestCase):
         wanted = [Fraction(3, 25), Fraction(19, 50), Fraction(267, 100), Fraction(-3, 25), 0, None, 123456789]
         self.assertEqual(self.cells(values, "f8", two), wanted)
         self.assertEqual(self.cells([0.1], "f4", Reading(digits=4)), [Fraction(1, 10)])
-        self.refuses(0, [1e18], "f8", Reading(digits=2))
+        self.assertEqual(self.cells([1e18, 0.25], "f8", Reading(digits=2)), [10**18, Fraction(1, 4)])
+        self.refuses(1, [1.0, 2.0**63], "f8", Reading(digits=2))
 
     def test_packed(self):
         tenth = Reading(Fraction(1, 10000))

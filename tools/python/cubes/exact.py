@@ -77,9 +77,9 @@ def arrays_of(numpy, numerators, denominators, nulls) -> Cells:
     return Cells(tops, bottoms)
 
 
-def one_by_one(raw, nulls, reading: Reading) -> Cells:
-    """The cells by Python's fractions, which are exact and slow."""
-    pairs = zip(raw.tolist(), nulls.tolist())
+def one_by_one(values: list, nulls, reading: Reading) -> Cells:
+    """The cells of numbers of Python by its fractions, which are exact and slow."""
+    pairs = zip(values, nulls.tolist())
     return cells_of(None if null else Fraction(value) * reading.scale + reading.offset for value, null in pairs)
 
 
@@ -89,7 +89,7 @@ def cells_of_integers(numpy, raw, nulls, reading: Reading) -> Cells:
     times, plus = int(reading.scale * over), int(reading.offset * over)
     farthest = max(abs(int(raw.min())), abs(int(raw.max()))) if raw.size else 0
     if farthest * max(1, abs(times)) + abs(plus) > MOST or over > MOST:
-        return one_by_one(raw, nulls, reading)
+        return one_by_one(raw.tolist(), nulls, reading)
     numerators = raw.astype(numpy.int64) * times + plus
     divisors = numpy.gcd(numerators, over)
     return arrays_of(numpy, numerators // divisors, over // divisors, nulls)
@@ -100,7 +100,7 @@ def cells_of_floats(numpy, raw, nulls, reading: Reading) -> Cells:
     if reading.digits is not None:
         return rounded(numpy, raw, nulls, reading)
     if not reading.is_plain():
-        return one_by_one(raw, nulls, reading)
+        return one_by_one(raw.tolist(), nulls, reading)
     values = raw.astype(numpy.float64)
     fraction, exponent = numpy.frexp(values)
     # Each is `whole` over 2 to the power of `shift`; then its factors 2 go, so that these are lowest terms.
@@ -117,7 +117,8 @@ def rounded(numpy, raw, nulls, reading: Reading) -> Cells:
     whole = Reading(reading.scale / 10**reading.digits, reading.offset)
     # Python spells a float by its exact value, rounded correctly.
     numerators = [int(f"{value:.{reading.digits}f}".replace(".", "")) for value in raw.astype(numpy.float64).tolist()]
-    stop_at(numpy.array([abs(number) > MOST for number in numerators], dtype=bool), "rounded, it is beyond 2^63 - 1")
+    if max(map(abs, numerators), default=0) > MOST:
+        return one_by_one(numerators, nulls, whole)
     return cells_of_integers(numpy, numpy.array(numerators, dtype=numpy.int64), nulls, whole)
 
 
