@@ -4,10 +4,12 @@ import importlib.util
 import io
 import json
 import os
+import struct
 import subprocess
 import sys
 import tempfile
 import unittest
+import zlib
 
 ROOT = os.path.dirname(os.path.dirname(os.path.dirname(os.path.abspath(__file__))))
 sys.path.insert(0, f"{ROOT}/tools/python")
@@ -25,6 +27,16 @@ def needs(*modules):
     """Skips a test, and says so, where one of the packages is missing."""
     missing = [module for module in modules if importlib.util.find_spec(module) is None]
     return unittest.skipIf(missing, f"python3-{', python3-'.join(missing).lower()} is missing")
+
+
+def points_in(picture):
+    """The rows of a PNG file as bytes of red, green, blue and how opaque, by the rules of the standard."""
+    assert picture[:8] == b"\x89PNG\r\n\x1a\n"
+    width, height = struct.unpack(">II", picture[16:24])
+    length = struct.unpack(">I", picture[33:37])[0]
+    rows = zlib.decompress(picture[41 : 41 + length])
+    assert len(rows) == height * (1 + 4 * width)
+    return [rows[row * (1 + 4 * width) + 1 :][: 4 * width] for row in range(height)]
 
 
 needs_program = unittest.skipIf(program() is None, "no program openeo: `make program`, or OPENEO with its path")
@@ -67,7 +79,10 @@ class InFolder(unittest.TestCase):
         os.replace(f"{name}.cube", f"collections/{name}.cube")
         words = {"id": name, "spatial_extent": None, "temporal_extent": None}
         load = {"process_id": "load_collection", "arguments": words, "result": True}
-        graph = json.dumps({"process_graph": {"load": load}})
+        return self.keep(f"{name}.json", self.result_of(json.dumps({"process_graph": {"load": load}})))
+
+    def result_of(self, graph):
+        """The result text of the program for a graph over the folder `collections`."""
         ran = subprocess.run([program(), "run", "64", "64", "12", "1"], input=graph.encode(), capture_output=True)
         self.assertEqual(ran.returncode, 0, ran.stderr.decode())
-        return self.keep(f"{name}.json", ran.stdout)
+        return ran.stdout

@@ -4,9 +4,8 @@ import struct
 import subprocess
 import sys
 import unittest
-import zlib
 
-from common import ROOT, InFolder, needs_program
+from common import ROOT, InFolder, needs_program, points_in
 
 from cubes.files import TextCube, open_cube, write_file
 
@@ -124,30 +123,19 @@ class Tables(InFolder):
 
 
 class Pictures(InFolder):
-    def points(self, *words):
-        """The size of a picture and its points, read by the PNG standard's own rules."""
-        content = self.cubes("picture", *words)
-        self.assertEqual(content[:8], b"\x89PNG\r\n\x1a\n")
-        width, height = struct.unpack(">II", content[16:24])
-        length = struct.unpack(">I", content[33:37])[0]
-        rows = zlib.decompress(content[41 : 41 + length])
-        self.assertEqual(len(rows), height * (1 + 4 * width))
-        return width, [rows[row * (1 + 4 * width) + 1 :][: 4 * width] for row in range(height)]
-
     def test_colours(self):
         """The least cell has the first colour, the greatest the last, and null is clear."""
         text = cube_text('{"name":"x","type":"spatial","axis":"x","reference_system":1,"labels":[0,1,2]}', "5,null,-5")
-        _, rows = self.points(self.keep("text", text))
-        row = rows[8]
+        row = points_in(self.cubes("picture", self.keep("text", text)))[8]
         self.assertEqual([*row[32:36]], [253, 231, 37, 255])
         self.assertEqual([*row[32 + 4 * 100 :][:4]], [0, 0, 0, 0])
         self.assertEqual([*row[32 + 4 * 150 :][:4]], [68, 1, 84, 255])
 
     def test_three_bands(self):
         text = cube_text('{"name":"bands","type":"bands","labels":["R","G","B"]}', "0,2,1")
-        _, rows = self.points(self.keep("text", text))
+        rows = points_in(self.cubes("picture", self.keep("text", text)))
         self.assertEqual([*rows[8][32:36]], [0, 255, 128, 255])
-        _, rows = self.points("text", "--bands", "G", "--low", "0")
+        rows = points_in(self.cubes("picture", "text", "--bands", "G", "--low", "0"))
         self.assertEqual([*rows[8][32:36]], [253, 231, 37, 255])
 
     def test_what_is_not_there(self):

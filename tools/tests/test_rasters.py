@@ -1,9 +1,12 @@
 """NetCDF and GeoTIFF, in and out, also by way of the program: what comes back is what went in."""
 import math
+import os
+import subprocess
+import sys
 import unittest
 from fractions import Fraction
 
-from common import InFolder, needs, needs_program
+from common import ROOT, InFolder, needs, needs_program, points_in
 
 from cubes.files import open_cube
 from cubes.cells import fractions_of
@@ -180,6 +183,17 @@ class Netcdf(InFolder):
     def of_program(self, *words):
         self.packed(*words, name="S")
         return self.loaded("S")
+
+    @needs_program
+    def test_the_example(self):
+        """The commands of examples/ndvi give the picture that stands there."""
+        example = f"{ROOT}/examples/ndvi"
+        subprocess.run([sys.executable, f"{example}/make.py", "scene.nc"], check=True)
+        os.mkdir("collections")
+        self.keep("collections/F.cube", self.cubes("from-netcdf", "scene.nc", "B04", "B08", "--id", "FIELDS"))
+        with open(f"{example}/ndvi.json") as graph, open(f"{example}/ndvi.png", "rb") as picture:
+            self.keep("result", self.result_of(graph.read()))
+            self.assertEqual(points_in(self.cubes("picture", "result")), points_in(picture.read()))
 
     @needs_program
     def test_flags_and_missing_dimensions(self):

@@ -8,8 +8,8 @@ from .cells import FLAGS, NUMBERS, Cells
 from .exact import Reading, cells_from, cells_of_pairs, decimal_of, flag_array, float_array, pair_arrays, refusal_of
 from .files import Cube
 from .grid import centres_of, corners_of, named_when_whole, whole_labels
-from .refusal import NoCell, Refusal, need
 from .options import Options
+from .refusal import NoCell, Refusal, need
 from .shapes import EPOCH, ROLES, Shape, Window, judged
 
 # Which dimension of a cube an attribute says.

@@ -136,10 +136,12 @@ def judge_order(name: str, labels: Optional[list[int]], low: int, high: int) -> 
 
 def judge_names(names: Optional[list[str]]) -> None:
     """Refuses: a band's name is not valid, or stands twice."""
-    for index, name in enumerate(names or []):
+    earlier = set()
+    for name in names or []:
         judge_name("the band", name)
-        if name in (names or [])[:index]:
+        if name in earlier:
             raise Refusal(f"the band {name} stands twice")
+        earlier.add(name)
 
 
 def judge_name(what: str, name: str) -> str:
