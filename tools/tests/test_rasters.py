@@ -1,6 +1,7 @@
 """NetCDF and GeoTIFF, in and out, also by way of the program: what comes back is what went in."""
 import math
 import os
+import shutil
 import subprocess
 import sys
 import unittest
@@ -183,6 +184,16 @@ class Netcdf(InFolder):
     def of_program(self, *words):
         self.packed(*words, name="S")
         return self.loaded("S")
+
+    @unittest.skipUnless(shutil.which("gdalinfo"), "gdalinfo is missing: gdal-bin")
+    def test_gdalinfo(self):
+        """GDAL finds the grid and the reference system of examples/collections/SCENE.cube, and each date as a band."""
+        self.cubes("to-netcdf", f"{ROOT}/examples/collections/SCENE.cube", "S.nc")
+        said = subprocess.run(["gdalinfo", "NETCDF:S.nc:B04"], capture_output=True, text=True, check=True).stdout
+        self.assertIn('ID["EPSG",32633]]\n', said)
+        self.assertRegex(said, r"Origin = \(-5\.0*,15\.0*\)\nPixel Size = \(10\.0*,-10\.0*\)\n")
+        self.assertIn("Size is 2, 2\n", said)
+        self.assertEqual(said.count("NoData Value=nan"), 3)
 
     @needs_program
     def test_the_example(self):

@@ -38,6 +38,8 @@ def write_file(out: BinaryIO, name: str, cube: Cube) -> None:
         widths[window.t] = max(widths[window.t], least_width(cells, cube.kind))
     out.write(front_of(name, cube, widths))
     for window, cells in cube.blocks():
+        if least_width(cells, cube.kind) > widths[window.t]:
+            raise Refusal("the input changed while it was read: what was written is no cube file")
         out.write(records_of(cells, cube.kind, widths[window.t]))
 
 

@@ -47,14 +47,11 @@ def labels_text(name: str, labels: list) -> str:
 
 def summary(cube: Cube) -> tuple[Optional[Fraction], Optional[Fraction], int]:
     """The least and the greatest cell, and how many are null."""
-    lows, highs, nulls = [], [], 0
+    ends, nulls = [], 0
     for _, cells in cube.blocks():
+        ends += ends_of(cells)
         nulls += cells.denominators.count(0)
-        for ends in ends_of(cells):
-            lows.append(ends[0])
-            highs.append(ends[1])
-        lows, highs = lows and [min(lows)], highs and [max(highs)]
-    return (lows[0] if lows else None), (highs[0] if highs else None), nulls
+    return min((low for low, _ in ends), default=None), max((high for _, high in ends), default=None), nulls
 
 
 def ends_of(cells: Cells) -> list[tuple[Fraction, Fraction]]:
