@@ -35,6 +35,15 @@ class Notebook(InFolder):
             "2024-06-01T10:30:00Z,10,6,1\n2024-06-01T10:30:00Z,0,,\n",
         )
 
+    def test_datasets(self):
+        """The variables of a dataset are bands."""
+        import xarray
+
+        two = xarray.Dataset({"B8A": self.array(), "B04": self.array() * 2}, attrs={"epsg": 32633})
+        cubes.write(two.isel(time=0, drop=True), "A")
+        table = self.cubes("to-csv", "A.cube").decode()
+        self.assertEqual(table, "bands,y,value\nB8A,10,0.5\nB8A,0,1\nB04,10,1\nB04,0,2\n")
+
     def test_refused(self):
         with self.assertRaisesRegex(cubes.Refusal, r"t 2024-06-01T00:00:00Z, y 0: 1e-30 is no cell.*digits=6"):
             cubes.write(self.array(((1e-30, 1.0), (0.5, 6.0))), "A")

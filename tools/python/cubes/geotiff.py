@@ -18,6 +18,12 @@ DATE = re.compile(r"(?<!\d)(\d{4})-?(\d{2})-?(\d{2})(?:[T_](\d{2})[:-]?(\d{2})[:
 TOP, BOTTOM = "_numerator", "_denominator"
 
 
+def raster_library(command: str):
+    """rasterio, with 64 MB of room for blocks of files, where GDAL would take a share of all memory."""
+    os.environ.setdefault("GDAL_CACHEMAX", "64")
+    return need("rasterio", command)
+
+
 # ---- in
 
 
@@ -25,7 +31,7 @@ class GeotiffCube:
     """GeoTIFF files as one cube: each is a date, and has all bands."""
 
     def __init__(self, paths: list[str], options: Options):
-        self.library = need("rasterio", "from-geotiff")
+        self.library = raster_library("from-geotiff")
         self.options = options
         dates = self.dates_of(paths)
         # Files stand in the order of their dates.
@@ -148,7 +154,7 @@ def date_in(name: str) -> Optional[int]:
 
 def write_geotiff(path: str, cube: Cube, exact: bool, corners: bool, pixel: Optional[Fraction]) -> list[str]:
     """Writes a file, or one for each date whose name has the date before its ending; returns the paths."""
-    library = need("rasterio", "to-geotiff")
+    library = raster_library("to-geotiff")
     if cube.shape.y is None or cube.shape.x is None:
         raise Refusal("a GeoTIFF has y and x, and the cube lacks one of them: take to-netcdf or to-csv")
     if cube.shape.count() == 0:

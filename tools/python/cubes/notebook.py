@@ -102,9 +102,10 @@ def values_of(numpy, cells: Cells, kind: str, exact: bool):
 
 
 class ArrayCube:
-    """An array of xarray as a cube. Refuses: a dimension or a label of it is none of a cube."""
+    """An array of xarray as a cube, or a dataset, whose variables are bands. Refuses: a label is none of a cube."""
 
     def __init__(self, array, epsg: Optional[int], digits: Optional[int]):
+        array = array.to_array("bands") if hasattr(array, "data_vars") else array
         roles = {name: ROLES.get(str(name).lower()) for name in array.dims}
         for name, role in roles.items():
             if role is None or [*roles.values()].count(role) > 1:
