@@ -185,6 +185,11 @@ class Netcdf(InFolder):
         self.packed(*words, name="S")
         return self.loaded("S")
 
+    def test_a_file_is_whole_or_not_there(self):
+        line = self.cubes("to-netcdf", self.damaged(), "S.nc", status=2)
+        self.assertEqual(line, "cubes: damaged.cube at t 2024-07-01T00:00:00Z, bands B08, y 0, x 10: its record is damaged")
+        self.assertEqual(os.listdir(), ["damaged.cube"])
+
     @unittest.skipUnless(shutil.which("gdalinfo"), "gdalinfo is missing: gdal-bin")
     def test_gdalinfo(self):
         """GDAL finds the grid and the reference system of examples/collections/SCENE.cube, and each date as a band."""
@@ -294,6 +299,11 @@ class Geotiff(InFolder):
         again = self.cubes("from-geotiff", *exact, "--id", "S")
         with open("collections/S.cube", "rb") as file:
             self.assertEqual(again, file.read())
+
+    def test_a_file_is_whole_or_not_there(self):
+        """The last of three dates is damaged: its file is not there, and those before it are."""
+        self.cubes("to-geotiff", self.damaged(), "S.tif", status=2)
+        self.assertEqual(sorted(os.listdir()), ["S-2024-06-01.tif", "S-2024-06-11.tif", "damaged.cube"])
 
     def test_flags_and_corners(self):
         self.make("a.tif", [[[0, 1, 9], [1, 0, 0]]], transform=(5, 0, 0, 0, -5, 10), nodata=9)
