@@ -187,7 +187,8 @@ class Netcdf(InFolder):
 
     def test_a_file_is_whole_or_not_there(self):
         line = self.cubes("to-netcdf", self.damaged(), "S.nc", status=2)
-        self.assertEqual(line, "cubes: damaged.cube at t 2024-07-01T00:00:00Z, bands B08, y 0, x 10: its record is damaged")
+        where = "t 2024-07-01T00:00:00Z, bands B08, y 0, x 10"
+        self.assertEqual(line, f"cubes: damaged.cube at {where}: its record is damaged")
         self.assertEqual(os.listdir(), ["damaged.cube"])
 
     @unittest.skipUnless(shutil.which("gdalinfo"), "gdalinfo is missing: gdal-bin")

@@ -1,9 +1,11 @@
 """The commands of `tools/cubes`: their words, and what each calls."""
+from __future__ import annotations
+
 import argparse
 import os
 import sys
 from fractions import Fraction
-from typing import BinaryIO, Callable
+from typing import BinaryIO, Callable, NoReturn
 
 from .files import Cube, open_cube, write_file
 from .geotiff import GeotiffCube, write_geotiff
@@ -22,7 +24,7 @@ USAGE, REFUSED = 1, 2
 class Words(argparse.ArgumentParser):
     """A reader of words that ends with status 1 where they are no command."""
 
-    def error(self, message: str):
+    def error(self, message: str) -> NoReturn:
         self.print_usage(sys.stderr)
         self.exit(USAGE, f"cubes: {message}\n")
 
@@ -142,7 +144,7 @@ def show(words: argparse.Namespace) -> None:
 # ---- the words of each command
 
 
-def add(commands, call: Callable, text: str, example: str) -> argparse.ArgumentParser:
+def add(commands: argparse._SubParsersAction, call: Callable, text: str, example: str) -> argparse.ArgumentParser:
     """A command with its help and an example."""
     name, more = call.__name__.replace("_", "-"), f"example:\n  {example}"
     form = argparse.RawDescriptionHelpFormatter
@@ -151,7 +153,7 @@ def add(commands, call: Callable, text: str, example: str) -> argparse.ArgumentP
     return words
 
 
-def add_readers(commands) -> None:
+def add_readers(commands: argparse._SubParsersAction) -> None:
     """The commands that write cube files."""
     text = "writes variables of a NetCDF file as a cube file"
     words = add(commands, from_netcdf, text, "cubes from-netcdf scene.nc B04 B08 --id SCENE > SCENE.cube")
@@ -186,7 +188,7 @@ def add_reading(words: argparse.ArgumentParser) -> None:
     words.add_argument("--corners", action="store_true", help="a label is a pixel's upper left corner, not its centre")
 
 
-def add_writers(commands) -> None:
+def add_writers(commands: argparse._SubParsersAction) -> None:
     """The commands that take results out."""
     text = "writes a result text or a cube file as NetCDF, a variable for each band"
     words = add(commands, to_netcdf, text, "cubes to-netcdf result.json result.nc")
@@ -216,7 +218,7 @@ def add_exact(words: argparse.ArgumentParser) -> None:
     words.add_argument("--corners", action="store_true", help="a label is a pixel's upper left corner, not its centre")
 
 
-def add_views(commands) -> None:
+def add_views(commands: argparse._SubParsersAction) -> None:
     """The commands that show cubes."""
     text = "writes a picture: a band of each date, or three bands as red, green and blue; null is clear"
     words = add(commands, picture, text, "cubes picture result.json > result.png")

@@ -2,13 +2,19 @@
 
 `docs/tools.md` says in words what is done here.
 """
+from __future__ import annotations
+
 from array import array
 from dataclasses import dataclass
 from fractions import Fraction
-from typing import Optional
+from types import ModuleType
+from typing import Optional, TYPE_CHECKING
 
 from .cells import FLAGS, MOST, NUMBERS, Cells, cells_of, floats_of
 from .refusal import NoCell, Refusal, need
+
+if TYPE_CHECKING:
+    import numpy
 
 # Whole numbers up to here are floats.
 MOST_EXACT = 2**53
@@ -44,7 +50,7 @@ def decimal_of(value: object) -> Fraction:
         raise Refusal(f"{value!r} is no number to scale with") from None
 
 
-def cells_from(raw, nulls, reading: Reading) -> Cells:
+def cells_from(raw: numpy.ndarray, nulls: numpy.ndarray, reading: Reading) -> Cells:
     """The cells of raw numbers in a numpy array, null where `nulls` is true. Raises NoCell at one that none equals."""
     numpy = need("numpy", "reading numbers")
     raw, nulls = numpy.ravel(raw), numpy.ravel(nulls)
@@ -63,13 +69,13 @@ def cells_from(raw, nulls, reading: Reading) -> Cells:
     return cells_of_integers(numpy, raw, nulls, reading)
 
 
-def stop_at(wrong, why: str) -> None:
+def stop_at(wrong: numpy.ndarray, why: str) -> None:
     """Raises NoCell at the first number that is wrong."""
     if wrong.any():
         raise NoCell(int(wrong.argmax()), why)
 
 
-def arrays_of(numpy, numerators, denominators, nulls) -> Cells:
+def arrays_of(numpy: ModuleType, numerators: numpy.ndarray, denominators: numpy.ndarray, nulls: numpy.ndarray) -> Cells:
     """Cells of two numpy arrays of fractions in lowest terms."""
     tops, bottoms = array("q"), array("q")
     tops.frombytes(numpy.where(nulls, 0, numerators).astype(numpy.int64).tobytes())
@@ -77,13 +83,13 @@ def arrays_of(numpy, numerators, denominators, nulls) -> Cells:
     return Cells(tops, bottoms)
 
 
-def one_by_one(values: list, nulls, reading: Reading) -> Cells:
+def one_by_one(values: list, nulls: numpy.ndarray, reading: Reading) -> Cells:
     """The cells of numbers of Python by its fractions, which are exact and slow."""
     pairs = zip(values, nulls.tolist())
     return cells_of(None if null else Fraction(value) * reading.scale + reading.offset for value, null in pairs)
 
 
-def cells_of_integers(numpy, raw, nulls, reading: Reading) -> Cells:
+def cells_of_integers(numpy: ModuleType, raw: numpy.ndarray, nulls: numpy.ndarray, reading: Reading) -> Cells:
     """The cells of whole numbers: (n * times + plus) / over in lowest terms, where 64 bits hold all of that."""
     over = reading.scale.denominator * reading.offset.denominator
     times, plus = int(reading.scale * over), int(reading.offset * over)
@@ -95,7 +101,7 @@ def cells_of_integers(numpy, raw, nulls, reading: Reading) -> Cells:
     return arrays_of(numpy, numerators // divisors, over // divisors, nulls)
 
 
-def cells_of_floats(numpy, raw, nulls, reading: Reading) -> Cells:
+def cells_of_floats(numpy: ModuleType, raw: numpy.ndarray, nulls: numpy.ndarray, reading: Reading) -> Cells:
     """The cells of finite floats."""
     if reading.digits is not None:
         return rounded(numpy, raw, nulls, reading)
@@ -112,7 +118,7 @@ def cells_of_floats(numpy, raw, nulls, reading: Reading) -> Cells:
     return arrays_of(numpy, whole << numpy.maximum(-shift, 0), numpy.int64(1) << numpy.maximum(shift, 0), nulls)
 
 
-def rounded(numpy, raw, nulls, reading: Reading) -> Cells:
+def rounded(numpy: ModuleType, raw: numpy.ndarray, nulls: numpy.ndarray, reading: Reading) -> Cells:
     """The cells of finite floats, each rounded to so many digits behind the point, a half to the even digit."""
     whole = Reading(reading.scale / 10**reading.digits, reading.offset)
     # Python spells a float by its exact value, rounded correctly.
@@ -122,7 +128,7 @@ def rounded(numpy, raw, nulls, reading: Reading) -> Cells:
     return cells_of_integers(numpy, numpy.array(numerators, dtype=numpy.int64), nulls, whole)
 
 
-def refusal_of(fault: NoCell, where: str, raw, reading: Reading, option: str = "--round ") -> Refusal:
+def refusal_of(fault: NoCell, where: str, raw: numpy.ndarray, reading: Reading, option: str = "--round ") -> Refusal:
     """The line about one of these raw numbers that is no cell, and what rounding by the option would make of it."""
     value = raw.ravel()[fault.number]
     text = f"{where}: {value} is no cell: {fault.why}"
@@ -133,7 +139,7 @@ def refusal_of(fault: NoCell, where: str, raw, reading: Reading, option: str = "
     return Refusal(f"{text}; with {option}{digits} it would be {value:.{digits}f}")
 
 
-def float_array(cells: Cells):
+def float_array(cells: Cells) -> numpy.ndarray:
     """The floats nearest to the cells, in a numpy array; NaN for null."""
     numpy = need("numpy", "writing numbers")
     tops, bottoms = numpy.array(cells.numerators), numpy.array(cells.denominators)
@@ -144,19 +150,19 @@ def float_array(cells: Cells):
         return tops.astype(numpy.float64) / bottoms.astype(numpy.float64)
 
 
-def flag_array(cells: Cells, null: int):
+def flag_array(cells: Cells, null: int) -> numpy.ndarray:
     """The flags as 0 and 1 in a numpy array of bytes, with this number for null."""
     numpy = need("numpy", "writing numbers")
     return numpy.where(numpy.array(cells.denominators) == 0, null, numpy.array(cells.numerators))
 
 
-def pair_arrays(cells: Cells):
+def pair_arrays(cells: Cells) -> tuple[numpy.ndarray, numpy.ndarray]:
     """Numerators and denominators as numpy arrays; null is 0 over 0."""
     numpy = need("numpy", "writing numbers")
     return numpy.array(cells.numerators, dtype=numpy.int64), numpy.array(cells.denominators, dtype=numpy.int64)
 
 
-def cells_of_pairs(tops, bottoms) -> Cells:
+def cells_of_pairs(tops: numpy.ndarray, bottoms: numpy.ndarray) -> Cells:
     """The cells of numerators and denominators. Raises NoCell at a pair that is no fraction in lowest terms."""
     numpy = need("numpy", "reading numbers")
     tops, bottoms = numpy.ravel(tops), numpy.ravel(bottoms)

@@ -1,9 +1,12 @@
 """GeoTIFF files, one for each date, in and out; needs rasterio and numpy."""
+from __future__ import annotations
+
 import contextlib
 import os
 import re
 from fractions import Fraction
-from typing import Iterator, Optional
+from types import ModuleType
+from typing import Callable, Iterator, Optional, TYPE_CHECKING
 
 from .cells import FLAGS, NUMBERS, Cells
 from .exact import Reading, cells_from, cells_of_pairs, decimal_of, flag_array, float_array, pair_arrays, refusal_of
@@ -13,12 +16,16 @@ from .options import Options
 from .refusal import NoCell, Refusal, need
 from .shapes import NAME, Shape, Window, instant_of, instant_text, judged
 
+if TYPE_CHECKING:
+    import numpy
+    import rasterio
+
 # A date in a file's name, perhaps with a time of day: 20240601, 2024-06-01, 20240601T103000.
 DATE = re.compile(r"(?<!\d)(\d{4})-?(\d{2})-?(\d{2})(?:[T_](\d{2})[:-]?(\d{2})[:-]?(\d{2})Z?)?(?!\d)")
 TOP, BOTTOM = "_numerator", "_denominator"
 
 
-def raster_library(command: str):
+def raster_library(command: str) -> ModuleType:
     """rasterio, with 64 MB of room for blocks of files, where GDAL would take a share of all memory."""
     os.environ.setdefault("GDAL_CACHEMAX", "64")
     return need("rasterio", command)
@@ -45,7 +52,7 @@ class GeotiffCube:
         self.kind = FLAGS if options.flags else NUMBERS
         self.shape = judged(Shape(sorted(dates) if dates else None, self.names(), y, x, code))
 
-    def open(self, index: int):
+    def open(self, index: int) -> rasterio.io.DatasetReader:
         """One of the files. Refuses: it is no raster that can be read."""
         try:
             return self.library.open(self.paths[index])
@@ -130,7 +137,7 @@ class GeotiffCube:
             where = f"{self.paths[window.t]} at {self.shape.labels_at(window, fault.number)}"
             raise refusal_of(fault, where, raw, reading) from None
 
-    def piece(self, read, band: int, window: Window):
+    def piece(self, read: Callable, band: int, window: Window) -> numpy.ndarray:
         """The raw numbers, or the mask, of some rows in the order of labels."""
         height = self.file.height
         first = height - window.row - window.rows if self.flip else window.row
@@ -185,7 +192,7 @@ def paths_of(path: str, shape: Shape) -> list[str]:
     return [f"{stem}-{text[:10] if is_day else text.replace(':', '')}{ending}" for text in texts]
 
 
-def words_of(library, cube: Cube, exact: bool, corners: bool, pixel: Optional[Fraction]) -> dict:
+def words_of(library: ModuleType, cube: Cube, exact: bool, corners: bool, pixel: Optional[Fraction]) -> dict:
     """What a file is opened with: its type, its grid and its reference system."""
     shape, bands = cube.shape, cube.shape.extents()[1]
     y, x = (centres_of(name, labels, corners, pixel) for name, labels in (("y", shape.y), ("x", shape.x)))
@@ -204,7 +211,7 @@ def words_of(library, cube: Cube, exact: bool, corners: bool, pixel: Optional[Fr
     return {"driver": "GTiff", "width": len(x), "height": len(y), "crs": crs, "transform": transform, **kind}
 
 
-def describe(file, cube: Cube, exact: bool) -> None:
+def describe(file: rasterio.io.DatasetWriter, cube: Cube, exact: bool) -> None:
     """Gives the bands of a file their names."""
     names = cube.shape.bands or [""]
     if exact and cube.kind == NUMBERS:
@@ -214,7 +221,7 @@ def describe(file, cube: Cube, exact: bool) -> None:
             file.set_band_description(index + 1, name)
 
 
-def write_rows(file, window: Window, cells: Cells, cube: Cube, exact: bool) -> None:
+def write_rows(file: rasterio.io.DatasetWriter, window: Window, cells: Cells, cube: Cube, exact: bool) -> None:
     """Writes the cells of a window."""
     if cube.kind == FLAGS:
         layers = [flag_array(cells, 255).astype("uint8")]

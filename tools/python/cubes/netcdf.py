@@ -1,8 +1,10 @@
 """NetCDF files as the CF conventions have them, in and out; needs netCDF4 and numpy."""
+from __future__ import annotations
+
 import datetime
 import re
 from fractions import Fraction
-from typing import Iterator, NamedTuple, Optional
+from typing import Callable, Iterator, NamedTuple, Optional, TYPE_CHECKING
 
 from .cells import FLAGS, NUMBERS, Cells
 from .exact import Reading, cells_from, cells_of_pairs, decimal_of, flag_array, float_array, pair_arrays, refusal_of
@@ -11,6 +13,10 @@ from .grid import centres_of, corners_of, named_when_whole, whole_labels
 from .options import Options
 from .refusal import NoCell, Refusal, need
 from .shapes import EPOCH, ROLES, Shape, Window, judged
+
+if TYPE_CHECKING:
+    import netCDF4
+    import numpy
 
 # Which dimension of a cube an attribute says.
 AXES = {"T": "t", "Y": "y", "X": "x"}
@@ -32,7 +38,7 @@ class Axis(NamedTuple):
     order: list[int]
 
 
-def attributes_of(variable) -> dict:
+def attributes_of(variable: netCDF4.Variable) -> dict:
     """The attributes of a variable by their names."""
     return {name: variable.getncattr(name) for name in variable.ncattrs()}
 
@@ -152,7 +158,7 @@ class NetcdfCube:
                 where = f"{layer.name} at {self.shape.labels_at(window, fault.number)}"
                 raise refusal_of(fault, where, self.piece(layer.variable, window), layer.reading) from None
 
-    def piece(self, variable, window: Window):
+    def piece(self, variable: netCDF4.Variable, window: Window) -> numpy.ndarray:
         """The raw numbers of a window, with y before x and both in the order of labels."""
         index, kept = [], []
         for dimension in variable.dimensions:
@@ -183,7 +189,7 @@ class NetcdfCube:
 class Layer:
     """One variable with how its numbers are read, or two with numerators and denominators."""
 
-    def __init__(self, name: str, variable, bottoms, options: Options):
+    def __init__(self, name: str, variable: netCDF4.Variable, bottoms: Optional[netCDF4.Variable], options: Options):
         self.name, self.variable, self.bottoms = name, variable, bottoms
         self.said = attributes_of(variable)
         meanings = str(self.said.get("flag_meanings", "")).split()
@@ -192,7 +198,7 @@ class Layer:
         offset = decimal_of(self.said.get("add_offset", 0))
         self.reading = Reading(scale, offset, options.digits, FLAGS if is_flag else NUMBERS)
 
-    def cells_at(self, piece) -> Cells:
+    def cells_at(self, piece: Callable) -> Cells:
         """The cells of a piece, which the argument takes from a variable. Raises NoCell."""
         if self.bottoms is not None:
             return cells_of_pairs(piece(self.variable), piece(self.bottoms))
@@ -202,7 +208,7 @@ class Layer:
         return cells_from(raw, nulls_in(raw, said), self.reading)
 
 
-def nulls_in(raw, said: dict):
+def nulls_in(raw: numpy.ndarray, said: dict) -> numpy.ndarray:
     """Where raw numbers are fills, or outside of what is said to be valid."""
     nulls = need("numpy", "from-netcdf").zeros(raw.shape, dtype=bool)
     for fill in numbers_in(said, "_FillValue", raw) + numbers_in(said, "missing_value", raw):
@@ -215,7 +221,7 @@ def nulls_in(raw, said: dict):
     return nulls
 
 
-def numbers_in(said: dict, name: str, raw) -> list:
+def numbers_in(said: dict, name: str, raw: numpy.ndarray) -> list:
     """The numbers of an attribute, so that raw ones compare with them exactly. Refuses: they are none."""
     numpy = need("numpy", "from-netcdf")
     values = numpy.ravel(numpy.asarray(said.get(name, [])))
@@ -233,7 +239,7 @@ def is_unsigned(said: dict) -> bool:
     return str(said.get("_Unsigned", "")).lower() == "true"
 
 
-def name_in(value) -> str:
+def name_in(value: object) -> str:
     """The name of a band: a text, letters one by one, or a number."""
     if isinstance(value, (str, int)):
         return str(value)
@@ -289,7 +295,7 @@ def write_netcdf(path: str, cube: Cube, name: str, exact: bool, corners: bool) -
             layers[window.band].write(window, cells)
 
 
-def write_coordinates(file, shape: Shape, corners: bool) -> None:
+def write_coordinates(file: netCDF4.Dataset, shape: Shape, corners: bool) -> None:
     """The dimensions but `bands`, with their coordinates, and the reference system."""
     for name, labels in shape.dimensions():
         if name == "bands":
@@ -343,7 +349,7 @@ def words_of_system(epsg: int) -> dict:
 class OutLayer:
     """The variables that one band is written to."""
 
-    def __init__(self, file, name: str, cube: Cube, exact: bool):
+    def __init__(self, file: netCDF4.Dataset, name: str, cube: Cube, exact: bool):
         self.dimensions = [word for word, _ in cube.shape.dimensions() if word != "bands"]
         self.kind, self.variables = cube.kind, []
         if name in [*file.variables]:
@@ -356,7 +362,7 @@ class OutLayer:
         else:
             self.add(file, name, "f8", float("nan"), {}, cube)
 
-    def add(self, file, name: str, kind: str, fill, words: dict, cube: Cube) -> None:
+    def add(self, file: netCDF4.Dataset, name: str, kind: str, fill: float, words: dict, cube: Cube) -> None:
         """Makes one variable."""
         try:
             variable = file.createVariable(name, kind, self.dimensions, fill_value=fill)

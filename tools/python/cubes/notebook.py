@@ -1,4 +1,6 @@
 """What a notebook calls: results as arrays of xarray, arrays as cube files, and graphs run over arrays."""
+from __future__ import annotations
+
 import io
 import json
 import os
@@ -6,7 +8,8 @@ import shutil
 import subprocess
 import tempfile
 from fractions import Fraction
-from typing import Any, Iterator, Mapping, Optional, Union
+from types import ModuleType
+from typing import Any, Iterator, Mapping, Optional, TYPE_CHECKING, Union
 
 from .cells import FLAGS, NUMBERS, Cells, cells_of, fractions_of
 from .exact import Reading, cells_from, float_array, refusal_of
@@ -15,10 +18,14 @@ from .grid import named_when_whole, whole_labels
 from .refusal import NoCell, Refusal, need
 from .shapes import ROLES, Shape, Window, judge_name, judged
 
+if TYPE_CHECKING:
+    import numpy
+    import xarray
+
 ROOT = os.path.dirname(os.path.dirname(os.path.dirname(os.path.dirname(os.path.abspath(__file__)))))
 
 
-def read(text: str, exact: bool = False):
+def read(text: str, exact: bool = False) -> xarray.DataArray:
     """The cube of a result text as an xarray.DataArray, with the EPSG code as its attribute `epsg`.
 
     Numbers are the nearest floats and null is NaN; with `exact` they are `fractions.Fraction` and None in an array of
@@ -28,7 +35,11 @@ def read(text: str, exact: bool = False):
 
 
 def write(
-    array, name: str, path: Optional[str] = None, epsg: Optional[int] = None, digits: Optional[int] = None
+    array: Union[xarray.DataArray, xarray.Dataset],
+    name: str,
+    path: Optional[str] = None,
+    epsg: Optional[int] = None,
+    digits: Optional[int] = None,
 ) -> str:
     """Writes an xarray.DataArray as the cube file of the collection `name`, and returns the path, else `name`.cube.
 
@@ -49,7 +60,7 @@ def run(
     digits: Optional[int] = None,
     sides: tuple[int, int, int, int] = (64, 64, 12, 1),
     program: Optional[str] = None,
-):
+) -> xarray.DataArray:
     """The result of a graph, JSON or its text, over arrays by the ids of their collections, as `read` gives it.
 
     Takes the arrays as `write` does, floats exactly or to so many digits, and calls `openeo run` with these sides of a
@@ -77,7 +88,7 @@ def program_path() -> str:
     return os.path.abspath(found)
 
 
-def array_of(cube: Cube, exact: bool):
+def array_of(cube: Cube, exact: bool) -> xarray.DataArray:
     """The cube as an array of xarray."""
     numpy, xarray = need("numpy", "cubes.read"), need("xarray", "cubes.read")
     parts = [values_of(numpy, cells, cube.kind, exact) for _, cells in cube.blocks()]
@@ -92,7 +103,7 @@ def array_of(cube: Cube, exact: bool):
     return xarray.DataArray(values.reshape(shape), coords=labels, dims=[*labels], attrs=words)
 
 
-def values_of(numpy, cells: Cells, kind: str, exact: bool):
+def values_of(numpy: ModuleType, cells: Cells, kind: str, exact: bool) -> numpy.ndarray:
     """Cells as numpy has them: floats, fractions, or flags and None."""
     if kind == NUMBERS and not exact:
         return float_array(cells)
@@ -104,7 +115,7 @@ def values_of(numpy, cells: Cells, kind: str, exact: bool):
 class ArrayCube:
     """An array of xarray as a cube, or a dataset, whose variables are bands. Refuses: a label is none of a cube."""
 
-    def __init__(self, array, epsg: Optional[int], digits: Optional[int]):
+    def __init__(self, array: Union[xarray.DataArray, xarray.Dataset], epsg: Optional[int], digits: Optional[int]):
         array = array.to_array("bands") if hasattr(array, "data_vars") else array
         roles = {name: ROLES.get(str(name).lower()) for name in array.dims}
         for name, role in roles.items():
@@ -135,14 +146,14 @@ class ArrayCube:
                 where = self.shape.labels_at(window, fault.number)
                 raise refusal_of(fault, where, raw, self.reading, "digits=") from None
 
-    def cells_in(self, raw) -> Cells:
+    def cells_in(self, raw: numpy.ndarray) -> Cells:
         """The cells of raw values. Raises NoCell."""
         if raw.dtype.kind == "O":
             return cells_of(None if value is None else Fraction(value) for value in raw)
         return cells_from(raw, need("numpy", "cubes.write").zeros(raw.shape, dtype=bool), self.reading)
 
 
-def labels_of(role: str, values) -> list:
+def labels_of(role: str, values: numpy.ndarray) -> list:
     """The labels of a dimension's coordinates. Refuses: one is none."""
     if role == "bands":
         return [str(value) for value in values.tolist()]

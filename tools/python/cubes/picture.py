@@ -1,9 +1,11 @@
 """Pictures of cubes as PNG files (RFC 2083), by the standard library alone."""
+from __future__ import annotations
+
 import math
 import struct
 import zlib
 from array import array
-from typing import BinaryIO, NamedTuple, Optional
+from typing import BinaryIO, Iterable, NamedTuple, Optional
 
 from .cells import FLAGS, Cells, floats_of
 from .files import Cube
@@ -136,7 +138,7 @@ def planes_of(cube: Cube, wanted: set[tuple[int, int]], step: int) -> dict[tuple
     return planes
 
 
-def ends_of(planes, choice: Choice) -> tuple[float, float]:
+def ends_of(planes: Iterable[Plane], choice: Choice) -> tuple[float, float]:
     """The cells that the first and the last colour stand for: as asked, else the least and the greatest shown."""
     known = [value for plane in planes for value in plane.values if not math.isnan(value)]
     low = choice.low if choice.low is not None else min(known, default=0.0)

@@ -1,4 +1,7 @@
 """Why something is not done: the errors that a user sees."""
+from __future__ import annotations
+
+from types import ModuleType
 
 
 class Refusal(Exception):
@@ -14,7 +17,7 @@ class NoCell(Exception):
         self.why = why
 
 
-def need(module: str, command: str):
+def need(module: str, command: str) -> ModuleType:
     """Imports a package that only some commands need. Refuses: it is missing; the line names the one of Debian."""
     import importlib
 

@@ -1,9 +1,11 @@
 """Shapes of cubes: dimensions, labels, the rules that they keep, and how they are spelled."""
+from __future__ import annotations
+
 import datetime
 import json
 import re
 from dataclasses import dataclass
-from typing import Iterator, NamedTuple, Optional
+from typing import Iterator, NamedTuple, Optional, Union
 
 from .refusal import Refusal
 
@@ -76,7 +78,7 @@ class Shape:
         return ", ".join(words) if words else "the one cell"
 
 
-def spelled(name: str, label) -> str:
+def spelled(name: str, label: Union[int, str]) -> str:
     """A label as texts have it, without quotes."""
     return instant_text(label) if name == "t" else str(label)
 

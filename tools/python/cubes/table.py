@@ -1,11 +1,13 @@
 """CSV tables with a row for each cell, in and out, by the standard library alone."""
+from __future__ import annotations
+
 import csv
 import os
 import re
 import tempfile
 from array import array
 from fractions import Fraction
-from typing import Iterator, Optional, TextIO
+from typing import Iterator, Optional, TextIO, Union
 
 from .cells import FLAGS, NUMBERS, Cells, fits, floats_of, why_not
 from .files import Cube
@@ -65,7 +67,7 @@ class TableCube:
         labels = {name: [*labels] for name, labels in found.items()}
         return {name: ordered(name, some) for name, some in labels.items()}, words
 
-    def label_in(self, name: str, text: str, line: int):
+    def label_in(self, name: str, text: str, line: int) -> Union[int, str]:
         """The label that a text says. Refuses: none."""
         try:
             return text if name == "bands" else instant_of(text) if name == "t" else int(text)
