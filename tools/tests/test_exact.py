@@ -19,7 +19,11 @@ class Exact(unittest.TestCase):
 
         raw = numpy.array(values, dtype=kind)
         nulls = numpy.zeros(raw.shape, dtype=bool) if nulls is None else numpy.array(nulls)
-        return [*fractions_of(cells_from(raw, nulls, reading))]
+        cells = cells_from(raw, nulls, reading)
+        # Null is 0 over 0, and numbers are in lowest terms.
+        for top, bottom in zip(*cells):
+            self.assertEqual(math.gcd(top, bottom), int(bottom != 0))
+        return [*fractions_of(cells)]
 
     def refuses(self, number, *words, **more):
         with self.assertRaises(NoCell) as caught:
@@ -95,6 +99,8 @@ class Exact(unittest.TestCase):
         floats = float_array(cells_of(some)).tolist()
         self.assertTrue(math.isnan(floats[1]))
         self.assertEqual(floats[:1] + floats[2:], [0.3333333333333333, 1.0, 2.0**53, 1 / LARGEST])
+        # 2^53 + 3 is no float: rounded before the division too, it would give 3002399751580332.
+        self.assertEqual(float_array(cells_of([Fraction(2**53 + 3, 3)])).tolist(), [3002399751580331.5])
 
 
 if __name__ == "__main__":
