@@ -254,8 +254,9 @@ class Geotiff(InFolder):
 
     def test_dates_and_bands(self):
         values = [[[0, 1, 2], [3, 4, 5]], [[6, 7, 8], [9, 10, 11]]]
-        late, early = self.make("s2_20240611T103000_x.tif", values), self.make("s2_20240601.tif", values)
+        late, early = self.make("s2_20240611T103000_x.tif", values), self.make("s2_20240601.tif", values[::-1])
         self.packed(late, early)
+        self.assertEqual(cells_in("S.cube"), [*range(6, 12), *range(6), *range(12)])
         text = self.cubes("show", "S.cube").decode()
         self.assertIn("2024-06-01T00:00:00Z, 2024-06-11T10:30:00Z\nbands: 2 labels: 1, 2\n", text)
         self.packed(late, early, "--dates", "2024-01-01,2023-01-01", "--bands", "B04,B08")
