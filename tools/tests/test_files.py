@@ -1,11 +1,12 @@
 """Cube files, result texts, CSV tables, pictures and words: what needs the standard library alone."""
 import os
+import random
 import struct
 import subprocess
 import sys
 import unittest
 
-from common import ROOT, InFolder, needs_program, points_in
+from common import ROOT, InFolder, needs_program, points_in, program
 
 from cubes.files import TextCube, open_cube, write_file
 
@@ -87,6 +88,44 @@ class Files(InFolder):
         for date in ("2024-02-30", "24-01-01", "2024-01-01T00:00:60Z", "2024-01-01T00:00:00"):
             line = '{"name":"t","type":"temporal","labels":["%s"]}' % date
             self.cubes("show", self.keep("text", cube_text(line, "1")), status=2)
+
+
+@needs_program
+class Program(InFolder):
+    """The program as the reference: what it reads, writes and packs again is what the tool has."""
+
+    def table(self, chance, section):
+        """Rows of 4 dates, 2 bands and 3 x 3 pixels in any order; a date has the cells of its section, some null."""
+        rows = []
+        for t in range(4):
+            for number in range(18):
+                labels = f"2024-01-0{t + 1}T0{t}:00:00Z,B{number // 9},{number // 3 % 3},{number % 3 - 1}"
+                rows.append(f"{labels},{section(t) if chance.random() < 0.8 else ''}")
+        chance.shuffle(rows)
+        return "\n".join(["t,bands,y,x,value", *rows])
+
+    def test_widths_and_cells(self):
+        """`repack` writes each file again byte for byte, and the text of a load gives the file again."""
+        chance = random.Random(1)
+        largest = 2**63 - 1
+        sections = [
+            lambda t: "",
+            lambda t: chance.randint(-largest, largest),
+            lambda t: f"{chance.randint(-9, 9)}/{chance.randint(1, 9)}",
+            lambda t: f"{chance.choice((-1, 1)) * chance.randint(1, largest)}/{chance.randint(1, largest)}",
+        ]
+        for make in (lambda t: sections[t](t), lambda t: chance.choice(("true", "false")), lambda t: ""):
+            self.keep("S.csv", self.table(chance, make))
+            written = self.cubes("from-csv", "S.csv", "--epsg", "32633", "--id", "S")
+            self.keep("S.cube", written)
+            text = self.loaded("S")
+            repacked = subprocess.run([program(), "repack", "S"], capture_output=True)
+            self.assertEqual((repacked.returncode, repacked.stdout), (0, written))
+            with open("again", "wb") as out:
+                write_file(out, "S", open_cube(text))
+            with open("again", "rb") as file:
+                # A cube of nulls alone is one of numbers.
+                self.assertEqual(file.read(), written)
 
 
 class Tables(InFolder):
