@@ -64,7 +64,7 @@ def compare(given, result):
         print(f"{int(same.sum())} of {same.size} cells are the floats of xarray")
 
 
-def measured(what, words, given, result, folder):
+def measure(what, words, given, result, folder):
     """Runs a program, and prints its seconds and its peak memory, which is its own and not that of those before it."""
     begun = time.monotonic()
     with open(given, "rb") as source, open(result, "wb") as out:
@@ -90,12 +90,12 @@ def main():
         result, back = f"{folder}/result", f"{folder}/back.nc"
         subprocess.run([*again, "make", file, side], check=True)
         tool = [sys.executable, TOOL]
-        measured("from-netcdf", [*tool, "from-netcdf", file, *year.BANDS, "--id", "YEAR"], os.devnull, cube, folder)
+        measure("from-netcdf", [*tool, "from-netcdf", file, *year.BANDS, "--id", "YEAR"], os.devnull, cube, folder)
         year.write_year(f"{folder}/wanted", int(side))
         print(f"cube file: {'that' if filecmp.cmp(cube, f'{folder}/wanted', False) else 'NOT THAT'} of year.py")
         os.remove(f"{folder}/wanted")
-        measured("openeo run", [program, "run", "64", "64", "12", "4"], os.path.join(HERE, "year.json"), result, folder)
-        measured("to-netcdf", [*tool, "to-netcdf", result, back], os.devnull, os.devnull, folder)
+        measure("openeo run", [program, "run", "64", "64", "12", "4"], os.path.join(HERE, "year.json"), result, folder)
+        measure("to-netcdf", [*tool, "to-netcdf", result, back], os.devnull, os.devnull, folder)
         subprocess.run([*again, "compare", file, back], check=True)
 
 

@@ -73,12 +73,12 @@ class InFolder(unittest.TestCase):
             file.write(content if isinstance(content, bytes) else content.encode())
         return name
 
-    def damaged(self):
+    def copy_with_damage(self):
         """A copy of examples/collections/SCENE.cube whose last record is none."""
         with open(f"{ROOT}/examples/collections/SCENE.cube", "rb") as file:
             return self.keep("damaged.cube", file.read()[:-9] + bytes([7] * 9))
 
-    def loaded(self, name):
+    def load_result(self, name):
         """The result text of the program for a lone `load_collection` of the cube file NAME.cube."""
         os.makedirs("collections", exist_ok=True)
         os.replace(f"{name}.cube", f"collections/{name}.cube")

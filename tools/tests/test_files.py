@@ -18,7 +18,7 @@ def cube_text(dimensions, cells):
 
 
 class Files(InFolder):
-    def packed(self, text, name="Z"):
+    def pack(self, text, name="Z"):
         """The cube file of a text."""
         self.keep("text", text)
         with open("file", "wb") as out:
@@ -30,21 +30,21 @@ class Files(InFolder):
         """The files of examples/collections are those that `openeo pack` writes, as examples/check shows."""
         for name in sorted(os.listdir(CUBES)):
             with open(f"{CUBES}/{name}") as text, open(f"{COLLECTIONS}/{name[:-5]}.cube", "rb") as file:
-                self.assertEqual(self.packed(text.read(), name[:-5]), file.read(), name)
+                self.assertEqual(self.pack(text.read(), name[:-5]), file.read(), name)
 
     def test_bytes_by_hand(self):
         """The bytes are spelled out by docs/formats.md: 86, 77 and 69 of them."""
         begin = b'OEOCUBE2\0\0\0%c{"id":"Z","cells":"number","widths":[%d],"dimensions":[]}'
         three = bytes([3]) + bytes.fromhex("fffffffffffffffd0000000000000002")
-        self.assertEqual(self.packed(cube_text("", '"-3/2"')), begin % (57, 17) + three)
-        self.assertEqual(self.packed(cube_text("", "7")), begin % (56, 9) + bytes([5, 0, 0, 0, 0, 0, 0, 0, 7]))
-        self.assertEqual(self.packed(cube_text("", "null")), begin % (56, 1) + bytes(1))
+        self.assertEqual(self.pack(cube_text("", '"-3/2"')), begin % (57, 17) + three)
+        self.assertEqual(self.pack(cube_text("", "7")), begin % (56, 9) + bytes([5, 0, 0, 0, 0, 0, 0, 0, 7]))
+        self.assertEqual(self.pack(cube_text("", "null")), begin % (56, 1) + bytes(1))
 
     def test_widths_of_sections(self):
         """A section of nulls is 1 wide, one of whole numbers 9, one with a fraction 17."""
         dates = '{"name":"t","type":"temporal","labels":["2024-01-01","2024-01-02","2024-01-03"]}'
         text = cube_text(dates, 'null,9223372036854775807,"1/9223372036854775807"')
-        self.assertIn(b'"widths":[1,9,17]', self.packed(text))
+        self.assertIn(b'"widths":[1,9,17]', self.pack(text))
 
     def test_texts_come_back(self):
         for name in sorted(os.listdir(CUBES)):
@@ -118,7 +118,7 @@ class Program(InFolder):
             self.keep("S.csv", self.table(chance, make))
             written = self.cubes("from-csv", "S.csv", "--epsg", "32633", "--id", "S")
             self.keep("S.cube", written)
-            text = self.loaded("S")
+            text = self.load_result("S")
             repacked = subprocess.run([program(), "repack", "S"], capture_output=True)
             self.assertEqual((repacked.returncode, repacked.stdout), (0, written))
             with open("again", "wb") as out:
@@ -221,7 +221,7 @@ class Words(InFolder):
     def test_the_program_reads_what_is_written(self):
         with open("S.cube", "wb") as file:
             file.write(self.cubes("from-csv", self.keep("S.csv", "t,value\n2024-01-01,1/3\n2024-01-02,\n")))
-        with open(self.loaded("S")) as text:
+        with open(self.load_result("S")) as text:
             self.assertIn('"data":["1/3",null]', text.read())
 
 

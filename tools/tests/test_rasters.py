@@ -48,13 +48,13 @@ class Netcdf(InFolder):
 
         return numpy.array(values, dtype=kind).reshape(shape)
 
-    def packed(self, *words, name="A"):
+    def pack(self, *words, name="A"):
         return self.keep(f"{name}.cube", self.cubes("from-netcdf", *words, "--id", name))
 
     def test_packed_integers_and_fills(self):
         words = {"scale_factor": 0.0001, "add_offset": 0.5, "_FillValue": -9, "valid_max": 9000}
         self.make("a.nc", A=("i2", [0, 1, -9, 9001, 9000, -5000, *range(6)], words))
-        self.packed("a.nc", "A")
+        self.pack("a.nc", "A")
         half = Fraction(1, 2)
         wanted = [half, half + Fraction(1, 10000), None, None, Fraction(7, 5), 0]
         self.assertEqual(cells_in("A.cube"), wanted + [half + Fraction(n, 10000) for n in range(6)])
@@ -62,19 +62,19 @@ class Netcdf(InFolder):
 
     def test_unsigned(self):
         self.make("a.nc", times=("days since 2024-01-01", [0]), A=("i1", [-1, -2, 0, 1, 2, 3], {"_Unsigned": "true"}))
-        self.packed("a.nc", "A")
+        self.pack("a.nc", "A")
         self.assertEqual(cells_in("A.cube"), [255, 254, 0, 1, 2, 3])
 
     def test_fills_of_another_type(self):
         """A fill that no raw number of the type equals hides none: -9999 is not 241, nor 2^53 what is one more."""
         self.make("a.nc", A=("u1", [241, 0, 255, *range(9)], {"missing_value": -9999.0, "valid_min": 1.0}))
-        self.packed("a.nc", "A")
+        self.pack("a.nc", "A")
         self.assertEqual(cells_in("A.cube"), [241, None, 255, None, *range(1, 9)])
         self.make("b.nc", A=("i8", [2**53 + 1, 2**53, *range(10)], {"missing_value": 2.0**53}))
-        self.packed("b.nc", "A")
+        self.pack("b.nc", "A")
         self.assertEqual(cells_in("A.cube")[:2], [2**53 + 1, None])
         self.make("c.nc", A=("f4", [1e20, 1.5, *range(10)], {"missing_value": 1e20}))
-        self.packed("c.nc", "A")
+        self.pack("c.nc", "A")
         self.assertEqual(cells_in("A.cube")[:2], [None, Fraction(3, 2)])
         self.make("d.nc", A=("i2", range(12), {"missing_value": "none"}))
         self.assertIn("missing_value is no number", self.cubes("from-netcdf", "d.nc", "A", status=2))
@@ -86,7 +86,7 @@ class Netcdf(InFolder):
             '{"name":"x","type":"spatial","axis":"x","reference_system":4326,"labels":[0,10]}',
         ))
         self.cubes("to-netcdf", "A.json", "A.nc")
-        self.packed("A.nc", "cells")
+        self.pack("A.nc", "cells")
         self.assertIn(b"t: 0 labels\nx: 2 labels: 0, 10\n", self.cubes("show", "A.cube"))
         self.assertEqual(self.cubes("to-csv", "A.json"), b"t,x,value\n")
         self.assertIn("no pixels", self.cubes("picture", "A.json", status=2))
@@ -94,25 +94,25 @@ class Netcdf(InFolder):
     def test_floats(self):
         """Floats come exactly; one that is no cell is named with its labels and with what rounding would do."""
         values = [0.1, math.nan, -0.0, 2.5, 1e9, 2.0**-62, *range(6)]
-        self.packed(self.make("a.nc", A=("f8", values, {})), "A")
+        self.pack(self.make("a.nc", A=("f8", values, {})), "A")
         self.assertEqual(cells_in("A.cube"), [None if math.isnan(value) else Fraction(value) for value in values])
         values[4] = 1e-10 / 3
         line = self.cubes("from-netcdf", self.make("b.nc", A=("f8", values, {})), "A", "--id", "A", status=2)
         self.assertIn("A at t 2024-01-01T00:00:00Z, y 5300000, x 500010: 3.33", line)
         self.assertIn("with --round 6 it would be 0.000000", line)
-        self.packed("b.nc", "A", "--round", "2")
+        self.pack("b.nc", "A", "--round", "2")
         self.assertEqual(cells_in("A.cube")[:5], [Fraction(1, 10), None, 0, Fraction(5, 2), 0])
 
     def test_y_rising_and_x_falling(self):
-        self.packed(self.make("a.nc", A=("i2", range(12), {})), "A")
+        self.pack(self.make("a.nc", A=("i2", range(12), {})), "A")
         turned = [[[5, 4, 3], [2, 1, 0]], [[11, 10, 9], [8, 7, 6]]]
-        self.packed(self.make("b.nc", y=Y[::-1], x=X[::-1], A=("i2", turned, {})), "A", name="B")
+        self.pack(self.make("b.nc", y=Y[::-1], x=X[::-1], A=("i2", turned, {})), "A", name="B")
         self.assertEqual(cells_in("A.cube"), [*range(12)])
         self.assertEqual(cells_in("B.cube"), [*range(12)])
 
     def test_order_of_time(self):
         """Dates with and without a time of day, in hours and seconds, in any order."""
-        self.packed(self.make("a.nc", times=("hours since 2024-06-01 10:30", [24.5, 0]), A=("i2", range(12), {})), "A")
+        self.pack(self.make("a.nc", times=("hours since 2024-06-01 10:30", [24.5, 0]), A=("i2", range(12), {})), "A")
         shape = self.cubes("show", "A.cube").decode()
         self.assertIn("2024-06-01T10:30:00Z, 2024-06-02T11:00:00Z", shape)
         self.assertEqual(cells_in("A.cube"), [*range(6, 12), *range(6)])
@@ -130,12 +130,12 @@ class Netcdf(InFolder):
         labels = {"time": dates, "band": ["B8A", "B04"], "height": [2.0], "lon": [3, 4]}
         array = xarray.DataArray(numpy.arange(8).reshape(2, 2, 1, 2), coords=labels, dims=[*labels])
         xarray.Dataset({"a": array, "b": array > 3}).to_netcdf("a.nc")
-        self.packed("a.nc", "a", "--epsg", "4326")
+        self.pack("a.nc", "a", "--epsg", "4326")
         text = self.cubes("show", "A.cube").decode()
         self.assertIn("2024-06-01T00:00:00Z, 2024-06-02T10:30:00Z\n", text)
         self.assertIn("bands: 2 labels: B8A, B04\nx: 2 labels: 3, 4\n", text)
         self.assertEqual(cells_in("A.cube"), [*range(8)])
-        self.packed("a.nc", "b", "--epsg", "4326")
+        self.pack("a.nc", "b", "--epsg", "4326")
         self.assertIn(b"8 flags", self.cubes("show", "A.cube"))
         self.assertEqual(cells_in("A.cube"), [0] * 4 + [1] * 4)
 
@@ -150,7 +150,7 @@ class Netcdf(InFolder):
 
     def test_corners(self):
         """Pixels of 5 m whose centres are at 2.5, 7.5 and 12.5 are labelled 0, 5 and 10, and come back."""
-        self.packed(self.make("a.nc", y=[7.5, 2.5], x=[2.5, 7.5, 12.5], A=("i2", range(12), {})), "A", "--corners")
+        self.pack(self.make("a.nc", y=[7.5, 2.5], x=[2.5, 7.5, 12.5], A=("i2", range(12), {})), "A", "--corners")
         self.assertIn(b"y: 2 labels: 10, 5\nx: 3 labels: 0, 5, 10\n", self.cubes("show", "A.cube"))
         self.cubes("to-netcdf", "A.cube", "b.nc", "--corners", "--name", "A")
         import netCDF4
@@ -182,11 +182,11 @@ class Netcdf(InFolder):
             self.assertEqual(again, file.read())
 
     def of_program(self, *words):
-        self.packed(*words, name="S")
-        return self.loaded("S")
+        self.pack(*words, name="S")
+        return self.load_result("S")
 
     def test_a_file_is_whole_or_not_there(self):
-        line = self.cubes("to-netcdf", self.damaged(), "S.nc", status=2)
+        line = self.cubes("to-netcdf", self.copy_with_damage(), "S.nc", status=2)
         where = "t 2024-07-01T00:00:00Z, bands B08, y 0, x 10"
         self.assertEqual(line, f"cubes: damaged.cube at {where}: its record is damaged")
         self.assertEqual(os.listdir(), ["damaged.cube"])
@@ -216,14 +216,14 @@ class Netcdf(InFolder):
     def test_flags_and_missing_dimensions(self):
         table = "t,value\n2024-01-01,true\n2024-01-02T10:30:00Z,\n2024-01-03,false\n"
         self.keep("S.cube", self.cubes("from-csv", self.keep("S.csv", table)))
-        self.cubes("to-netcdf", self.loaded("S"), "S.nc")
-        self.packed("S.nc", "cells", name="S")
+        self.cubes("to-netcdf", self.load_result("S"), "S.nc")
+        self.pack("S.nc", "cells", name="S")
         with open("S.cube", "rb") as one, open("collections/S.cube", "rb") as other:
             self.assertEqual(one.read(), other.read())
         for text, count in (("value\n7\n", 1), ("bands,value\nA,1/3\nB,\n", 2)):
             self.keep("S.cube", self.cubes("from-csv", self.keep("S.csv", text)))
             self.cubes("to-netcdf", "S.cube", "S.nc", "--exact")
-            self.packed("S.nc", *(["cells"] if count == 1 else ["A", "B"]), name="S2")
+            self.pack("S.nc", *(["cells"] if count == 1 else ["A", "B"]), name="S2")
             self.assertEqual(cells_in("S2.cube"), cells_in("S.cube"))
 
 
@@ -243,11 +243,11 @@ class Geotiff(InFolder):
                 file.scales, file.offsets = [said] * len(values), [0.5] * len(values)
         return name
 
-    def packed(self, *words, name="S"):
+    def pack(self, *words, name="S"):
         return self.keep(f"{name}.cube", self.cubes("from-geotiff", *words, "--id", name))
 
     def test_scaled_and_null(self):
-        self.packed(self.make("a.tif", [[[0, 1, -1], [3, 4, 5]]], nodata=-1, scale=0.0001))
+        self.pack(self.make("a.tif", [[[0, 1, -1], [3, 4, 5]]], nodata=-1, scale=0.0001))
         half = Fraction(1, 2)
         wanted = [None if n < 0 else half + Fraction(n, 10000) for n in (0, 1, -1, 3, 4, 5)]
         self.assertEqual(cells_in("S.cube"), wanted)
@@ -255,16 +255,16 @@ class Geotiff(InFolder):
     def test_dates_and_bands(self):
         values = [[[0, 1, 2], [3, 4, 5]], [[6, 7, 8], [9, 10, 11]]]
         late, early = self.make("s2_20240611T103000_x.tif", values), self.make("s2_20240601.tif", values[::-1])
-        self.packed(late, early)
+        self.pack(late, early)
         self.assertEqual(cells_in("S.cube"), [*range(6, 12), *range(6), *range(12)])
         text = self.cubes("show", "S.cube").decode()
         self.assertIn("2024-06-01T00:00:00Z, 2024-06-11T10:30:00Z\nbands: 2 labels: 1, 2\n", text)
-        self.packed(late, early, "--dates", "2024-01-01,2023-01-01", "--bands", "B04,B08")
+        self.pack(late, early, "--dates", "2024-01-01,2023-01-01", "--bands", "B04,B08")
         text = self.cubes("show", "S.cube").decode()
         self.assertIn("2023-01-01T00:00:00Z, 2024-01-01T00:00:00Z\nbands: 2 labels: B04, B08\n", text)
 
     def test_y_rising(self):
-        self.packed(self.make("a.tif", [[[3, 4, 5], [0, 1, 2]]], transform=(10, 0, 499995, 0, 10, 5299995)))
+        self.pack(self.make("a.tif", [[[3, 4, 5], [0, 1, 2]]], transform=(10, 0, 499995, 0, 10, 5299995)))
         self.assertEqual(cells_in("S.cube"), [*range(6)])
         self.assertIn(b"y: 2 labels: 5300010, 5300000\n", self.cubes("show", "S.cube"))
 
@@ -290,8 +290,8 @@ class Geotiff(InFolder):
         values = [[[0.1, math.nan, -2.5], [1e9, 2.0**-62, 1 / 3]], [[0, 1, 2], [3, 4, 5]]]
         transform = (30, 0, 300000, 0, -30, 5400000)
         self.make("a-2024-06-01T103000.tif", values, transform, dtype="float64")
-        self.packed("a-2024-06-01T103000.tif", "--bands", "B04,B08")
-        written = self.cubes("to-geotiff", self.loaded("S"), "b.tif").decode().split()
+        self.pack("a-2024-06-01T103000.tif", "--bands", "B04,B08")
+        written = self.cubes("to-geotiff", self.load_result("S"), "b.tif").decode().split()
         self.assertEqual(written, ["b-2024-06-01T103000Z.tif"])
         with rasterio.open(written[0]) as file:
             numpy.testing.assert_array_equal(file.read(), values)
@@ -304,12 +304,12 @@ class Geotiff(InFolder):
 
     def test_a_file_is_whole_or_not_there(self):
         """The last of three dates is damaged: its file is not there, and those before it are."""
-        self.cubes("to-geotiff", self.damaged(), "S.tif", status=2)
+        self.cubes("to-geotiff", self.copy_with_damage(), "S.tif", status=2)
         self.assertEqual(sorted(os.listdir()), ["S-2024-06-01.tif", "S-2024-06-11.tif", "damaged.cube"])
 
     def test_flags_and_corners(self):
         self.make("a.tif", [[[0, 1, 9], [1, 0, 0]]], transform=(5, 0, 0, 0, -5, 10), nodata=9)
-        self.packed("a.tif", "--flags", "--corners")
+        self.pack("a.tif", "--flags", "--corners")
         self.assertEqual(cells_in("S.cube"), [0, 1, None, 1, 0, 0])
         self.assertIn(b"y: 2 labels: 10, 5\nx: 3 labels: 0, 5, 10\n", self.cubes("show", "S.cube"))
         self.cubes("to-geotiff", "S.cube", "b.tif", "--corners")

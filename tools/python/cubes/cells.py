@@ -78,21 +78,21 @@ def records_of(cells: Cells, kind: str, width: int) -> bytes:
     else:
         tags = bytes(map(bool, cells.denominators)).translate(bytes([0, 5 if width == 9 else 3]) + bytes(254))
     parts = [] if kind == FLAGS else [*cells]
-    return woven(tags, parts[: width // 8], width)
+    return weave(tags, parts[: width // 8], width)
 
 
-def woven(tags: bytes, parts: list[array], width: int) -> bytes:
+def weave(tags: bytes, parts: list[array], width: int) -> bytes:
     """Records of tags with numbers of 8 bytes behind them, the highest byte first; what no part fills is zero."""
     records = bytearray(width * len(tags))
     records[0::width] = tags
     for index, part in enumerate(parts):
-        digits = swapped(part).tobytes()
+        digits = swap(part).tobytes()
         for byte in range(8):
             records[1 + 8 * index + byte :: width] = digits[byte::8]
     return bytes(records)
 
 
-def swapped(numbers: array) -> array:
+def swap(numbers: array) -> array:
     """A copy whose numbers have their highest byte first; of such a copy, the numbers."""
     copy = array("q", numbers)
     if sys.byteorder == "little":
@@ -121,7 +121,7 @@ def numbers_in(records: bytes, first: int, width: int) -> array:
     digits = bytearray(8 * (len(records) // width))
     for byte in range(8):
         digits[byte::8] = records[first + byte :: width]
-    return swapped(array("q", bytes(digits)))
+    return swap(array("q", bytes(digits)))
 
 
 def flags_in(tags: bytes) -> Cells:

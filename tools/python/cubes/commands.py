@@ -32,7 +32,7 @@ class Words(argparse.ArgumentParser):
 # ---- what words say
 
 
-def listed(text: str) -> list[str]:
+def names_of(text: str) -> list[str]:
     """Names with commas between them."""
     return text.split(",")
 
@@ -159,12 +159,12 @@ def add_readers(commands: argparse._SubParsersAction) -> None:
     words = add(commands, from_netcdf, text, "cubes from-netcdf scene.nc B04 B08 --id SCENE > SCENE.cube")
     words.add_argument("file", metavar="FILE")
     words.add_argument("variables", metavar="VARIABLE", nargs="+", help="several are the bands of the cube")
-    words.add_argument("--bands", type=listed, help="names for the bands, also of one variable, as B04,B08")
+    words.add_argument("--bands", type=names_of, help="names for the bands, also of one variable, as B04,B08")
     add_reading(words)
     text = "writes GeoTIFF files, one for each date, as a cube file"
     words = add(commands, from_geotiff, text, "cubes from-geotiff s2-20240601.tif s2-20240611.tif --id S2 > S2.cube")
     words.add_argument("files", metavar="FILE", nargs="+")
-    words.add_argument("--bands", type=listed, help="names for the bands; else as the file describes them, or 1, 2, ..")
+    words.add_argument("--bands", type=names_of, help="names for the bands; else as the file has them, or 1, 2, ..")
     words.add_argument("--dates", type=instants, help="the date of each file, as 2024-06-01,2024-06-11; else by name")
     add_reading(words)
     text = "writes a CSV table as a cube file: columns t, bands, y, x and value, a row for each cell"
@@ -223,7 +223,7 @@ def add_views(commands: argparse._SubParsersAction) -> None:
     text = "writes a picture: a band of each date, or three bands as red, green and blue; null is clear"
     words = add(commands, picture, text, "cubes picture result.json > result.png")
     words.add_argument("file", metavar="RESULT")
-    words.add_argument("--bands", type=listed, help="one band, or three; else all of three, or the first")
+    words.add_argument("--bands", type=names_of, help="one band, or three; else all of three, or the first")
     words.add_argument("--dates", type=instants, help="which dates, as 2024-06-01,2024-06-11; else all")
     words.add_argument("--low", type=float, help="the number of the first colour; else the least cell shown")
     words.add_argument("--high", type=float, help="the number of the last colour; else the greatest cell shown")

@@ -104,7 +104,7 @@ def cells_of_integers(numpy: ModuleType, raw: numpy.ndarray, nulls: numpy.ndarra
 def cells_of_floats(numpy: ModuleType, raw: numpy.ndarray, nulls: numpy.ndarray, reading: Reading) -> Cells:
     """The cells of finite floats."""
     if reading.digits is not None:
-        return rounded(numpy, raw, nulls, reading)
+        return cells_of_rounded(numpy, raw, nulls, reading)
     if not reading.is_plain():
         return one_by_one(raw.tolist(), nulls, reading)
     values = raw.astype(numpy.float64)
@@ -118,7 +118,7 @@ def cells_of_floats(numpy: ModuleType, raw: numpy.ndarray, nulls: numpy.ndarray,
     return arrays_of(numpy, whole << numpy.maximum(-shift, 0), numpy.int64(1) << numpy.maximum(shift, 0), nulls)
 
 
-def rounded(numpy: ModuleType, raw: numpy.ndarray, nulls: numpy.ndarray, reading: Reading) -> Cells:
+def cells_of_rounded(numpy: ModuleType, raw: numpy.ndarray, nulls: numpy.ndarray, reading: Reading) -> Cells:
     """The cells of finite floats, each rounded to so many digits behind the point, a half to the even digit."""
     whole = Reading(reading.scale / 10**reading.digits, reading.offset)
     # Python spells a float by its exact value, rounded correctly.

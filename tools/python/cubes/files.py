@@ -5,9 +5,9 @@ import struct
 from array import array
 from typing import BinaryIO, Callable, Iterator, Optional, Protocol, TextIO, Union
 
-from .cells import FLAGS, NUMBERS, MOST, Cells, cells_in, least_width, records_of
+from .cells import FLAGS, MOST, NUMBERS, Cells, cells_in, least_width, records_of
 from .refusal import NoCell, Refusal
-from .shapes import Window, Shape, dimension_texts, json_of, judge_name, shape_in, spelled
+from .shapes import Shape, Window, dimension_texts, json_of, judge_name, label_text, shape_in
 
 MOST_HEADER = 8388608
 VERSIONS = {b"OEOCUBE1": 1, b"OEOCUBE2": 2}

@@ -11,10 +11,10 @@ from typing import Callable, Iterator, Optional, TYPE_CHECKING
 from .cells import FLAGS, NUMBERS, Cells
 from .exact import Reading, cells_from, cells_of_pairs, decimal_of, flag_array, float_array, pair_arrays, refusal_of
 from .files import Cube
-from .grid import centres_of, corners_of, named_when_whole, step_of, whole_labels
+from .grid import centres_of, corners_of, step_of, whole_file, whole_labels
 from .options import Options
 from .refusal import NoCell, Refusal, need
-from .shapes import NAME, Shape, Window, instant_of, instant_text, judged
+from .shapes import NAME, Shape, Window, instant_of, instant_text, valid_shape
 
 if TYPE_CHECKING:
     import numpy
@@ -50,7 +50,7 @@ class GeotiffCube:
         y, x = self.pixels()
         code = options.epsg or (self.file.crs.to_epsg() if self.file.crs else None) or 0
         self.kind = FLAGS if options.flags else NUMBERS
-        self.shape = judged(Shape(sorted(dates) if dates else None, self.names(), y, x, code))
+        self.shape = valid_shape(Shape(sorted(dates) if dates else None, self.names(), y, x, code))
 
     def open(self, index: int) -> rasterio.io.DatasetReader:
         """One of the files. Refuses: it is no raster that can be read."""
@@ -175,7 +175,7 @@ def write_geotiff(path: str, cube: Cube, exact: bool, corners: bool, pixel: Opti
                 # The file of the date before is whole.
                 date.close()
                 index = window.t
-                aside = date.enter_context(named_when_whole(paths[index]))
+                aside = date.enter_context(whole_file(paths[index]))
                 file = date.enter_context(library.open(aside, "w", **words))
                 describe(file, cube, exact)
             write_rows(file, window, cells, cube, exact)

@@ -45,7 +45,7 @@ def centres_of(name: str, labels: list[int], corners: bool, pixel: Optional[Frac
 
 
 @contextlib.contextmanager
-def named_when_whole(path: str) -> Iterator[str]:
+def whole_file(path: str) -> Iterator[str]:
     """The path of a file to write, which gets its name once it is whole and goes where that fails."""
     aside = f"{path}.part"
     try:

@@ -9,10 +9,10 @@ from typing import Callable, Iterator, NamedTuple, Optional, TYPE_CHECKING
 from .cells import FLAGS, NUMBERS, Cells
 from .exact import Reading, cells_from, cells_of_pairs, decimal_of, flag_array, float_array, pair_arrays, refusal_of
 from .files import Cube
-from .grid import centres_of, corners_of, named_when_whole, whole_labels
+from .grid import centres_of, corners_of, whole_file, whole_labels
 from .options import Options
 from .refusal import NoCell, Refusal, need
-from .shapes import EPOCH, ROLES, Shape, Window, judged
+from .shapes import EPOCH, ROLES, Shape, Window, valid_shape
 
 if TYPE_CHECKING:
     import netCDF4
@@ -62,7 +62,7 @@ class NetcdfCube:
         self.roles = self.roles_of(first.dimensions)
         self.axes = {role: self.axis_of(dimension, role) for dimension, role in self.roles.items() if role}
         self.kind = self.kind_of_all()
-        self.shape = judged(self.shape_of(names))
+        self.shape = valid_shape(self.shape_of(names))
 
     def layer_of(self, name: str) -> "Layer":
         """The variable of this name, or the two that `to-netcdf --exact` writes for it."""
@@ -285,7 +285,7 @@ def said_unit(text: str) -> tuple[Fraction, datetime.datetime]:
 def write_netcdf(path: str, cube: Cube, name: str, exact: bool, corners: bool) -> None:
     """Writes a variable for each band, or one of this name: floats, flags as bytes, or exact parts as two variables."""
     library = need("netCDF4", "to-netcdf")
-    with named_when_whole(path) as aside, library.Dataset(aside, "w") as file:
+    with whole_file(path) as aside, library.Dataset(aside, "w") as file:
         file.set_auto_maskandscale(False)
         file.setncattr("Conventions", "CF-1.8")
         write_coordinates(file, cube.shape, corners)

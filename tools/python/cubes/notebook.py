@@ -14,9 +14,9 @@ from typing import Any, Iterator, Mapping, Optional, TYPE_CHECKING, Union
 from .cells import FLAGS, NUMBERS, Cells, cells_of, fractions_of
 from .exact import Reading, cells_from, float_array, refusal_of
 from .files import Cube, TextCube, write_file
-from .grid import named_when_whole, whole_labels
+from .grid import whole_file, whole_labels
 from .refusal import NoCell, Refusal, need
-from .shapes import ROLES, Shape, Window, judge_name, judged
+from .shapes import ROLES, Shape, Window, judge_name, valid_shape
 
 if TYPE_CHECKING:
     import numpy
@@ -48,7 +48,7 @@ def write(
     """
     path = path or f"{judge_name('the id', name)}.cube"
     cube = ArrayCube(array, epsg, digits)
-    with named_when_whole(path) as aside, open(aside, "wb") as out:
+    with whole_file(path) as aside, open(aside, "wb") as out:
         write_file(out, name, cube)
     return path
 
@@ -129,7 +129,7 @@ class ArrayCube:
         order = sorted(roles, key=lambda name: ("t", "bands", "y", "x").index(roles[name]))
         self.values = array.transpose(*order).values
         labels = {roles[name]: labels_of(roles[name], array.coords[name].values) for name in order}
-        self.shape = judged(Shape(epsg=epsg or int(array.attrs.get("epsg", 0)), **labels))
+        self.shape = valid_shape(Shape(epsg=epsg or int(array.attrs.get("epsg", 0)), **labels))
         some = next((value for value in self.values.flat if value is not None), None) if self.values.size else None
         self.kind = FLAGS if self.values.dtype.kind == "b" or isinstance(some, bool) else NUMBERS
         self.reading = Reading(digits=digits, kind=self.kind)

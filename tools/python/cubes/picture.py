@@ -11,7 +11,7 @@ from .cells import FLAGS, Cells, floats_of
 from .files import Cube
 from .font import HIGH, WIDE, points_of
 from .refusal import Refusal
-from .shapes import Shape, spelled
+from .shapes import Shape, label_text
 
 # From the least cell to the greatest; colours of about equal steps for the eye, also for one that sees no red or green.
 RAMP = [(68, 1, 84), (59, 82, 139), (33, 145, 140), (94, 201, 98), (253, 231, 37)]
@@ -70,7 +70,7 @@ def write_picture(out: BinaryIO, cube: Cube, choice: Choice) -> int:
     Returns how many pixels along each side one point stands for: 1 where all are shown. Refuses: what is asked for is
     not there, or too much.
     """
-    bands, dates = chosen(cube.shape, choice)
+    bands, dates = choose(cube.shape, choice)
     _, _, height, width = cube.shape.extents()
     if not dates or not height or not width:
         raise Refusal("the cube has no pixels to show")
@@ -80,7 +80,7 @@ def write_picture(out: BinaryIO, cube: Cube, choice: Choice) -> int:
     zoom = math.ceil(LEAST_SIDE / math.ceil(max(height, width) / step))
     panels = [[planes[date, band] for band in bands] for date in dates]
     texts = legend_of(cube, bands, low, high)
-    canvas = drawn(panels, titles_of(cube.shape, dates), zoom, DOT * WIDE * len("  ".join(texts)), (low, high))
+    canvas = draw_panels(panels, titles_of(cube.shape, dates), zoom, DOT * WIDE * len("  ".join(texts)), (low, high))
     draw_legend(canvas, texts, len(bands) == 1)
     canvas.save(out)
     return step
@@ -90,11 +90,11 @@ def titles_of(shape: Shape, dates: list[int]) -> list[str]:
     """The dates as texts, without the time of day where it is midnight at all of them."""
     if shape.t is None:
         return [""] * len(dates)
-    texts = [spelled("t", shape.t[date]) for date in dates]
+    texts = [label_text("t", shape.t[date]) for date in dates]
     return [text[:10] for text in texts] if all(text.endswith("T00:00:00Z") for text in texts) else texts
 
 
-def chosen(shape: Shape, choice: Choice) -> tuple[list[int], list[int]]:
+def choose(shape: Shape, choice: Choice) -> tuple[list[int], list[int]]:
     """The indices of the bands and dates that are shown. Refuses: one is not there, or there are too many."""
     bands = indices_of("band", shape.bands, choice.bands)
     if choice.bands is None and len(bands) != 3:
@@ -113,7 +113,7 @@ def indices_of(what: str, labels: Optional[list], asked: Optional[list]) -> list
         return [*range(1 if labels is None else len(labels))]
     for label in asked:
         if label not in (labels or []):
-            raise Refusal(f"the cube has no {what} {label if what == 'band' else spelled('t', label)}")
+            raise Refusal(f"the cube has no {what} {label if what == 'band' else label_text('t', label)}")
     return [(labels or []).index(label) for label in asked]
 
 
@@ -172,7 +172,9 @@ def colour_of(values: list[float], low: float, high: float) -> Colour:
     return red, green, blue, 255
 
 
-def drawn(panels: list[list[Plane]], titles: list[str], zoom: int, least: int, ends: tuple[float, float]) -> Canvas:
+def draw_panels(
+    panels: list[list[Plane]], titles: list[str], zoom: int, least: int, ends: tuple[float, float]
+) -> Canvas:
     """A canvas, at least so wide, with the panels side by side under their titles, and room for a legend below."""
     width = panels[0][0].width
     height = len(panels[0][0].values) // width

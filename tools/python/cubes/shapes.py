@@ -74,11 +74,11 @@ class Shape:
         """The labels of the cell that has this number among those of a window, as a text for people."""
         x = self.extents()[3]
         indices = {"t": window.t, "bands": window.band, "y": window.row + number // x, "x": number % x}
-        words = [f"{name} {spelled(name, labels[indices[name]])}" for name, labels in self.dimensions()]
+        words = [f"{name} {label_text(name, labels[indices[name]])}" for name, labels in self.dimensions()]
         return ", ".join(words) if words else "the one cell"
 
 
-def spelled(name: str, label: Union[int, str]) -> str:
+def label_text(name: str, label: Union[int, str]) -> str:
     """A label as texts have it, without quotes."""
     return instant_text(label) if name == "t" else str(label)
 
@@ -106,7 +106,7 @@ def instant_of(text: str) -> int:
 # ---- the rules
 
 
-def judged(shape: Shape) -> Shape:
+def valid_shape(shape: Shape) -> Shape:
     """The shape. Refuses: it breaks a rule; the line says which label and why."""
     judge_order("t", shape.t, FIRST_INSTANT, LAST_INSTANT)
     judge_names(shape.bands)
@@ -128,9 +128,9 @@ def judge_order(name: str, labels: Optional[list[int]], low: int, high: int) -> 
     """Refuses: the labels do not rise, or one is out of range."""
     for earlier, later in zip(labels or [], (labels or [])[1:]):
         if later == earlier:
-            raise Refusal(f"{name} has the label {spelled(name, later)} twice")
+            raise Refusal(f"{name} has the label {label_text(name, later)} twice")
         if later < earlier:
-            raise Refusal(f"{name} has {spelled(name, later)} out of order beside {spelled(name, earlier)}")
+            raise Refusal(f"{name} has {label_text(name, later)} out of order beside {label_text(name, earlier)}")
     for label in labels or []:
         if not low <= label <= high:
             raise Refusal(f"{name} has the label {label}, which is not from {low} to {high}")
@@ -188,7 +188,7 @@ def shape_in(dimensions: object) -> Shape:
     numbers = [shape.epsg, *(shape.y or []), *(shape.x or [])]
     if not all(type(number) is int for number in numbers) or not all(type(name) is str for name in shape.bands or []):
         raise Refusal("a label of y or x is no whole number, or a band is no text")
-    return judged(shape)
+    return valid_shape(shape)
 
 
 def json_of(text: str, what: str) -> object:

@@ -4,7 +4,7 @@ from typing import Iterator, Optional
 
 from .cells import FLAGS, Cells, fractions_of
 from .files import Cube, FileCube
-from .shapes import Shape, spelled
+from .shapes import Shape, label_text
 
 # The most that tables show of each dimension.
 MOST_SHOWN = 8
@@ -39,7 +39,7 @@ def runs_of(widths: list[int]) -> list[str]:
 
 def labels_text(name: str, labels: list) -> str:
     """How many labels there are, and which: all of a few, else both ends."""
-    texts = [spelled(name, label) for label in labels]
+    texts = [label_text(name, label) for label in labels]
     if len(texts) > MOST_SHOWN:
         texts = [*texts[:2], "...", texts[-1]]
     return f"{len(labels)} label{'' if len(labels) == 1 else 's'}{': ' if texts else ''}{', '.join(texts)}"
@@ -87,7 +87,7 @@ def tables_of(cube: Cube) -> Iterator[str]:
 
 def title_of(shape: Shape, date: int, band: int) -> str:
     """Which date and band a table is of."""
-    words = [] if shape.t is None else [spelled("t", shape.t[date])]
+    words = [] if shape.t is None else [label_text("t", shape.t[date])]
     return " ".join(words + ([] if shape.bands is None else [shape.bands[band]]))
 
 

@@ -12,7 +12,7 @@ from typing import Iterator, Optional, TextIO, Union
 from .cells import FLAGS, NUMBERS, Cells, fits, floats_of, why_not
 from .files import Cube
 from .refusal import Refusal
-from .shapes import Window, Shape, instant_of, judged, spelled
+from .shapes import Shape, Window, instant_of, label_text, valid_shape
 
 DIMENSIONS = ("t", "bands", "y", "x")
 VALUE, TOP, BOTTOM = "value", "numerator", "denominator"
@@ -32,7 +32,7 @@ class TableCube:
             self.names = self.names_in(next(csv.reader(file), []))
         labels, words = self.labels_and_words()
         self.kind = FLAGS if words & {"true", "false"} else NUMBERS
-        self.shape = judged(Shape(epsg=epsg or 0, **labels))
+        self.shape = valid_shape(Shape(epsg=epsg or 0, **labels))
         self.cells = tempfile.TemporaryFile()
         self.keep_all()
 
@@ -65,7 +65,7 @@ class TableCube:
                 labels.setdefault(self.label_in(name, row[name], line))
             words |= {row.get(VALUE, "").lower()} & {*WORDS}
         labels = {name: [*labels] for name, labels in found.items()}
-        return {name: ordered(name, some) for name, some in labels.items()}, words
+        return {name: in_order(name, some) for name, some in labels.items()}, words
 
     def label_in(self, name: str, text: str, line: int) -> Union[int, str]:
         """The label that a text says. Refuses: none."""
@@ -126,7 +126,7 @@ class TableCube:
             yield window, Cells(numbers[::2], numbers[1::2])
 
 
-def ordered(name: str, labels: list) -> list:
+def in_order(name: str, labels: list) -> list:
     """Labels in the order of cubes; those of bands keep theirs."""
     return labels if name == "bands" else sorted(labels, reverse=name == "y")
 
@@ -141,7 +141,7 @@ def write_table(out: TextIO, cube: Cube, exact: bool) -> None:
     is_exact = exact and cube.kind == NUMBERS
     lines.writerow([name for name, _ in pairs] + ([TOP, BOTTOM] if is_exact else [VALUE]))
     x = cube.shape.extents()[3]
-    texts = {name: [spelled(name, label) for label in labels] for name, labels in pairs}
+    texts = {name: [label_text(name, label) for label in labels] for name, labels in pairs}
     for window, cells in cube.blocks():
         for number, words in enumerate(words_of(cells, cube.kind, is_exact)):
             index = {"t": window.t, "bands": window.band, "y": window.row + number // x, "x": number % x}
