@@ -7,7 +7,7 @@ from typing import BinaryIO, Callable, Iterator, Optional, Protocol, TextIO, Uni
 
 from .cells import FLAGS, MOST, NUMBERS, Cells, cells_in, least_width, records_of
 from .refusal import NoCell, Refusal
-from .shapes import Shape, Window, dimension_texts, json_of, judge_name, label_text, shape_in
+from .shapes import Shape, Window, dimension_texts, json_of, judge_name, shape_in
 
 MOST_HEADER = 8388608
 VERSIONS = {b"OEOCUBE1": 1, b"OEOCUBE2": 2}
