@@ -52,3 +52,5 @@ pub mod CheckedLemmas
 pub mod CountLemmas
 pub mod WholeLemmas
 pub mod CrossLemmas
+pub mod SameLemmas
+pub mod SharedLemmas

@@ -1,5 +1,5 @@
 -- What holds of every meaning.
-use Rattle.std.specs.Prelude.{◌≡◌, ◌⊎◌, ◌<◌, ◌≤◌, ℕ, ℤ, ◌||◌, Bool, Some, None, List, [], ◌∷◌, map, is_some, IfSome}
+use Rattle.std.specs.Prelude.{◌≡◌, ◌⊎◌, ◌↔◌, ◌<◌, ◌≤◌, ℕ, ℤ, ◌||◌, Bool, true, Some, None, List, [], ◌∷◌, map, is_some, IfSome}
 use Rattle.std.specs.List.{list_any}
 use Rattle.oe_dims.specs.Cube.{Tuple, IsTuple, IsCube}
 use Rattle.oe_dims.specs.Dimensions.{Dimensions, IsShape}
@@ -20,6 +20,7 @@ use Rattle.oe_shape.specs.Operations.{Operation, outline_of}
 use Rattle.oe_shape.specs.Requests.{CubeRequest, cube_ids, cube_request_at}
 use Rattle.oe_shape.specs.SoundNodes.{AreCollections}
 use Rattle.oe_shape.specs.Walked.{AreResolved, IsNodeOf}
+use Rattle.oe_shape.specs.Words.{share_tuple}
 
 -- The shape and the kind of a cube are found without cells: of what an operation gives, from those of the cubes that it
 -- works on, and of a node of any graph, from those of the collections.
@@ -52,6 +53,16 @@ pub record KeepAllLabels : Type 0 where
 pub record AreInOneAtLeast : Type 0 where
   pub each : (one two : Dimensions) → differing one two ≤ 1 → (tuple : Tuple) → IsTuple (merged_shape one two) tuple
       → IsTuple one (restrict one tuple) ⊎ IsTuple two (restrict two tuple)
+
+-- a tuple of the merge of two cubes is in both of them, each repeated over the dimensions that it lacks
+pub record IsInBoth (one two : Dimensions) (tuple : Tuple) : Type 0 where
+  pub merged : IsTuple (merged_shape one two) tuple
+  pub first : IsTuple one (restrict one tuple)
+  pub second : IsTuple two (restrict two tuple)
+
+-- A merge needs a resolver exactly where a tuple of labels is in both of its cubes, whatever their shapes.
+pub record NeedResolvers : Type 0 where
+  pub each : (one two : Dimensions) → (share_tuple one two ≡ true) ↔ ((tuple : Tuple) × IsInBoth one two tuple)
 
 -- A node of a resolved graph refers to the nodes whose cubes its request works on and to no others, in their order.
 pub record ReferToCubes : Type 0 where

@@ -3,7 +3,7 @@ ghost use denote.Param.Send.{IsSend, IsSync};
 ghost use Rattle.oe_shape.specs.contracts.checked.Checked as checked;
 ghost use Rattle.oe_shape.specs.Brings.{BringValidLabels};
 ghost use Rattle.oe_shape.specs.CellKinds.{GiveCellsOfKind};
-ghost use Rattle.oe_shape.specs.Laws.{AreFoundWithoutCells, AreInOneAtLeast, GiveCubes, KeepAllLabels, ReferToCubes};
+ghost use Rattle.oe_shape.specs.Laws.{AreFoundWithoutCells, AreInOneAtLeast, GiveCubes, KeepAllLabels, NeedResolvers, ReferToCubes};
 ghost use Rattle.oe_shape.specs.Reach.{FoldDateByDate};
 ghost use Rattle.oe_shape.specs.Scopes.{GiveScopes};
 ghost use Rattle.oe_shape.specs.SoundNodes.{AreSound, UnfoldAtNodes};
@@ -25,6 +25,13 @@ pub fn shapes_need_no_cells()
 pub fn labels_are_kept()
     ensures labels { KeepAllLabels }
     ensures tuples { AreInOneAtLeast }
+{}
+
+/// Does nothing. Its contract says that a merge needs a resolver exactly where a tuple of labels is in both of its
+/// cubes.
+#[tactic(auto, using(crate::proofs::SharedLemmas::need_resolvers))]
+pub fn resolvers_are_needed()
+    ensures { NeedResolvers }
 {}
 
 /// Does nothing. Its contract says that an operation without a fault gives cells of its kind.

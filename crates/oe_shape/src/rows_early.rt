@@ -1,5 +1,5 @@
 // The first fault of a node that the faults of its callback wait for.
-ghost use Rattle.std.specs.Prelude.{◌≡◌, ◌&&◌, ◌||◌, false, ℕ, List, Option, map, is_some, IfOk};
+ghost use Rattle.std.specs.Prelude.{◌≡◌, ◌&&◌, ◌||◌, not, false, ℕ, List, Option, map, is_some, IfOk};
 ghost use Rattle.std.specs.Option.{option_map, option_map_or};
 ghost use Rattle.oe_cell.specs.Fraction.{Fraction};
 ghost use Rattle.oe_cell.specs.declared.cell.Cell.{Cell};
@@ -217,6 +217,22 @@ fn aggregate_fault(
     })
 }
 
+/// A merge has no resolver and needs one. Where it has one, no label is looked at.
+fn lacks_resolver(
+    alloc: Global,
+    has_resolver: bool,
+    one: &Shape,
+    two: &Shape,
+) -> Result<bool, OutOfMemory>
+    ensures { IfOk result (λ lacks. lacks
+        ≡ (not has_resolver && word.share_tuple one.now two.now)) }
+{
+    if has_resolver {
+        return Ok(false);
+    }
+    share_tuple(alloc, one, two)
+}
+
 /// `merge_cubes`.
 fn merge_fault(
     alloc: Global,
@@ -230,10 +246,10 @@ fn merge_fault(
         one.now two.now) }
 {
     let differ = differ_in_dimensions(alloc, one, two)?;
-    let share = share_tuple(alloc, one, two)?;
+    let lacks = lacks_resolver(alloc, has_resolver, one, two)?;
     Ok(if differ {
         Some(Code::MergeDimensionsDiffer)
-    } else if !has_resolver && share {
+    } else if lacks {
         Some(Code::OverlapResolverMissing)
     } else {
         None

@@ -1,5 +1,5 @@
 // How the labels of two cubes compare, and labels that are given.
-ghost use Rattle.std.specs.Prelude.{◌≡◌, ◌%◌, ◌==◌, not, map, nat_lt, IfOk};
+ghost use Rattle.std.specs.Prelude.{◌≡◌, ◌%◌, ◌==◌, true, false, not, map, nat_lt, IfOk};
 ghost use Rattle.std.specs.List.{list_any};
 ghost use Rattle.oe_dims.specs.Dimensions.{number_labels, band_names, rises};
 ghost use Rattle.oe_dims.specs.Indices.{same_number};
@@ -111,12 +111,30 @@ pub fn have_distinct_labels(alloc: Global, intervals: &[Interval]) -> Result<boo
 
 // ---- the label sets of two cubes
 
+/// Along t, y or x both cubes have the same labels in the same order, which one pass over them tells.
+fn have_alike_numbers(kind: Kind, one: &Shape, two: &Shape) -> bool
+    ensures { result ≡ true → differ_in same_number (numbers_along kind one.now)
+        (numbers_along kind two.now) ≡ false }
+{
+    one.has_same_labels(two, kind)
+}
+
+/// Both cubes have the same bands in the same order, which one pass over them tells without an index of names.
+fn have_alike_bands(one: &Shape, two: &Shape) -> bool
+    ensures { result ≡ true → differ_in same_name one.now.bands two.now.bands ≡ false }
+{
+    one.has_same_labels(two, Kind::Bands)
+}
+
 /// Both cubes have the dimension, one of t, y and x, and there is a label that only one of them has.
 fn differ_in_numbers(kind: Kind, one: &Shape, two: &Shape) -> bool
     ensures { result
         ≡ differ_in same_number (numbers_along kind one.now) (numbers_along kind two.now) }
 {
     if one.count(kind).is_none() || two.count(kind).is_none() {
+        return false;
+    }
+    if have_alike_numbers(kind, one, two) {
         return false;
     }
     !(are_numbers_among(two, kind, one.labels(kind))
@@ -129,6 +147,9 @@ fn differ_in_bands(alloc: Global, one: &Shape, two: &Shape) -> Result<bool, OutO
         ≡ differ_in same_name one.now.bands two.now.bands) }
 {
     if one.count(Kind::Bands).is_none() || two.count(Kind::Bands).is_none() {
+        return Ok(false);
+    }
+    if have_alike_bands(one, two) {
         return Ok(false);
     }
     let first = BandIndex::of(alloc, one)?;

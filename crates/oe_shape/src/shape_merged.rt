@@ -3,7 +3,7 @@ ghost use Rattle.std.specs.Prelude.{◌≡◌, ◌++◌, IfOk, true};
 ghost use Rattle.std.specs.Option.{option_map};
 ghost use Rattle.oe_dims.specs.Dimensions.{IsShape, number_labels, band_names};
 ghost use Rattle.oe_dims.specs.Indices.{same_number};
-ghost use Rattle.oe_dims.specs.Lists.{items_of};
+ghost use Rattle.oe_dims.specs.Lists.{items_of, HaveSameLabels};
 ghost use Rattle.oe_dims.specs.Names.{same_name};
 ghost use Rattle.oe_shape.specs.Labels.{is_below, is_above, sorted_labels, new_among, all_in_order, all_bands, either_epsg, merged_shape};
 ghost use Rattle.oe_shape.specs.Results.{numbers_along, IsRisingKind, where_within_limits};
@@ -130,9 +130,8 @@ fn epsg_of_either(one: &Shape, two: &Shape) -> u32
     if first == 0 { second } else { first }
 }
 
-/// The shape with the labels of both cubes (`merge_cubes` of openEO Processes), `None` where it has over 65536 labels
-/// along a dimension or over 2^40 cells. Refuses: out of memory.
-pub fn merged_shape(alloc: Global, one: &Shape, two: &Shape) -> Result<Option<Shape>, OutOfMemory>
+/// The shape with the labels of both cubes, put together list by list.
+fn joined_shape(alloc: Global, one: &Shape, two: &Shape) -> Result<Option<Shape>, OutOfMemory>
     ensures { IfOk result (λ found. found ≡ where_within_limits (merged_shape one.now two.now)) }
 {
     let t = all_rising(alloc, one, two, Kind::Time)?;
@@ -140,4 +139,38 @@ pub fn merged_shape(alloc: Global, one: &Shape, two: &Shape) -> Result<Option<Sh
     let y = all_falling(alloc, one, two)?;
     let x = all_rising(alloc, one, two, Kind::X)?;
     Ok(shape_within(epsg_of_either(one, two), t, bands, y, x))
+}
+
+/// The second cube lacks the dimension, or has the labels of the first there, in the same order.
+#[tactic(auto, using(crate::proofs::SameLemmas::lacking_stay, crate::proofs::SameLemmas::same_stay))]
+fn has_no_other(kind: Kind, one: &Shape, two: &Shape) -> bool
+    ensures { result ≡ true → HaveSameLabels (merged_shape one.now two.now) one.now kind }
+{
+    two.count(kind).is_none() || one.has_same_labels(two, kind)
+}
+
+/// The second cube has nothing that the first lacks, as one pass over its labels tells.
+#[tactic(auto, using(crate::proofs::SameLemmas::all_stay))]
+fn adds_nothing(one: &Shape, two: &Shape) -> bool
+    ensures { result ≡ true → merged_shape one.now two.now ≡ one.now }
+{
+    epsg_of_either(one, two) == one.epsg()
+        && has_no_other(Kind::Time, one, two)
+        && has_no_other(Kind::Bands, one, two)
+        && has_no_other(Kind::Y, one, two)
+        && has_no_other(Kind::X, one, two)
+}
+
+/// The shape with the labels of both cubes (`merge_cubes` of openEO Processes), `None` where it has over 65536 labels
+/// along a dimension or over 2^40 cells. Refuses: out of memory.
+#[tactic(auto, using(crate::proofs::ResultLemmas::valid_within))]
+pub fn merged_shape(alloc: Global, one: &Shape, two: &Shape) -> Result<Option<Shape>, OutOfMemory>
+    ensures { IfOk result (λ found. found ≡ where_within_limits (merged_shape one.now two.now)) }
+{
+    // such a merge needs no index of names and no test of its labels
+    if adds_nothing(one, two) {
+        Ok(Some(one.copy()?))
+    } else {
+        joined_shape(alloc, one, two)
+    }
 }
