@@ -54,3 +54,5 @@ pub mod WholeLemmas
 pub mod CrossLemmas
 pub mod SameLemmas
 pub mod SharedLemmas
+pub mod HeldLemmas
+pub mod TableLemmas

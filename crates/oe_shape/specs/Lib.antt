@@ -23,3 +23,5 @@ pub mod Walked
 pub mod Callbacks
 pub mod Early
 pub mod Inputs
+pub mod Held
+pub mod Tables

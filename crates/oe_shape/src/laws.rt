@@ -3,11 +3,13 @@ ghost use denote.Param.Send.{IsSend, IsSync};
 ghost use Rattle.oe_shape.specs.contracts.checked.Checked as checked;
 ghost use Rattle.oe_shape.specs.Brings.{BringValidLabels};
 ghost use Rattle.oe_shape.specs.CellKinds.{GiveCellsOfKind};
+ghost use Rattle.oe_shape.specs.Held.{AskWhereHeld};
 ghost use Rattle.oe_shape.specs.Laws.{AreFoundWithoutCells, AreInOneAtLeast, GiveCubes, KeepAllLabels, NeedResolvers, ReferToCubes};
 ghost use Rattle.oe_shape.specs.Reach.{FoldDateByDate};
 ghost use Rattle.oe_shape.specs.Scopes.{GiveScopes};
 ghost use Rattle.oe_shape.specs.SoundNodes.{AreSound, UnfoldAtNodes};
 ghost use Rattle.oe_shape.specs.Stands.{HasNoneAtOrBelow};
+ghost use Rattle.oe_shape.specs.Tables.{AreTied};
 ghost use Rattle.oe_shape.specs.ValidShapes.{GiveValidShapes};
 ghost use Rattle.oe_dims.specs.declared.dims.DimsRow.{DimsRow};
 ghost use Rattle.oe_graph.specs.Tree.{Nodes};
@@ -32,6 +34,21 @@ pub fn labels_are_kept()
 #[tactic(auto, using(crate::proofs::SharedLemmas::need_resolvers))]
 pub fn resolvers_are_needed()
     ensures { NeedResolvers }
+{}
+
+/// Does nothing. Its contract says that a node's arguments are refused exactly where one is not what the table of
+/// processes says of it, or where the labels of intervals are not as many as these, or none are given and an interval
+/// has no start.
+#[tactic(auto, using(crate::proofs::HeldLemmas::ask_where_held))]
+pub fn arguments_are_held()
+    ensures { AskWhereHeld }
+{}
+
+/// Does nothing. Its contract says that the table of processes has the processes that the code tells apart, with the
+/// kinds of cells that they take, and that the rows of faults at a node stand by their numbers.
+#[tactic(auto, using(crate::proofs::TableLemmas::are_tied))]
+pub fn tables_are_tied()
+    ensures { AreTied }
 {}
 
 /// Does nothing. Its contract says that an operation without a fault gives cells of its kind.

@@ -39,9 +39,10 @@ pub use checked::Checked;
 pub use extent::{BoundingBox, Interval, TemporalExtent};
 pub use graph_check::check;
 pub use laws::{
-    callbacks_have_scopes, cells_are_of_their_kind, faults_stand_lowest, folds_are_reductions,
-    graphs_cross_threads, labels_are_kept, meanings_are_sound, nodes_give_cubes,
-    references_are_cubes, resolvers_are_needed, shapes_are_valid, shapes_need_no_cells,
+    arguments_are_held, callbacks_have_scopes, cells_are_of_their_kind, faults_stand_lowest,
+    folds_are_reductions, graphs_cross_threads, labels_are_kept, meanings_are_sound,
+    nodes_give_cubes, references_are_cubes, resolvers_are_needed, shapes_are_valid,
+    shapes_need_no_cells, tables_are_tied,
 };
 pub use operation::{Operation, Restriction};
 pub use operation_request::operation_for;
