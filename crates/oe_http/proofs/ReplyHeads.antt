@@ -59,13 +59,16 @@ long_reply s number one high is many =
     let P : ℕ → Type 0 = λ n. most_response_body < n in
     record { parts = s.parts; valid = valid_reply_head s one high; many = subst P (is ∙ ap said_length s.fields) many }
 
-pub found_reply : {head : List ℕ} {code : ℕ} {spans : List HeaderSpan} (s : HasReplySpans head code spans) (number : ℕ) (found : ReplyParts) → SaysOneLength code (values_of content_length (texts_of head spans)) → 100 ≤ code → number ≡ said_length (texts_of head spans) → number ≤ most_response_body → found.status ≡ code → found.length ≡ number → HasReplyParts head found
-found_reply s number found one high is few same_status same_length =
+pub found_reply : {head : List ℕ} {code : ℕ} {spans : List HeaderSpan} (s : HasReplySpans head code spans) (number : ℕ) (found : ReplyParts) → SaysOneLength code (values_of content_length (texts_of head spans)) → 100 ≤ code → code < 1000 → number ≡ said_length (texts_of head spans) → number ≤ most_response_body → found.status ≡ code → found.length ≡ number → HasReplyParts head found
+found_reply {code = code} s number found one high low is few same_status same_length =
     let P : ℕ → Type 0 = λ n. n ≤ most_response_body in
+    let Q : ℕ → Type 0 = λ n. n ≤ 999 in
+    let below : code ≤ 999 = omega (arith, low) in
     record {
       parts = s.parts;
       valid = valid_reply_head s one high;
       status = same_status ∙ s.status;
+      three_digits = subst Q (sym same_status) below;
       length = same_length ∙ is ∙ ap said_length s.fields;
       most = subst P (sym same_length) few;
     }

@@ -24,6 +24,7 @@ pub record HasReplyParts (head : List ℕ) (found : ReplyParts) : Type 0 where
   pub parts : ResponseHead
   pub valid : IsValidReply head parts
   pub status : found.status ≡ status_code parts
+  pub three_digits : found.status ≤ 999
   pub length : found.length ≡ said_length (reply_fields parts)
   pub most : found.length ≤ most_response_body
 

@@ -52,6 +52,14 @@ pub record IsResponseOf (bytes : List ℕ) (response : PlainResponse) : Type 0 w
   pub text : IsUtf8 (body_of bytes head (said_length (reply_fields parts)))
   pub is : response ≡ response_of parts (body_of bytes head (said_length (reply_fields parts)))
 
+-- the form of each response that is read: a status of three digits that is not below 100, and a body of at most 16777216
+-- bytes, which are a text
+pub record HasResponseForm (response : PlainResponse) : Type 0 where
+  pub least : 100 ≤ response.status
+  pub most : response.status ≤ 999
+  pub body : length response.body ≤ most_response_body
+  pub text : IsUtf8 response.body
+
 -- the head is not valid
 pub record HasMalformedReply (bytes : List ℕ) : Type 0 where
   pub head : List ℕ

@@ -12,7 +12,7 @@ ghost use Rattle.oe_http.specs.Parts.{texts_of};
 ghost use Rattle.oe_http.specs.Replies.{plain_response};
 ghost use Rattle.oe_http.specs.ReplyParts.{HasReplySpans, HasReplyParts, RefusesReplyFields, RefusesReplyHead, RefusesReplyHeadless, IsOfReplyBytes, reply_refusal};
 ghost use Rattle.oe_http.specs.ReplySteps.{IsCutOrBinary, IsReplyHeadIn, IsReplyHeadRead, IsReplyMadeOf, IsReplyRefusedAfter, IsReplyRefusedOf, IsResponseRead};
-ghost use Rattle.oe_http.specs.Responses.{IsWholeReply, IsResponseOf, RefusesResponse, SaysOneLength, most_response_body};
+ghost use Rattle.oe_http.specs.Responses.{IsWholeReply, HasResponseForm, IsResponseOf, RefusesResponse, SaysOneLength, most_response_body};
 ghost use Rattle.oe_http.specs.declared.reply.ResponseRefusal.TheVariants as refusal;
 
 use crate::Response;
@@ -99,6 +99,8 @@ pub fn read_response<L: Link>(alloc: Global, link: &mut L) -> Result<Response, R
     // where the bytes are visible: the response at their front, or a refusal that stands
     ensures response { IfOk result (λ response. IfSome (L.left link.old)
         (λ bytes. IsResponseOf bytes (plain_response response))) }
+    // whatever the link shows of its bytes
+    ensures form { IfOk result (λ response. HasResponseForm (plain_response response)) }
     ensures refused { IfErr result (λ refusal. IsOfReplyBytes refusal → IfSome (L.left link.old)
         (λ bytes. RefusesResponse bytes refusal)) }
     // a reply of the service is read again, whatever follows it
@@ -169,6 +171,7 @@ fn read_whole<L: Link>(
     requires parts { HasReplyParts (take head.now.end head.now.bytes.items) head.now.parts }
     ensures response { IfOk result
         (λ response. IsResponseRead head.now response (L.left link.old)) }
+    ensures form { IfOk result (λ response. HasResponseForm (plain_response response)) }
     ensures refused { IfErr result
         (λ refusal. IsReplyRefusedAfter head.now refusal (L.left link.old)) }
     ensures taken { TakesAtMost (L.left link.old) most_response_body (L.left link.new) }
@@ -186,6 +189,8 @@ fn read_whole<L: Link>(
 /// The response of a head and as much of its body as the link gave.
 fn with_body(head: &ReplyHead, body: Vec<u8>) -> Result<Response, ResponseRefusal>
     requires parts { HasReplyParts (take head.now.end head.now.bytes.items) head.now.parts }
+    requires most { length body.items ≤ head.now.parts.length }
+    ensures form { IfOk result (λ response. HasResponseForm (plain_response response)) }
     ensures whole { IfOk result (λ response. IsReplyMadeOf head.now body.items response) }
     ensures refused { IfErr result (IsCutOrBinary head.now body.items) }
 {
@@ -239,6 +244,7 @@ fn valid_reply(
 ) -> Result<ReplyParts, ResponseRefusal>
     requires fields { All (IsHeaderWithin (length head.now)) fields.now }
     requires spans { HasReplySpans head.now status fields.now }
+    requires three_digits { status < 1000 }
     ensures parts { IfOk result (λ parts. HasReplyParts head.now parts) }
     ensures refused { IfErr result (λ refusal. RefusesReplyFields head.now refusal) }
 {
