@@ -1,2 +1,4 @@
 pub mod Deliveries
 pub mod Offsets
+mod Worked
+mod Writable

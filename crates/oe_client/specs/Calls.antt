@@ -1,9 +1,9 @@
 -- What becomes of a call.
-use Rattle.std.specs.Prelude.{◌≡◌, ℕ, ◌&&◌, nat_le, Bool, true, false, List, Option, IfSome, Result, Ok, Err}
+use Rattle.std.specs.Prelude.{◌≡◌, ℕ, ◌&&◌, nat_le, Bool, true, false, List, Option, IfSome, Result, Ok, Err, ⊤}
 use Rattle.oe_client.specs.declared.call.ClientFail.{ClientFail}
 use Rattle.oe_client.specs.declared.call.ClientFail.TheVariants.{LinkFailed, PeerInvalid, Refused, SinkFailed, OutOfMemory}
 use Rattle.oe_http.specs.Replies.{PlainResponse}
-use Rattle.oe_http.specs.Responses.{IsResponseOf, RefusesResponse}
+use Rattle.oe_http.specs.Responses.{HasResponseForm, IsResponseOf, RefusesResponse}
 use Rattle.oe_http.specs.declared.reply.ResponseRefusal.{ResponseRefusal}
 use Rattle.oe_http.specs.declared.reply.ResponseRefusal.TheVariants as reply
 use Rattle.oe_outside.specs.Faults.{NeverFalls, Rose}
@@ -34,6 +34,17 @@ DeliversResponse r out faults after faults_after (Err SinkFailed) =
     (is_success r.status ≡ true) × Rose faults faults_after × AppendsPrefix out r.body after
 DeliversResponse r out faults after faults_after (Err OutOfMemory) = ⊥
 
+-- what an answer says of the response that stands at the front of the peer's bytes: each answer that is not for want of
+-- memory or by a fault of the link is exactly that of its status
+abbrev pub MeetsResponse : PlainResponse → Result (Unit {0}) ClientFail → Type 0
+MeetsResponse r (Ok done) = is_success r.status ≡ true
+MeetsResponse r (Err LinkFailed) = ⊤
+MeetsResponse r (Err PeerInvalid) = ⊥
+MeetsResponse r (Err (Refused status body)) =
+    (r.status ≡ status) × (r.body ≡ body.items) × (is_success status ≡ false)
+MeetsResponse r (Err SinkFailed) = is_success r.status ≡ true
+MeetsResponse r (Err OutOfMemory) = ⊤
+
 -- a link and an output: what the peer's bytes are, where they are visible, what was written, and the fault counters
 pub record Ends : Type 0 where
   pub left : Option (List ℕ)
@@ -62,6 +73,7 @@ module _ (before after : Ends) where
   -- the peer's response succeeded, and its body follows what the output held
   pub record Delivers : Type 0 where
     pub response : PlainResponse
+    pub form : HasResponseForm response
     pub from_peer : IsFromPeer response
     pub success : is_success response.status ≡ true
     pub delivered : Appends before.out response.body after.out
@@ -69,6 +81,7 @@ module _ (before after : Ends) where
   -- the peer's response succeeded, and the output broke while its body was written
   pub record Breaks : Type 0 where
     pub response : PlainResponse
+    pub form : HasResponseForm response
     pub from_peer : IsFromPeer response
     pub success : is_success response.status ≡ true
     pub rose : Rose before.out_faults after.out_faults
@@ -77,6 +90,7 @@ module _ (before after : Ends) where
   -- the peer's response has this status, which is none of success, and this body
   pub record Refuses (status : ℕ) (body : List ℕ) : Type 0 where
     pub response : PlainResponse
+    pub form : HasResponseForm response
     pub from_peer : IsFromPeer response
     pub status_is : response.status ≡ status
     pub body_is : response.body ≡ body
@@ -99,5 +113,7 @@ module _ (before after : Ends) where
 
   pub record Calls (result : Result (Unit {0}) ClientFail) : Type 0 where
     pub answer : CallEnds result
+    pub exact : IfSome before.left
+        (λ bytes. (response : PlainResponse) → IsResponseOf bytes response → MeetsResponse response result)
     pub link_count : NeverFalls before.link_faults after.link_faults
     pub out_count : NeverFalls before.out_faults after.out_faults

@@ -1,12 +1,15 @@
 -- The request of a verb.
-use Rattle.std.specs.Prelude.{ℕ, Bool, List, [], ◌++◌, Option, Some, None, codes, unwrap_or, if◌then◌else◌}
-use Rattle.std.specs.Option.{option_map}
-use Rattle.oe_client.specs.Arguments.{id_part, rest_part}
-use Rattle.oe_client.specs.Verbs.{Verb, method_name}
+use Rattle.std.specs.Prelude.{◌≡◌, ℕ, ◌≤◌, ◌&&◌, nat_le, Bool, true, List, [], ◌++◌, length, Option, Some, codes, unwrap_or, if◌then◌else◌}
+use Rattle.std.specs.List.{list_all}
+use Rattle.std.specs.Option.{option_map, option_map_or}
+use Rattle.oe_client.specs.Arguments.{IsArgumentOf, id_part, rest_part}
+use Rattle.oe_client.specs.Verbs.{Verb, method_name, verb_named}
 use Rattle.oe_client.specs.declared.command.ClientCommand.{ClientCommand}
 use Rattle.oe_client.specs.declared.verbs.Argument.{Argument}
 use Rattle.oe_client.specs.declared.verbs.Argument.TheVariants.{Missing, Id, JobAndAsset, JobAndOffset}
+use Rattle.oe_http.specs.Again.{is_visible}
 use Rattle.oe_http.specs.Plain.{PlainRequest, plain_request}
+use Rattle.oe_http.specs.Requests.{most_body}
 
 -- what contracts compare of a call: the request, and the host that it is written to
 pub record PlainCommand : Type 0 where
@@ -23,7 +26,7 @@ path_with Id before argument behind = before ++ argument ++ behind
 path_with JobAndAsset before argument behind = before ++ id_part argument ++ behind ++ rest_part argument
 path_with JobAndOffset before argument behind = before ++ id_part argument ++ behind
 
--- the query: the log entries up to a number are left out
+-- the query: with an id and a number, that the log entries up to the number are left out
 abbrev pub query_with : Argument → List ℕ → List ℕ
 query_with Missing argument = []
 query_with Id argument = []
@@ -43,3 +46,21 @@ request_of v argument token input = record {
   authorization = option_map credentials token;
   body = if v.sends_input then input else [];
 }
+
+-- a token: 1 to 128 visible bytes of ASCII
+abbrev pub is_token : List ℕ → Bool
+is_token text = nat_le 1 (length text) && nat_le (length text) 128 && list_all is_visible text
+
+-- a host with its port: at most 259 visible bytes of ASCII
+abbrev pub is_host : List ℕ → Bool
+is_host text = nat_le (length text) 259 && list_all is_visible text
+
+-- the parts of a call have their forms: the verb is one of the table, its argument is one that it takes, and token, host
+-- and input are valid
+pub record AreCallParts (v : Verb) (argument token : Option (List ℕ)) (host input : List ℕ) : Type 0 where
+  pub word : List ℕ
+  pub named : verb_named word ≡ Some v
+  pub argument_valid : IsArgumentOf v.argument argument
+  pub token_valid : option_map_or is_token token true ≡ true
+  pub host_valid : is_host host ≡ true
+  pub short : length input ≤ most_body

@@ -1,11 +1,11 @@
--- The verbs of the client, as the table of the code has them.
-use Rattle.std.specs.Prelude.{ℕ, Bool, List, [], ◌∷◌, map, Option, codes, find}
+-- The verbs of the client: the request that each stands for (openEO API; their words are this profile's own).
+use Rattle.std.specs.Prelude.{ℕ, Bool, true, false, List, [], ◌∷◌, Option, codes, find}
 use denote.Bor.{Bor}
 use Rattle.oe_dims.specs.Names.{same_name}
 use Rattle.oe_client.specs.declared.verbs.Argument.{Argument}
+use Rattle.oe_client.specs.declared.verbs.Argument.TheVariants.{Missing, Id, JobAndAsset, JobAndOffset}
 use Rattle.oe_client.specs.declared.verbs.VerbMethod.{VerbMethod}
 use Rattle.oe_client.specs.declared.verbs.VerbMethod.TheVariants.{Delete, Get, Post, Put}
-use Rattle.oe_client.specs.declared.verbs.TheConstants.{VERBS}
 
 -- a verb: its word, its method, its path up to the argument, what the argument is, what follows the argument's id in the
 -- path, and whether the input is the body
@@ -34,9 +34,27 @@ VerbEntry = Bor (List ℕ) × VerbMethod × Bor (List ℕ) × Argument × Bor (L
 abbrev pub verb_of : VerbEntry → Verb
 verb_of row = verb_from row.0.now row.1 row.2.now row.3 row.4.now row.5
 
--- all verbs
+-- all verbs, in byte order of their words
 abbrev pub verbs : List Verb
-verbs = map (λ row. verb_from row.0.now row.1 row.2.now row.3 row.4.now row.5) VERBS
+verbs =
+    verb_from (codes "asset") Get (codes "/jobs/") JobAndAsset (codes "/results/") false
+    ∷ verb_from (codes "cancel") Delete (codes "/jobs/") Id (codes "/results") false
+    ∷ verb_from (codes "collections") Get (codes "/collections") Missing (codes "") false
+    ∷ verb_from (codes "create") Post (codes "/jobs") Missing (codes "") true
+    ∷ verb_from (codes "delete") Delete (codes "/jobs/") Id (codes "") false
+    ∷ verb_from (codes "forget") Delete (codes "/process_graphs/") Id (codes "") false
+    ∷ verb_from (codes "jobs") Get (codes "/jobs") Missing (codes "") false
+    ∷ verb_from (codes "logs") Get (codes "/jobs/") Id (codes "/logs") false
+    ∷ verb_from (codes "logsafter") Get (codes "/jobs/") JobAndOffset (codes "/logs") false
+    ∷ verb_from (codes "processes") Get (codes "/processes") Missing (codes "") false
+    ∷ verb_from (codes "processgraphs") Get (codes "/process_graphs") Missing (codes "") false
+    ∷ verb_from (codes "result") Post (codes "/result") Missing (codes "") true
+    ∷ verb_from (codes "results") Get (codes "/jobs/") Id (codes "/results") false
+    ∷ verb_from (codes "start") Post (codes "/jobs/") Id (codes "/results") false
+    ∷ verb_from (codes "status") Get (codes "/jobs/") Id (codes "") false
+    ∷ verb_from (codes "store") Put (codes "/process_graphs/") Id (codes "") true
+    ∷ verb_from (codes "validate") Post (codes "/validation") Missing (codes "") true
+    ∷ []
 
 -- the first of these verbs with a word, and the verb of a word
 abbrev pub first_named : List ℕ → List Verb → Option Verb

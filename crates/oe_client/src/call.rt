@@ -1,11 +1,14 @@
 // One request and its response.
-ghost use Rattle.std.specs.Prelude.{◌≡◌, IsErrOf};
+ghost use Rattle.std.specs.Prelude.{◌≡◌, ◌+◌, IsErrOf};
 ghost use Rattle.oe_client.specs.Calls as spec;
 ghost use Rattle.oe_client.specs.Calls.{Calls, ends};
 ghost use Rattle.oe_client.specs.Commands.{plain_command};
+ghost use Rattle.oe_http.specs.Front.{most_head};
 ghost use Rattle.oe_http.specs.Replies.{plain_response};
+ghost use Rattle.oe_http.specs.Responses.{most_response_body};
 ghost use Rattle.oe_http.specs.Written.{request_bytes};
 ghost use Rattle.oe_outside.specs.Faults.{NeverFalls};
+ghost use Rattle.oe_outside.specs.Input.{TakesAtMost};
 ghost use Rattle.oe_outside.specs.Visible.{Appends, AppendsPrefix};
 
 use crate::command::ClientCommand;
@@ -29,11 +32,13 @@ pub enum ClientFail {
 }
 
 /// Sends a request, reads the response, and writes its body to the output where the status is 200 to 299 (openEO API,
-/// RFC 9112). The output is written at once, when the whole response was read.
+/// RFC 9112). A response that breaks off leaves the output as it was. At most 16384 and 16777216 bytes are taken from the
+/// link.
 ///
-/// Refuses: `Refused` only where the response has another status; `PeerInvalid` only where no response stands at the
+/// Refuses: `Refused` exactly where the response has another status; `PeerInvalid` only where no response stands at the
 /// front of what the peer sent; `LinkFailed` and `SinkFailed` only where the fault counter of the link or of the output
 /// rose; out of memory. But for `SinkFailed`, which leaves a prefix of the body there, the output is then as before.
+#[tactic(auto, using(crate::proofs::Deliveries::exactly))]
 pub fn client_call<L: Link, O: Sink>(
     alloc: Global,
     command: &ClientCommand,
@@ -51,6 +56,8 @@ pub fn client_call<L: Link, O: Sink>(
         (ends (L.left link.old) (L.faults link.old) (O.written out.old) (O.faults out.old))
         (ends (L.left link.new) (L.faults link.new) (O.written out.new) (O.faults out.new))
         result }
+    ensures taken { TakesAtMost (L.left link.old) (most_head + most_response_body)
+        (L.left link.new) }
 {
     match write_request(link, &command.request, command.host.as_str()) {
         Ok(()) => take_response(alloc, link, out),
@@ -59,6 +66,7 @@ pub fn client_call<L: Link, O: Sink>(
 }
 
 /// Reads the response, and writes its body to the output where it succeeded.
+#[tactic(auto, using(crate::proofs::Deliveries::exactly))]
 fn take_response<L: Link, O: Sink>(
     alloc: Global,
     link: &mut L,
@@ -69,6 +77,8 @@ fn take_response<L: Link, O: Sink>(
         (ends (L.left link.old) (L.faults link.old) (O.written out.old) (O.faults out.old))
         (ends (L.left link.new) (L.faults link.new) (O.written out.new) (O.faults out.new))
         result }
+    ensures taken { TakesAtMost (L.left link.old) (most_head + most_response_body)
+        (L.left link.new) }
 {
     match read_response(alloc, link) {
         Ok(response) => deliver(response, out),

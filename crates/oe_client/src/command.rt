@@ -3,6 +3,7 @@ ghost use Rattle.std.specs.Prelude.{◌≡◌, ◌++◌, IfOk};
 ghost use Rattle.std.specs.Option.{option_map};
 ghost use Rattle.oe_client.specs.Commands as spec;
 ghost use Rattle.oe_client.specs.Verbs.{verb_of};
+ghost use Rattle.oe_http.specs.Again.{IsWritable};
 
 use crate::argument::split_at_slash;
 use crate::verbs::{Argument, VerbEntry, method_of};
@@ -19,10 +20,32 @@ pub struct ClientCommand {
 }
 
 /// The request of a verb with its argument, for a token where there is one. The input becomes the body where the verb
-/// sends it, and is let go where it does not.
+/// sends it, and is let go where it does not. Where verb, argument, token, host and input have their forms, the request is
+/// one that is read again as it is written.
 ///
 /// Refuses: out of memory.
 pub fn client_command(
+    alloc: Global,
+    verb: &VerbEntry,
+    argument: Option<&Text>,
+    token: Option<&Text>,
+    host: Text,
+    input: Vec<u8>,
+) -> Result<ClientCommand, OutOfMemory>
+    ensures request { IfOk result (λ c. (spec.plain_command c).request ≡ spec.request_of
+        (verb_of verb.now) (option_map (λ t. t.now) argument.entry)
+        (option_map (λ t. t.now) token.entry) input.items) }
+    ensures host { IfOk result (λ c. c.host ≡ host) }
+    // where the parts have their forms, reading what is written gives this request
+    ensures writable { IfOk result (λ c. spec.AreCallParts (verb_of verb.now)
+        (option_map (λ t. t.now) argument.entry) (option_map (λ t. t.now) token.entry) host
+        input.items → IsWritable (spec.plain_command c).request c.host) }
+{
+    make_command(alloc, verb, argument, token, host, input)
+}
+
+/// The request, whatever forms its parts have.
+fn make_command(
     alloc: Global,
     verb: &VerbEntry,
     argument: Option<&Text>,

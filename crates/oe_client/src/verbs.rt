@@ -19,7 +19,7 @@ pub enum VerbMethod {
 pub enum Argument {
     /// Nothing.
     Missing,
-    /// The id of a job or of a stored process.
+    /// 1 to 200 bytes: those of an id, and slashes.
     Id,
     /// `ID/NAME`: the id of a job and the name of an asset.
     JobAndAsset,

@@ -1,4 +1,3 @@
-use Rattle.std.proofs.Common.{◌^◌, ◌<◌, arith}
 use Rattle.oe_client.proofs.Offsets.{spells_none, spells_it, same_number}
 use Rattle.oe_client.proofs.argument.read_offset.Goals as goal
 
