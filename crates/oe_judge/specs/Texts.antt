@@ -1,13 +1,17 @@
--- What a user is told of a fault.
+-- What a user is told of a refusal.
 use Rattle.std.specs.Prelude.{ℕ, List, [], ◌∷◌, ◌++◌, codes}
 use Rattle.oe_graph.specs.Codes.{name_of}
 use Rattle.oe_graph.specs.declared.fault.Fault.{Fault}
 
--- a node behind a blank, and nothing for the graph as a whole
-abbrev pub node_said : List ℕ → List ℕ
-node_said [] = []
-node_said (byte ∷ name) = codes " " ++ byte ∷ name
+-- a detail behind a blank, and nothing where there is none
+abbrev pub behind_blank : List ℕ → List ℕ
+behind_blank [] = []
+behind_blank (byte ∷ detail) = codes " " ++ byte ∷ detail
 
--- the code of a fault and its node
+-- a code with its detail
+abbrev pub with_detail : List ℕ → List ℕ → List ℕ
+with_detail code detail = code ++ behind_blank detail
+
+-- the code of a fault and its node, where it stands at one and not in the graph as a whole
 abbrev pub fault_text : Fault → List ℕ
-fault_text fault = name_of fault.code ++ node_said fault.node
+fault_text fault = with_detail (name_of fault.code) fault.node

@@ -1,28 +1,22 @@
 -- The bodies of errors, and those that say what the service is (openEO API, error handling and capabilities). A body is
 -- the compact text of its JSON value, members in byte order.
-use Rattle.std.specs.Prelude.{ℕ, List, [], ◌∷◌, ◌++◌, map, Option, Some, None, codes, true}
+use Rattle.std.specs.Prelude.{ℕ, List, [], ◌∷◌, map, Option, Some, None, codes, true}
 use Rattle.serde_json.specs.Data.{Data, boolean, string, object, no_members, member}
 use Rattle.oe_dims.specs.declared.text.Text.{Text}
 use Rattle.oe_graph.specs.Codes as graphs
 use Rattle.oe_graph.specs.declared.fault.Fault.{Fault}
+use Rattle.oe_judge.specs.Texts.{with_detail}
 use Rattle.oe_replies.specs.Json.{list_data, no_links}
 use Rattle.oe_replies.specs.declared.root.Endpoint.{Endpoint}
 
 -- ---- errors
 
--- what stands behind the code in a message: a blank and the detail, where there is one
-abbrev pub detail_said : List ℕ → List ℕ
-detail_said [] = []
-detail_said (byte ∷ detail) = codes " " ++ byte ∷ detail
-
--- the message of a code with a detail: the node of a graph's fault, or the numbers that a refused run names
-abbrev pub message_of : List ℕ → List ℕ → List ℕ
-message_of code detail = code ++ detail_said detail
-
+-- the message is the code and, behind a blank, the detail, where there is one: the node of a graph's fault, or what the
+-- line of a refused run names
 abbrev pub error_data : List ℕ → List ℕ → Data
 error_data code detail = object (
     member (codes "code") (string code) (
-    member (codes "message") (string (message_of code detail)) no_members))
+    member (codes "message") (string (with_detail code detail)) no_members))
 
 abbrev pub fault_data : Fault → Data
 fault_data fault = error_data (graphs.name_of fault.code) fault.node

@@ -1,6 +1,6 @@
 -- The codes of refused requests, each with its HTTP status (openEO API, error handling; which codes there are beside
 -- those of graphs is this profile's own).
-use Rattle.std.specs.Prelude.{ℕ, List, codes}
+use Rattle.std.specs.Prelude.{ℕ, Bool, true, false, List, codes}
 use Rattle.oe_graph.specs.Codes as graphs
 use Rattle.oe_replies.specs.declared.code.ReplyCode.{ReplyCode}
 use Rattle.oe_replies.specs.declared.code.ReplyCode.TheVariants.{HeadTooLong, RequestMalformed, CodingUnsupported, BodyTooLong, RequestTruncated, NotFound, MethodUnsupported, AuthenticationRequired, TokenInvalid, ProcessIdInvalid, BodyInvalid, JobFieldInvalid, Graph, NumberUnsupported, ProcessTooLong, QueryInvalid, CollectionNotFound, JobNotFound, ProcessNotFound, AssetNotFound, JobNotStarted, JobNotFinished, JobLocked, JobLimit, AssetLimit, ProcessLimit, PredefinedProcessExists, PlanTooLarge, NumberOverflow, ReadFault, SourceDamaged, SpoolFault, SpoolDamaged, StoreFault, OutOfMemory}
@@ -55,3 +55,42 @@ status_of code = (row_of code).status
 
 abbrev pub name_of : ReplyCode → List ℕ
 name_of code = (row_of code).name
+
+-- the message has a detail behind these codes: the node of a graph's fault, the number of a plan or of a cell, or the
+-- collection and the number of what is damaged
+abbrev pub has_detail : ReplyCode → Bool
+has_detail HeadTooLong = false
+has_detail RequestMalformed = false
+has_detail CodingUnsupported = false
+has_detail BodyTooLong = false
+has_detail RequestTruncated = false
+has_detail NotFound = false
+has_detail MethodUnsupported = false
+has_detail AuthenticationRequired = false
+has_detail TokenInvalid = false
+has_detail ProcessIdInvalid = false
+has_detail BodyInvalid = false
+has_detail JobFieldInvalid = false
+has_detail (Graph code) = true
+has_detail NumberUnsupported = false
+has_detail ProcessTooLong = false
+has_detail QueryInvalid = false
+has_detail CollectionNotFound = false
+has_detail JobNotFound = false
+has_detail ProcessNotFound = false
+has_detail AssetNotFound = false
+has_detail JobNotStarted = false
+has_detail JobNotFinished = false
+has_detail JobLocked = false
+has_detail JobLimit = false
+has_detail AssetLimit = false
+has_detail ProcessLimit = false
+has_detail PredefinedProcessExists = false
+has_detail PlanTooLarge = true
+has_detail NumberOverflow = true
+has_detail ReadFault = false
+has_detail SourceDamaged = true
+has_detail SpoolFault = false
+has_detail SpoolDamaged = true
+has_detail StoreFault = false
+has_detail OutOfMemory = false

@@ -6,10 +6,10 @@ use Rattle.serde_json.specs.Data.{Data, null, string, object, Members, no_member
 use Rattle.serde_json.specs.Read.{read}
 use Rattle.oe_graph.specs.Tree.{PlainStored}
 use Rattle.oe_jobs.specs.Plain.{PlainBook, PlainJob}
+use Rattle.oe_jobs.specs.Texts.{level_text, status_text}
 use Rattle.oe_jobs.specs.Verdicts.{is_job_of, stored_of}
 use Rattle.oe_jobs.specs.declared.job.Asset.{Asset}
 use Rattle.oe_replies.specs.Json.{listing_data, member_where, moment_data, no_links}
-use Rattle.oe_replies.specs.Words.{status_text, level_text}
 
 -- ---- jobs
 

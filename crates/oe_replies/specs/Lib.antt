@@ -1,4 +1,3 @@
-pub mod Words
 pub mod Json
 pub mod Codes
 pub mod Bodies
@@ -6,3 +5,4 @@ pub mod Collections
 pub mod Jobs
 pub mod Logs
 pub mod Answers
+pub mod Laws

@@ -4,10 +4,10 @@ use Rattle.std.specs.List.{enumerate_from}
 use Rattle.std.specs.Option.{option_map}
 use Rattle.serde_json.specs.Data.{Data, string, object, no_members, member}
 use Rattle.oe_jobs.specs.Machine.{keeps}
+use Rattle.oe_jobs.specs.Texts.{level_text}
 use Rattle.oe_jobs.specs.declared.job.LogEntry.{LogEntry}
 use Rattle.oe_jobs.specs.declared.level.Level.{Level}
 use Rattle.oe_replies.specs.Json.{listing_data, member_where}
-use Rattle.oe_replies.specs.Words.{level_text}
 
 -- an entry under its number among all that are stored
 abbrev pub log_data : ℕ × LogEntry → Data

@@ -141,4 +141,19 @@ impl ReplyCode {
             ReplyCode::OutOfMemory => "OutOfMemory",
         }
     }
+
+    /// Whether a message has a detail behind the code: the node of a graph's fault, the number of a plan or of a cell, or
+    /// the collection and the number of what is damaged.
+    pub fn has_detail(self) -> bool
+        ensures { result ≡ spec.has_detail self }
+    {
+        match self {
+            ReplyCode::Graph(_)
+            | ReplyCode::PlanTooLarge
+            | ReplyCode::NumberOverflow
+            | ReplyCode::SourceDamaged
+            | ReplyCode::SpoolDamaged => true,
+            _ => false,
+        }
+    }
 }

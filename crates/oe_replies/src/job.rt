@@ -5,13 +5,12 @@ ghost use Rattle.serde_json.specs.View.{members_view, view};
 ghost use Rattle.serde_json.specs.Written.{compact_text, has_float};
 ghost use Rattle.oe_dims.specs.Names as names;
 ghost use Rattle.oe_jobs.specs.Plain.{plain_book, plain_job};
+ghost use Rattle.oe_jobs.specs.Texts.{status_text};
 ghost use Rattle.oe_jobs.specs.Verdicts.{is_job_of};
 ghost use Rattle.oe_replies.specs.Jobs as spec;
-ghost use Rattle.oe_replies.specs.Words as words;
 
 use crate::json::{compact_body, listing_json, put_where, str_json, words_json};
 use crate::moment::moment_json;
-use crate::words::{level_text, status_text};
 use oe_jobs::{Book, Job};
 use oe_memory::OutOfMemory;
 use serde_json::{Map, Value, put};
@@ -49,7 +48,7 @@ fn job_json(alloc: Global, job: &Job) -> Result<Value, OutOfMemory>
 fn job_map(alloc: Global, job: &Job) -> Result<Map<String, Value>, OutOfMemory>
     ensures { IfOk result (λ m. members_view m.entries ≡ spec.job_members (plain_job job.now)) }
 {
-    let level = str_json(alloc, level_text(job.level))?;
+    let level = str_json(alloc, job.level.as_str())?;
     let process = process_json(alloc, job.process.as_str())?;
     let mut entry = Map::new(alloc);
     put(
@@ -72,9 +71,9 @@ fn job_map(alloc: Global, job: &Job) -> Result<Map<String, Value>, OutOfMemory>
 }
 
 fn status_json(alloc: Global, job: &Job) -> Result<Value, OutOfMemory>
-    ensures { IfOk result (λ v. view v ≡ string (words.status_text job.now.status)) }
+    ensures { IfOk result (λ v. view v ≡ string (status_text job.now.status)) }
 {
-    str_json(alloc, status_text(job.status))
+    str_json(alloc, job.status.as_str())
 }
 
 /// The JSON value of a process.

@@ -11,6 +11,7 @@ mod code;
 mod collection;
 mod job;
 mod json;
+mod laws;
 mod logs;
 mod moment;
 mod processes;
@@ -18,14 +19,16 @@ mod refused;
 mod reply;
 mod results;
 mod root;
-mod words;
 
 pub use code::ReplyCode;
 pub use collection::{collection_body, collections_body};
 pub use job::{job_body, jobs_body};
+pub use laws::errors_are_plain;
 pub use logs::logs_body;
 pub use processes::{processes_body, stored_list_body};
 pub use refused::{error_body, validation_body};
-pub use reply::{created_reply, empty_reply, failed_reply, json_reply, refused_reply};
+pub use reply::{
+    created_reply, empty_reply, failed_reply, json_reply, refused_reply, stored_reply,
+};
 pub use results::results_body;
 pub use root::{Endpoint, capabilities_body, conformance_body, file_formats_body, versions_body};

@@ -7,7 +7,6 @@ ghost use Rattle.serde_json.specs.Written.{compact_text};
 ghost use Rattle.oe_replies.specs.Logs as spec;
 
 use crate::json::{compact_body, listing_json, put_where, str_json, words_json};
-use crate::words::level_text;
 use oe_jobs::{Level, LogEntry};
 use oe_memory::OutOfMemory;
 use serde_json::{Map, Value, put};
@@ -78,7 +77,7 @@ fn log_json(alloc: Global, log: &LogEntry, number: u64) -> Result<Value, OutOfMe
         &mut entry,
         alloc,
         "level",
-        str_json(alloc, level_text(log.level))?,
+        str_json(alloc, log.level.as_str())?,
     )?;
     put(
         &mut entry,

@@ -8,22 +8,19 @@ ghost use Rattle.oe_replies.specs.Json as spec;
 
 use crate::json::str_json;
 use oe_dims::print_instant;
+use oe_jobs::is_instant;
 use oe_memory::OutOfMemory;
 use serde_json::Value;
 use std::alloc::Global;
 use std::str;
 
-/// The first and the last second of the years 1 to 9999, in seconds since 1970-01-01T00:00:00Z.
-const FIRST_INSTANT: i64 = -62135596800;
-
-const LAST_INSTANT: i64 = 253402300799;
-
 /// A moment, in seconds since 1970-01-01T00:00:00Z, in its long spelling (RFC 3339), or null outside of the years 1 to
 /// 9999.
+#[tactic(auto, using(crate::proofs::Moments::moment_spelled, crate::proofs::Moments::moment_null))]
 pub(crate) fn moment_json(alloc: Global, seconds: i64) -> Result<Value, OutOfMemory>
     ensures { IfOk result (λ v. view v ≡ spec.moment_data seconds) }
 {
-    if FIRST_INSTANT <= seconds && seconds <= LAST_INSTANT {
+    if is_instant(seconds) {
         instant_json(alloc, seconds)
     } else {
         Ok(Value::Null)

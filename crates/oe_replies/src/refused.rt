@@ -4,16 +4,18 @@ ghost use Rattle.std.specs.Option.{option_map};
 ghost use Rattle.serde_json.specs.Data.{string};
 ghost use Rattle.serde_json.specs.View.{view};
 ghost use Rattle.serde_json.specs.Written.{compact_text};
+ghost use Rattle.oe_judge.specs.Texts as texts;
 ghost use Rattle.oe_replies.specs.Bodies as spec;
 
 use crate::json::{compact_body, single, str_json};
 use oe_graph::Fault;
+use oe_judge::with_detail;
 use oe_memory::OutOfMemory;
 use serde_json::{Map, Value, put};
 use std::alloc::Global;
 
 /// The body of an error (openEO API, error handling): its code, and as its message the code and, behind a blank, the
-/// detail, where there is one: the node of a graph's fault, or the numbers that a refused run names.
+/// detail, where there is one: the node of a graph's fault, or what the line of a refused run names.
 ///
 /// Refuses: out of memory.
 pub fn error_body(alloc: Global, code: &str, detail: &str) -> Result<Vec<u8>, OutOfMemory>
@@ -39,17 +41,12 @@ fn error_json(alloc: Global, code: &str, detail: &str) -> Result<Value, OutOfMem
 }
 
 fn message_json(alloc: Global, code: &str, detail: &str) -> Result<Value, OutOfMemory>
-    ensures { IfOk result (λ v. view v ≡ string (spec.message_of code.now detail.now)) }
+    ensures { IfOk result (λ v. view v ≡ string (texts.with_detail code.now detail.now)) }
 {
-    let mut message = String::from_str(alloc, code)?;
-    if !detail.is_empty() {
-        message.push_str(" ")?;
-        message.push_str(detail)?;
-    }
-    Ok(Value::String(message))
+    Ok(Value::String(with_detail(alloc, code, detail)?))
 }
 
-/// The errors of a graph: its least fault, where it has one (openEO API, validation).
+/// The errors of the graph of a body that is JSON: its least fault, where it has one (openEO API, validation).
 ///
 /// Refuses: out of memory.
 pub fn validation_body(alloc: Global, fault: &Option<Fault>) -> Result<Vec<u8>, OutOfMemory>

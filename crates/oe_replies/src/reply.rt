@@ -1,5 +1,5 @@
 // Replies: a status, fields and a body.
-ghost use Rattle.std.specs.Prelude.{◌≡◌, IfOk};
+ghost use Rattle.std.specs.Prelude.{◌≡◌, ◌⊎◌, IfOk};
 ghost use Rattle.oe_http.specs.Laws as laws;
 ghost use Rattle.oe_http.specs.Replies.{plain_response};
 ghost use Rattle.oe_replies.specs.Answers as spec;
@@ -27,6 +27,7 @@ pub fn json_reply(status: u16, body: Vec<u8>) -> Response
 
 /// A reply without a body: 202 for what was queued, and 204 for what was done. Takes no memory.
 pub fn empty_reply(alloc: Global, status: u16) -> Response
+    requires { (status ≡ 202) ⊎ (status ≡ 204) }
     ensures { plain_response result ≡ spec.empty_reply status }
 {
     Response {
@@ -55,13 +56,25 @@ pub fn created_reply(alloc: Global, base: &str, id: &str) -> Result<Response, Ou
     })
 }
 
-/// The reply to a refused request: the status of its code, and an error body with the detail, where there is one.
+/// The reply to a request that stored a process: status 200, and an object without members (openEO API, user-defined
+/// processes).
+///
+/// Refuses: out of memory.
+pub fn stored_reply(alloc: Global) -> Result<Response, OutOfMemory>
+    ensures { IfOk result (λ r. plain_response r ≡ spec.stored_reply) }
+{
+    Ok(json_reply(200, Vec::from_slice(alloc, b"{}")?))
+}
+
+/// The reply to a refused request: the status of its code, and an error body with the detail, where the message of the
+/// code has one.
 ///
 /// Refuses: out of memory.
 pub fn refused_reply(alloc: Global, code: ReplyCode, detail: &str) -> Result<Response, OutOfMemory>
     ensures { IfOk result (λ r. plain_response r ≡ spec.refused_reply code detail.now) }
 {
-    let body = error_body(alloc, code.as_str(), detail)?;
+    let told = if code.has_detail() { detail } else { "" };
+    let body = error_body(alloc, code.as_str(), told)?;
     Ok(json_reply(code.status(), body))
 }
 

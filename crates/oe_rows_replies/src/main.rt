@@ -12,7 +12,7 @@
 //! | `collections`, `show_collection ID`, `jobs USER`, `show_job ID`, `results ID BASE`, `process_graphs USER` | the body of what was added |
 //! | `logs ID LEVEL OFFSET` | the body of the logs of a job at a level and behind a number |
 //! | `error CODE DETAIL`, `valid`, `invalid CODE NODE` | the body of an error, and of the errors of a graph |
-//! | `refused CODE DETAIL`, `fault CODE NODE`, `failed CODE`, `created BASE ID`, `empty STATUS` | a reply: its status, where and under which id something was made (`-` for none), whether the body is JSON, and the body |
+//! | `refused CODE DETAIL`, `fault CODE NODE`, `failed CODE`, `created BASE ID`, `put`, `empty STATUS` | a reply: its status, where and under which id something was made (`-` for none), whether the body is JSON, and the body |
 //!
 //! Lines that add something have no answer, and every other line has one.
 #![tactic(auto)]
@@ -82,7 +82,7 @@ fn answer_line(
         "log" => add_log(alloc, rest, known),
         "asset" => add_asset(alloc, rest, known),
         "stored" => add_stored(alloc, rest, known),
-        "refused" | "fault" | "failed" | "created" | "empty" => {
+        "refused" | "fault" | "failed" | "created" | "put" | "empty" => {
             answer_reply(alloc, word, rest, answers)
         }
         _ => push_body(&body_of(alloc, word, rest, known)?, answers),

@@ -6,7 +6,9 @@ use crate::words::first_word;
 use itoa::Buffer;
 use oe_dims::Text;
 use oe_http::Response;
-use oe_replies::{ReplyCode, created_reply, empty_reply, failed_reply, refused_reply};
+use oe_replies::{
+    ReplyCode, created_reply, empty_reply, failed_reply, refused_reply, stored_reply,
+};
 use std::alloc::Global;
 
 /// Appends the reply that a line asks for.
@@ -29,6 +31,7 @@ fn reply_of(alloc: Global, word: &str, rest: &str) -> Result<Response, Fault> {
     match word {
         "refused" => Ok(refused_reply(alloc, plain_code(first)?, second)?),
         "fault" => Ok(refused_reply(alloc, ReplyCode::Graph(graph_code(first)?), second)?),
+        "put" => Ok(stored_reply(alloc)?),
         "failed" => Ok(failed_reply(alloc, first)?),
         "created" => Ok(created_reply(alloc, first, second)?),
         _ => empty_of(alloc, first),
@@ -36,9 +39,10 @@ fn reply_of(alloc: Global, word: &str, rest: &str) -> Result<Response, Fault> {
 }
 
 fn empty_of(alloc: Global, status: &str) -> Result<Response, Fault> {
-    match status.parse::<u16>() {
-        Ok(status) => Ok(empty_reply(alloc, status)),
-        Err(_) => Err(Fault::Line),
+    match status {
+        "202" => Ok(empty_reply(alloc, 202)),
+        "204" => Ok(empty_reply(alloc, 204)),
+        _ => Err(Fault::Line),
     }
 }
 
