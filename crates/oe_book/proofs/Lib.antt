@@ -4,3 +4,8 @@ mod ProcessLemmas
 mod AssetLemmas
 mod IdLemmas
 mod IdleLemmas
+mod LoopLemmas
+mod CountLemmas
+mod PairLemmas
+mod JobLemmas
+mod SameLemmas

@@ -1,3 +1,5 @@
 pub mod Assets
 pub mod Laws
 pub mod Process
+pub mod Parts
+pub mod Jobs

@@ -5,6 +5,7 @@ use crate::events::change_of;
 use crate::jobs::add_job;
 use crate::keepers::keep_both;
 use crate::spelling::{change_word, outcome_word, spell_book, spell_job};
+use crate::valid::{add_entry, add_owned, answer_valid, set};
 use oe_dims::Text;
 use oe_jobs::{Book, Change, Job, Verdict, decide, reopen};
 use oe_keeper::{job_text, read_job};
@@ -36,6 +37,10 @@ fn answer_line(
         "#" => Ok(()),
         "book" => begin(alloc, rest, book),
         "job" => add_job(alloc, rest, &mut book.jobs),
+        "restore" => add_entry(alloc, rest, &mut book.jobs),
+        "owned" => add_owned(alloc, rest, &mut book.processes),
+        "set" => set(alloc, rest, book),
+        "valid" => answer_valid(alloc, book, answers),
         "event" => answer_change(change_of(alloc, rest, book)?, book, answers),
         "reopen" => answer_change(reopen(alloc, book)?, book, answers),
         "keeper" => keep_both(alloc, rest, answers),

@@ -29,12 +29,17 @@
 //! **`jobs`**: the job book and its keepers, whose answers were written from the table of statuses of the openEO API's
 //! batch jobs and from the project's own rules, by no code of these crates.
 //!
-//! The lines `book` and `job` have no answer, and every other line has one.
+//! The lines `book`, `job`, `restore`, `owned` and `set` have no answer, and every other line has one.
 //!
 //! | Line | What it does |
 //! |---|---|
 //! | `book NEXT` | begins a book without jobs and stored processes whose next number is this |
 //! | `job ID USER STATUS LEVEL COUNT` | the book gets a job, created at 10 and changed at 20, with the turn 3, an entry `old` in its logs and so many assets `a.json` |
+//! | `restore ID ENTRY` | the book gets the job of an id and of this entry |
+//! | `owned USER ID TEXT` | the book gets the stored process of a user and an id that the text is |
+//! | `set WHAT VALUE` | changes the last job: its moment `created` or `updated`; its `title`, `description` or `process` to a text of so many bytes; `asset` adds an asset of so many bytes |
+//! | `set stored WHAT VALUE`, `set ran WHAT VALUE` | changes the last stored process of the book, or of what the last job runs: its `id` or `text`, its `graph` or `parameters` to those of this text; `long` to one of so many bytes |
+//! | `valid` | whether the book is valid |
 //! | `USER create LEVEL`, `USER create LEVEL TITLE` | the user creates a job at 50 |
 //! | `USER patch ID`, with `level L`, `title T`, `description D` or `null` behind it | the user patches a job at 50; `null` takes both texts away |
 //! | `USER queue ID`, `cancel`, `delete` | the user queues, cancels or deletes a job at 50 |
@@ -106,6 +111,7 @@ mod reading;
 mod spelling;
 mod stores;
 mod streams;
+mod valid;
 mod writing;
 
 use books::answer_jobs;

@@ -1,0 +1,163 @@
+// Books in which rules of a valid one are broken, and whether they are valid.
+use crate::jobs::asset_of;
+use oe_book::is_book;
+use oe_dims::Text;
+use oe_graph::{Graph, ParameterRow, Refusal, StoredProcess, read_stored};
+use oe_jobs::{Book, Job, Owned};
+use oe_keeper::read_job;
+use oe_lines::{Fault, first_word, number_of, push};
+use std::alloc::Global;
+
+/// What a text argument that makes a process long stands between.
+const BEFORE_LONG: &str = r#"{"process_graph":{"a":{"arguments":{"x":""#;
+
+const AFTER_LONG: &str = r#""},"process_id":"p","result":true}}}"#;
+
+/// Appends whether the book is valid.
+pub(crate) fn answer_valid(alloc: Global, book: &Book, answers: &mut Vec<u8>) -> Result<(), Fault> {
+    push(
+        if is_book(alloc, book)? {
+            "yes\n"
+        } else {
+            "no\n"
+        },
+        answers,
+    )
+}
+
+/// Adds the job of an id and of the entry behind it.
+pub(crate) fn add_entry(alloc: Global, line: &str, jobs: &mut Vec<Job>) -> Result<(), Fault> {
+    let (id, entry) = first_word(line);
+    match read_job(alloc, &Text::of(alloc, id)?, entry.as_bytes())? {
+        Some(job) => {
+            jobs.push(job)?;
+            Ok(())
+        }
+        None => Err(Fault::Line),
+    }
+}
+
+/// Adds the stored process of a user and an id that the text behind them is.
+pub(crate) fn add_owned(
+    alloc: Global,
+    line: &str,
+    processes: &mut Vec<Owned>,
+) -> Result<(), Fault> {
+    let (user, rest) = first_word(line);
+    let (id, text) = first_word(rest);
+    let user = Text::of(alloc, user)?;
+    let process = stored_in(alloc, id, text)?;
+    processes.push(Owned { user, process })?;
+    Ok(())
+}
+
+fn stored_in(alloc: Global, id: &str, text: &str) -> Result<StoredProcess, Fault> {
+    match read_stored(alloc, id, text.as_bytes()) {
+        Ok(process) => Ok(process),
+        Err(Refusal::Fault(_)) => Err(Fault::Line),
+        Err(Refusal::OutOfMemory) => Err(Fault::OutOfMemory),
+    }
+}
+
+/// Changes the last job, or a stored process: a word says what, and the rest of the line to what.
+pub(crate) fn set(alloc: Global, line: &str, book: &mut Book) -> Result<(), Fault> {
+    let (what, value) = first_word(line);
+    match what {
+        "stored" => match book.processes.last_mut() {
+            Some(owned) => set_process(alloc, value, &mut owned.process),
+            None => Err(Fault::Line),
+        },
+        "ran" => match last_ran(&mut book.jobs) {
+            Some(process) => set_process(alloc, value, process),
+            None => Err(Fault::Line),
+        },
+        _ => match book.jobs.last_mut() {
+            Some(job) => set_job(alloc, what, value, job),
+            None => Err(Fault::Line),
+        },
+    }
+}
+
+/// The last stored process of what the last job runs.
+fn last_ran(jobs: &mut Vec<Job>) -> Option<&mut StoredProcess> {
+    match jobs.last_mut() {
+        Some(job) => match &mut job.ran {
+            Some(ran) => ran.stored.last_mut(),
+            None => None,
+        },
+        None => None,
+    }
+}
+
+/// Sets the id or the text of a stored process, or its graph or parameters to those of a text, or the process to one of
+/// so many bytes.
+fn set_process(alloc: Global, line: &str, process: &mut StoredProcess) -> Result<(), Fault> {
+    let (what, value) = first_word(line);
+    match what {
+        "id" => process.id = Text::of(alloc, value)?,
+        "text" => process.text = Text::of(alloc, value)?,
+        "graph" => process.graph = graph_in(alloc, value)?,
+        "parameters" => process.parameters = parameters_in(alloc, value)?,
+        "long" => *process = long_stored(alloc, number_of(value)?)?,
+        _ => return Err(Fault::Line),
+    }
+    Ok(())
+}
+
+fn graph_in(alloc: Global, text: &str) -> Result<Graph, Fault> {
+    let StoredProcess { graph, .. } = stored_in(alloc, "x", text)?;
+    Ok(graph)
+}
+
+fn parameters_in(alloc: Global, text: &str) -> Result<Vec<ParameterRow>, Fault> {
+    let StoredProcess { parameters, .. } = stored_in(alloc, "x", text)?;
+    Ok(parameters)
+}
+
+fn long_stored(alloc: Global, length: usize) -> Result<StoredProcess, Fault> {
+    let text = long_process(alloc, length)?;
+    stored_in(alloc, "long", text.as_str())
+}
+
+/// Sets a moment of a job, or one of its texts to one of so many bytes.
+fn set_job(alloc: Global, what: &str, value: &str, job: &mut Job) -> Result<(), Fault> {
+    match what {
+        "created" => job.created = number_of(value)?,
+        "updated" => job.updated = number_of(value)?,
+        "title" => job.title = Some(text_of(alloc, "", number_of(value)?, "")?),
+        "description" => job.description = Some(text_of(alloc, "", number_of(value)?, "")?),
+        "process" => job.process = long_process(alloc, number_of(value)?)?,
+        "asset" => add_asset(alloc, number_of(value)?, job)?,
+        _ => return Err(Fault::Line),
+    }
+    Ok(())
+}
+
+/// A process of so many bytes.
+fn long_process(alloc: Global, length: usize) -> Result<Text, Fault> {
+    let around = BEFORE_LONG.len() + AFTER_LONG.len();
+    text_of(
+        alloc,
+        BEFORE_LONG,
+        length.saturating_sub(around),
+        AFTER_LONG,
+    )
+}
+
+/// So many `x` between two texts.
+fn text_of(alloc: Global, before: &str, count: usize, after: &str) -> Result<Text, Fault> {
+    let mut text = String::from_str(alloc, before)?;
+    for _index in 0..count {
+        text.push('x')?;
+    }
+    text.push_str(after)?;
+    Ok(Text::of(alloc, text.as_str())?)
+}
+
+/// Gives the job an asset of so many bytes.
+fn add_asset(alloc: Global, length: usize, job: &mut Job) -> Result<(), Fault> {
+    let mut asset = asset_of(alloc, "a.json")?;
+    asset.text = text_of(alloc, "", length, "")?;
+    job.assets.push(asset)?;
+    Ok(())
+}
