@@ -39,7 +39,7 @@ use Rattle.oe_sources.specs.CatalogueDims.{dims_of}
 use Rattle.oe_sources.specs.CatalogueLaws.{NeverFailed}
 use Rattle.oe_spool.specs.Spooled.{HoldsRecord, IsInSome}
 use Rattle.oe_spool.proofs.CubeRecords.{cells_counted}
-use Rattle.oe_top.specs.DemoAnswer.{DemoAnswers, DemoEnds, Demonstrates, FiguresEnd, IsDemo, IsDemonstrated, IsDemonstration}
+use Rattle.oe_top.specs.DemoAnswer.{DemoAnswers, DemoEnds, Demonstrates, FiguresEnd, IsDemonstrated, IsDemonstration}
 use Rattle.oe_top.specs.Demonstration.{HasSpooled, IsSpooled, demo_graph, demo_text, figures_text}
 use Rattle.oe_top.specs.Evaluated.{CanBeNamed, Completes, IsPlanOf, IsRefusalOfRun, IsRefusalOfText, IsVisible, result_of}
 use Rattle.oe_top.specs.Judged.{IsCheckedText, JudgesBytes}
@@ -278,7 +278,7 @@ module _ (r after : RunOf) (rows rows_after : List Row) (store store_after : Opt
     pub refused : NeverFailed rows_after 0 → (fail : RunFail) (refusal : Refusal)
         → Completes r after rows rows_after store store_after faults faults_after (Err fail)
         → IsRefusalOfRun p.graph fail refusal
-        → Demonstrates rows p start (stopped_at store_after faults_after) (Err refusal)
+        → Demonstrates rows p.graph start (stopped_at store_after faults_after) (Err refusal)
     refused never fail refusal c same = record {
       ends = by fail c same;
       out_count = NeverFalls-refl out_faults;
@@ -286,16 +286,16 @@ module _ (r after : RunOf) (rows rows_after : List Row) (store store_after : Opt
     }
       where
         by : (fail : RunFail) → Completes r after rows rows_after store store_after faults faults_after (Err fail)
-            → IsRefusalOfRun p.graph fail refusal → FiguresEnd rows p start (stopped_at store_after faults_after) (Err refusal)
+            → IsRefusalOfRun p.graph fail refusal → FiguresEnd rows p.graph start (stopped_at store_after faults_after) (Err refusal)
         by run.SourceFailed c same =
             absurd (never_rose p.graph rows rows_after demo c.through.goes.read never (c.through.read_cause refl))
         by (run.SourceDamaged node number) c same =
             absurd (keeps_none p.graph rows node number demo (c.through.says node number refl))
-        by run.SpoolFailed c same = subst (λ (e : Refusal). FiguresEnd rows p start (stopped_at store_after faults_after) (Err e)) (sym same)
+        by run.SpoolFailed c same = subst (λ (e : Refusal). FiguresEnd rows p.graph start (stopped_at store_after faults_after) (Err e)) (sym same)
             (record { rose = c.through.spool_cause.failed refl; unwritten = record { out = refl; faults = refl } })
         by (run.Overflow number) c (line, same, line_is) =
             let over = c.overflow number refl in
-            subst (λ (e : Refusal). FiguresEnd rows p start (stopped_at store_after faults_after) (Err e)) (sym same)
+            subst (λ (e : Refusal). FiguresEnd rows p.graph start (stopped_at store_after faults_after) (Err e)) (sym same)
             (record {
               number = number;
               line_is = line_is;
@@ -308,7 +308,7 @@ module _ (r after : RunOf) (rows rows_after : List Row) (store store_after : Opt
       pub unspooled : (store_last : Option (List ℕ)) (faults_last : ℕ) (fail : RenderFail) (refusal : Refusal) → IsRefusalOfText fail refusal
           → HasCauseOf {T = Cell × Cell} text.SpoolFailed faults_after faults_last (Err fail) → IsHiddenDamage store_after fail
           → fail ≢ text.SinkFailed
-          → Demonstrates rows p start (stopped_at store_last faults_last) (Err refusal)
+          → Demonstrates rows p.graph start (stopped_at store_last faults_last) (Err refusal)
       unspooled store_last faults_last fail refusal same cause damage other = record {
         ends = by fail same cause damage other;
         out_count = NeverFalls-refl out_faults;
@@ -317,15 +317,15 @@ module _ (r after : RunOf) (rows rows_after : List Row) (store store_after : Opt
         where
           by : (fail : RenderFail) → IsRefusalOfText fail refusal
               → HasCauseOf {T = Cell × Cell} text.SpoolFailed faults_after faults_last (Err fail) → IsHiddenDamage store_after fail
-              → fail ≢ text.SinkFailed → FiguresEnd rows p start (stopped_at store_last faults_last) (Err refusal)
+              → fail ≢ text.SinkFailed → FiguresEnd rows p.graph start (stopped_at store_last faults_last) (Err refusal)
           by text.SpoolFailed same cause damage other =
-              subst (λ (e : Refusal). FiguresEnd rows p start (stopped_at store_last faults_last) (Err e)) (sym same)
+              subst (λ (e : Refusal). FiguresEnd rows p.graph start (stopped_at store_last faults_last) (Err e)) (sym same)
               (record {
                 rose = then-Rose c.through.spool_cause.count (cause.failed refl);
                 unwritten = record { out = refl; faults = refl };
               })
           by (text.SpoolDamaged number) (line, same, line_is) cause damage other =
-              subst (λ (e : Refusal). FiguresEnd rows p start (stopped_at store_last faults_last) (Err e)) (sym same)
+              subst (λ (e : Refusal). FiguresEnd rows p.graph start (stopped_at store_last faults_last) (Err e)) (sym same)
               (record {
                 number = number;
                 line_is = line_is;
@@ -349,7 +349,7 @@ module _ (r after : RunOf) (rows rows_after : List Row) (store store_after : Opt
         pub written : (line : List ℕ) → line ≡ figures_text count first last → (store_last : Option (List ℕ)) (faults_last : ℕ) → NeverFalls faults_after faults_last
             → (out_after : Option (List ℕ)) (out_faults_after : ℕ) (ending : Result (Unit {0}) Refusal)
             → Writes line out out_faults out_after out_faults_after ending
-            → Demonstrates rows p start (ended out_after out_faults_after store_last faults_last) ending
+            → Demonstrates rows p.graph start (ended out_after out_faults_after store_last faults_last) ending
         written line line_is store_last faults_last count_falls out_after out_faults_after ending writes = record {
           ends = by ending writes.ends;
           out_count = writes.count;
@@ -360,7 +360,7 @@ module _ (r after : RunOf) (rows rows_after : List Row) (store store_after : Opt
             line_of_meaning visible = line_is ∙ figures_of_meaning visible
 
             by : (ending : Result (Unit {0}) Refusal) → WriteEnds line out out_faults out_after out_faults_after ending
-                → FiguresEnd rows p start (ended out_after out_faults_after store_last faults_last) ending
+                → FiguresEnd rows p.graph start (ended out_after out_faults_after store_last faults_last) ending
             by (Ok x) appends = record {
               numbers = sym (over_is r after rows rows_after store store_after faults faults_after given rows_are ends is
                   c.through.goes c.through.done loads) ∙ c.numbers;
@@ -397,21 +397,23 @@ module _ (seed side : ℕ) (size : ChunkSize) (workers : ℕ) (graph : CheckedGr
     abbrev last : Objects
     last = objects input input_faults out_after out_faults_after store_after faults_after lent
 
-    is_demo : IsDemo seed side size workers p
-    is_demo = record {
-      text = subst (IsCheckedText (dims_of (demonstration seed side)) demo_graph) (sym plan.graph_is) checked;
-      plan = record { graph_is = refl; planned = plan.planned; size_is = plan.size_is; workers_are = plan.workers_are };
-    }
+    fits : bound_of graph size workers ≤ most_held_cells
+    fits =
+        subst (λ (n : ℕ). bound_of graph size n ≤ most_held_cells) plan.workers_are
+        (subst (λ (s : ChunkSize). bound_of graph s p.workers ≤ most_held_cells) plan.size_is
+        (subst (λ (c : CheckedGraph). bound_of c p.size p.workers ≤ most_held_cells) plan.graph_is plan.planned.bounded))
 
-    demonstrated : (ending : Result (Unit {0}) Refusal) → FiguresEnd rows p first last ending
+    demonstrated : (ending : Result (Unit {0}) Refusal) → FiguresEnd rows p.graph first last ending
         → IsDemonstrated seed side size workers first last ending
     demonstrated ending e = record {
-      p = p;
-      demo = is_demo;
-      ends = subst (λ (rs : List Row). FiguresEnd rs p first last ending) rows_are e;
+      graph = graph;
+      text = checked;
+      fits = fits;
+      ends = subst (λ (c : CheckedGraph). FiguresEnd (demonstration seed side) c first last ending) plan.graph_is
+          (subst (λ (rs : List Row). FiguresEnd rs p.graph first last ending) rows_are e);
     }
 
-    pub answered : (ending : Result (Unit {0}) Refusal) → Demonstrates rows p first last ending
+    pub answered : (ending : Result (Unit {0}) Refusal) → Demonstrates rows p.graph first last ending
         → DemoAnswers seed side size workers first last ending
     answered ending d = record {
       ends = by ending d.ends;
@@ -421,7 +423,7 @@ module _ (seed side : ℕ) (size : ChunkSize) (workers : ℕ) (graph : CheckedGr
       spool_count = d.spool_count;
     }
       where
-        by : (ending : Result (Unit {0}) Refusal) → FiguresEnd rows p first last ending → DemoEnds seed side size workers first last ending
+        by : (ending : Result (Unit {0}) Refusal) → FiguresEnd rows p.graph first last ending → DemoEnds seed side size workers first last ending
         by (Ok x) e = demonstrated (Ok x) e
         by (Err Usage) never = never
         by (Err (Graph line)) never = absurd never

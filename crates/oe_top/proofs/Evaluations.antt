@@ -21,6 +21,7 @@ use Rattle.oe_shape.specs.Laws.{AreCollectionsOf}
 use Rattle.oe_sources.specs.Catalogue.{Row}
 use Rattle.oe_sources.specs.CatalogueDims.{dims_of}
 use Rattle.oe_spool.specs.Least.{least_over_of}
+use Rattle.oe_top.proofs.Loads.{reads_for_run}
 use Rattle.oe_top.specs.Evaluated.{Completes, Goes, IsRefusalOfRun, IsRefusalOfText, IsVisible, IsWithoutOver, OfMeaning, ReadsForPlan, result_of}
 use Rattle.oe_top.specs.Objects.{Objects, objects}
 use Rattle.oe_top.specs.RunAnswer.{EvaluationEnds, Evaluates}
@@ -70,17 +71,17 @@ module _ (r after : RunOf) (rows rows_after : List Row) (store store_after : Opt
     end = objects input_after input_faults_after out out_faults store_after faults_after rows_after
 
     evaluated : (ending : Result (Unit {0}) Refusal) → ReadsForPlan p rows rows_after → NeverFalls faults faults_after
-        → EvaluationEnds p start end ending → Evaluates p start end ending
-    evaluated ending reads count e = record { ends = e; reads = reads; out_count = NeverFalls-refl out_faults; spool_count = count }
+        → EvaluationEnds p.graph start end ending → Evaluates p.graph p.size start end ending
+    evaluated ending reads count e = record { ends = e; reads = reads_for_run p is rows rows_after reads; out_count = NeverFalls-refl out_faults; spool_count = count }
 
     pub refused : (fail : RunFail) (refusal : Refusal) → Completes r after rows rows_after store store_after faults faults_after (Err fail)
         → IsRefusalOfRun p.graph fail refusal
-        → Evaluates p start end (Err refusal)
-    refused run.SourceFailed refusal c same = subst (λ (e : Refusal). Evaluates p start end (Err e)) (sym same)
+        → Evaluates p.graph p.size start end (Err refusal)
+    refused run.SourceFailed refusal c same = subst (λ (e : Refusal). Evaluates p.graph p.size start end (Err e)) (sym same)
         (evaluated (Err ReadFault) c.through.reads c.through.spool_cause.count
         (c.through.read_cause refl, record { out = refl; faults = refl }))
     refused (run.SourceDamaged node number) refusal c (id, line, loads, same, line_is) =
-        subst (λ (e : Refusal). Evaluates p start end (Err e)) (sym same)
+        subst (λ (e : Refusal). Evaluates p.graph p.size start end (Err e)) (sym same)
         (evaluated (Err (Damaged line)) c.through.reads c.through.spool_cause.count (record {
           node = node;
           number = number;
@@ -90,12 +91,12 @@ module _ (r after : RunOf) (rows rows_after : List Row) (store store_after : Opt
           line_is = line_is;
           unwritten = record { out = refl; faults = refl };
         }))
-    refused run.SpoolFailed refusal c same = subst (λ (e : Refusal). Evaluates p start end (Err e)) (sym same)
+    refused run.SpoolFailed refusal c same = subst (λ (e : Refusal). Evaluates p.graph p.size start end (Err e)) (sym same)
         (evaluated (Err SpoolFault) c.through.reads c.through.spool_cause.count
         (c.through.spool_cause.failed refl, λ visible loads. nothing_more out _))
     refused (run.Overflow number) refusal c (line, same, line_is) =
         let over = c.overflow number refl in
-        subst (λ (e : Refusal). Evaluates p start end (Err e)) (sym same)
+        subst (λ (e : Refusal). Evaluates p.graph p.size start end (Err e)) (sym same)
         (evaluated (Err (Overflow line)) c.through.reads c.through.spool_cause.count (record {
           number = number;
           line_is = line_is;
@@ -126,10 +127,10 @@ module _ (r after : RunOf) (rows rows_after : List Row) (store store_after : Opt
         (shows_done after store_after (result_of rows p.graph) (c.through.goes.visible visible) (has_done c.through.goes loads))))
 
     last : (ending : Result (Unit {0}) Refusal) → NeverFalls faults_after faults_last → NeverFalls out_faults out_faults_after
-        → EvaluationEnds p begun ended ending → Evaluates p begun ended ending
+        → EvaluationEnds p.graph begun ended ending → Evaluates p.graph p.size begun ended ending
     last ending count out_count e = record {
       ends = e;
-      reads = c.through.reads;
+      reads = reads_for_run p is rows rows_after c.through.reads;
       out_count = out_count;
       spool_count = NeverFalls-trans c.through.spool_cause.count count;
     }
@@ -139,7 +140,7 @@ module _ (r after : RunOf) (rows rows_after : List Row) (store store_after : Opt
 
     pub written : Holds (λ cube. Appends out (cube_text cube) out_after) → NeverFalls faults_after faults_last
         → NeverFalls out_faults out_faults_after
-        → Evaluates p begun ended (Ok tt)
+        → Evaluates p.graph p.size begun ended (Ok tt)
     written appends count out_count = last (Ok tt) count out_count (record {
       numbers = no_over;
       text = λ visible. of_meaning (λ cube. Appends out (cube_text cube) out_after) appends visible;
@@ -160,14 +161,14 @@ module _ (r after : RunOf) (rows rows_after : List Row) (store store_after : Opt
         → HasCauseOf {T = Unit {0}} text.SpoolFailed faults_after faults_last (Err fail)
         → HasCauseOf {T = Unit {0}} text.SinkFailed out_faults out_faults_after (Err fail)
         → IsRefusalWithin store_after 0 (cell_count (result_shape after.plan)) fail
-        → Evaluates p begun ended (Err refusal)
-    stopped text.SpoolFailed refusal same prefix spool sink damage = subst (λ (e : Refusal). Evaluates p begun ended (Err e)) (sym same)
+        → Evaluates p.graph p.size begun ended (Err refusal)
+    stopped text.SpoolFailed refusal same prefix spool sink damage = subst (λ (e : Refusal). Evaluates p.graph p.size begun ended (Err e)) (sym same)
         (last (Err SpoolFault) spool.count sink.count (
           then-Rose c.through.spool_cause.count (spool.failed refl),
           of_meaning (λ cube. AppendsPrefix out (cube_text cube) out_after) prefix,
         ))
     stopped (text.SpoolDamaged number) refusal (line, same, line_is) prefix spool sink damage =
-        subst (λ (e : Refusal). Evaluates p begun ended (Err e)) (sym same)
+        subst (λ (e : Refusal). Evaluates p.graph p.size begun ended (Err e)) (sym same)
         (last (Err (SpoolDamaged line)) spool.count sink.count
         (record {
           number = number;
@@ -176,6 +177,6 @@ module _ (r after : RunOf) (rows rows_after : List Row) (store store_after : Opt
           numbers = no_over;
           hidden = hidden damage.0;
         }))
-    stopped text.SinkFailed refusal same prefix spool sink damage = subst (λ (e : Refusal). Evaluates p begun ended (Err e)) (sym same)
+    stopped text.SinkFailed refusal same prefix spool sink damage = subst (λ (e : Refusal). Evaluates p.graph p.size begun ended (Err e)) (sym same)
         (last (Err WriteFault) spool.count sink.count
         (record { rose = sink.failed refl; numbers = no_over; prefix = of_meaning (λ cube. AppendsPrefix out (cube_text cube) out_after) prefix }))

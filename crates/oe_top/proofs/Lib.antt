@@ -2,6 +2,7 @@ pub mod Checks
 pub mod Commands
 pub mod Endings
 pub mod Inputs
+pub mod Loads
 pub mod Numbers
 pub mod Packings
 pub mod Plans

@@ -1,5 +1,5 @@
 -- How a run ends, by how the evaluation of its graph does.
-use Rattle.std.proofs.Common.{◌≡◌, ℕ, ◌+◌, ◌<◌, Result, Ok, Err, codes, inr, subst, ap, ◌∙◌, Vec}
+use Rattle.std.proofs.Common.{◌≡◌, ℕ, ◌+◌, ◌<◌, ◌≤◌, Result, Ok, Err, codes, inr, subst, ap, ◌∙◌, Vec}
 use Rattle.std.specs.declared.alloc.Global.{Global}
 use Rattle.oe_graph.specs.Form.{most_input}
 use Rattle.oe_outside.specs.Faults.{NeverFalls}
@@ -20,10 +20,17 @@ use Rattle.oe_top.specs.declared.refusal.Refusal.TheVariants.{Usage, Graph, NoCu
 module _ (size : ChunkSize) (workers : ℕ) (before after : Objects) (graph : CheckedGraph)
     (input : IsCheckedInput (dims_of before.collections) before.input after.input graph) where
   module _ (p : PlanOf) (plan : IsPlanOf graph size workers p) where
-    is_evaluated : (ending : Result (Unit {0}) Refusal) → Evaluates p before after ending → IsEvaluated size workers before after ending
-    is_evaluated ending e = record { graph = graph; input = input; p = p; plan = plan; evaluates = e }
+    fits : bound_of graph size workers ≤ most_held_cells
+    fits =
+        subst (λ (n : ℕ). bound_of graph size n ≤ most_held_cells) plan.workers_are
+        (subst (λ (s : ChunkSize). bound_of graph s p.workers ≤ most_held_cells) plan.size_is
+        (subst (λ (c : CheckedGraph). bound_of c p.size p.workers ≤ most_held_cells) plan.graph_is plan.planned.bounded))
 
-    run_ends : (ending : Result (Unit {0}) Refusal) → Evaluates p before after ending → RunEnds size workers before after ending
+    is_evaluated : (ending : Result (Unit {0}) Refusal) → Evaluates graph size before after ending
+        → IsEvaluated size workers before after ending
+    is_evaluated ending e = record { graph = graph; input = input; fits = fits; evaluates = e }
+
+    run_ends : (ending : Result (Unit {0}) Refusal) → Evaluates graph size before after ending → RunEnds size workers before after ending
     run_ends (Ok x) e = is_evaluated (Ok x) e
     run_ends (Err Usage) e = absurd e.ends
     run_ends (Err (Graph line)) e = absurd e.ends
@@ -38,11 +45,12 @@ module _ (size : ChunkSize) (workers : ℕ) (before after : Objects) (graph : Ch
     run_ends (Err OutOfMemory) e = absurd e.ends
     run_ends (Err (SpoolDamaged line)) e = is_evaluated (Err (SpoolDamaged line)) e
 
-    pub run_evaluated : (ending : Result (Unit {0}) Refusal) → Evaluates p before after ending
+    pub run_evaluated : (ending : Result (Unit {0}) Refusal) → Evaluates p.graph p.size before after ending
         → TakesAtMost before.input (most_input + 1) after.input → NeverFalls before.input_faults after.input_faults
         → RunAnswers size workers before after ending
     run_evaluated ending e taken count = record {
-      ends = run_ends ending e;
+      ends = run_ends ending (subst (λ (s : ChunkSize). Evaluates graph s before after ending) plan.size_is
+          (subst (λ (c : CheckedGraph). Evaluates c p.size before after ending) plan.graph_is e));
       input_taken = taken;
       input_count = count;
       out_count = e.out_count;

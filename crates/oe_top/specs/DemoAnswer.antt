@@ -1,15 +1,14 @@
 -- How the command `demo` ends: the table of its statuses, one case a row.
-use Rattle.std.specs.Prelude.{◌≡◌, ◌<◌, ℕ, List, None, Result, Ok, Err, codes}
+use Rattle.std.specs.Prelude.{◌≡◌, ◌<◌, ◌≤◌, ℕ, List, None, Result, Ok, Err, codes}
 use Rattle.oe_outside.specs.Faults.{NeverFalls, Rose}
 use Rattle.oe_outside.specs.Visible.{Appends, AppendsPrefix}
 use Rattle.oe_plan.specs.Figures.{bound_of, most_held_cells}
-use Rattle.oe_plan.specs.Plans.{PlanOf}
 use Rattle.oe_shape.specs.Checked.{CheckedGraph}
 use Rattle.oe_sources.specs.Catalogue.{Row, demonstration}
 use Rattle.oe_sources.specs.CatalogueDims.{dims_of}
 use Rattle.oe_window.specs.declared.grid.ChunkSize.{ChunkSize}
 use Rattle.oe_top.specs.Demonstration.{demo_graph, demo_text}
-use Rattle.oe_top.specs.Evaluated.{IsWithoutOver, IsOverFirst, IsPlanOf, IsVisible, result_of}
+use Rattle.oe_top.specs.Evaluated.{IsWithoutOver, IsOverFirst, IsVisible, result_of}
 use Rattle.oe_top.specs.Judged.{IsCheckedText}
 use Rattle.oe_top.specs.Lines.{number_line}
 use Rattle.oe_top.specs.Objects.{Objects}
@@ -23,19 +22,19 @@ pub record IsDemonstration (rows : List Row) : Type 0 where
   pub side : ℕ
   pub rows_are : rows ≡ demonstration seed side
 
--- ---- how the evaluation of a planned graph over a generated collection ends
+-- ---- how the evaluation of a graph over a generated collection ends
 
-module _ (rows : List Row) (p : PlanOf) (before after : Objects) where
+module _ (rows : List Row) (c : CheckedGraph) (before after : Objects) where
   -- 0: no cell of the result is Over, and its figures follow what the output held
   pub record WritesFigures : Type 0 where
-    pub numbers : IsWithoutOver (result_of rows p.graph)
-    pub text : IsVisible before.spool → Appends before.out (demo_text (result_of rows p.graph)) after.out
+    pub numbers : IsWithoutOver (result_of rows c)
+    pub text : IsVisible before.spool → Appends before.out (demo_text (result_of rows c)) after.out
 
   -- 4: this is the least number of a cell of the result that is Over
   pub record OverflowsFirst (line : List ℕ) : Type 0 where
     pub number : ℕ
     pub line_is : line ≡ number_line (codes "NumberOverflow") number
-    pub least : IsOverFirst number (result_of rows p.graph)
+    pub least : IsOverFirst number (result_of rows c)
     pub unwritten : IsUnwritten before after
 
   -- 7: the fault counter of the spool rose
@@ -46,7 +45,7 @@ module _ (rows : List Row) (p : PlanOf) (before after : Objects) where
   -- 8: the fault counter of the output rose, and a prefix of the figures follows what it held
   pub record StopsFigures : Type 0 where
     pub rose : Rose before.out_faults after.out_faults
-    pub prefix : IsVisible before.spool → AppendsPrefix before.out (demo_text (result_of rows p.graph)) after.out
+    pub prefix : IsVisible before.spool → AppendsPrefix before.out (demo_text (result_of rows c)) after.out
 
   -- 15: what was read back from the spool is no record of a number, which never comes of one whose bytes are visible
   pub record MeetsNoRecord (line : List ℕ) : Type 0 where
@@ -84,17 +83,13 @@ module _ (seed side : ℕ) (size : ChunkSize) (workers : ℕ) where
   abbrev pub IsDemoGraph : CheckedGraph → Type 0
   IsDemoGraph c = IsCheckedText (dims_of (demonstration seed side)) demo_graph c
 
-  -- and its plan
-  pub record IsDemo (p : PlanOf) : Type 0 where
-    pub text : IsDemoGraph p.graph
-    pub plan : IsPlanOf p.graph size workers p
-
   module _ (before after : Objects) where
-    -- the demonstration was evaluated, and ended so
+    -- its run holds no more cells than are allowed, it was evaluated, and ended so
     pub record IsDemonstrated (ending : Result (Unit {0}) Refusal) : Type 0 where
-      pub p : PlanOf
-      pub demo : IsDemo p
-      pub ends : FiguresEnd (demonstration seed side) p before after ending
+      pub graph : CheckedGraph
+      pub text : IsDemoGraph graph
+      pub fits : bound_of graph size workers ≤ most_held_cells
+      pub ends : FiguresEnd (demonstration seed side) graph before after ending
 
     -- 3: the run would hold more cells than are allowed, so many
     pub record IsTooLarge (line : List ℕ) : Type 0 where

@@ -1,5 +1,5 @@
 -- What a graph means over the collections of a catalogue, and what the rounds of a run leave.
-use Rattle.std.specs.Prelude.{◌≡◌, ⊤, ◌<◌, ℕ, ◌+◌, ◌*◌, ◌≤◌, List, length, Option, Some, None, Result, IsErrOf, OnOk, codes, Vec}
+use Rattle.std.specs.Prelude.{◌≡◌, ⊤, ◌<◌, ℕ, ◌+◌, ◌*◌, ◌≤◌, List, length, count_by, Option, Some, None, Result, IsErrOf, OnOk, codes, Vec}
 use Rattle.std.specs.declared.alloc.Global.{Global}
 use Rattle.oe_cell.specs.declared.cell.Cell.{Cell}
 use Rattle.oe_dims.specs.Cube.{Cube}
@@ -12,12 +12,14 @@ use Rattle.oe_engine.specs.declared.rounds.RunFail.{RunFail}
 use Rattle.oe_engine.specs.declared.rounds.RunFail.TheVariants as run
 use Rattle.oe_graph.specs.Printed.{node_count}
 use Rattle.oe_outside.specs.Faults.{HasCauseOf}
-use Rattle.oe_plan.specs.Figures.{largest_window}
+use Rattle.oe_order.specs.Graph.{is_load}
+use Rattle.oe_plan.specs.Figures.{chunks_of, largest_window, steps_of}
 use Rattle.oe_plan.specs.Plans.{IsPlan, PlanOf}
 use Rattle.oe_render.specs.declared.rendering.RenderFail.{RenderFail}
 use Rattle.oe_render.specs.declared.rendering.RenderFail.TheVariants as text
 use Rattle.oe_shape.specs.Checked.{CheckedGraph, collection_of_node}
 use Rattle.oe_shape.specs.Graphs.{Collections}
+use Rattle.oe_shape.specs.Links.{links_of}
 use Rattle.oe_shape.specs.Laws.{AreCollectionsOf, meaning_of_node}
 use Rattle.oe_sources.specs.Catalogue.{Row, cells_asked}
 use Rattle.oe_spool.specs.Least.{least_over_of}
@@ -49,6 +51,18 @@ abbrev pub IsVisible : Option (List ℕ) → Type 0
 IsVisible None = ⊥
 IsVisible (Some bytes) = ⊤
 
+-- ---- what a run reads
+
+-- how many of the nodes that the result needs load a collection
+abbrev pub loads_of : CheckedGraph → ℕ
+loads_of c = count_by (is_load (links_of c.nodes)) (steps_of c)
+
+-- Reading changed nothing of the collections but their counters, and for each chunk it asked for one largest window at
+-- most for each of these nodes.
+pub record ReadsForRun (c : CheckedGraph) (size : ChunkSize) (before after : List Row) : Type 0 where
+  pub read : AreRead before after
+  pub asked : cells_asked after ≤ cells_asked before + chunks_of c size * (loads_of c * largest_window c size)
+
 -- ---- plans and rounds
 
 -- this is the plan of a graph, in chunks of a size and with so many workers; that it is a plan has that its run holds
@@ -65,11 +79,11 @@ pub record IsBegun (r : RunOf) : Type 0 where
   pub none_done : r.done ≡ 0
   pub none_over : r.over ≡ None
 
--- the most cells that a run asks for a chunk: one largest window for each node that loads a collection
+-- the most cells that a planned run asks for a chunk: one largest window for each node that loads a collection
 abbrev pub most_asked : PlanOf → ℕ
 most_asked p = load_count p * largest_window p.graph p.size
 
--- Reading changed nothing of the collections but their counters, and asked for no more cells than that for each chunk.
+-- The same of a plan.
 pub record ReadsForPlan (p : PlanOf) (before after : List Row) : Type 0 where
   pub read : AreRead before after
   pub asked : cells_asked after ≤ cells_asked before + chunk_total p * most_asked p

@@ -25,6 +25,13 @@ objects input input_faults out out_faults spool spool_faults collections = recor
   collections = collections;
 }
 
+-- what a call is lent, of a source of type I, a sink of type O and a store of type P
+abbrev pub lends : {I O P : Type 0} → (I → Option (List ℕ)) → (I → ℕ) → (O → Option (List ℕ)) → (O → ℕ)
+    → (P → Option (List ℕ)) → (P → ℕ) → I → O → P → List Row → Objects
+lends left input_faults written out_faults bytes spool_faults input out spool collections =
+    objects (left input) (input_faults input) (written out) (out_faults out) (bytes spool) (spool_faults spool)
+    collections
+
 -- the whole input, these bytes, was read, and nothing of it is left
 pub record IsReadWhole (before after : Option (List ℕ)) (bytes : List ℕ) : Type 0 where
   pub all : IfSome before (λ input. input ≡ bytes)

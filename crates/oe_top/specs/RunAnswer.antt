@@ -1,5 +1,5 @@
 -- How the command `run` ends: the table of its statuses, one case a row.
-use Rattle.std.specs.Prelude.{◌≡◌, ◌<◌, ◌⊎◌, ℕ, ◌+◌, List, None, Some, Result, Ok, Err, codes}
+use Rattle.std.specs.Prelude.{◌≡◌, ◌<◌, ◌≤◌, ◌⊎◌, ℕ, ◌+◌, List, None, Some, Result, Ok, Err, codes}
 use Rattle.oe_dims.specs.Dimensions.{cell_count}
 use Rattle.oe_engine.specs.Collections.{LoadRose}
 use Rattle.oe_engine.specs.Rounds.{KeepsDamage}
@@ -8,12 +8,11 @@ use Rattle.oe_outside.specs.Faults.{NeverFalls, Rose}
 use Rattle.oe_outside.specs.Input.{TakesAtMost}
 use Rattle.oe_outside.specs.Visible.{Appends, AppendsPrefix}
 use Rattle.oe_plan.specs.Figures.{bound_of, most_held_cells, shape_of_node}
-use Rattle.oe_plan.specs.Plans.{PlanOf}
 use Rattle.oe_render.specs.Text.{cube_text}
 use Rattle.oe_shape.specs.Checked.{CheckedGraph, collection_of_node}
 use Rattle.oe_sources.specs.CatalogueDims.{dims_of}
 use Rattle.oe_window.specs.declared.grid.ChunkSize.{ChunkSize}
-use Rattle.oe_top.specs.Evaluated.{IsWithoutOver, IsOverFirst, IsPlanOf, IsVisible, OfMeaning, ReadsForPlan}
+use Rattle.oe_top.specs.Evaluated.{IsWithoutOver, IsOverFirst, IsVisible, OfMeaning, ReadsForRun}
 use Rattle.oe_top.specs.Judged.{IsCheckedInput, NamesFault}
 use Rattle.oe_top.specs.Lines.{damage_line, number_line}
 use Rattle.oe_top.specs.Objects.{Objects, IsUntouched}
@@ -21,31 +20,31 @@ use Rattle.oe_top.specs.Written.{IsUnwritten}
 use Rattle.oe_top.specs.declared.refusal.Refusal.{Refusal}
 use Rattle.oe_top.specs.declared.refusal.Refusal.TheVariants.{Usage, Graph, NoCubeText, NotMounted, TooLarge, Overflow, ReadFault, Damaged, SpoolFault, WriteFault, OutOfMemory, SpoolDamaged}
 
--- ---- how the evaluation of a planned graph ends
+-- ---- how the evaluation of a graph ends
 
-module _ (p : PlanOf) (before after : Objects) where
+module _ (c : CheckedGraph) (before after : Objects) where
   -- 0: no cell of the result is Over, and the text of what the graph means follows what the output held
   pub record WritesText : Type 0 where
-    pub numbers : OfMeaning before.collections p.graph IsWithoutOver
-    pub text : IsVisible before.spool → OfMeaning before.collections p.graph
+    pub numbers : OfMeaning before.collections c IsWithoutOver
+    pub text : IsVisible before.spool → OfMeaning before.collections c
         (λ cube. Appends before.out (cube_text cube) after.out)
 
   -- a prefix of that text follows what the output held
   abbrev pub WritesPrefix : Type 0
-  WritesPrefix = IsVisible before.spool → OfMeaning before.collections p.graph
+  WritesPrefix = IsVisible before.spool → OfMeaning before.collections c
       (λ cube. AppendsPrefix before.out (cube_text cube) after.out)
 
   -- 8: the output failed at the text of a result no cell of which is Over
   pub record StopsAtText : Type 0 where
     pub rose : Rose before.out_faults after.out_faults
-    pub numbers : OfMeaning before.collections p.graph IsWithoutOver
+    pub numbers : OfMeaning before.collections c IsWithoutOver
     pub prefix : WritesPrefix
 
   -- 4: this is the least number of a cell of the result that is Over
   pub record Overflows (line : List ℕ) : Type 0 where
     pub number : ℕ
     pub line_is : line ≡ number_line (codes "NumberOverflow") number
-    pub least : OfMeaning before.collections p.graph (IsOverFirst number)
+    pub least : OfMeaning before.collections c (IsOverFirst number)
     pub unwritten : IsUnwritten before after
 
   -- 6: a node of the run keeps the labels of a damaged position of its collection, and the line names both
@@ -53,8 +52,8 @@ module _ (p : PlanOf) (before after : Objects) where
     pub node : ℕ
     pub number : ℕ
     pub id : List ℕ
-    pub loads : collection_of_node p.graph node ≡ Some id
-    pub keeps : KeepsDamage p.graph before.collections node number
+    pub loads : collection_of_node c node ≡ Some id
+    pub keeps : KeepsDamage c before.collections node number
     pub line_is : line ≡ damage_line id number
     pub unwritten : IsUnwritten before after
 
@@ -63,8 +62,8 @@ module _ (p : PlanOf) (before after : Objects) where
   pub record MeetsSpoolDamage (line : List ℕ) : Type 0 where
     pub number : ℕ
     pub line_is : line ≡ number_line (codes "SpoolDamaged") number
-    pub within : number < cell_count (shape_of_node p.graph p.graph.result)
-    pub numbers : OfMeaning before.collections p.graph IsWithoutOver
+    pub within : number < cell_count (shape_of_node c c.result)
+    pub numbers : OfMeaning before.collections c IsWithoutOver
     pub hidden : before.spool ≡ None
 
   abbrev pub EvaluationEnds : Result (Unit {0}) Refusal → Type 0
@@ -75,31 +74,31 @@ module _ (p : PlanOf) (before after : Objects) where
   EvaluationEnds (Err NotMounted) = ⊥
   EvaluationEnds (Err (TooLarge line)) = ⊥
   EvaluationEnds (Err (Overflow line)) = Overflows line.items
-  EvaluationEnds (Err ReadFault) = LoadRose p.graph before.collections after.collections × IsUnwritten before after
+  EvaluationEnds (Err ReadFault) = LoadRose c before.collections after.collections × IsUnwritten before after
   EvaluationEnds (Err (Damaged line)) = MeetsDamage line.items
   EvaluationEnds (Err SpoolFault) = Rose before.spool_faults after.spool_faults × WritesPrefix
   EvaluationEnds (Err WriteFault) = StopsAtText
   EvaluationEnds (Err OutOfMemory) = ⊥
   EvaluationEnds (Err (SpoolDamaged line)) = MeetsSpoolDamage line.items
 
-  -- it reads no more than the plan says, and no fault counter falls
-  pub record Evaluates (ending : Result (Unit {0}) Refusal) : Type 0 where
-    pub ends : EvaluationEnds ending
-    pub reads : ReadsForPlan p before.collections after.collections
-    pub out_count : NeverFalls before.out_faults after.out_faults
-    pub spool_count : NeverFalls before.spool_faults after.spool_faults
+-- in chunks of a size it reads no more than a run may, and no fault counter falls
+pub record Evaluates (c : CheckedGraph) (size : ChunkSize) (before after : Objects)
+    (ending : Result (Unit {0}) Refusal) : Type 0 where
+  pub ends : EvaluationEnds c before after ending
+  pub reads : ReadsForRun c size before.collections after.collections
+  pub out_count : NeverFalls before.out_faults after.out_faults
+  pub spool_count : NeverFalls before.spool_faults after.spool_faults
 
 -- ---- how the command ends
 
 module _ (size : ChunkSize) (workers : ℕ) (before after : Objects) where
   -- the whole input was read, it is a graph without a fault whose run holds no more cells than are allowed, and it was
-  -- evaluated by this plan
+  -- evaluated
   pub record IsEvaluated (ending : Result (Unit {0}) Refusal) : Type 0 where
     pub graph : CheckedGraph
     pub input : IsCheckedInput (dims_of before.collections) before.input after.input graph
-    pub p : PlanOf
-    pub plan : IsPlanOf graph size workers p
-    pub evaluates : Evaluates p before after ending
+    pub fits : bound_of graph size workers ≤ most_held_cells
+    pub evaluates : Evaluates graph size before after ending
 
   -- 3: the run would hold more cells than are allowed, so many
   pub record IsTooLarge (line : List ℕ) : Type 0 where

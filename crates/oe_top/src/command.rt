@@ -2,7 +2,7 @@
 ghost use Rattle.oe_sources.specs.CatalogueRows.{rows_of};
 ghost use Rattle.oe_top.specs.Answer.{Answers, Ends};
 ghost use Rattle.oe_top.specs.Lines.{error_output};
-ghost use Rattle.oe_top.specs.Objects.{objects};
+ghost use Rattle.oe_top.specs.Objects.{lends};
 
 use crate::check::check;
 use crate::demo::demo;
@@ -58,11 +58,9 @@ pub fn openeo<I: Source, O: Sink, E: Sink, P: Store, G: Gate>(
     spool: &mut P,
     gate: &G,
 ) -> u8
-    ensures { Answers words.now
-        (objects (I.left input.old) (I.faults input.old) (O.written out.old) (O.faults out.old)
-        (P.bytes spool.old) (P.faults spool.old) (rows_of seen catalogue.old))
-        (objects (I.left input.new) (I.faults input.new) (O.written out.new) (O.faults out.new)
-        (P.bytes spool.new) (P.faults spool.new) (rows_of seen catalogue.new))
+    ensures { let lent = lends I.left I.faults O.written O.faults P.bytes P.faults in
+        Answers words.now (lent input.old out.old spool.old (rows_of seen catalogue.old))
+        (lent input.new out.new spool.new (rows_of seen catalogue.new))
         (error_output E.written E.faults err.old err.new) result }
 {
     match obey(alloc, words, input, out, catalogue, spool, gate) {
@@ -84,11 +82,9 @@ fn obey<I: Source, O: Sink, P: Store, G: Gate>(
     spool: &mut P,
     gate: &G,
 ) -> Result<(), Refusal>
-    ensures { Ends words.now
-        (objects (I.left input.old) (I.faults input.old) (O.written out.old) (O.faults out.old)
-        (P.bytes spool.old) (P.faults spool.old) (rows_of seen catalogue.old))
-        (objects (I.left input.new) (I.faults input.new) (O.written out.new) (O.faults out.new)
-        (P.bytes spool.new) (P.faults spool.new) (rows_of seen catalogue.new)) result }
+    ensures { let lent = lends I.left I.faults O.written O.faults P.bytes P.faults in
+        Ends words.now (lent input.old out.old spool.old (rows_of seen catalogue.old))
+        (lent input.new out.new spool.new (rows_of seen catalogue.new)) result }
 {
     match read_command(words) {
         Some(Command::Run { size, workers }) => {

@@ -21,11 +21,12 @@ ghost use Rattle.oe_top.specs.Objects.{objects};
 
 use crate::evaluation::{begin, complete, refusal_of_run, refusal_of_text};
 use crate::judge::judge_bytes;
+use crate::laws;
 use crate::line::Line;
 use crate::output::write_line;
 use crate::refusal::Refusal;
 use oe_cell::{Cell, TextBuf, print_cell, read_record};
-use oe_engine::{Run, collections_are_mounted, collections_are_valid, over_is_of_the_result};
+use oe_engine::Run;
 use oe_outside::{Gate, Sink, Store, fill_at};
 use oe_plan::PlanFail;
 use oe_render::RenderFail;
@@ -90,7 +91,8 @@ fn checked_graph(alloc: Global, catalogue: &Catalogue) -> Result<Checked, Refusa
         Ok(dims) => dims,
         Err(_) => return Err(Refusal::OutOfMemory),
     };
-    collections_are_valid(catalogue, &dims);
+    // A law that the proof rests on: its loop only looks.
+    laws::collections_are_valid(catalogue, &dims);
     judge_bytes(alloc, GRAPH.as_bytes(), &dims)
 }
 
@@ -114,15 +116,17 @@ fn write_figures<O: Sink, P: Store, G: Gate>(
     requires found { AreDimsOf (rows_of seen catalogue.old) run.plan.graph.rows }
     requires collections { GivesCollections (rows_of seen catalogue.old) }
     ensures { (input : Option (List ℕ)) (input_faults : ℕ) (lent : List Row)
-        → Demonstrates (rows_of seen catalogue.old) run.plan
+        → Demonstrates (rows_of seen catalogue.old) run.plan.graph
         (objects input input_faults (O.written out.old) (O.faults out.old)
         (P.bytes spool.old) (P.faults spool.old) lent)
         (objects input input_faults (O.written out.new) (O.faults out.new)
         (P.bytes spool.new) (P.faults spool.new) lent) result }
 {
-    collections_are_mounted();
-    over_is_of_the_result();
+    // Laws that the proof rests on; they do nothing.
+    laws::collections_are_mounted();
+    laws::over_is_of_the_result();
     if let Err(fail) = complete(&mut run, chunks, catalogue, spool, gate) {
+        // A law: no read of a generated collection has failed.
         catalogue.generated_never_failed(0);
         return Err(refusal_of_run(line, run.checked(), fail));
     }

@@ -7,11 +7,10 @@ ghost use Rattle.oe_plan.specs.Ranges.{IsWithinRanges};
 ghost use Rattle.oe_sources.specs.CatalogueRows.{rows_of};
 ghost use Rattle.oe_top.specs.Evaluated.{CanBeNamed, Completes, GoesThrough, IsBegun, IsPlanOf, IsRefusalOfRun, IsRefusalOfText};
 
+use crate::laws;
 use crate::line::Line;
 use crate::refusal::Refusal;
-use oe_engine::{
-    Progress, Run, RunFail, Workspace, over_is_of_the_result, reads_change_nothing, runs_stay_apart,
-};
+use oe_engine::{Progress, Run, RunFail, Workspace};
 use oe_outside::{Gate, Store};
 use oe_plan::{Plan, PlanFail};
 use oe_render::RenderFail;
@@ -82,9 +81,10 @@ fn go_through<P: Store, G: Gate>(
         (P.faults spool.new) result }
     ensures no_overflow { (number : ℕ) → ¬ IsErrOf result (RunFail.Overflow number) }
 {
-    reads_change_nothing();
-    over_is_of_the_result();
-    runs_stay_apart();
+    // Laws that the proof rests on; they do nothing.
+    laws::reads_change_nothing();
+    laws::over_is_of_the_result();
+    laws::runs_stay_apart();
     for _ in 0..chunks {
         match run.round(catalogue, spool, gate) {
             Ok(Progress::Complete) => return Ok(()),

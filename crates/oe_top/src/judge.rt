@@ -9,9 +9,9 @@ ghost use Rattle.oe_sources.specs.CatalogueDims.{AreDimsOf, dims_of};
 ghost use Rattle.oe_sources.specs.CatalogueRows.{rows_of};
 
 use crate::input::read_input;
+use crate::laws;
 use crate::refusal::Refusal;
 use oe_dims::Dims;
-use oe_engine::collections_are_valid;
 use oe_graph::{Fault, read_graph};
 use oe_judge::{fault_text, judge};
 use oe_memory::OutOfMemory;
@@ -42,7 +42,8 @@ pub(crate) fn judge_input<I: Source>(
         Ok(dims) => dims,
         Err(_) => return Err(Refusal::OutOfMemory),
     };
-    collections_are_valid(catalogue, &dims);
+    // A law that the proof rests on: its loop only looks.
+    laws::collections_are_valid(catalogue, &dims);
     judge_bytes(alloc, &bytes, &dims)
 }
 

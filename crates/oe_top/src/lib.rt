@@ -12,6 +12,7 @@ mod demo;
 mod evaluation;
 mod input;
 mod judge;
+mod laws;
 mod line;
 mod output;
 mod pack;

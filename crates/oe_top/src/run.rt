@@ -6,17 +6,18 @@ ghost use Rattle.oe_plan.specs.Ranges.{IsWithinRanges};
 ghost use Rattle.oe_sources.specs.CatalogueDims.{AreDimsOf, dims_of};
 ghost use Rattle.oe_sources.specs.CatalogueRows.{rows_of};
 ghost use Rattle.oe_top.specs.Evaluated.{IsBegun};
-ghost use Rattle.oe_top.specs.Objects.{objects};
+ghost use Rattle.oe_top.specs.Objects.{lends, objects};
 ghost use Rattle.oe_top.specs.RunAnswer.{Evaluates, RunAnswers};
 
 use crate::evaluation::{begin, complete, refusal_of_run, refusal_of_text};
 use crate::judge::judge_input;
+use crate::laws;
 use crate::line::Line;
 use crate::refusal::Refusal;
-use oe_engine::{Run, collections_are_mounted, over_is_of_the_result};
+use oe_engine::Run;
 use oe_outside::{Gate, Pending, Sink, Source, Store};
 use oe_plan::PlanFail;
-use oe_sources::{Catalogue, ids_are_valid};
+use oe_sources::Catalogue;
 use oe_window::ChunkSize;
 use std::alloc::Global;
 
@@ -32,11 +33,10 @@ pub(crate) fn run<I: Source, O: Sink, P: Store, G: Gate>(
     gate: &G,
 ) -> Result<(), Refusal>
     requires { IsWithinRanges sizes.0 sizes.1 }
-    ensures { RunAnswers sizes.0 sizes.1
-        (objects (I.left input.old) (I.faults input.old) (O.written out.old) (O.faults out.old)
-        (P.bytes spool.old) (P.faults spool.old) (rows_of seen catalogue.old))
-        (objects (I.left input.new) (I.faults input.new) (O.written out.new) (O.faults out.new)
-        (P.bytes spool.new) (P.faults spool.new) (rows_of seen catalogue.new)) result }
+    ensures { let lent = lends I.left I.faults O.written O.faults P.bytes P.faults in
+        RunAnswers sizes.0 sizes.1
+        (lent input.old out.old spool.old (rows_of seen catalogue.old))
+        (lent input.new out.new spool.new (rows_of seen catalogue.new)) result }
 {
     let checked = match judge_input(alloc, input, catalogue) {
         Ok(checked) => checked,
@@ -73,15 +73,17 @@ fn write_result<O: Sink, P: Store, G: Gate>(
     requires found { AreDimsOf (rows_of seen catalogue.old) run.plan.graph.rows }
     requires collections { GivesCollections (rows_of seen catalogue.old) }
     // whatever became of the input before
-    ensures { (input input_after : Option (List ℕ)) (faults faults_after : ℕ) → Evaluates run.plan
+    ensures { (input input_after : Option (List ℕ)) (faults faults_after : ℕ)
+        → Evaluates run.plan.graph run.plan.size
         (objects input faults (O.written out.old) (O.faults out.old)
         (P.bytes spool.old) (P.faults spool.old) (rows_of seen catalogue.old))
         (objects input_after faults_after (O.written out.new) (O.faults out.new)
         (P.bytes spool.new) (P.faults spool.new) (rows_of seen catalogue.new)) result }
 {
-    collections_are_mounted();
-    over_is_of_the_result();
-    ids_are_valid(catalogue);
+    // Laws that the proof rests on; they do nothing.
+    laws::collections_are_mounted();
+    laws::over_is_of_the_result();
+    laws::ids_are_valid(catalogue);
     match complete(&mut run, chunks, catalogue, spool, gate) {
         Ok(()) => match run.render(spool, out, pending) {
             Ok(()) => Ok(()),
