@@ -20,8 +20,8 @@ use Rattle.oe_sources.specs.CatalogueDims.{AreDimsOf}
 use Rattle.oe_top.proofs.Inputs.{read_whole, sizes, whole_same, within}
 use Rattle.oe_top.specs.Faults.{StandsOver, of_form, of_graph}
 use Rattle.oe_top.specs.Judged.{IsCheckedText, JudgeEnds, JudgesBytes}
-use Rattle.oe_top.specs.declared.refusal.Refusal.{Refusal}
-use Rattle.oe_top.specs.declared.refusal.Refusal.TheVariants.{Usage, Graph, NoCubeText, NotMounted, TooLarge, Overflow, ReadFault, Damaged, SpoolFault, WriteFault, OutOfMemory, SpoolDamaged}
+use Rattle.oe_top.specs.declared.judge.InputRefusal.{InputRefusal}
+use Rattle.oe_top.specs.declared.judge.InputRefusal.TheVariants as unread
 
 -- ---- the phases
 
@@ -121,7 +121,7 @@ fault_of_all rows (Some visible) bytes after fault read l = elim (sizes (length 
 ]
 
 -- what judging the bytes that were read says of the input
-pub judges : (rows : List DimsRow) (before : Option (List ℕ)) (before_faults : ℕ) (bytes : List ℕ) (after : Option (List ℕ)) (after_faults : ℕ) (result : Result CheckedGraph Refusal)
+pub judges : (rows : List DimsRow) (before : Option (List ℕ)) (before_faults : ℕ) (bytes : List ℕ) (after : Option (List ℕ)) (after_faults : ℕ) (result : Result CheckedGraph InputRefusal)
     → ReadsUpTo most_input before bytes after → JudgesBytes rows bytes result → JudgeEnds rows before before_faults after after_faults result
 judges rows before before_faults bytes after after_faults (Ok c) read text =
     let short : length bytes ≤ most_input = elim (sizes (length bytes) most_input) [
@@ -133,28 +133,19 @@ judges rows before before_faults bytes after after_faults (Ok c) read text =
       read_whole = read_whole before bytes after read short;
       text = text;
     }
-judges rows before before_faults bytes after after_faults (Err Usage) read never = absurd never
-judges rows before before_faults bytes after after_faults (Err (Graph line)) read named = record {
+judges rows before before_faults bytes after after_faults (Err (unread.Graph fault)) read least = record {
   bytes = bytes;
   was_read = read;
-  names = named;
-  of_all = fault_of_all rows before bytes after named.fault read named.least;
+  least = least;
+  of_all = fault_of_all rows before bytes after fault read least;
 }
-judges rows before before_faults bytes after after_faults (Err NoCubeText) read never = absurd never
-judges rows before before_faults bytes after after_faults (Err NotMounted) read never = absurd never
-judges rows before before_faults bytes after after_faults (Err (TooLarge line)) read never = absurd never
-judges rows before before_faults bytes after after_faults (Err (Overflow line)) read never = absurd never
-judges rows before before_faults bytes after after_faults (Err ReadFault) read never = absurd never
-judges rows before before_faults bytes after after_faults (Err (Damaged line)) read never = absurd never
-judges rows before before_faults bytes after after_faults (Err SpoolFault) read never = absurd never
-judges rows before before_faults bytes after after_faults (Err WriteFault) read never = absurd never
-judges rows before before_faults bytes after after_faults (Err OutOfMemory) read free = tt
-judges rows before before_faults bytes after after_faults (Err (SpoolDamaged line)) read never = absurd never
+judges rows before before_faults bytes after after_faults (Err unread.ReadFault) read never = absurd never
+judges rows before before_faults bytes after after_faults (Err unread.OutOfMemory) read free = tt
 
 -- ---- the collections
 
 -- a graph that was checked over the rows of a catalogue has these rows
-pub found_rows : (rows : List Row) (dims : List DimsRow) (bytes : List ℕ) (result : Result CheckedGraph Refusal)
+pub found_rows : (rows : List Row) (dims : List DimsRow) (bytes : List ℕ) (result : Result CheckedGraph InputRefusal)
     → JudgesBytes dims bytes result → AreDimsOf rows dims → IfOk result (λ c. AreDimsOf rows c.rows)
 found_rows rows dims bytes (Ok c) text found =
     subst (AreDimsOf rows) (sym (ap (λ (k : CheckedGraph). k.rows) text.checked_is)) found

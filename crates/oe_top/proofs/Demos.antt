@@ -1,6 +1,5 @@
 -- How the evaluation of the demonstration ends, by what its rounds left and by what was written of its figures.
-use Rattle.std.proofs.Common.{◌≡◌, ◌≢◌, ℕ, zero, suc, ◌+◌, ◌-◌, ◌*◌, ◌<◌, ◌≤◌, Bool, true, false, List, [], ◌∷◌, length, take, drop, get_or, map, Option, Some, None, IfSome, Result, Ok, Err, refl, sym, ap, ◌∙◌, subst, arith, inl, inr, codes, Vec}
-use Rattle.std.specs.declared.alloc.Global.{Global}
+use Rattle.std.proofs.Common.{◌≡◌, ◌≢◌, ℕ, zero, suc, ◌+◌, ◌-◌, ◌*◌, ◌<◌, ◌≤◌, Bool, true, false, List, [], ◌∷◌, length, take, drop, get_or, map, Option, Some, None, IfSome, Result, Ok, Err, refl, sym, ap, ◌∙◌, subst, arith, inl, inr}
 use Rattle.std.specs.List.{Contains}
 use Rattle.std.specs.Option.{IsSome}
 use Rattle.std.proofs.lemmas.List.{get_or_past}
@@ -11,6 +10,7 @@ use Rattle.oe_cell.specs.declared.cell.Cell.TheVariants.{Empty, Over}
 use Rattle.oe_cell.proofs.RecordLemmas.{length-record_of, same_from_record}
 use Rattle.oe_dims.specs.Cube.{Cube, IsCube}
 use Rattle.oe_dims.specs.Dimensions.{cell_count}
+use Rattle.oe_dims.specs.declared.dims.DimsRow.{DimsRow}
 use Rattle.oe_dims.specs.Positions.{IsPosition, Position}
 use Rattle.oe_dims.proofs.CubeLemmas.{position_there}
 use Rattle.oe_engine.specs.Collections.{AreRead, LoadRose, without_counts}
@@ -39,15 +39,19 @@ use Rattle.oe_sources.specs.CatalogueDims.{dims_of}
 use Rattle.oe_sources.specs.CatalogueLaws.{NeverFailed}
 use Rattle.oe_spool.specs.Spooled.{HoldsRecord, IsInSome}
 use Rattle.oe_spool.proofs.CubeRecords.{cells_counted}
-use Rattle.oe_top.specs.DemoAnswer.{DemoAnswers, DemoEnds, Demonstrates, FiguresEnd, IsDemonstrated, IsDemonstration}
+use Rattle.oe_top.specs.DemoAnswer.{DemoAnswers, Demonstrates, FiguresEnd, IsDemonstrated, IsDemonstration}
 use Rattle.oe_top.specs.Demonstration.{HasSpooled, IsSpooled, demo_graph, demo_text, figures_text}
-use Rattle.oe_top.specs.Evaluated.{CanBeNamed, Completes, IsPlanOf, IsRefusalOfRun, IsRefusalOfText, IsVisible, result_of}
+use Rattle.oe_top.specs.Evaluated.{CanBeNamed, Completes, IsPlanOf, IsFailOfRun, IsVisible, fail_of_text, result_of}
+use Rattle.oe_graph.specs.Faults.{IsLeast}
+use Rattle.oe_graph.specs.declared.fault.Fault.{Fault}
+use Rattle.oe_top.specs.Faults.{StandsOver}
 use Rattle.oe_top.specs.Judged.{IsCheckedText, JudgesBytes}
-use Rattle.oe_top.specs.Lines.{number_line}
+use Rattle.oe_top.specs.declared.judge.InputRefusal.{InputRefusal}
+use Rattle.oe_top.specs.declared.judge.InputRefusal.TheVariants.{Graph}
 use Rattle.oe_top.specs.Objects.{Objects, objects}
-use Rattle.oe_top.specs.Written.{WriteEnds, Writes}
-use Rattle.oe_top.specs.declared.refusal.Refusal.{Refusal}
-use Rattle.oe_top.specs.declared.refusal.Refusal.TheVariants.{Usage, Graph, NoCubeText, NotMounted, TooLarge, Overflow, ReadFault, Damaged, SpoolFault, WriteFault, OutOfMemory, SpoolDamaged}
+use Rattle.oe_top.specs.declared.demo.DemoRefusal.TheVariants.{TooLarge, Stopped}
+use Rattle.oe_top.specs.declared.evaluation.EvaluationFail.{EvaluationFail}
+use Rattle.oe_top.specs.declared.evaluation.EvaluationFail.TheVariants.{Overflow, ReadFault, Damaged, SpoolFault, WriteFault, SpoolDamaged}
 use Rattle.oe_top.proofs.DemoCubes.{demo_valid}
 use Rattle.oe_top.proofs.Evaluations.{of_meaning, over_is}
 use Rattle.oe_top.proofs.Inputs.{sizes}
@@ -275,60 +279,56 @@ module _ (r after : RunOf) (rows rows_after : List Row) (store store_after : Opt
     abbrev stopped_at : Option (List ℕ) → ℕ → Objects
     stopped_at store_last faults_last = objects input input_faults out out_faults store_last faults_last lent
 
-    pub refused : NeverFailed rows_after 0 → (fail : RunFail) (refusal : Refusal)
+    pub refused : NeverFailed rows_after 0 → (fail : RunFail) (stop : EvaluationFail)
         → Completes r after rows rows_after store store_after faults faults_after (Err fail)
-        → IsRefusalOfRun p.graph fail refusal
-        → Demonstrates rows p.graph start (stopped_at store_after faults_after) (Err refusal)
-    refused never fail refusal c same = record {
+        → IsFailOfRun p.graph fail stop
+        → Demonstrates rows p.graph start (stopped_at store_after faults_after) (Err stop)
+    refused never fail stop c same = record {
       ends = by fail c same;
       out_count = NeverFalls-refl out_faults;
       spool_count = c.through.spool_cause.count;
     }
       where
         by : (fail : RunFail) → Completes r after rows rows_after store store_after faults faults_after (Err fail)
-            → IsRefusalOfRun p.graph fail refusal → FiguresEnd rows p.graph start (stopped_at store_after faults_after) (Err refusal)
+            → IsFailOfRun p.graph fail stop → FiguresEnd rows p.graph start (stopped_at store_after faults_after) (Err stop)
         by run.SourceFailed c same =
             absurd (never_rose p.graph rows rows_after demo c.through.goes.read never (c.through.read_cause refl))
         by (run.SourceDamaged node number) c same =
             absurd (keeps_none p.graph rows node number demo (c.through.says node number refl))
-        by run.SpoolFailed c same = subst (λ (e : Refusal). FiguresEnd rows p.graph start (stopped_at store_after faults_after) (Err e)) (sym same)
+        by run.SpoolFailed c same = subst (λ (e : EvaluationFail). FiguresEnd rows p.graph start (stopped_at store_after faults_after) (Err e)) (sym same)
             (record { rose = c.through.spool_cause.failed refl; unwritten = record { out = refl; faults = refl } })
-        by (run.Overflow number) c (line, same, line_is) =
+        by (run.Overflow number) c same =
             let over = c.overflow number refl in
-            subst (λ (e : Refusal). FiguresEnd rows p.graph start (stopped_at store_after faults_after) (Err e)) (sym same)
+            subst (λ (e : EvaluationFail). FiguresEnd rows p.graph start (stopped_at store_after faults_after) (Err e)) (sym same)
             (record {
-              number = number;
-              line_is = line_is;
               least = sym (over_is r after rows rows_after store store_after faults faults_after given rows_are ends is
                   c.through.goes over.0 loads) ∙ over.1;
               unwritten = record { out = refl; faults = refl };
             })
 
     module _ (c : Completes r after rows rows_after store store_after faults faults_after (Ok tt)) where
-      pub unspooled : (store_last : Option (List ℕ)) (faults_last : ℕ) (fail : RenderFail) (refusal : Refusal) → IsRefusalOfText fail refusal
+      pub unspooled : (store_last : Option (List ℕ)) (faults_last : ℕ) (fail : RenderFail) (stop : EvaluationFail) → stop ≡ fail_of_text fail
           → HasCauseOf {T = Cell × Cell} text.SpoolFailed faults_after faults_last (Err fail) → IsHiddenDamage store_after fail
           → fail ≢ text.SinkFailed
-          → Demonstrates rows p.graph start (stopped_at store_last faults_last) (Err refusal)
-      unspooled store_last faults_last fail refusal same cause damage other = record {
+          → Demonstrates rows p.graph start (stopped_at store_last faults_last) (Err stop)
+      unspooled store_last faults_last fail stop same cause damage other = record {
         ends = by fail same cause damage other;
         out_count = NeverFalls-refl out_faults;
         spool_count = NeverFalls-trans c.through.spool_cause.count cause.count;
       }
         where
-          by : (fail : RenderFail) → IsRefusalOfText fail refusal
+          by : (fail : RenderFail) → stop ≡ fail_of_text fail
               → HasCauseOf {T = Cell × Cell} text.SpoolFailed faults_after faults_last (Err fail) → IsHiddenDamage store_after fail
-              → fail ≢ text.SinkFailed → FiguresEnd rows p.graph start (stopped_at store_last faults_last) (Err refusal)
+              → fail ≢ text.SinkFailed → FiguresEnd rows p.graph start (stopped_at store_last faults_last) (Err stop)
           by text.SpoolFailed same cause damage other =
-              subst (λ (e : Refusal). FiguresEnd rows p.graph start (stopped_at store_last faults_last) (Err e)) (sym same)
+              subst (λ (e : EvaluationFail). FiguresEnd rows p.graph start (stopped_at store_last faults_last) (Err e)) (sym same)
               (record {
                 rose = then-Rose c.through.spool_cause.count (cause.failed refl);
                 unwritten = record { out = refl; faults = refl };
               })
-          by (text.SpoolDamaged number) (line, same, line_is) cause damage other =
-              subst (λ (e : Refusal). FiguresEnd rows p.graph start (stopped_at store_last faults_last) (Err e)) (sym same)
+          by (text.SpoolDamaged number) same cause damage other =
+              subst (λ (e : EvaluationFail). FiguresEnd rows p.graph start (stopped_at store_last faults_last) (Err e)) (sym same)
               (record {
-                number = number;
-                line_is = line_is;
                 hidden = hidden_before store store_after c.through.goes.visible damage;
                 unwritten = record { out = refl; faults = refl };
               })
@@ -346,41 +346,34 @@ module _ (r after : RunOf) (rows rows_after : List Row) (store store_after : Opt
             (shown r after rows rows_after store store_after faults faults_after is front c first last store_after count count_is at_first at_last)
             visible loads
 
-        pub written : (line : List ℕ) → line ≡ figures_text count first last → (store_last : Option (List ℕ)) (faults_last : ℕ) → NeverFalls faults_after faults_last
-            → (out_after : Option (List ℕ)) (out_faults_after : ℕ) (ending : Result (Unit {0}) Refusal)
-            → Writes line out out_faults out_after out_faults_after ending
-            → Demonstrates rows p.graph start (ended out_after out_faults_after store_last faults_last) ending
-        written line line_is store_last faults_last count_falls out_after out_faults_after ending writes = record {
-          ends = by ending writes.ends;
-          out_count = writes.count;
-          spool_count = NeverFalls-trans c.through.spool_cause.count count_falls;
-        }
-          where
-            line_of_meaning : IsVisible store → line ≡ demo_text (result_of rows p.graph)
-            line_of_meaning visible = line_is ∙ figures_of_meaning visible
+        module _ (line : List ℕ) (line_is : line ≡ figures_text count first last) (store_last : Option (List ℕ)) (faults_last : ℕ)
+            (count_falls : NeverFalls faults_after faults_last) (out_after : Option (List ℕ)) (out_faults_after : ℕ)
+            (out_count : NeverFalls out_faults out_faults_after) where
+          line_of_meaning : IsVisible store → line ≡ demo_text (result_of rows p.graph)
+          line_of_meaning visible = line_is ∙ figures_of_meaning visible
 
-            by : (ending : Result (Unit {0}) Refusal) → WriteEnds line out out_faults out_after out_faults_after ending
-                → FiguresEnd rows p.graph start (ended out_after out_faults_after store_last faults_last) ending
-            by (Ok x) appends = record {
+          pub written : Appends out line out_after
+              → Demonstrates rows p.graph start (ended out_after out_faults_after store_last faults_last) (Ok tt)
+          written appends = record {
+            ends = record {
               numbers = sym (over_is r after rows rows_after store store_after faults faults_after given rows_are ends is
                   c.through.goes c.through.done loads) ∙ c.numbers;
               text = λ visible. subst (λ t. Appends out t out_after) (line_of_meaning visible) appends;
-            }
-            by (Err Usage) never = absurd never
-            by (Err (Graph l)) never = absurd never
-            by (Err NoCubeText) never = absurd never
-            by (Err NotMounted) never = absurd never
-            by (Err (TooLarge l)) never = absurd never
-            by (Err (Overflow l)) never = absurd never
-            by (Err ReadFault) never = absurd never
-            by (Err (Damaged l)) never = absurd never
-            by (Err SpoolFault) never = absurd never
-            by (Err WriteFault) stops = record {
-              rose = stops.rose;
-              prefix = λ visible. subst (λ t. AppendsPrefix out t out_after) (line_of_meaning visible) stops.prefix;
-            }
-            by (Err OutOfMemory) never = absurd never
-            by (Err (SpoolDamaged l)) never = absurd never
+            };
+            out_count = out_count;
+            spool_count = NeverFalls-trans c.through.spool_cause.count count_falls;
+          }
+
+          pub stopped_figures : Rose out_faults out_faults_after → AppendsPrefix out line out_after
+              → Demonstrates rows p.graph start (ended out_after out_faults_after store_last faults_last) (Err WriteFault)
+          stopped_figures rose prefix = record {
+            ends = record {
+              rose = rose;
+              prefix = λ visible. subst (λ t. AppendsPrefix out t out_after) (line_of_meaning visible) prefix;
+            };
+            out_count = out_count;
+            spool_count = NeverFalls-trans c.through.spool_cause.count count_falls;
+          }
 
 -- ---- how the command ends
 
@@ -403,82 +396,53 @@ module _ (seed side : ℕ) (size : ChunkSize) (workers : ℕ) (graph : CheckedGr
         (subst (λ (s : ChunkSize). bound_of graph s p.workers ≤ most_held_cells) plan.size_is
         (subst (λ (c : CheckedGraph). bound_of c p.size p.workers ≤ most_held_cells) plan.graph_is plan.planned.bounded))
 
-    demonstrated : (ending : Result (Unit {0}) Refusal) → FiguresEnd rows p.graph first last ending
-        → IsDemonstrated seed side size workers first last ending
-    demonstrated ending e = record {
+    demonstrated : (ended : Result (Unit {0}) EvaluationFail) → FiguresEnd rows p.graph first last ended
+        → IsDemonstrated seed side size workers first last ended
+    demonstrated ended e = record {
       graph = graph;
       text = checked;
       fits = fits;
-      ends = subst (λ (c : CheckedGraph). FiguresEnd (demonstration seed side) c first last ending) plan.graph_is
-          (subst (λ (rs : List Row). FiguresEnd rs p.graph first last ending) rows_are e);
+      ends = subst (λ (c : CheckedGraph). FiguresEnd (demonstration seed side) c first last ended) plan.graph_is
+          (subst (λ (rs : List Row). FiguresEnd rs p.graph first last ended) rows_are e);
     }
 
-    pub answered : (ending : Result (Unit {0}) Refusal) → Demonstrates rows p.graph first last ending
-        → DemoAnswers seed side size workers first last ending
-    answered ending d = record {
-      ends = by ending d.ends;
+    pub finished : Demonstrates rows p.graph first last (Ok tt) → DemoAnswers seed side size workers first last (Ok tt)
+    finished d = record {
+      ends = demonstrated (Ok tt) d.ends;
       input_kept = (refl, refl);
       collections_kept = refl;
       out_count = d.out_count;
       spool_count = d.spool_count;
     }
-      where
-        by : (ending : Result (Unit {0}) Refusal) → FiguresEnd rows p.graph first last ending → DemoEnds seed side size workers first last ending
-        by (Ok x) e = demonstrated (Ok x) e
-        by (Err Usage) never = never
-        by (Err (Graph line)) never = absurd never
-        by (Err NoCubeText) never = never
-        by (Err NotMounted) never = never
-        by (Err (TooLarge line)) never = absurd never
-        by (Err (Overflow line)) e = demonstrated (Err (Overflow line)) e
-        by (Err ReadFault) never = never
-        by (Err (Damaged line)) never = never
-        by (Err SpoolFault) e = demonstrated (Err SpoolFault) e
-        by (Err WriteFault) e = demonstrated (Err WriteFault) e
-        by (Err OutOfMemory) never = absurd never
-        by (Err (SpoolDamaged line)) e = demonstrated (Err (SpoolDamaged line)) e
+
+    pub stopped : (fail : EvaluationFail) → Demonstrates rows p.graph first last (Err fail)
+        → DemoAnswers seed side size workers first last (Err (Stopped fail))
+    stopped fail d = record {
+      ends = demonstrated (Err fail) d.ends;
+      input_kept = (refl, refl);
+      collections_kept = refl;
+      out_count = d.out_count;
+      spool_count = d.spool_count;
+    }
 
   -- and where it would hold too many cells
-  pub too_large : (line : Vec ℕ Global) (cells : ℕ) → (cells ≡ bound_of graph size workers) × (most_held_cells < cells)
-      → line.items ≡ number_line (codes "PlanTooLarge") cells
-      → DemoAnswers seed side size workers first first (Err (TooLarge line))
-  too_large line cells (is, over) said = record {
-    ends = record {
-      graph = graph;
-      text = checked;
-      over = subst (λ n. most_held_cells < n) is over;
-      line_is = said ∙ ap (number_line (codes "PlanTooLarge")) is;
-      unwritten = record { out = refl; faults = refl };
-    };
+  pub too_large : (cells : ℕ) → (cells ≡ bound_of graph size workers) × (most_held_cells < cells)
+      → DemoAnswers seed side size workers first first (Err (TooLarge cells))
+  too_large cells (is, over) = record {
+    ends = record { graph = graph; text = checked; cells_are = is; over = over; unwritten = record { out = refl; faults = refl } };
     input_kept = (refl, refl);
     collections_kept = refl;
     out_count = NeverFalls-refl out_faults;
     spool_count = NeverFalls-refl faults;
   }
 
--- no fault stands in the graph, so that it is refused only where memory is
-pub not_checked : (seed side : ℕ) (size : ChunkSize) (workers : ℕ) → side ≤ 1024 → (here : Objects) (refusal : Refusal)
-    → JudgesBytes (dims_of (demonstration seed side)) demo_graph (Err refusal)
-    → DemoAnswers seed side size workers here here (Err refusal)
-not_checked seed side size workers most here refusal judged = record {
-  ends = by refusal judged;
-  input_kept = (refl, refl);
-  collections_kept = refl;
-  out_count = NeverFalls-refl here.out_faults;
-  spool_count = NeverFalls-refl here.spool_faults;
-}
-  where
-    by : (refusal : Refusal) → JudgesBytes (dims_of (demonstration seed side)) demo_graph (Err refusal)
-        → DemoEnds seed side size workers here here (Err refusal)
-    by Usage never = never
-    by (Graph line) names = demo_valid seed side most names.fault.code names.fault.node names.least.stands
-    by NoCubeText never = never
-    by NotMounted never = never
-    by (TooLarge line) never = absurd never
-    by (Overflow line) never = absurd never
-    by ReadFault never = never
-    by (Damaged line) never = never
-    by SpoolFault never = absurd never
-    by WriteFault never = absurd never
-    by OutOfMemory free = record { out = refl; faults = refl }
-    by (SpoolDamaged line) never = absurd never
+-- no fault stands in the graph
+pub no_fault : (rows : List Row) → IsDemonstration rows → (dims : List DimsRow) (bytes : List ℕ) → dims ≡ dims_of rows
+    → bytes ≡ demo_graph → (refusal : InputRefusal) (fault : Fault) → refusal ≡ Graph fault → JudgesBytes dims bytes (Err refusal) → ⊥
+no_fault rows demo dims bytes dims_are bytes_are refusal fault is judged =
+    let least : IsLeast (StandsOver dims bytes) fault = subst (λ (r : InputRefusal). JudgesBytes dims bytes (Err r)) is judged in
+    let stands : StandsOver (dims_of rows) demo_graph fault.code fault.node =
+    subst (λ (bs : List ℕ). StandsOver (dims_of rows) bs fault.code fault.node) bytes_are
+    (subst (λ (ds : List DimsRow). StandsOver ds bytes fault.code fault.node) dims_are least.stands) in
+    demo_valid demo.seed demo.side demo.most fault.code fault.node
+    (subst (λ (rs : List Row). StandsOver (dims_of rs) demo_graph fault.code fault.node) demo.rows_are stands)

@@ -22,11 +22,11 @@ use Rattle.oe_sources.specs.Catalogue.{Row}
 use Rattle.oe_sources.specs.CatalogueDims.{dims_of}
 use Rattle.oe_spool.specs.Least.{least_over_of}
 use Rattle.oe_top.proofs.Loads.{reads_for_run}
-use Rattle.oe_top.specs.Evaluated.{Completes, Goes, IsRefusalOfRun, IsRefusalOfText, IsVisible, IsWithoutOver, OfMeaning, ReadsForPlan, result_of}
+use Rattle.oe_top.specs.Evaluated.{Completes, Goes, IsFailOfRun, IsVisible, IsWithoutOver, OfMeaning, ReadsForPlan, fail_of_text, result_of}
 use Rattle.oe_top.specs.Objects.{Objects, objects}
 use Rattle.oe_top.specs.RunAnswer.{EvaluationEnds, Evaluates}
-use Rattle.oe_top.specs.declared.refusal.Refusal.{Refusal}
-use Rattle.oe_top.specs.declared.refusal.Refusal.TheVariants.{Damaged, Overflow, ReadFault, SpoolDamaged, SpoolFault, WriteFault}
+use Rattle.oe_top.specs.declared.evaluation.EvaluationFail.{EvaluationFail}
+use Rattle.oe_top.specs.declared.evaluation.EvaluationFail.TheVariants.{Damaged, Overflow, ReadFault, SpoolDamaged, SpoolFault, WriteFault}
 
 -- nothing is a prefix of every text
 nothing_more : (held : Option (List ℕ)) (piece : List ℕ) → AppendsPrefix held piece held
@@ -70,36 +70,31 @@ module _ (r after : RunOf) (rows rows_after : List Row) (store store_after : Opt
     abbrev end : Objects
     end = objects input_after input_faults_after out out_faults store_after faults_after rows_after
 
-    evaluated : (ending : Result (Unit {0}) Refusal) → ReadsForPlan p rows rows_after → NeverFalls faults faults_after
+    evaluated : (ending : Result (Unit {0}) EvaluationFail) → ReadsForPlan p rows rows_after → NeverFalls faults faults_after
         → EvaluationEnds p.graph start end ending → Evaluates p.graph p.size start end ending
     evaluated ending reads count e = record { ends = e; reads = reads_for_run p is rows rows_after reads; out_count = NeverFalls-refl out_faults; spool_count = count }
 
-    pub refused : (fail : RunFail) (refusal : Refusal) → Completes r after rows rows_after store store_after faults faults_after (Err fail)
-        → IsRefusalOfRun p.graph fail refusal
-        → Evaluates p.graph p.size start end (Err refusal)
-    refused run.SourceFailed refusal c same = subst (λ (e : Refusal). Evaluates p.graph p.size start end (Err e)) (sym same)
+    pub refused : (fail : RunFail) (stop : EvaluationFail) → Completes r after rows rows_after store store_after faults faults_after (Err fail)
+        → IsFailOfRun p.graph fail stop
+        → Evaluates p.graph p.size start end (Err stop)
+    refused run.SourceFailed stop c same = subst (λ (e : EvaluationFail). Evaluates p.graph p.size start end (Err e)) (sym same)
         (evaluated (Err ReadFault) c.through.reads c.through.spool_cause.count
         (c.through.read_cause refl, record { out = refl; faults = refl }))
-    refused (run.SourceDamaged node number) refusal c (id, line, loads, same, line_is) =
-        subst (λ (e : Refusal). Evaluates p.graph p.size start end (Err e)) (sym same)
-        (evaluated (Err (Damaged line)) c.through.reads c.through.spool_cause.count (record {
+    refused (run.SourceDamaged node number) stop c (id, loads, same) =
+        subst (λ (e : EvaluationFail). Evaluates p.graph p.size start end (Err e)) (sym same)
+        (evaluated (Err (Damaged id number)) c.through.reads c.through.spool_cause.count (record {
           node = node;
-          number = number;
-          id = id;
           loads = loads;
           keeps = c.through.says node number refl;
-          line_is = line_is;
           unwritten = record { out = refl; faults = refl };
         }))
-    refused run.SpoolFailed refusal c same = subst (λ (e : Refusal). Evaluates p.graph p.size start end (Err e)) (sym same)
+    refused run.SpoolFailed stop c same = subst (λ (e : EvaluationFail). Evaluates p.graph p.size start end (Err e)) (sym same)
         (evaluated (Err SpoolFault) c.through.reads c.through.spool_cause.count
         (c.through.spool_cause.failed refl, λ visible loads. nothing_more out _))
-    refused (run.Overflow number) refusal c (line, same, line_is) =
+    refused (run.Overflow number) stop c same =
         let over = c.overflow number refl in
-        subst (λ (e : Refusal). Evaluates p.graph p.size start end (Err e)) (sym same)
-        (evaluated (Err (Overflow line)) c.through.reads c.through.spool_cause.count (record {
-          number = number;
-          line_is = line_is;
+        subst (λ (e : EvaluationFail). Evaluates p.graph p.size start end (Err e)) (sym same)
+        (evaluated (Err (Overflow number)) c.through.reads c.through.spool_cause.count (record {
           least = λ visible. sym (over_is c.through.goes over.0 visible) ∙ over.1;
           unwritten = record { out = refl; faults = refl };
         }))
@@ -126,7 +121,7 @@ module _ (r after : RunOf) (rows rows_after : List Row) (store store_after : Opt
         (subst (λ (q : PlanOf). ShowsDone after store_after (result_cube shown q)) (sym same)
         (shows_done after store_after (result_of rows p.graph) (c.through.goes.visible visible) (has_done c.through.goes loads))))
 
-    last : (ending : Result (Unit {0}) Refusal) → NeverFalls faults_after faults_last → NeverFalls out_faults out_faults_after
+    last : (ending : Result (Unit {0}) EvaluationFail) → NeverFalls faults_after faults_last → NeverFalls out_faults out_faults_after
         → EvaluationEnds p.graph begun ended ending → Evaluates p.graph p.size begun ended ending
     last ending count out_count e = record {
       ends = e;
@@ -156,27 +151,25 @@ module _ (r after : RunOf) (rows rows_after : List Row) (store store_after : Opt
             let after_none : IsVisible None = subst IsVisible none (c.through.goes.visible visible) in
             absurd after_none
 
-    pub stopped : (fail : RenderFail) (refusal : Refusal) → IsRefusalOfText fail refusal
+    pub stopped : (fail : RenderFail) (stop : EvaluationFail) → stop ≡ fail_of_text fail
         → Holds (λ cube. AppendsPrefix out (cube_text cube) out_after)
         → HasCauseOf {T = Unit {0}} text.SpoolFailed faults_after faults_last (Err fail)
         → HasCauseOf {T = Unit {0}} text.SinkFailed out_faults out_faults_after (Err fail)
         → IsRefusalWithin store_after 0 (cell_count (result_shape after.plan)) fail
-        → Evaluates p.graph p.size begun ended (Err refusal)
-    stopped text.SpoolFailed refusal same prefix spool sink damage = subst (λ (e : Refusal). Evaluates p.graph p.size begun ended (Err e)) (sym same)
+        → Evaluates p.graph p.size begun ended (Err stop)
+    stopped text.SpoolFailed stop same prefix spool sink damage = subst (λ (e : EvaluationFail). Evaluates p.graph p.size begun ended (Err e)) (sym same)
         (last (Err SpoolFault) spool.count sink.count (
           then-Rose c.through.spool_cause.count (spool.failed refl),
           of_meaning (λ cube. AppendsPrefix out (cube_text cube) out_after) prefix,
         ))
-    stopped (text.SpoolDamaged number) refusal (line, same, line_is) prefix spool sink damage =
-        subst (λ (e : Refusal). Evaluates p.graph p.size begun ended (Err e)) (sym same)
-        (last (Err (SpoolDamaged line)) spool.count sink.count
+    stopped (text.SpoolDamaged number) stop same prefix spool sink damage =
+        subst (λ (e : EvaluationFail). Evaluates p.graph p.size begun ended (Err e)) (sym same)
+        (last (Err (SpoolDamaged number)) spool.count sink.count
         (record {
-          number = number;
-          line_is = line_is;
           within = subst (λ (q : PlanOf). number < cell_count (result_shape q)) c.through.goes.plan damage.2;
           numbers = no_over;
           hidden = hidden damage.0;
         }))
-    stopped text.SinkFailed refusal same prefix spool sink damage = subst (λ (e : Refusal). Evaluates p.graph p.size begun ended (Err e)) (sym same)
+    stopped text.SinkFailed stop same prefix spool sink damage = subst (λ (e : EvaluationFail). Evaluates p.graph p.size begun ended (Err e)) (sym same)
         (last (Err WriteFault) spool.count sink.count
         (record { rose = sink.failed refl; numbers = no_over; prefix = of_meaning (λ cube. AppendsPrefix out (cube_text cube) out_after) prefix }))

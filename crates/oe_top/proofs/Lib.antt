@@ -1,6 +1,6 @@
 pub mod Checks
 pub mod Commands
-pub mod Endings
+pub mod Ended
 pub mod Inputs
 pub mod Loads
 pub mod Numbers
@@ -16,3 +16,4 @@ pub mod DemoCubes
 pub mod Demos
 pub mod Namings
 pub mod Runs
+pub mod Writings

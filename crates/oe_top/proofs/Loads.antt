@@ -1,6 +1,7 @@
 -- What a run reads, by its plan and by its graph.
-use Rattle.std.proofs.Common.{◌≡◌, ℕ, zero, suc, ◌+◌, ◌*◌, ◌≤◌, Bool, List, [], ◌∷◌, length, slice_index, refl, ap, ◌∙◌, subst}
-use Rattle.std.specs.List.{count_by, range_with_len}
+use Rattle.std.proofs.Common.{◌≡◌, ℕ, ◌+◌, ◌*◌, ◌≤◌, Bool, cond, List, [], ◌∷◌, length, map, slice_index, refl, sym, ap, ◌∙◌, subst}
+use Rattle.std.proofs.lemmas.List.FromFn.{fill_by_all}
+use Rattle.std.specs.List.{count_by, fold, range_with_len}
 use Rattle.oe_engine.specs.Runs.{load_count}
 use Rattle.oe_order.specs.Graph.{is_load}
 use Rattle.oe_plan.specs.Figures.{chunks_of, largest_window, steps_of}
@@ -10,16 +11,15 @@ use Rattle.oe_sources.specs.Catalogue.{Row, cells_asked}
 use Rattle.oe_top.specs.Evaluated.{ReadsForPlan, ReadsForRun, loads_of}
 
 -- counting by index is counting the numbers
-shift : (p : ℕ → Bool) (a n : ℕ) → count_by p (range_with_len (a + 1) n) ≡ count_by (λ i. p (i + 1)) (range_with_len a n)
-shift p a zero = refl
-shift p a (suc n) = let more = shift p (a + 1) n in grind
+fold_map : (g f : ℕ → ℕ) (z : ℕ) (xs : List ℕ) → fold (λ a x. a + g x) z (map f xs) ≡ fold (λ a i. a + g (f i)) z xs
+fold_map g f z [] = refl
+fold_map g f z (i ∷ xs) = fold_map g f (z + g (f i)) xs
 
 by_index : (p : ℕ → Bool) (xs : List ℕ) → count_by (λ i. p (slice_index xs i)) (range_with_len 0 (length xs)) ≡ count_by p xs
-by_index p [] = refl
-by_index p (x ∷ xs) =
-    let more = by_index p xs in
-    let later = shift (λ i. p (slice_index (x ∷ xs) i)) 0 (length xs) in
-    grind
+by_index p xs =
+    let filled : xs ≡ map (slice_index xs) (range_with_len 0 (length xs)) =
+    fill_by_all (slice_index xs) xs (length xs) 0 refl (λ k below. refl) in
+    sym (ap (count_by p) filled ∙ fold_map (λ x. cond (p x) 1 0) (slice_index xs) 0 (range_with_len 0 (length xs)))
 
 -- a plan has as many steps that load a collection as its graph
 load_count_is : (p : PlanOf) → IsPlan p → load_count p ≡ loads_of p.graph

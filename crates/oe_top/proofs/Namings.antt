@@ -1,10 +1,9 @@
--- Refusals that name a number.
-use Rattle.std.proofs.Common.{◌≡◌, ℕ, ◌<◌, ◌≤◌, ◌&&◌, nat_le, true, List, length, slice_get, Option, Some, None, codes, refl, sym, subst, Vec}
+-- Refusals that name a position of a collection.
+use Rattle.std.proofs.Common.{◌≡◌, ℕ, ◌<◌, ◌≤◌, ◌&&◌, nat_le, true, List, length, slice_get, Option, Some, None, refl, sym, ap, subst}
 use Rattle.std.proofs.lemmas.Bool.{and_parts, leb-true}
 use Rattle.std.proofs.lemmas.Option.{slice_get_within}
 use Rattle.std.specs.List.{list_all}
 use Rattle.std.specs.Option.{option_and_then}
-use Rattle.std.specs.declared.alloc.Global.{Global}
 use Rattle.oe_dims.specs.Names.{is_name, is_name_byte}
 use Rattle.oe_engine.specs.Rounds.{KeepsDamage}
 use Rattle.oe_engine.specs.declared.rounds.RunFail.{RunFail}
@@ -12,34 +11,19 @@ use Rattle.oe_engine.specs.declared.rounds.RunFail.TheVariants as run
 use Rattle.oe_graph.specs.Printed.{node_count}
 use Rattle.oe_graph.specs.References.{each_node}
 use Rattle.oe_graph.specs.Tree.{PlainNode}
-use Rattle.oe_render.specs.declared.rendering.RenderFail.{RenderFail}
-use Rattle.oe_render.specs.declared.rendering.RenderFail.TheVariants as text
 use Rattle.oe_shape.specs.Checked.{CheckedGraph, collection_of_node}
 use Rattle.oe_shape.specs.Links.{loaded_collection}
 use Rattle.oe_shape.proofs.LinkLemmas.{each_count}
 use Rattle.oe_sources.specs.Catalogue.{Row}
 use Rattle.oe_sources.specs.CatalogueLaws.{HaveValidIds}
-use Rattle.oe_top.specs.Evaluated.{CanBeNamed, IsRefusalOfRun, IsRefusalOfText}
-use Rattle.oe_top.specs.Lines.{damage_line, number_line}
-use Rattle.oe_top.specs.declared.refusal.Refusal.TheVariants.{Damaged, Overflow, SpoolDamaged}
+use Rattle.oe_top.specs.Evaluated.{CanBeNamed, IsFailOfRun}
+use Rattle.oe_top.specs.declared.evaluation.EvaluationFail.TheVariants.{Damaged}
 
-pub named_damage : (c : CheckedGraph) (fail : RunFail) (node number : ℕ) (id : List ℕ) (line : Vec ℕ Global)
-    → fail ≡ run.SourceDamaged node number → collection_of_node c node ≡ Some id → line.items ≡ damage_line id number
-    → IsRefusalOfRun c fail (Damaged line)
-named_damage c fail node number id line is loads said =
-    subst (λ (f : RunFail). IsRefusalOfRun c f (Damaged line)) (sym is) (id, line, loads, refl, said)
-
-pub named_overflow : (c : CheckedGraph) (fail : RunFail) (number : ℕ) (line : Vec ℕ Global)
-    → fail ≡ run.Overflow number → line.items ≡ number_line (codes "NumberOverflow") number
-    → IsRefusalOfRun c fail (Overflow line)
-named_overflow c fail number line is said =
-    subst (λ (f : RunFail). IsRefusalOfRun c f (Overflow line)) (sym is) (line, refl, said)
-
-pub named_spool_damage : (fail : RenderFail) (number : ℕ) (line : Vec ℕ Global)
-    → fail ≡ text.SpoolDamaged number → line.items ≡ number_line (codes "SpoolDamaged") number
-    → IsRefusalOfText fail (SpoolDamaged line)
-named_spool_damage fail number line is said =
-    subst (λ (f : RenderFail). IsRefusalOfText f (SpoolDamaged line)) (sym is) (line, refl, said)
+pub named_damage : (c : CheckedGraph) (fail : RunFail) (node number : ℕ) (id held : List ℕ)
+    → fail ≡ run.SourceDamaged node number → collection_of_node c node ≡ Some id → held ≡ id
+    → IsFailOfRun c fail (Damaged held number)
+named_damage c fail node number id held is loads same =
+    subst (λ (f : RunFail). IsFailOfRun c f (Damaged held number)) (sym is) (id, loads, ap (λ i. Damaged i number) same)
 
 -- ---- what can be named
 

@@ -18,8 +18,8 @@ use Rattle.oe_sources.specs.Packed.{AppendsPacked, AppendsPartOfPacked}
 use Rattle.oe_top.proofs.Inputs.{read_whole, whole_same, within}
 use Rattle.oe_top.specs.Objects.{Objects}
 use Rattle.oe_top.specs.PackAnswer.{IsNoCubeText, PackEnds}
-use Rattle.oe_top.specs.declared.refusal.Refusal.{Refusal}
-use Rattle.oe_top.specs.declared.refusal.Refusal.TheVariants.{Usage, Graph, NoCubeText, NotMounted, TooLarge, Overflow, ReadFault, Damaged, SpoolFault, WriteFault, OutOfMemory, SpoolDamaged}
+use Rattle.oe_top.specs.declared.pack.PackRefusal.{PackRefusal}
+use Rattle.oe_top.specs.declared.pack.PackRefusal.TheVariants.{NoCubeText, ReadFault, WriteFault, OutOfMemory}
 use Rattle.serde_json.specs.Data.{Data, null, boolean, number, string, array, object, Items, no_items, item}
 
 -- ---- the cells of a text
@@ -93,7 +93,7 @@ no_text_of_all (Some visible) bytes after read none = λ shape kind cells text.
 
 pub packs : (id : List ℕ) (before after : Objects) (bytes : List ℕ) (shape : Dimensions) (kind : CellKind) (cells : List Cell)
     → IsCubeText bytes shape kind cells → ReadsUpTo most_input before.input bytes after.input
-    → (result : Result (Unit {0}) Refusal) → OnOk result (AppendsPacked id shape kind cells before.out after.out)
+    → (result : Result (Unit {0}) PackRefusal) → OnOk result (AppendsPacked id shape kind cells before.out after.out)
     → IfErr result (λ e. e ≡ WriteFault → AppendsPartOfPacked id shape kind cells before.out after.out)
     → HasCauseOf WriteFault before.out_faults after.out_faults result
     → IfErr result (λ e. e ≡ OutOfMemory → (after.out ≡ before.out) × (after.out_faults ≡ before.out_faults))
@@ -105,23 +105,9 @@ packs id before after bytes shape kind cells text read (Ok x) packed prefix caus
   input = record { bytes = bytes; read_whole = read_whole before.input bytes after.input read text.text.within; text = text };
   file = packed;
 }
-packs id before after bytes shape kind cells text read (Err Usage) packed prefix cause nothing only =
-    elim only [ inl a ↦ cc | inr b ↦ cc ]
-packs id before after bytes shape kind cells text read (Err (Graph line)) packed prefix cause nothing only =
-    elim only [ inl a ↦ cc | inr b ↦ cc ]
 packs id before after bytes shape kind cells text read (Err NoCubeText) packed prefix cause nothing only =
     elim only [ inl a ↦ cc | inr b ↦ cc ]
-packs id before after bytes shape kind cells text read (Err NotMounted) packed prefix cause nothing only =
-    elim only [ inl a ↦ cc | inr b ↦ cc ]
-packs id before after bytes shape kind cells text read (Err (TooLarge line)) packed prefix cause nothing only =
-    elim only [ inl a ↦ cc | inr b ↦ cc ]
-packs id before after bytes shape kind cells text read (Err (Overflow line)) packed prefix cause nothing only =
-    elim only [ inl a ↦ cc | inr b ↦ cc ]
 packs id before after bytes shape kind cells text read (Err ReadFault) packed prefix cause nothing only =
-    elim only [ inl a ↦ cc | inr b ↦ cc ]
-packs id before after bytes shape kind cells text read (Err (Damaged line)) packed prefix cause nothing only =
-    elim only [ inl a ↦ cc | inr b ↦ cc ]
-packs id before after bytes shape kind cells text read (Err SpoolFault) packed prefix cause nothing only =
     elim only [ inl a ↦ cc | inr b ↦ cc ]
 packs id before after bytes shape kind cells text read (Err WriteFault) packed prefix cause nothing only = record {
   shape = shape;
@@ -133,5 +119,3 @@ packs id before after bytes shape kind cells text read (Err WriteFault) packed p
 }
 packs id before after bytes shape kind cells text read (Err OutOfMemory) packed prefix cause nothing only =
     record { out = (nothing refl).0; faults = (nothing refl).1 }
-packs id before after bytes shape kind cells text read (Err (SpoolDamaged line)) packed prefix cause nothing only =
-    elim only [ inl a ↦ cc | inr b ↦ cc ]

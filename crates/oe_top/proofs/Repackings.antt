@@ -1,37 +1,18 @@
 -- Mounted collections that are repacked.
-use Rattle.std.proofs.Common.{◌≡◌, ◌≢◌, true, ◌&&◌, nat_le, ℕ, zero, suc, ◌<◌, ◌≤◌, List, [], ◌∷◌, length, Option, Some, None, IfSome, Result, Ok, Err, IsErrAnd, Vec, refl, sym, ap, ◌∙◌, subst, slice_get, arith}
+use Rattle.std.proofs.Common.{◌≡◌, ◌≢◌, true, ◌&&◌, nat_le, ℕ, zero, suc, ◌<◌, ◌≤◌, List, [], ◌∷◌, length, Option, Some, None, IfSome, Result, Ok, Err, refl, sym, ap, ◌∙◌, subst, slice_get, arith}
 use Rattle.std.proofs.lemmas.Bool.{and_parts, leb-true}
 use Rattle.std.specs.List.{Contains, list_all}
-use Rattle.std.specs.declared.alloc.Global.{Global}
 use Rattle.oe_dims.specs.Names.{is_name, is_name_byte}
-use Rattle.oe_outside.proofs.Causes.{NeverFalls-refl}
 use Rattle.oe_outside.specs.Faults.{NeverFalls, Rose}
 use Rattle.oe_dims.specs.Dimensions.{cell_count}
 use Rattle.oe_sources.specs.Catalogue.{OnlyReads, Row, row_index, row_of, rows_at, source_at}
 use Rattle.oe_sources.specs.Repacked.{AppendsRepacked, IsUndamaged, LeavesWritten, TellsRepackDamage}
 use Rattle.oe_sources.specs.Source.{Contents, Source}
 use Rattle.oe_sources.specs.declared.repacking.RepackFail.TheVariants as fail
-use Rattle.oe_top.specs.Lines.{damage_line}
 use Rattle.oe_top.specs.Objects.{Objects}
 use Rattle.oe_top.specs.RepackAnswer.{IsOfMounted, RepackAnswers, RepackEnds}
-use Rattle.oe_top.specs.declared.refusal.Refusal.{Refusal}
-use Rattle.oe_top.specs.declared.refusal.Refusal.TheVariants.{NotMounted, ReadFault, Damaged, WriteFault, OutOfMemory}
-
--- ---- a catalogue of which nothing is read
-
-rows_at_same : (rows : List Row) (index : ℕ) → rows_at rows index (source_at rows index) ≡ rows
-rows_at_same [] index = refl
-rows_at_same (row ∷ rows) zero = refl
-rows_at_same (row ∷ rows) (suc index) = ap (λ rest. row ∷ rest) (rows_at_same rows index)
-
-pub reads_none : (rows : List Row) (index : ℕ) → OnlyReads rows index rows
-reads_none rows index = record {
-  shape = refl;
-  kind = refl;
-  contents = refl;
-  count = NeverFalls-refl (source_at rows index).faults;
-  others = sym (rows_at_same rows index);
-}
+use Rattle.oe_top.specs.declared.repack.RepackRefusal.{RepackRefusal}
+use Rattle.oe_top.specs.declared.repack.RepackRefusal.TheVariants.{NotMounted, ReadFault, Damaged, WriteFault, OutOfMemory}
 
 -- ---- a collection that is mounted
 
@@ -67,7 +48,7 @@ module _ (id text : List ℕ) (before after : Objects) (place : ℕ) (same : tex
   mounted = record { index_is = sym (rw same at index); within = within; only = only }
 
   -- what repacking it answers
-  answers : (ending : Result (Unit {0}) Refusal) → ending ≢ Err NotMounted → RepackEnds id before after ending
+  answers : (ending : Result (Unit {0}) RepackRefusal) → ending ≢ Err NotMounted → RepackEnds id before after ending
       → RepackAnswers id before after ending
   answers ending other ends = record {
     ends = ends;
@@ -91,15 +72,14 @@ module _ (id text : List ℕ) (before after : Objects) (place : ℕ) (same : tex
   unread rose written =
       answers (Err ReadFault) (λ is. cc) (record { index = place; mounted = mounted; rose = rose; written = written })
 
-  pub damaged : (number : ℕ) (line : Vec ℕ Global) → line.items ≡ damage_line id number
+  pub damaged : (number : ℕ) (named : List ℕ) → named ≡ id
       → TellsRepackDamage (source_at before.collections place) (fail.SourceDamaged number)
       → LeavesWritten id (source_at before.collections place) before.out after.out (fail.SourceDamaged number)
-      → RepackAnswers id before after (Err (Damaged line))
-  damaged number line is tells unwritten = answers (Err (Damaged line)) (λ is. cc) (record {
+      → RepackAnswers id before after (Err (Damaged named number))
+  damaged number named is tells unwritten = answers (Err (Damaged named number)) (λ is. cc) (record {
     index = place;
     mounted = mounted;
-    number = number;
-    line_is = is;
+    named_is = is;
     damaged = position_damaged (source_at before.collections place) number tells;
     unwritten = unwritten;
   })
@@ -112,9 +92,3 @@ module _ (id text : List ℕ) (before after : Objects) (place : ℕ) (same : tex
 
   pub no_memory : after.out ≡ before.out → RepackAnswers id before after (Err OutOfMemory)
   no_memory kept = answers (Err OutOfMemory) (λ is. cc) (record { index = place; mounted = mounted; unwritten = kept })
-
-  -- the same of an error that was made of another
-  pub no_memory_of : (ending : Result (Unit {0}) Refusal) → IsErrAnd ending (λ e. e ≡ OutOfMemory) → after.out ≡ before.out
-      → RepackAnswers id before after ending
-  no_memory_of (Ok x) is kept = absurd is
-  no_memory_of (Err e) is kept = subst (λ e. RepackAnswers id before after (Err e)) (sym is) (no_memory kept)

@@ -2,6 +2,7 @@
 use Rattle.std.specs.Prelude.{◌≡◌, ℕ, ◌↔◌, List, Result, Err}
 use Rattle.oe_top.specs.CheckAnswer.{CheckAnswers}
 use Rattle.oe_top.specs.DemoAnswer.{DemoAnswers}
+use Rattle.oe_top.specs.Endings.{ending_of, of_check, of_demo, of_pack, of_repack, of_run}
 use Rattle.oe_top.specs.Lines.{ErrorOutput, SaysEnding, status_of}
 use Rattle.oe_top.specs.Objects.{Objects}
 use Rattle.oe_top.specs.PackAnswer.{PackAnswers}
@@ -14,15 +15,21 @@ use Rattle.oe_top.specs.declared.refusal.Refusal.TheVariants.{Usage}
 use Rattle.oe_top.specs.declared.words.Command.{Command}
 use Rattle.oe_top.specs.declared.words.Command.TheVariants.{Run, Plan, Demo, Check, Pack, Repack}
 
--- what the ending of a command says, for the words that spell it: the table of the command
+-- the call ends as the command did, in a way that the table of the command has
+abbrev pub EndsAs : {E : Type 0} → (E → Refusal) → (Result (Unit {0}) E → Type 0) → Result (Unit {0}) Refusal → Type 0
+EndsAs {E} of Ended ending = (ended : Result (Unit {0}) E) × (ending ≡ ending_of of ended) × Ended ended
+
+-- what the ending says of a command
 abbrev pub CommandEnds : List (List ℕ) → Command → Objects → Objects → Result (Unit {0}) Refusal → Type 0
-CommandEnds words (Run size workers) before after ending = RunAnswers size workers before after ending
-CommandEnds words (Plan size workers) before after ending = PlanAnswers size workers before after ending
+CommandEnds words (Run size workers) before after ending =
+    EndsAs of_run (RunAnswers size workers before after) ending
+CommandEnds words (Plan size workers) before after ending =
+    EndsAs of_check (PlanAnswers size workers before after) ending
 CommandEnds words (Demo seed side size workers) before after ending =
-    DemoAnswers seed side size workers before after ending
-CommandEnds words Check before after ending = CheckAnswers before after ending
-CommandEnds words Pack before after ending = PackAnswers (id_in words) before after ending
-CommandEnds words Repack before after ending = RepackAnswers (id_in words) before after ending
+    EndsAs of_demo (DemoAnswers seed side size workers before after) ending
+CommandEnds words Check before after ending = EndsAs of_check (CheckAnswers before after) ending
+CommandEnds words Pack before after ending = EndsAs of_pack (PackAnswers (id_in words) before after) ending
+CommandEnds words Repack before after ending = EndsAs of_repack (RepackAnswers (id_in words) before after) ending
 
 -- How a call ends: by the table of the command that the words spell. `Usage` comes exactly where they spell none,
 -- before anything is read or allocated, and leaves all as it was.

@@ -1,5 +1,5 @@
 -- How the command `demo` ends: the table of its statuses, one case a row.
-use Rattle.std.specs.Prelude.{◌≡◌, ◌<◌, ◌≤◌, ℕ, List, None, Result, Ok, Err, codes}
+use Rattle.std.specs.Prelude.{◌≡◌, ◌<◌, ◌≤◌, ℕ, List, None, Result, Ok, Err}
 use Rattle.oe_outside.specs.Faults.{NeverFalls, Rose}
 use Rattle.oe_outside.specs.Visible.{Appends, AppendsPrefix}
 use Rattle.oe_plan.specs.Figures.{bound_of, most_held_cells}
@@ -10,16 +10,18 @@ use Rattle.oe_window.specs.declared.grid.ChunkSize.{ChunkSize}
 use Rattle.oe_top.specs.Demonstration.{demo_graph, demo_text}
 use Rattle.oe_top.specs.Evaluated.{IsWithoutOver, IsOverFirst, IsVisible, result_of}
 use Rattle.oe_top.specs.Judged.{IsCheckedText}
-use Rattle.oe_top.specs.Lines.{number_line}
 use Rattle.oe_top.specs.Objects.{Objects}
 use Rattle.oe_top.specs.Written.{IsUnwritten}
-use Rattle.oe_top.specs.declared.refusal.Refusal.{Refusal}
-use Rattle.oe_top.specs.declared.refusal.Refusal.TheVariants.{Usage, Graph, NoCubeText, NotMounted, TooLarge, Overflow, ReadFault, Damaged, SpoolFault, WriteFault, OutOfMemory, SpoolDamaged}
+use Rattle.oe_top.specs.declared.demo.DemoRefusal.{DemoRefusal}
+use Rattle.oe_top.specs.declared.demo.DemoRefusal.TheVariants.{TooLarge, OutOfMemory, Stopped}
+use Rattle.oe_top.specs.declared.evaluation.EvaluationFail.{EvaluationFail}
+use Rattle.oe_top.specs.declared.evaluation.EvaluationFail.TheVariants.{Overflow, ReadFault, Damaged, SpoolFault, WriteFault, SpoolDamaged}
 
 -- these are the rows of the generated collection of some seed and side
 pub record IsDemonstration (rows : List Row) : Type 0 where
   pub seed : ℕ
   pub side : ℕ
+  pub most : side ≤ 1024
   pub rows_are : rows ≡ demonstration seed side
 
 -- ---- how the evaluation of a graph over a generated collection ends
@@ -31,9 +33,7 @@ module _ (rows : List Row) (c : CheckedGraph) (before after : Objects) where
     pub text : IsVisible before.spool → Appends before.out (demo_text (result_of rows c)) after.out
 
   -- 4: this is the least number of a cell of the result that is Over
-  pub record OverflowsFirst (line : List ℕ) : Type 0 where
-    pub number : ℕ
-    pub line_is : line ≡ number_line (codes "NumberOverflow") number
+  pub record OverflowsFirst (number : ℕ) : Type 0 where
     pub least : IsOverFirst number (result_of rows c)
     pub unwritten : IsUnwritten before after
 
@@ -48,30 +48,22 @@ module _ (rows : List Row) (c : CheckedGraph) (before after : Objects) where
     pub prefix : IsVisible before.spool → AppendsPrefix before.out (demo_text (result_of rows c)) after.out
 
   -- 15: what was read back from the spool is no record of a number, which never comes of one whose bytes are visible
-  pub record MeetsNoRecord (line : List ℕ) : Type 0 where
-    pub number : ℕ
-    pub line_is : line ≡ number_line (codes "SpoolDamaged") number
+  pub record MeetsNoRecord : Type 0 where
     pub hidden : before.spool ≡ None
     pub unwritten : IsUnwritten before after
 
   -- no read of a generated collection fails, and no position of it is damaged
-  abbrev pub FiguresEnd : Result (Unit {0}) Refusal → Type 0
+  abbrev pub FiguresEnd : Result (Unit {0}) EvaluationFail → Type 0
   FiguresEnd (Ok x) = WritesFigures
-  FiguresEnd (Err Usage) = ⊥
-  FiguresEnd (Err (Graph line)) = ⊥
-  FiguresEnd (Err NoCubeText) = ⊥
-  FiguresEnd (Err NotMounted) = ⊥
-  FiguresEnd (Err (TooLarge line)) = ⊥
-  FiguresEnd (Err (Overflow line)) = OverflowsFirst line.items
+  FiguresEnd (Err (Overflow number)) = OverflowsFirst number
   FiguresEnd (Err ReadFault) = ⊥
-  FiguresEnd (Err (Damaged line)) = ⊥
+  FiguresEnd (Err (Damaged id number)) = ⊥
   FiguresEnd (Err SpoolFault) = StopsSpooling
   FiguresEnd (Err WriteFault) = StopsFigures
-  FiguresEnd (Err OutOfMemory) = ⊥
-  FiguresEnd (Err (SpoolDamaged line)) = MeetsNoRecord line.items
+  FiguresEnd (Err (SpoolDamaged number)) = MeetsNoRecord
 
   -- and no fault counter falls
-  pub record Demonstrates (ending : Result (Unit {0}) Refusal) : Type 0 where
+  pub record Demonstrates (ending : Result (Unit {0}) EvaluationFail) : Type 0 where
     pub ends : FiguresEnd ending
     pub out_count : NeverFalls before.out_faults after.out_faults
     pub spool_count : NeverFalls before.spool_faults after.spool_faults
@@ -85,39 +77,29 @@ module _ (seed side : ℕ) (size : ChunkSize) (workers : ℕ) where
 
   module _ (before after : Objects) where
     -- its run holds no more cells than are allowed, it was evaluated, and ended so
-    pub record IsDemonstrated (ending : Result (Unit {0}) Refusal) : Type 0 where
+    pub record IsDemonstrated (ending : Result (Unit {0}) EvaluationFail) : Type 0 where
       pub graph : CheckedGraph
       pub text : IsDemoGraph graph
       pub fits : bound_of graph size workers ≤ most_held_cells
       pub ends : FiguresEnd (demonstration seed side) graph before after ending
 
     -- 3: the run would hold more cells than are allowed, so many
-    pub record IsTooLarge (line : List ℕ) : Type 0 where
+    pub record IsTooLarge (cells : ℕ) : Type 0 where
       pub graph : CheckedGraph
       pub text : IsDemoGraph graph
-      pub over : most_held_cells < bound_of graph size workers
-      pub line_is : line ≡ number_line (codes "PlanTooLarge") (bound_of graph size workers)
+      pub cells_are : cells ≡ bound_of graph size workers
+      pub over : most_held_cells < cells
       pub unwritten : IsUnwritten before after
 
-    -- What each ending says; out of memory has no cause. No fault stands in the graph of the demonstration, so that
-    -- `Graph` never comes.
-    abbrev pub DemoEnds : Result (Unit {0}) Refusal → Type 0
+    -- what each ending says; out of memory has no cause
+    abbrev pub DemoEnds : Result (Unit {0}) DemoRefusal → Type 0
     DemoEnds (Ok x) = IsDemonstrated (Ok x)
-    DemoEnds (Err Usage) = ⊥
-    DemoEnds (Err (Graph line)) = ⊥
-    DemoEnds (Err NoCubeText) = ⊥
-    DemoEnds (Err NotMounted) = ⊥
-    DemoEnds (Err (TooLarge line)) = IsTooLarge line.items
-    DemoEnds (Err (Overflow line)) = IsDemonstrated (Err (Overflow line))
-    DemoEnds (Err ReadFault) = ⊥
-    DemoEnds (Err (Damaged line)) = ⊥
-    DemoEnds (Err SpoolFault) = IsDemonstrated (Err SpoolFault)
-    DemoEnds (Err WriteFault) = IsDemonstrated (Err WriteFault)
+    DemoEnds (Err (TooLarge cells)) = IsTooLarge cells
     DemoEnds (Err OutOfMemory) = IsUnwritten before after
-    DemoEnds (Err (SpoolDamaged line)) = IsDemonstrated (Err (SpoolDamaged line))
+    DemoEnds (Err (Stopped fail)) = IsDemonstrated (Err fail)
 
     -- Neither the input nor a mounted collection is touched.
-    pub record DemoAnswers (ending : Result (Unit {0}) Refusal) : Type 0 where
+    pub record DemoAnswers (ending : Result (Unit {0}) DemoRefusal) : Type 0 where
       pub ends : DemoEnds ending
       pub input_kept : (after.input ≡ before.input) × (after.input_faults ≡ before.input_faults)
       pub collections_kept : after.collections ≡ before.collections

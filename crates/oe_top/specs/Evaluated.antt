@@ -1,6 +1,5 @@
 -- What a graph means over the collections of a catalogue, and what the rounds of a run leave.
-use Rattle.std.specs.Prelude.{◌≡◌, ⊤, ◌<◌, ℕ, ◌+◌, ◌*◌, ◌≤◌, List, length, count_by, Option, Some, None, Result, IsErrOf, OnOk, codes, Vec}
-use Rattle.std.specs.declared.alloc.Global.{Global}
+use Rattle.std.specs.Prelude.{◌≡◌, ⊤, ◌<◌, ℕ, ◌+◌, ◌*◌, ◌≤◌, List, length, count_by, Option, Some, None, Result, IsErrOf, OnOk}
 use Rattle.oe_cell.specs.declared.cell.Cell.{Cell}
 use Rattle.oe_dims.specs.Cube.{Cube}
 use Rattle.oe_engine.specs.Collections.{AreRead, LoadRose, Shows}
@@ -24,9 +23,8 @@ use Rattle.oe_shape.specs.Laws.{AreCollectionsOf, meaning_of_node}
 use Rattle.oe_sources.specs.Catalogue.{Row, cells_asked}
 use Rattle.oe_spool.specs.Least.{least_over_of}
 use Rattle.oe_window.specs.declared.grid.ChunkSize.{ChunkSize}
-use Rattle.oe_top.specs.Lines.{damage_line, number_line}
-use Rattle.oe_top.specs.declared.refusal.Refusal.{Refusal}
-use Rattle.oe_top.specs.declared.refusal.Refusal.TheVariants.{Damaged, Overflow, ReadFault, SpoolDamaged, SpoolFault, WriteFault}
+use Rattle.oe_top.specs.declared.evaluation.EvaluationFail.{EvaluationFail}
+use Rattle.oe_top.specs.declared.evaluation.EvaluationFail.TheVariants.{Damaged, Overflow, ReadFault, SpoolDamaged, SpoolFault, WriteFault}
 
 -- ---- what a graph means over a catalogue
 
@@ -122,7 +120,7 @@ pub record Completes (before after : RunOf) (rows rows_after : List Row) (store 
 
 -- ---- what a refusal becomes
 
--- the node loads a collection whose id fits a line
+-- the node loads a collection whose id is valid, and so short enough to be named
 pub record HasShortId (c : CheckedGraph) (node : ℕ) : Type 0 where
   pub within : node < node_count c.nodes
   pub id : List ℕ
@@ -136,18 +134,16 @@ CanBeNamed c (run.SourceDamaged node number) = HasShortId c node
 CanBeNamed c run.SpoolFailed = ⊤
 CanBeNamed c (run.Overflow number) = ⊤
 
--- why the rounds of a graph stopped, as the refusal of the command
-abbrev pub IsRefusalOfRun : CheckedGraph → RunFail → Refusal → Type 0
-IsRefusalOfRun c run.SourceFailed refusal = refusal ≡ ReadFault
-IsRefusalOfRun c (run.SourceDamaged node number) refusal = (id : List ℕ) × (line : Vec ℕ Global)
-    × (collection_of_node c node ≡ Some id) × (refusal ≡ Damaged line) × (line.items ≡ damage_line id number)
-IsRefusalOfRun c run.SpoolFailed refusal = refusal ≡ SpoolFault
-IsRefusalOfRun c (run.Overflow number) refusal = (line : Vec ℕ Global)
-    × (refusal ≡ Overflow line) × (line.items ≡ number_line (codes "NumberOverflow") number)
+-- why the rounds of a graph stopped, as that of its evaluation
+abbrev pub IsFailOfRun : CheckedGraph → RunFail → EvaluationFail → Type 0
+IsFailOfRun c run.SourceFailed fail = fail ≡ ReadFault
+IsFailOfRun c (run.SourceDamaged node number) fail =
+    (id : List ℕ) × (collection_of_node c node ≡ Some id) × (fail ≡ Damaged id number)
+IsFailOfRun c run.SpoolFailed fail = fail ≡ SpoolFault
+IsFailOfRun c (run.Overflow number) fail = fail ≡ Overflow number
 
--- why the writing of its text stopped
-abbrev pub IsRefusalOfText : RenderFail → Refusal → Type 0
-IsRefusalOfText text.SpoolFailed refusal = refusal ≡ SpoolFault
-IsRefusalOfText (text.SpoolDamaged number) refusal = (line : Vec ℕ Global)
-    × (refusal ≡ SpoolDamaged line) × (line.items ≡ number_line (codes "SpoolDamaged") number)
-IsRefusalOfText text.SinkFailed refusal = refusal ≡ WriteFault
+-- why the writing of its text stopped, as that of its evaluation
+abbrev pub fail_of_text : RenderFail → EvaluationFail
+fail_of_text text.SpoolFailed = SpoolFault
+fail_of_text (text.SpoolDamaged number) = SpoolDamaged number
+fail_of_text text.SinkFailed = WriteFault

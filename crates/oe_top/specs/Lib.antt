@@ -2,6 +2,7 @@ pub mod Answer
 pub mod CheckAnswer
 pub mod Demonstration
 pub mod DemoAnswer
+pub mod Endings
 pub mod Evaluated
 pub mod Faults
 pub mod Judged

@@ -1,9 +1,53 @@
 -- The status and the line on the error output that each ending has.
-use Rattle.std.specs.Prelude.{◌≡◌, ℕ, List, Option, ◌⊎◌, ◌++◌, Result, Ok, Err, codes, decimal}
+use Rattle.std.specs.Prelude.{◌≡◌, ℕ, List, [], Option, ◌⊎◌, ◌++◌, Result, Ok, Err, codes, decimal}
+use Rattle.oe_graph.specs.Codes.{name_of}
+use Rattle.oe_judge.specs.Texts.{behind_blank}
 use Rattle.oe_outside.specs.Faults.{NeverFalls, Rose}
 use Rattle.oe_outside.specs.Visible.{Appends, AppendsPrefix}
 use Rattle.oe_top.specs.declared.refusal.Refusal.{Refusal}
 use Rattle.oe_top.specs.declared.refusal.Refusal.TheVariants.{Usage, Graph, NoCubeText, NotMounted, TooLarge, Overflow, ReadFault, Damaged, SpoolFault, WriteFault, OutOfMemory, SpoolDamaged}
+
+-- ---- a refusal
+
+-- the exit status of a refusal, and its code
+abbrev pub status_and_code : Refusal → ℕ × List ℕ
+status_and_code Usage = (1, codes "Usage")
+status_and_code (Graph fault) = (2, name_of fault.code)
+status_and_code NoCubeText = (2, codes "CubeTextInvalid")
+status_and_code NotMounted = (2, codes "CollectionNotFound")
+status_and_code (TooLarge cells) = (3, codes "PlanTooLarge")
+status_and_code (Overflow position) = (4, codes "NumberOverflow")
+status_and_code ReadFault = (5, codes "ReadFault")
+status_and_code (Damaged id position) = (6, codes "SourceDamaged")
+status_and_code SpoolFault = (7, codes "SpoolFault")
+status_and_code WriteFault = (8, codes "WriteFault")
+status_and_code OutOfMemory = (9, codes "OutOfMemory")
+status_and_code (SpoolDamaged position) = (15, codes "SpoolDamaged")
+
+-- a number behind a blank
+abbrev pub number_said : ℕ → List ℕ
+number_said number = codes " " ++ decimal number
+
+-- what a line says behind the code: the node of a fault, a number of cells, a position, one of a collection
+abbrev pub detail_of : Refusal → List ℕ
+detail_of Usage = []
+detail_of (Graph fault) = behind_blank fault.node
+detail_of NoCubeText = []
+detail_of NotMounted = []
+detail_of (TooLarge cells) = number_said cells
+detail_of (Overflow position) = number_said position
+detail_of ReadFault = []
+detail_of (Damaged id position) = codes " " ++ id ++ number_said position
+detail_of SpoolFault = []
+detail_of WriteFault = []
+detail_of OutOfMemory = []
+detail_of (SpoolDamaged position) = number_said position
+
+-- the line of a refusal
+abbrev pub line_of : Refusal → List ℕ
+line_of refusal = codes "openeo: " ++ (status_and_code refusal).1 ++ detail_of refusal ++ codes "\n"
+
+-- ---- the error output
 
 -- the error output before and after a call: what it holds, where that is visible, and its fault counter
 pub record ErrorOutput : Type 0 where
@@ -32,52 +76,14 @@ pub record IsSilent (err : ErrorOutput) : Type 0 where
   pub out : err.after ≡ err.before
   pub faults : err.after_faults ≡ err.before_faults
 
--- the line of a refusal
-abbrev pub line_of : Refusal → List ℕ
-line_of Usage = codes "openeo: Usage\n"
-line_of (Graph line) = line.items
-line_of NoCubeText = codes "openeo: CubeTextInvalid\n"
-line_of NotMounted = codes "openeo: CollectionNotFound\n"
-line_of (TooLarge line) = line.items
-line_of (Overflow line) = line.items
-line_of ReadFault = codes "openeo: ReadFault\n"
-line_of (Damaged line) = line.items
-line_of SpoolFault = codes "openeo: SpoolFault\n"
-line_of WriteFault = codes "openeo: WriteFault\n"
-line_of OutOfMemory = codes "openeo: OutOfMemory\n"
-line_of (SpoolDamaged line) = line.items
+-- ---- an ending
 
--- the line of a limit or a position, by its name and its number
-abbrev pub number_line : List ℕ → ℕ → List ℕ
-number_line name number = codes "openeo: " ++ name ++ codes " " ++ decimal number ++ codes "\n"
+-- its status
+abbrev pub status_of : Result (Unit {0}) Refusal → ℕ
+status_of (Ok x) = 0
+status_of (Err refusal) = (status_and_code refusal).0
 
--- the line of a damaged position of a collection
-abbrev pub damage_line : List ℕ → ℕ → List ℕ
-damage_line id number = codes "openeo: SourceDamaged " ++ id ++ codes " " ++ decimal number ++ codes "\n"
-
--- the line of an ending: none of a command that finished
+-- its line: none of a command that finished
 abbrev pub SaysEnding : Result (Unit {0}) Refusal → ErrorOutput → Type 0
 SaysEnding (Ok x) err = IsSilent err
 SaysEnding (Err refusal) err = Says (line_of refusal) err
-
--- ---- statuses
-
--- the status of a refusal
-abbrev pub status_of_refusal : Refusal → ℕ
-status_of_refusal Usage = 1
-status_of_refusal (Graph line) = 2
-status_of_refusal NoCubeText = 2
-status_of_refusal NotMounted = 2
-status_of_refusal (TooLarge line) = 3
-status_of_refusal (Overflow line) = 4
-status_of_refusal ReadFault = 5
-status_of_refusal (Damaged line) = 6
-status_of_refusal SpoolFault = 7
-status_of_refusal WriteFault = 8
-status_of_refusal OutOfMemory = 9
-status_of_refusal (SpoolDamaged line) = 15
-
--- the status of an ending
-abbrev pub status_of : Result (Unit {0}) Refusal → ℕ
-status_of (Ok x) = 0
-status_of (Err refusal) = status_of_refusal refusal

@@ -10,8 +10,8 @@ use Rattle.oe_render.specs.CubeText.{IsCubeText}
 use Rattle.oe_sources.specs.Packed.{AppendsPacked, AppendsPartOfPacked}
 use Rattle.oe_top.specs.Objects.{IsReadWhole, Objects, UsesStreamsAlone}
 use Rattle.oe_top.specs.Written.{IsUnwritten}
-use Rattle.oe_top.specs.declared.refusal.Refusal.{Refusal}
-use Rattle.oe_top.specs.declared.refusal.Refusal.TheVariants.{Usage, Graph, NoCubeText, NotMounted, TooLarge, Overflow, ReadFault, Damaged, SpoolFault, WriteFault, OutOfMemory, SpoolDamaged}
+use Rattle.oe_top.specs.declared.pack.PackRefusal.{PackRefusal}
+use Rattle.oe_top.specs.declared.pack.PackRefusal.TheVariants.{NoCubeText, ReadFault, WriteFault, OutOfMemory}
 
 -- the whole input was read, and it is the text of this cube
 pub record IsTextInput (before after : Objects) (shape : Dimensions) (kind : CellKind)
@@ -50,23 +50,15 @@ module _ (id : List ℕ) where
     pub prefix : AppendsPartOfPacked id shape kind cells before.out after.out
 
   -- what each ending says; out of memory has no cause
-  abbrev pub PackEnds : Objects → Objects → Result (Unit {0}) Refusal → Type 0
+  abbrev pub PackEnds : Objects → Objects → Result (Unit {0}) PackRefusal → Type 0
   PackEnds before after (Ok x) = WritesFile before after
-  PackEnds before after (Err Usage) = ⊥
-  PackEnds before after (Err (Graph line)) = ⊥
   PackEnds before after (Err NoCubeText) = IsNoText before after × IsUnwritten before after
-  PackEnds before after (Err NotMounted) = ⊥
-  PackEnds before after (Err (TooLarge line)) = ⊥
-  PackEnds before after (Err (Overflow line)) = ⊥
   PackEnds before after (Err ReadFault) = Rose before.input_faults after.input_faults × IsUnwritten before after
-  PackEnds before after (Err (Damaged line)) = ⊥
-  PackEnds before after (Err SpoolFault) = ⊥
   PackEnds before after (Err WriteFault) = StopsFile before after
   PackEnds before after (Err OutOfMemory) = IsUnwritten before after
-  PackEnds before after (Err (SpoolDamaged line)) = ⊥
 
   -- Neither the spool nor a collection is touched.
-  pub record PackAnswers (before after : Objects) (ending : Result (Unit {0}) Refusal) : Type 0 where
+  pub record PackAnswers (before after : Objects) (ending : Result (Unit {0}) PackRefusal) : Type 0 where
     pub ends : PackEnds before after ending
     pub others_kept : UsesStreamsAlone before after
     -- the input is read only up to one byte past the limit

@@ -1,18 +1,17 @@
 -- How the command `plan` ends.
-use Rattle.std.specs.Prelude.{◌≡◌, ℕ, ◌+◌, ◌++◌, List, Result, Ok, Err, codes, decimal}
-use Rattle.oe_outside.specs.Faults.{NeverFalls, Rose}
+use Rattle.std.specs.Prelude.{ℕ, ◌+◌, ◌++◌, List, Result, Ok, Err, codes, decimal}
+use Rattle.oe_outside.specs.Faults.{NeverFalls}
 use Rattle.oe_outside.specs.Input.{TakesAtMost}
 use Rattle.oe_outside.specs.Visible.{Appends}
 use Rattle.oe_plan.specs.Figures.{bound_of, chunks_of}
 use Rattle.oe_shape.specs.Checked.{CheckedGraph}
 use Rattle.oe_window.specs.declared.grid.ChunkSize.{ChunkSize}
 use Rattle.oe_graph.specs.Form.{most_input}
-use Rattle.oe_top.specs.Judged.{IsCheckedInput, NamesFault}
-use Rattle.oe_sources.specs.CatalogueDims.{dims_of}
+use Rattle.oe_top.specs.Judged.{IsInput, IsRefused}
 use Rattle.oe_top.specs.Objects.{Objects, UsesStreamsAlone}
 use Rattle.oe_top.specs.Written.{IsUnwritten, StopsWriting}
-use Rattle.oe_top.specs.declared.refusal.Refusal.{Refusal}
-use Rattle.oe_top.specs.declared.refusal.Refusal.TheVariants.{Usage, Graph, NoCubeText, NotMounted, TooLarge, Overflow, ReadFault, Damaged, SpoolFault, WriteFault, OutOfMemory, SpoolDamaged}
+use Rattle.oe_top.specs.declared.check.CheckRefusal.{CheckRefusal}
+use Rattle.oe_top.specs.declared.check.CheckRefusal.TheVariants.{Input, WriteFault, OutOfMemory}
 
 -- the line of two figures: how many cells a run holds at most, and in how many chunks it goes
 abbrev pub figures_text : ℕ → ℕ → List ℕ
@@ -26,34 +25,24 @@ module _ (size : ChunkSize) (workers : ℕ) where
   -- the whole input was read, it is a graph without a fault, and its line follows what the output held
   pub record WritesPlan (before after : Objects) : Type 0 where
     pub graph : CheckedGraph
-    pub input : IsCheckedInput (dims_of before.collections) before.input after.input graph
+    pub input : IsInput before after graph
     pub text : Appends before.out (plan_text graph size workers) after.out
 
   -- the same of a prefix, and the fault counter of the output rose
   pub record StopsPlan (before after : Objects) : Type 0 where
     pub graph : CheckedGraph
-    pub input : IsCheckedInput (dims_of before.collections) before.input after.input graph
-    pub stops : StopsWriting (plan_text graph size workers) before.out before.out_faults after.out after.out_faults
+    pub input : IsInput before after graph
+    pub stops : StopsWriting (plan_text graph size workers) before after
 
   -- what each ending says; out of memory has no cause
-  abbrev pub PlanEnds : Objects → Objects → Result (Unit {0}) Refusal → Type 0
+  abbrev pub PlanEnds : Objects → Objects → Result (Unit {0}) CheckRefusal → Type 0
   PlanEnds before after (Ok x) = WritesPlan before after
-  PlanEnds before after (Err Usage) = ⊥
-  PlanEnds before after (Err (Graph line)) =
-      NamesFault (dims_of before.collections) before.input after.input line.items × IsUnwritten before after
-  PlanEnds before after (Err NoCubeText) = ⊥
-  PlanEnds before after (Err NotMounted) = ⊥
-  PlanEnds before after (Err (TooLarge line)) = ⊥
-  PlanEnds before after (Err (Overflow line)) = ⊥
-  PlanEnds before after (Err ReadFault) = Rose before.input_faults after.input_faults × IsUnwritten before after
-  PlanEnds before after (Err (Damaged line)) = ⊥
-  PlanEnds before after (Err SpoolFault) = ⊥
+  PlanEnds before after (Err (Input refusal)) = IsRefused before after refusal × IsUnwritten before after
   PlanEnds before after (Err WriteFault) = StopsPlan before after
   PlanEnds before after (Err OutOfMemory) = IsUnwritten before after
-  PlanEnds before after (Err (SpoolDamaged line)) = ⊥
 
   -- No collection is read, and a plan that holds too many cells to be run is written too.
-  pub record PlanAnswers (before after : Objects) (ending : Result (Unit {0}) Refusal) : Type 0 where
+  pub record PlanAnswers (before after : Objects) (ending : Result (Unit {0}) CheckRefusal) : Type 0 where
     pub ends : PlanEnds before after ending
     pub others_kept : UsesStreamsAlone before after
     -- the input is read only up to one byte past the limit

@@ -4,10 +4,9 @@ use Rattle.std.specs.List.{Contains}
 use Rattle.oe_outside.specs.Faults.{NeverFalls, Rose}
 use Rattle.oe_sources.specs.Catalogue.{OnlyReads, row_index, row_of, source_at}
 use Rattle.oe_sources.specs.Repacked.{AppendsPartOfRepacked, AppendsRepacked, IsUndamaged}
-use Rattle.oe_top.specs.Lines.{damage_line}
 use Rattle.oe_top.specs.Objects.{Objects, IsUntouched}
-use Rattle.oe_top.specs.declared.refusal.Refusal.{Refusal}
-use Rattle.oe_top.specs.declared.refusal.Refusal.TheVariants.{Usage, Graph, NoCubeText, NotMounted, TooLarge, Overflow, ReadFault, Damaged, SpoolFault, WriteFault, OutOfMemory, SpoolDamaged}
+use Rattle.oe_top.specs.declared.repack.RepackRefusal.{RepackRefusal}
+use Rattle.oe_top.specs.declared.repack.RepackRefusal.TheVariants.{NotMounted, ReadFault, Damaged, WriteFault, OutOfMemory}
 
 module _ (id : List ℕ) where
   -- the collection of the id is mounted, and nothing but its counters changed in the catalogue
@@ -31,12 +30,11 @@ module _ (id : List ℕ) where
     pub written : (after.out ≡ before.out)
         ⊎ AppendsPartOfRepacked id (source_at before.collections index) before.out after.out
 
-  -- 6: this position of it is damaged, where its contents are visible; then nothing was written. The line names both.
-  pub record MeetsDamage (before after : Objects) (line : List ℕ) : Type 0 where
+  -- 6: this position of it is damaged, where its contents are visible; then nothing was written
+  pub record MeetsDamage (before after : Objects) (named : List ℕ) (number : ℕ) : Type 0 where
     pub index : ℕ
     pub mounted : IsOfMounted before after index
-    pub number : ℕ
-    pub line_is : line ≡ damage_line id number
+    pub named_is : named ≡ id
     pub damaged : IfSome (source_at before.collections index).contents (λ c. Contains c.damaged number)
     pub unwritten : IfSome (source_at before.collections index).contents (λ c. after.out ≡ before.out)
 
@@ -54,23 +52,16 @@ module _ (id : List ℕ) where
     pub unwritten : after.out ≡ before.out
 
   -- what each ending says
-  abbrev pub RepackEnds : Objects → Objects → Result (Unit {0}) Refusal → Type 0
+  abbrev pub RepackEnds : Objects → Objects → Result (Unit {0}) RepackRefusal → Type 0
   RepackEnds before after (Ok x) = Repacks before after
-  RepackEnds before after (Err Usage) = ⊥
-  RepackEnds before after (Err (Graph line)) = ⊥
-  RepackEnds before after (Err NoCubeText) = ⊥
   RepackEnds before after (Err NotMounted) = IsUntouched before after
-  RepackEnds before after (Err (TooLarge line)) = ⊥
-  RepackEnds before after (Err (Overflow line)) = ⊥
   RepackEnds before after (Err ReadFault) = StopsReading before after
-  RepackEnds before after (Err (Damaged line)) = MeetsDamage before after line.items
-  RepackEnds before after (Err SpoolFault) = ⊥
+  RepackEnds before after (Err (Damaged named number)) = MeetsDamage before after named number
   RepackEnds before after (Err WriteFault) = StopsWriting before after
   RepackEnds before after (Err OutOfMemory) = IsOutOfMemory before after
-  RepackEnds before after (Err (SpoolDamaged line)) = ⊥
 
   -- Neither the input nor the spool is touched.
-  pub record RepackAnswers (before after : Objects) (ending : Result (Unit {0}) Refusal) : Type 0 where
+  pub record RepackAnswers (before after : Objects) (ending : Result (Unit {0}) RepackRefusal) : Type 0 where
     pub ends : RepackEnds before after ending
     -- `CollectionNotFound` comes exactly where no collection is mounted under the id
     pub not_mounted : (ending ≡ Err NotMounted) ↔ (row_of before.collections id ≡ None)

@@ -6,11 +6,15 @@ ghost use Rattle.oe_top.specs.Objects.{lends};
 
 use crate::check::check;
 use crate::demo::demo;
+use crate::endings::{
+    ending_of_check, ending_of_demo, ending_of_pack, ending_of_repack, ending_of_run,
+};
 use crate::pack::pack;
 use crate::plan::plan;
 use crate::refusal::Refusal;
 use crate::repack::repack;
 use crate::run::run;
+use crate::say::say;
 use crate::words::{Command, read_command};
 use oe_dims::Text;
 use oe_outside::{Gate, Sink, Source, Store};
@@ -30,21 +34,10 @@ use std::alloc::Global;
 ///
 /// A graph is evaluated in chunks of CX × CY × CT labels with W workers. A line ends with a line feed.
 ///
-/// | Status | Line on `err` | Comes |
-/// |---|---|---|
-/// | 0 | none | the whole text follows what `out` held |
-/// | 1 | `openeo: Usage` | exactly where the words spell no command |
-/// | 5 | `openeo: ReadFault` | only where the fault counter of `input`, or of a collection that is read, rose |
-/// | 2 | `openeo: CODE NODE` | `run`, `check`, `plan`: only where a fault stands in the graph; this is the least one |
-/// | 2 | `openeo: CubeTextInvalid` | `pack`: only where the input is no result text |
-/// | 2 | `openeo: CollectionNotFound` | `repack`: exactly where the id is not mounted |
-/// | 3 | `openeo: PlanTooLarge BOUND` | `run`, `demo`: only where a run would hold more than 67108864 cells |
-/// | 6 | `openeo: SourceDamaged ID POSITION` | `run`, `repack`: only where it is damaged, and in `run` kept by a node |
-/// | 7 | `openeo: SpoolFault` | `run`, `demo`: only where the fault counter of `spool` rose |
-/// | 4 | `openeo: NumberOverflow POSITION` | `run`, `demo`: only where the result has a cell out of range: the first |
-/// | 15 | `openeo: SpoolDamaged POSITION` | `run`, `demo`: never over a spool whose bytes are visible |
-/// | 8 | `openeo: WriteFault` | only where the fault counter of `out` rose |
-/// | 9 | `openeo: OutOfMemory` | an allocation was refused |
+/// Of a command that did not finish a line stands on `err`: `openeo: `, the code of the refusal, what it carries and a
+/// line feed. `docs/formats.md` has the table of statuses with the line and the cause of each; of the commands here they
+/// are 0 to 9 and 15. 1 comes exactly where the words spell no command, and each of 5, 7 and 8 only where a fault counter
+/// rose.
 ///
 /// A fault of `err` changes nothing. In statuses 1 to 6 and 9 of `run` nothing is written to `out`, and in 7, 8 and 15
 /// a prefix of the text stands there.
@@ -66,8 +59,7 @@ pub fn openeo<I: Source, O: Sink, E: Sink, P: Store, G: Gate>(
     match obey(alloc, words, input, out, catalogue, spool, gate) {
         Ok(()) => 0,
         Err(refusal) => {
-            // What became of the line changes nothing.
-            let _ = err.write(refusal.line());
+            say(&refusal, err);
             refusal.status()
         }
     }
@@ -88,9 +80,11 @@ fn obey<I: Source, O: Sink, P: Store, G: Gate>(
 {
     match read_command(words) {
         Some(Command::Run { size, workers }) => {
-            run(alloc, (size, workers), input, out, catalogue, spool, gate)
+            ending_of_run(run(alloc, (size, workers), input, out, catalogue, spool, gate))
         }
-        Some(Command::Plan { size, workers }) => plan(alloc, size, workers, input, out, catalogue),
+        Some(Command::Plan { size, workers }) => {
+            ending_of_check(plan(alloc, size, workers, input, out, catalogue))
+        }
         Some(
             Command::Demo {
                 seed,
@@ -98,10 +92,10 @@ fn obey<I: Source, O: Sink, P: Store, G: Gate>(
                 size,
                 workers,
             },
-        ) => demo(alloc, (seed, side), (size, workers), out, spool, gate),
-        Some(Command::Check) => check(alloc, input, out, catalogue),
-        Some(Command::Pack) => pack(alloc, &words[1], input, out),
-        Some(Command::Repack) => repack(alloc, &words[1], out, catalogue),
+        ) => ending_of_demo(demo(alloc, (seed, side), (size, workers), out, spool, gate)),
+        Some(Command::Check) => ending_of_check(check(alloc, input, out, catalogue)),
+        Some(Command::Pack) => ending_of_pack(pack(alloc, &words[1], input, out)),
+        Some(Command::Repack) => ending_of_repack(repack(alloc, &words[1], out, catalogue)),
         None => Err(Refusal::Usage),
     }
 }

@@ -16,17 +16,16 @@ ghost use Rattle.oe_sources.specs.CatalogueRows.{rows_of};
 ghost use Rattle.oe_top.specs.DemoAnswer.{DemoAnswers, Demonstrates, IsDemonstration};
 ghost use Rattle.oe_top.specs.Demonstration.{HasSpooled, IsSpooled, demo_graph, figures_text};
 ghost use Rattle.oe_top.specs.Evaluated.{IsBegun};
-ghost use Rattle.oe_top.specs.Judged.{JudgesBytes};
+ghost use Rattle.oe_top.specs.Judged.{IsCheckedText};
 ghost use Rattle.oe_top.specs.Objects.{objects};
 
-use crate::evaluation::{begin, complete, refusal_of_run, refusal_of_text};
-use crate::judge::judge_bytes;
+use crate::evaluation::{EvaluationFail, begin, complete, fail_of_run, fail_of_text};
+use crate::judge::{InputRefusal, judge_bytes};
 use crate::laws;
 use crate::line::Line;
-use crate::output::write_line;
-use crate::refusal::Refusal;
 use oe_cell::{Cell, TextBuf, print_cell, read_record};
 use oe_engine::Run;
+use oe_memory::OutOfMemory;
 use oe_outside::{Gate, Sink, Store, fill_at};
 use oe_plan::PlanFail;
 use oe_render::RenderFail;
@@ -43,6 +42,28 @@ const GRAPH: &str = "{\"process_graph\":{\
 \"top\":{\"process_id\":\"reduce_dimension\",\"arguments\":{\"data\":{\"from_node\":\"sum\"},\"dimension\":\"bands\",\"reducer\":{\"process_graph\":\
 {\"max\":{\"process_id\":\"max\",\"arguments\":{\"data\":{\"from_parameter\":\"data\"}},\"result\":true}}}},\"result\":true}}}";
 
+/// Why `demo` did not finish.
+#[derive(Debug, Drop)]
+pub enum DemoRefusal {
+    /// The run would hold so many cells, which are more than are allowed.
+    TooLarge(u128),
+    /// An allocation was refused.
+    OutOfMemory,
+    /// The evaluation of the graph stopped.
+    Stopped(EvaluationFail),
+}
+
+impl From<OutOfMemory> for DemoRefusal {
+    ghost use Rattle.std.specs.Prelude.{◌≡◌};
+    ghost use Rattle.oe_top.specs.declared.demo.DemoRefusal.TheVariants.{OutOfMemory as no_memory};
+
+    ghost from_gives = { λ _ e. e ≡ no_memory };
+
+    fn from(_error: OutOfMemory) -> DemoRefusal {
+        DemoRefusal::OutOfMemory
+    }
+}
+
 /// Evaluates the graph of the demonstration, in which no fault stands, over the generated collection of a seed and a
 /// side, and writes how many cells its result has, and the first and the last of them.
 pub(crate) fn demo<O: Sink, P: Store, G: Gate>(
@@ -52,7 +73,7 @@ pub(crate) fn demo<O: Sink, P: Store, G: Gate>(
     out: &mut O,
     spool: &mut P,
     gate: &G,
-) -> Result<(), Refusal>
+) -> Result<(), DemoRefusal>
     requires seed { source.0 ≤ 1000000000 }
     requires side { (1 ≤ source.1) × (source.1 ≤ 1024) }
     requires sizes { IsWithinRanges sizes.0 sizes.1 }
@@ -64,53 +85,53 @@ pub(crate) fn demo<O: Sink, P: Store, G: Gate>(
         (P.bytes spool.new) (P.faults spool.new) rows) result }
 {
     let mut catalogue = Catalogue::generated(alloc, source.0, source.1)?;
-    let checked = match checked_graph(alloc, &catalogue) {
-        Ok(checked) => checked,
-        Err(refusal) => return Err(refusal),
-    };
+    let checked = checked_graph(alloc, &catalogue)?;
     let line = Line::new(alloc)?;
-    let text = Line::new(alloc)?;
     match begin(alloc, checked, sizes.0, sizes.1) {
         Ok((run, chunks)) => {
-            write_figures(run, chunks, line, text, out, &mut catalogue, spool, gate)
+            match write_figures(run, chunks, line, out, &mut catalogue, spool, gate) {
+                Ok(()) => Ok(()),
+                Err(fail) => Err(DemoRefusal::Stopped(fail)),
+            }
         }
-        Err(PlanFail::TooLarge(cells)) => {
-            Err(Refusal::TooLarge(line.of_number(b"PlanTooLarge", cells)))
-        }
-        Err(PlanFail::OutOfMemory) => Err(Refusal::OutOfMemory),
+        Err(PlanFail::TooLarge(cells)) => Err(DemoRefusal::TooLarge(cells)),
+        Err(PlanFail::OutOfMemory) => Err(DemoRefusal::OutOfMemory),
     }
 }
 
-/// The graph of the demonstration, expanded and checked over the collections of a catalogue.
-fn checked_graph(alloc: Global, catalogue: &Catalogue) -> Result<Checked, Refusal>
-    ensures judged { JudgesBytes (dims_of (rows_of seen catalogue.now)) demo_graph result }
+/// The graph of the demonstration, expanded and checked over a generated collection. Refuses: out of memory.
+fn checked_graph(alloc: Global, catalogue: &Catalogue) -> Result<Checked, OutOfMemory>
+    requires { IsDemonstration (rows_of seen catalogue.now) }
+    ensures checked { IfOk result (IsCheckedText (dims_of (rows_of seen catalogue.now)) demo_graph) }
     ensures collections { OnOk result (GivesCollections (rows_of seen catalogue.now)) }
     ensures found { IfOk result (λ c. AreDimsOf (rows_of seen catalogue.now) c.rows) }
 {
-    let dims = match catalogue.dims() {
-        Ok(dims) => dims,
-        Err(_) => return Err(Refusal::OutOfMemory),
-    };
+    let dims = catalogue.dims()?;
     // A law that the proof rests on: its loop only looks.
     laws::collections_are_valid(catalogue, &dims);
-    judge_bytes(alloc, GRAPH.as_bytes(), &dims)
+    match judge_bytes(alloc, GRAPH.as_bytes(), &dims) {
+        Ok(checked) => Ok(checked),
+        // No fault stands in this graph.
+        Err(InputRefusal::Graph(_)) => unreachable!(),
+        Err(InputRefusal::ReadFault) => unreachable!(),
+        Err(InputRefusal::OutOfMemory) => Err(OutOfMemory),
+    }
 }
 
 /// Evaluates the graph of a run before its first round, which has so many chunks, and writes its figures.
 fn write_figures<O: Sink, P: Store, G: Gate>(
     mut run: Run,
     chunks: u64,
-    line: Line,
-    mut text: Line,
+    mut line: Line,
     out: &mut O,
     catalogue: &mut Catalogue,
     spool: &mut P,
     gate: &G,
-) -> Result<(), Refusal>
+) -> Result<(), EvaluationFail>
     requires begun { IsBegun run }
     requires front { run.base ≡ 0 }
     requires chunks { chunks ≡ chunk_total run.plan }
-    requires empty { (line ≡ []) × (text ≡ []) }
+    requires empty { line ≡ [] }
     requires demonstration { IsDemonstration (rows_of seen catalogue.old) }
     requires rows { run.plan.graph.rows ≡ dims_of (rows_of seen catalogue.old) }
     requires found { AreDimsOf (rows_of seen catalogue.old) run.plan.graph.rows }
@@ -128,15 +149,18 @@ fn write_figures<O: Sink, P: Store, G: Gate>(
     if let Err(fail) = complete(&mut run, chunks, catalogue, spool, gate) {
         // A law: no read of a generated collection has failed.
         catalogue.generated_never_failed(0);
-        return Err(refusal_of_run(line, run.checked(), fail));
+        return Err(fail_of_run(run.checked(), fail));
     }
     let count = run.shape().cells();
     match read_ends(spool, count) {
         Ok((first, last)) => {
-            spell_figures(count, first, last, &mut text);
-            write_line(text.as_slice(), out)
+            spell_figures(count, first, last, &mut line);
+            match out.write(line.as_slice()) {
+                Ok(()) => Ok(()),
+                Err(_) => Err(EvaluationFail::WriteFault),
+            }
         }
-        Err(fail) => Err(refusal_of_text(line, fail)),
+        Err(fail) => Err(fail_of_text(fail)),
     }
 }
 

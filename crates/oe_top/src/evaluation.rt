@@ -1,15 +1,15 @@
 // Graphs that are evaluated chunk by chunk into a spool.
-ghost use Rattle.std.specs.Prelude.{◌≡◌, ◌<◌, ℕ, [], IfErr, IfOk, IsErrOf};
+ghost use Rattle.std.specs.Prelude.{◌≡◌, ◌<◌, ℕ, IfErr, IfOk, IsErrOf};
 ghost use Rattle.oe_engine.specs.Collections.{HasCollections};
 ghost use Rattle.oe_engine.specs.Runs.{chunk_total};
 ghost use Rattle.oe_plan.specs.Figures.{bound_of, most_held_cells};
 ghost use Rattle.oe_plan.specs.Ranges.{IsWithinRanges};
 ghost use Rattle.oe_sources.specs.CatalogueRows.{rows_of};
-ghost use Rattle.oe_top.specs.Evaluated.{CanBeNamed, Completes, GoesThrough, IsBegun, IsPlanOf, IsRefusalOfRun, IsRefusalOfText};
+ghost use Rattle.oe_top.specs.Evaluated.{CanBeNamed, Completes, GoesThrough, IsBegun, IsFailOfRun, IsPlanOf};
+ghost use Rattle.oe_top.specs.Evaluated as spec;
 
+use crate::collection_id::CollectionId;
 use crate::laws;
-use crate::line::Line;
-use crate::refusal::Refusal;
 use oe_engine::{Progress, Run, RunFail, Workspace};
 use oe_outside::{Gate, Store};
 use oe_plan::{Plan, PlanFail};
@@ -18,6 +18,23 @@ use oe_shape::Checked;
 use oe_sources::Catalogue;
 use oe_window::ChunkSize;
 use std::alloc::Global;
+
+/// Why the evaluation of a graph stopped.
+#[derive(Debug, Drop)]
+pub enum EvaluationFail {
+    /// A cell of the result is out of the range of numbers, at this row-major number at first.
+    Overflow(u64),
+    /// A collection could not be read.
+    ReadFault,
+    /// A node keeps this position of its collection, by its row-major number, which is damaged.
+    Damaged { id: CollectionId, position: u64 },
+    /// The spool could not be read or written.
+    SpoolFault,
+    /// The output could not be written.
+    WriteFault,
+    /// What the spool gave back for this position of the result, by its row-major number, is no record.
+    SpoolDamaged(u64),
+}
 
 /// A run of a graph before its first round, with its records at the front of a spool, and how many chunks it has.
 ///
@@ -95,35 +112,32 @@ fn go_through<P: Store, G: Gate>(
     Ok(())
 }
 
-/// Why the rounds of a graph stopped, said in an empty line.
-pub(crate) fn refusal_of_run(line: Line, checked: &Checked, fail: RunFail) -> Refusal
-    requires empty { line ≡ [] }
-    requires named { CanBeNamed checked.now fail }
-    ensures { IsRefusalOfRun checked.now fail result }
+/// Why the rounds of a graph stopped.
+pub(crate) fn fail_of_run(checked: &Checked, fail: RunFail) -> EvaluationFail
+    requires { CanBeNamed checked.now fail }
+    ensures { IsFailOfRun checked.now fail result }
 {
     match fail {
-        RunFail::SourceFailed => Refusal::ReadFault,
+        RunFail::SourceFailed => EvaluationFail::ReadFault,
         RunFail::SourceDamaged { load, position } => match checked.collection(load) {
-            Some(id) => Refusal::Damaged(line.of_damage(id, position)),
+            Some(id) => EvaluationFail::Damaged {
+                id: CollectionId::of(id),
+                position,
+            },
             None => unreachable!(),
         },
-        RunFail::SpoolFailed => Refusal::SpoolFault,
-        RunFail::Overflow(number) => {
-            Refusal::Overflow(line.of_number(b"NumberOverflow", u128::from(number)))
-        }
+        RunFail::SpoolFailed => EvaluationFail::SpoolFault,
+        RunFail::Overflow(position) => EvaluationFail::Overflow(position),
     }
 }
 
-/// Why the writing of what was evaluated stopped, said in an empty line.
-pub(crate) fn refusal_of_text(line: Line, fail: RenderFail) -> Refusal
-    requires empty { line ≡ [] }
-    ensures { IsRefusalOfText fail result }
+/// Why the writing of what was evaluated stopped.
+pub(crate) fn fail_of_text(fail: RenderFail) -> EvaluationFail
+    ensures { result ≡ spec.fail_of_text fail }
 {
     match fail {
-        RenderFail::SpoolFailed => Refusal::SpoolFault,
-        RenderFail::SpoolDamaged(number) => {
-            Refusal::SpoolDamaged(line.of_number(b"SpoolDamaged", u128::from(number)))
-        }
-        RenderFail::SinkFailed => Refusal::WriteFault,
+        RenderFail::SpoolFailed => EvaluationFail::SpoolFault,
+        RenderFail::SpoolDamaged(position) => EvaluationFail::SpoolDamaged(position),
+        RenderFail::SinkFailed => EvaluationFail::WriteFault,
     }
 }

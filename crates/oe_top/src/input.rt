@@ -1,10 +1,9 @@
 // The input of a command.
-ghost use Rattle.std.specs.Prelude.{◌≡◌, ◌+◌, ◌⊎◌, IfOk, IfErr};
+ghost use Rattle.std.specs.Prelude.{◌+◌, IfOk};
 ghost use Rattle.oe_outside.specs.Faults.{HasCauseOf};
 ghost use Rattle.oe_outside.specs.Input.{ReadsUpTo, TakesAtMost};
 ghost use Rattle.oe_graph.specs.Form.{most_input};
 
-use crate::refusal::Refusal;
 use oe_outside::{ReadRefusal, Source, read_up_to};
 use std::alloc::Global;
 
@@ -12,16 +11,12 @@ use std::alloc::Global;
 const MOST_INPUT: usize = 1048576;
 
 /// The whole input, or its front up to one byte past the limit.
-pub(crate) fn read_input<I: Source>(alloc: Global, input: &mut I) -> Result<Vec<u8>, Refusal>
+pub(crate) fn read_input<I: Source>(alloc: Global, input: &mut I) -> Result<Vec<u8>, ReadRefusal>
     ensures read { IfOk result (λ bytes. ReadsUpTo most_input (I.left input.old) bytes.items
         (I.left input.new)) }
     ensures bounded { TakesAtMost (I.left input.old) (most_input + 1) (I.left input.new) }
-    ensures cause { HasCauseOf Refusal.ReadFault (I.faults input.old) (I.faults input.new) result }
-    ensures only { IfErr result (λ e. (e ≡ Refusal.ReadFault) ⊎ (e ≡ Refusal.OutOfMemory)) }
+    ensures cause { HasCauseOf ReadRefusal.Failed (I.faults input.old)
+        (I.faults input.new) result }
 {
-    match read_up_to(alloc, input, MOST_INPUT) {
-        Ok(bytes) => Ok(bytes),
-        Err(ReadRefusal::Failed) => Err(Refusal::ReadFault),
-        Err(ReadRefusal::OutOfMemory) => Err(Refusal::OutOfMemory),
-    }
+    read_up_to(alloc, input, MOST_INPUT)
 }

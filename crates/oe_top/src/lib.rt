@@ -7,19 +7,21 @@
 #![tactic(auto)]
 
 mod check;
+mod collection_id;
 mod command;
 mod demo;
+mod endings;
 mod evaluation;
 mod input;
 mod judge;
 mod laws;
 mod line;
-mod output;
 mod pack;
 mod plan;
 mod refusal;
 mod repack;
 mod run;
+mod say;
 mod words;
 
 pub use command::openeo;

@@ -1,9 +1,7 @@
 // Short lines that are spelled without taking memory.
-ghost use Rattle.std.specs.Prelude.{◌≡◌, ◌≤◌, ◌<◌, ◌+◌, ◌^◌, ◌++◌, [], IfOk, codes, decimal, length};
-ghost use Rattle.oe_top.specs.Lines.{damage_line, number_line};
+ghost use Rattle.std.specs.Prelude.{◌≡◌, ◌≤◌, ◌+◌, ◌++◌, [], IfOk, decimal, length};
 
 use itoa::Buffer;
-use oe_dims::Text;
 use oe_memory::OutOfMemory;
 use std::alloc::Global;
 use std::marker::Model;
@@ -58,33 +56,5 @@ impl Line {
         ensures { result.now ≡ self.now }
     {
         self.bytes.as_slice()
-    }
-
-    /// The line of a name and a number, of an empty one.
-    pub(crate) fn of_number(mut self, name: &[u8], number: u128) -> Vec<u8>
-        requires empty { self ≡ [] }
-        requires short { length name.now ≤ 64 }
-        ensures { result.items ≡ number_line name.now number }
-    {
-        self.push(b"openeo: ");
-        self.push(name);
-        self.push(b" ");
-        self.push_number(number);
-        self.push(b"\n");
-        self.bytes
-    }
-
-    /// The line of a damaged position of a collection, of an empty one.
-    pub(crate) fn of_damage(mut self, id: &Text, number: u64) -> Vec<u8>
-        requires empty { self ≡ [] }
-        requires short { length id.now ≤ 64 }
-        ensures { result.items ≡ damage_line id.now number }
-    {
-        self.push(b"openeo: SourceDamaged ");
-        self.push(id.as_str().as_bytes());
-        self.push(b" ");
-        self.push_number(u128::from(number));
-        self.push(b"\n");
-        self.bytes
     }
 }

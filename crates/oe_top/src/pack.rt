@@ -11,12 +11,24 @@ ghost use Rattle.oe_top.specs.Objects.{objects};
 ghost use Rattle.oe_top.specs.PackAnswer.{PackAnswers};
 
 use crate::input::read_input;
-use crate::refusal::Refusal;
 use oe_dims::Text;
-use oe_outside::{Sink, Source};
+use oe_outside::{ReadRefusal, Sink, Source};
 use oe_render::{CubeText, CubeTextFail, read_cube_text};
 use oe_sources::PackFail;
 use std::alloc::Global;
+
+/// Why `pack` did not finish.
+#[derive(Clone, Copy, Debug, PartialEq, Eq)]
+pub enum PackRefusal {
+    /// The input is no result text.
+    NoCubeText,
+    /// The input could not be read.
+    ReadFault,
+    /// The output could not be written.
+    WriteFault,
+    /// An allocation was refused.
+    OutOfMemory,
+}
 
 /// Writes the cube file of the result text of the input, under an id.
 pub(crate) fn pack<I: Source, O: Sink>(
@@ -24,7 +36,7 @@ pub(crate) fn pack<I: Source, O: Sink>(
     id: &Text,
     input: &mut I,
     out: &mut O,
-) -> Result<(), Refusal>
+) -> Result<(), PackRefusal>
     requires { is_name id.now ≡ true }
     ensures { (spool : Option (List ℕ)) (spool_faults : ℕ) (rows : List Row) → PackAnswers id.now
         (objects (I.left input.old) (I.faults input.old) (O.written out.old) (O.faults out.old)
@@ -34,12 +46,13 @@ pub(crate) fn pack<I: Source, O: Sink>(
 {
     let bytes = match read_input(alloc, input) {
         Ok(bytes) => bytes,
-        Err(refusal) => return Err(refusal),
+        Err(ReadRefusal::Failed) => return Err(PackRefusal::ReadFault),
+        Err(ReadRefusal::OutOfMemory) => return Err(PackRefusal::OutOfMemory),
     };
     match read_cube_text(alloc, &bytes) {
         Ok(cube) => write_file(alloc, id, &cube, out),
-        Err(CubeTextFail::Invalid) => Err(Refusal::NoCubeText),
-        Err(CubeTextFail::OutOfMemory) => Err(Refusal::OutOfMemory),
+        Err(CubeTextFail::Invalid) => Err(PackRefusal::NoCubeText),
+        Err(CubeTextFail::OutOfMemory) => Err(PackRefusal::OutOfMemory),
     }
 }
 
@@ -49,23 +62,24 @@ fn write_file<O: Sink>(
     id: &Text,
     cube: &CubeText,
     out: &mut O,
-) -> Result<(), Refusal>
+) -> Result<(), PackRefusal>
     requires id { is_name id.now ≡ true }
     requires counted { length cube.now.cells.items ≡ cell_count cube.now.shape }
     requires of_kind { list_all (is_null_or_of cube.now.kind) cube.now.cells.items ≡ true }
     ensures packed { OnOk result (AppendsPacked id.now cube.now.shape cube.now.kind
         cube.now.cells.items (O.written out.old) (O.written out.new)) }
-    ensures prefix { IfErr result (λ e. e ≡ Refusal.WriteFault →
+    ensures prefix { IfErr result (λ e. e ≡ PackRefusal.WriteFault →
         AppendsPartOfPacked id.now cube.now.shape cube.now.kind cube.now.cells.items
         (O.written out.old) (O.written out.new)) }
-    ensures cause { HasCauseOf Refusal.WriteFault (O.faults out.old) (O.faults out.new) result }
-    ensures nothing { IfErr result (λ e. e ≡ Refusal.OutOfMemory →
+    ensures cause { HasCauseOf PackRefusal.WriteFault (O.faults out.old)
+        (O.faults out.new) result }
+    ensures nothing { IfErr result (λ e. e ≡ PackRefusal.OutOfMemory →
         (O.written out.new ≡ O.written out.old) × (O.faults out.new ≡ O.faults out.old)) }
-    ensures only { IfErr result (λ e. (e ≡ Refusal.WriteFault) ⊎ (e ≡ Refusal.OutOfMemory)) }
+    ensures only { IfErr result (λ e. (e ≡ PackRefusal.WriteFault) ⊎ (e ≡ PackRefusal.OutOfMemory)) }
 {
     match oe_sources::pack(alloc, id, cube, out) {
         Ok(()) => Ok(()),
-        Err(PackFail::SinkFailed) => Err(Refusal::WriteFault),
-        Err(PackFail::OutOfMemory) => Err(Refusal::OutOfMemory),
+        Err(PackFail::SinkFailed) => Err(PackRefusal::WriteFault),
+        Err(PackFail::OutOfMemory) => Err(PackRefusal::OutOfMemory),
     }
 }

@@ -5,9 +5,8 @@ ghost use Rattle.oe_sources.specs.CatalogueRows.{rows_of};
 ghost use Rattle.oe_top.specs.Objects.{objects};
 ghost use Rattle.oe_top.specs.PlanAnswer.{PlanAnswers, figures_text, plan_text};
 
+use crate::check::CheckRefusal;
 use crate::judge::judge_input;
-use crate::output::write_line;
-use crate::refusal::Refusal;
 use itoa::Buffer;
 use oe_memory::OutOfMemory;
 use oe_outside::{Sink, Source};
@@ -26,7 +25,7 @@ pub(crate) fn plan<I: Source, O: Sink>(
     input: &mut I,
     out: &mut O,
     catalogue: &Catalogue,
-) -> Result<(), Refusal>
+) -> Result<(), CheckRefusal>
     requires { IsWithinRanges size workers }
     ensures { (spool : Option (List ℕ)) (spool_faults : ℕ) → PlanAnswers size workers
         (objects (I.left input.old) (I.faults input.old) (O.written out.old) (O.faults out.old)
@@ -36,11 +35,14 @@ pub(crate) fn plan<I: Source, O: Sink>(
 {
     let checked = match judge_input(alloc, input, catalogue) {
         Ok(checked) => checked,
-        Err(refusal) => return Err(refusal),
+        Err(refusal) => return Err(CheckRefusal::Input(refusal)),
     };
     match line_of(alloc, &checked, size, workers) {
-        Ok(line) => write_line(&line, out),
-        Err(_) => Err(Refusal::OutOfMemory),
+        Ok(line) => match out.write(&line) {
+            Ok(()) => Ok(()),
+            Err(_) => Err(CheckRefusal::WriteFault),
+        },
+        Err(_) => Err(CheckRefusal::OutOfMemory),
     }
 }
 

@@ -5,12 +5,26 @@ ghost use Rattle.oe_sources.specs.CatalogueRows.{rows_of};
 ghost use Rattle.oe_top.specs.Objects.{objects};
 ghost use Rattle.oe_top.specs.RepackAnswer.{RepackAnswers};
 
-use crate::line::Line;
-use crate::refusal::Refusal;
+use crate::collection_id::CollectionId;
 use oe_dims::Text;
 use oe_outside::Sink;
 use oe_sources::{Catalogue, RepackFail};
 use std::alloc::Global;
+
+/// Why `repack` did not finish.
+#[derive(Debug, Drop)]
+pub enum RepackRefusal {
+    /// No collection is mounted under the id.
+    NotMounted,
+    /// The collection could not be read.
+    ReadFault,
+    /// This position of the collection, by its row-major number, is damaged.
+    Damaged { id: CollectionId, position: u64 },
+    /// The output could not be written.
+    WriteFault,
+    /// An allocation was refused.
+    OutOfMemory,
+}
 
 /// Writes the cube file of the collection that is mounted under an id.
 pub(crate) fn repack<O: Sink>(
@@ -18,7 +32,7 @@ pub(crate) fn repack<O: Sink>(
     id: &Text,
     out: &mut O,
     catalogue: &mut Catalogue,
-) -> Result<(), Refusal>
+) -> Result<(), RepackRefusal>
     requires { is_name id.now ≡ true }
     ensures { (input : Option (List ℕ)) (input_faults : ℕ) (spool : Option (List ℕ))
         (spool_faults : ℕ) → RepackAnswers id.now
@@ -28,14 +42,16 @@ pub(crate) fn repack<O: Sink>(
         (rows_of seen catalogue.new)) result }
 {
     let Some(place) = catalogue.place(id.as_str()) else {
-        return Err(Refusal::NotMounted);
+        return Err(RepackRefusal::NotMounted);
     };
-    let line = Line::new(alloc)?;
     match oe_sources::repack(alloc, catalogue, place, id, out) {
         Ok(()) => Ok(()),
-        Err(RepackFail::SourceFailed) => Err(Refusal::ReadFault),
-        Err(RepackFail::SourceDamaged(number)) => Err(Refusal::Damaged(line.of_damage(id, number))),
-        Err(RepackFail::SinkFailed) => Err(Refusal::WriteFault),
-        Err(RepackFail::OutOfMemory) => Err(Refusal::OutOfMemory),
+        Err(RepackFail::SourceFailed) => Err(RepackRefusal::ReadFault),
+        Err(RepackFail::SourceDamaged(position)) => Err(RepackRefusal::Damaged {
+            id: CollectionId::of(id),
+            position,
+        }),
+        Err(RepackFail::SinkFailed) => Err(RepackRefusal::WriteFault),
+        Err(RepackFail::OutOfMemory) => Err(RepackRefusal::OutOfMemory),
     }
 }

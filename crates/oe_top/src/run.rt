@@ -1,5 +1,5 @@
 // The command `run`: from the input to the text of what its graph means.
-ghost use Rattle.std.specs.Prelude.{◌≡◌, ℕ, List, Option, []};
+ghost use Rattle.std.specs.Prelude.{◌≡◌, ℕ, List, Option};
 ghost use Rattle.oe_engine.specs.Laws.{GivesCollections};
 ghost use Rattle.oe_engine.specs.Runs.{chunk_total};
 ghost use Rattle.oe_plan.specs.Ranges.{IsWithinRanges};
@@ -9,17 +9,40 @@ ghost use Rattle.oe_top.specs.Evaluated.{IsBegun};
 ghost use Rattle.oe_top.specs.Objects.{lends, objects};
 ghost use Rattle.oe_top.specs.RunAnswer.{Evaluates, RunAnswers};
 
-use crate::evaluation::{begin, complete, refusal_of_run, refusal_of_text};
-use crate::judge::judge_input;
+use crate::evaluation::{EvaluationFail, begin, complete, fail_of_run, fail_of_text};
+use crate::judge::{InputRefusal, judge_input};
 use crate::laws;
-use crate::line::Line;
-use crate::refusal::Refusal;
 use oe_engine::Run;
+use oe_memory::OutOfMemory;
 use oe_outside::{Gate, Pending, Sink, Source, Store};
 use oe_plan::PlanFail;
 use oe_sources::Catalogue;
 use oe_window::ChunkSize;
 use std::alloc::Global;
+
+/// Why `run` did not finish.
+#[derive(Debug, Drop)]
+pub enum RunRefusal {
+    /// The input is no graph without a fault.
+    Input(InputRefusal),
+    /// The run would hold so many cells, which are more than are allowed.
+    TooLarge(u128),
+    /// An allocation was refused.
+    OutOfMemory,
+    /// The evaluation of the graph stopped.
+    Stopped(EvaluationFail),
+}
+
+impl From<OutOfMemory> for RunRefusal {
+    ghost use Rattle.std.specs.Prelude.{◌≡◌};
+    ghost use Rattle.oe_top.specs.declared.run.RunRefusal.TheVariants.{OutOfMemory as no_memory};
+
+    ghost from_gives = { λ _ e. e ≡ no_memory };
+
+    fn from(_error: OutOfMemory) -> RunRefusal {
+        RunRefusal::OutOfMemory
+    }
+}
 
 /// Writes the text of what the graph of the input means over the collections of the catalogue. It is evaluated in
 /// chunks of a size, with so many workers; neither has any effect on the text.
@@ -31,7 +54,7 @@ pub(crate) fn run<I: Source, O: Sink, P: Store, G: Gate>(
     catalogue: &mut Catalogue,
     spool: &mut P,
     gate: &G,
-) -> Result<(), Refusal>
+) -> Result<(), RunRefusal>
     requires { IsWithinRanges sizes.0 sizes.1 }
     ensures { let lent = lends I.left I.faults O.written O.faults P.bytes P.faults in
         RunAnswers sizes.0 sizes.1
@@ -40,18 +63,18 @@ pub(crate) fn run<I: Source, O: Sink, P: Store, G: Gate>(
 {
     let checked = match judge_input(alloc, input, catalogue) {
         Ok(checked) => checked,
-        Err(refusal) => return Err(refusal),
+        Err(refusal) => return Err(RunRefusal::Input(refusal)),
     };
-    let line = Line::new(alloc)?;
     let mut pending = Pending::new(alloc)?;
     match begin(alloc, checked, sizes.0, sizes.1) {
         Ok((run, chunks)) => {
-            write_result(run, chunks, line, &mut pending, out, catalogue, spool, gate)
+            match write_result(run, chunks, &mut pending, out, catalogue, spool, gate) {
+                Ok(()) => Ok(()),
+                Err(fail) => Err(RunRefusal::Stopped(fail)),
+            }
         }
-        Err(PlanFail::TooLarge(cells)) => {
-            Err(Refusal::TooLarge(line.of_number(b"PlanTooLarge", cells)))
-        }
-        Err(PlanFail::OutOfMemory) => Err(Refusal::OutOfMemory),
+        Err(PlanFail::TooLarge(cells)) => Err(RunRefusal::TooLarge(cells)),
+        Err(PlanFail::OutOfMemory) => Err(RunRefusal::OutOfMemory),
     }
 }
 
@@ -59,16 +82,14 @@ pub(crate) fn run<I: Source, O: Sink, P: Store, G: Gate>(
 fn write_result<O: Sink, P: Store, G: Gate>(
     mut run: Run,
     chunks: u64,
-    line: Line,
     pending: &mut Pending,
     out: &mut O,
     catalogue: &mut Catalogue,
     spool: &mut P,
     gate: &G,
-) -> Result<(), Refusal>
+) -> Result<(), EvaluationFail>
     requires begun { IsBegun run }
     requires chunks { chunks ≡ chunk_total run.plan }
-    requires empty { line ≡ [] }
     requires rows { run.plan.graph.rows ≡ dims_of (rows_of seen catalogue.old) }
     requires found { AreDimsOf (rows_of seen catalogue.old) run.plan.graph.rows }
     requires collections { GivesCollections (rows_of seen catalogue.old) }
@@ -87,8 +108,8 @@ fn write_result<O: Sink, P: Store, G: Gate>(
     match complete(&mut run, chunks, catalogue, spool, gate) {
         Ok(()) => match run.render(spool, out, pending) {
             Ok(()) => Ok(()),
-            Err(fail) => Err(refusal_of_text(line, fail)),
+            Err(fail) => Err(fail_of_text(fail)),
         },
-        Err(fail) => Err(refusal_of_run(line, run.checked(), fail)),
+        Err(fail) => Err(fail_of_run(run.checked(), fail)),
     }
 }

@@ -1,38 +1,41 @@
 use Rattle.oe_sources.specs.CatalogueRows.{rows_of}
-use Rattle.oe_top.proofs.Endings.{ends_of, ends_pack, ends_repack, ends_usage}
+use Rattle.oe_top.proofs.Ended.{ends_of, ends_pack, ends_repack, ends_usage}
 use Rattle.oe_top.specs.declared.words.Command.TheVariants.{Run, Plan, Demo, Check, Pack, Repack}
 use Rattle.oe_top.proofs.command.obey.Goals as goal
 
 pub returns-in-Some-Run : goal.returns-in-Some-Run
 returns-in-Some-Run g c =
-    ends_of c.args.words.now (Run c.in-Some-Run.size c.in-Some-Run.workers) _ _ c.run.result
-    (rw c.in-Some-Run.field-0-is at c.in-Some-Run.ensures.some) c.run.ensures
+    ends_of c.args.words.now (Run c.in-Some-Run.size c.in-Some-Run.workers) _ _ c.ending_of_run.result
+    (rw c.in-Some-Run.field-0-is at c.in-Some-Run.ensures.some) (c.run.result, c.ending_of_run.ensures, c.run.ensures)
 
 pub returns-in-Some-Plan : goal.returns-in-Some-Plan
 returns-in-Some-Plan g c =
-    ends_of c.args.words.now (Plan c.in-Some-Plan.size c.in-Some-Plan.workers) _ _ c.plan.result
-    (rw c.in-Some-Plan.field-0-is at c.in-Some-Plan.ensures.some) (c.plan.ensures _ _)
+    ends_of c.args.words.now (Plan c.in-Some-Plan.size c.in-Some-Plan.workers) _ _ c.ending_of_check.result
+    (rw c.in-Some-Plan.field-0-is at c.in-Some-Plan.ensures.some) (c.plan.result, c.ending_of_check.ensures, c.plan.ensures _ _)
 
 pub returns-in-Some-Demo : goal.returns-in-Some-Demo
 returns-in-Some-Demo g c =
-    ends_of c.args.words.now (Demo c.in-Some-Demo.seed c.in-Some-Demo.side c.in-Some-Demo.size c.in-Some-Demo.workers) _ _ c.demo.result
-    (rw c.in-Some-Demo.field-0-is at c.in-Some-Demo.ensures.some) (c.demo.ensures _ _ _)
+    ends_of c.args.words.now (Demo c.in-Some-Demo.seed c.in-Some-Demo.side c.in-Some-Demo.size c.in-Some-Demo.workers) _ _
+    c.ending_of_demo.result (rw c.in-Some-Demo.field-0-is at c.in-Some-Demo.ensures.some)
+    (c.demo.result, c.ending_of_demo.ensures, c.demo.ensures _ _ _)
 
 pub returns-in-Some-Check : goal.returns-in-Some-Check
 returns-in-Some-Check g c =
-    ends_of c.args.words.now Check _ _ c.check.result
-    (rw c.in-Some-Check.field-0-is at c.in-Some-Check.ensures.some) (c.check.ensures _ _)
+    ends_of c.args.words.now Check _ _ c.ending_of_check-in-Some-Check.result
+    (rw c.in-Some-Check.field-0-is at c.in-Some-Check.ensures.some)
+    (c.check.result, c.ending_of_check-in-Some-Check.ensures, c.check.ensures _ _)
 
 pub returns-in-Some-Pack : goal.returns-in-Some-Pack
 returns-in-Some-Pack g c =
     let rows = rows_of (λ z. (goal.CubeSource-dyn g z).seen z.1) c.args.catalogue.now in
-    ends_pack c.args.words.now c.index-words-1.result _ _ c.pack.result
+    ends_pack c.args.words.now c.index-words-1.result _ _ c.pack.result c.ending_of_pack.result c.ending_of_pack.ensures
     (rw c.in-Some-Pack.field-0-is at c.in-Some-Pack.ensures.some) c.index-words-1.is
     (c.pack.ensures (g.P.Store.bytes c.args.spool.now) (g.P.Store.faults c.args.spool.now) rows)
 
 pub returns-in-Some-Repack : goal.returns-in-Some-Repack
 returns-in-Some-Repack g c =
-    ends_repack c.args.words.now c.index-words-1-in-Some-Repack.result _ _ c.repack.result
+    ends_repack c.args.words.now c.index-words-1-in-Some-Repack.result _ _ c.repack.result c.ending_of_repack.result
+    c.ending_of_repack.ensures
     (rw c.in-Some-Repack.field-0-is at c.in-Some-Repack.ensures.some) c.index-words-1-in-Some-Repack.is
     (c.repack.ensures (g.I.Source.left c.args.input.now) (g.I.Source.faults c.args.input.now) (g.P.Store.bytes c.args.spool.now)
     (g.P.Store.faults c.args.spool.now))

@@ -1,10 +1,10 @@
-use Rattle.std.proofs.Common.{ap, subst, ◌-◌, ◌∙◌}
+use Rattle.std.proofs.Common.{ap, refl, subst, ◌-◌, ◌∙◌}
 use Rattle.oe_dims.specs.Dimensions.{cell_count}
 use Rattle.oe_plan.specs.Plans.{PlanOf}
 use Rattle.oe_shape.specs.Checked.{CheckedGraph}
 use Rattle.oe_sources.specs.CatalogueRows.{rows_of}
-use Rattle.oe_top.proofs.Demos.{has_row, has_spooled, named, refused, unspooled, written}
-use Rattle.oe_top.specs.Evaluated.{IsRefusalOfRun}
+use Rattle.oe_top.proofs.Demos.{has_row, has_spooled, named, refused, stopped_figures, unspooled, written}
+use Rattle.oe_top.specs.Evaluated.{IsFailOfRun}
 use Rattle.oe_top.proofs.demo.write_figures.Goals as goal
 
 pub complete-requires-clause-mounted : goal.complete-requires-clause-mounted
@@ -18,8 +18,8 @@ generated_never_failed-requires g c =
     let rows_after = rows_of (λ z. (goal.CubeSource-dyn g z).seen z.1) c.complete.new.catalogue in
     record { mounted = has_row rows rows_after c.requires.demonstration c.in-Err.ensures.through.goes.read }
 
-pub refusal_of_run-requires-clause-named : goal.refusal_of_run-requires-clause-named
-refusal_of_run-requires-clause-named g c =
+pub fail_of_run-requires : goal.fail_of_run-requires
+fail_of_run-requires g c =
     let rows = rows_of (λ z. (goal.CubeSource-dyn g z).seen z.1) c.args.catalogue.now in
     let rows_after = rows_of (λ z. (goal.CubeSource-dyn g z).seen z.1) c.complete.new.catalogue in
     named c.args.run c.complete.new.run rows rows_after (g.P.Store.bytes c.args.spool.now) (g.P.Store.bytes c.complete.new.spool)
@@ -35,8 +35,8 @@ returns-in-Err g c = λ input input_faults lent.
     (g.P.Store.faults c.args.spool.now) (g.P.Store.faults c.complete.new.spool)
     c.requires.demonstration c.requires.collections c.requires.rows c.over_is_of_the_result.ensures c.requires.begun.planned
     input input_faults (g.O.Sink.written c.args.out.now) (g.O.Sink.faults c.args.out.now) lent
-    c.generated_never_failed.ensures c.in-Err.fail c.refusal_of_run.result c.in-Err.ensures
-    (subst (λ (k : CheckedGraph). IsRefusalOfRun k c.in-Err.fail c.refusal_of_run.result) graph_is c.refusal_of_run.ensures)
+    c.generated_never_failed.ensures c.in-Err.fail c.fail_of_run.result c.in-Err.ensures
+    (subst (λ (k : CheckedGraph). IsFailOfRun k c.in-Err.fail c.fail_of_run.result) graph_is c.fail_of_run.ensures)
 
 pub read_ends-requires-clause-first : goal.read_ends-requires-clause-first
 read_ends-requires-clause-first g c =
@@ -56,8 +56,8 @@ read_ends-requires-clause-last g c =
     c.requires.begun.planned c.requires.front c.in_default.ensures
     c.cells-count.result (c.cells-count.ensures.value ∙ ap cell_count c.shape.ensures) (c.cells-count.result - 1)
 
-pub returns-in-Ok : goal.returns-in-Ok
-returns-in-Ok g c = λ input input_faults lent.
+pub returns-in-Ok-write : goal.returns-in-Ok-write
+returns-in-Ok-write g c = λ input input_faults lent.
     let rows = rows_of (λ z. (goal.CubeSource-dyn g z).seen z.1) c.args.catalogue.now in
     let rows_after = rows_of (λ z. (goal.CubeSource-dyn g z).seen z.1) c.complete.new.catalogue in
     written c.args.run c.complete.new.run rows rows_after (g.P.Store.bytes c.args.spool.now) (g.P.Store.bytes c.complete.new.spool)
@@ -68,7 +68,21 @@ returns-in-Ok g c = λ input input_faults lent.
     c.in-Ok.first c.in-Ok.last c.in-Ok.ensures.first c.in-Ok.ensures.last
     c.as_slice.result.now (c.as_slice.ensures ∙ c.spell_figures.ensures) (g.P.Store.bytes c.read_ends.new.spool)
     (g.P.Store.faults c.read_ends.new.spool) c.in-Ok.ensures.cause.count
-    (g.O.Sink.written c.write_line.new.out) (g.O.Sink.faults c.write_line.new.out) c.write_line.result c.write_line.ensures
+    (g.O.Sink.written c.write.new.self) (g.O.Sink.faults c.write.new.self) c.in-Ok-write.ensures.cause.count c.in-Ok-write.ensures.appended
+
+pub returns-in-Ok : goal.returns-in-Ok
+returns-in-Ok g c = λ input input_faults lent.
+    let rows = rows_of (λ z. (goal.CubeSource-dyn g z).seen z.1) c.args.catalogue.now in
+    let rows_after = rows_of (λ z. (goal.CubeSource-dyn g z).seen z.1) c.complete.new.catalogue in
+    stopped_figures c.args.run c.complete.new.run rows rows_after (g.P.Store.bytes c.args.spool.now) (g.P.Store.bytes c.complete.new.spool)
+    (g.P.Store.faults c.args.spool.now) (g.P.Store.faults c.complete.new.spool)
+    c.requires.demonstration c.requires.collections c.requires.rows c.over_is_of_the_result.ensures c.requires.begun.planned
+    input input_faults (g.O.Sink.written c.args.out.now) (g.O.Sink.faults c.args.out.now) lent
+    c.in_default.ensures c.requires.front c.cells-count.result (c.cells-count.ensures.value ∙ ap cell_count c.shape.ensures)
+    c.in-Ok.first c.in-Ok.last c.in-Ok.ensures.first c.in-Ok.ensures.last
+    c.as_slice.result.now (c.as_slice.ensures ∙ c.spell_figures.ensures) (g.P.Store.bytes c.read_ends.new.spool)
+    (g.P.Store.faults c.read_ends.new.spool) c.in-Ok.ensures.cause.count
+    (g.O.Sink.written c.write.new.self) (g.O.Sink.faults c.write.new.self) c.in-Err-write.ensures.cause.count (c.in-Err-write.ensures.cause.failed refl) c.in-Err-write.ensures.prefix
 
 pub returns : goal.returns
 returns g c = λ input input_faults lent.
@@ -79,5 +93,5 @@ returns g c = λ input input_faults lent.
     c.requires.demonstration c.requires.collections c.requires.rows c.over_is_of_the_result.ensures c.requires.begun.planned
     input input_faults (g.O.Sink.written c.args.out.now) (g.O.Sink.faults c.args.out.now) lent
     c.in_default.ensures (g.P.Store.bytes c.read_ends.new.spool) (g.P.Store.faults c.read_ends.new.spool)
-    c.in-Err-read_ends.fail c.refusal_of_text.result c.refusal_of_text.ensures c.in-Err-read_ends.ensures.cause
+    c.in-Err-read_ends.fail c.fail_of_text.result c.fail_of_text.ensures c.in-Err-read_ends.ensures.cause
     c.in-Err-read_ends.ensures.damage c.in-Err-read_ends.ensures.only

@@ -1,18 +1,8 @@
 use Rattle.std.proofs.Common.{Err, ap, refl}
-use Rattle.oe_outside.proofs.Causes.{NeverFalls-refl}
 use Rattle.oe_sources.specs.CatalogueRows.{rows_of}
-use Rattle.oe_top.proofs.Repackings.{damaged, no_memory, no_memory_of, reads_none, repacked, unread, unwritten}
+use Rattle.oe_top.proofs.Repackings.{damaged, no_memory, repacked, unread, unwritten}
 use Rattle.oe_top.specs.Objects.{objects}
 use Rattle.oe_top.proofs.repack.repack.Goals as goal
-
-pub returns-in_err-line : goal.returns-in_err-line
-returns-in_err-line g c = λ input input_faults spool spool_faults.
-    let rows = rows_of (λ z. (goal.CubeSource-dyn g z).seen z.1) c.args.catalogue.now in
-    let before = objects input input_faults (g.O.Sink.written c.args.out.now) (g.O.Sink.faults c.args.out.now) spool spool_faults rows in
-    let after = objects input input_faults (g.O.Sink.written c.args.out.now) (g.O.Sink.faults c.args.out.now) spool spool_faults (rows_of (λ z. (goal.CubeSource-dyn g z).seen z.1) c.args.catalogue.now) in
-    no_memory_of c.args.id.now c.as_str.result.now before after c.in-Some.place c.as_str.ensures c.in-Some.ensures.index c.in-Some.ensures.within
-    c.in-Some.ensures.found (reads_none rows c.in-Some.place) (refl, refl) (refl, refl) (NeverFalls-refl (g.O.Sink.faults c.args.out.now))
-    c.from_residual.result c.from_residual.ensures.1 refl
 
 pub returns-in-Ok : goal.returns-in-Ok
 returns-in-Ok g c = λ input input_faults spool spool_faults.
@@ -40,7 +30,7 @@ returns-in-Err-SourceDamaged g c = λ input input_faults spool spool_faults.
     let after = objects input input_faults (g.O.Sink.written c.repack.new.out) (g.O.Sink.faults c.repack.new.out) spool spool_faults (rows_of (λ z. (goal.CubeSource-dyn g z).seen z.1) c.repack.new.catalogue) in
     damaged c.args.id.now c.as_str.result.now before after c.in-Some.place c.as_str.ensures c.in-Some.ensures.index c.in-Some.ensures.within
     c.in-Some.ensures.found c.repack.ensures.only (refl, refl) (refl, refl) c.repack.ensures.sink.count
-    c.in-Err-SourceDamaged.number c.of_damage.result c.of_damage.ensures
+    c.in-Err-SourceDamaged.position c.of.result c.of.ensures
     (rw c.in-Err-SourceDamaged.field-0-is at c.in-Err-SourceDamaged.ensures.damage)
     (rw c.in-Err-SourceDamaged.field-0-is at c.in-Err-SourceDamaged.ensures.left)
 

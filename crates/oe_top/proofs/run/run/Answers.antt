@@ -1,18 +1,22 @@
 use Rattle.std.proofs.Common.{refl}
 use Rattle.oe_outside.proofs.Causes.{NeverFalls-refl}
-use Rattle.oe_top.proofs.Runs.{run_evaluated, run_too_large}
+use Rattle.oe_top.proofs.Runs.{run_finished, run_stopped, run_too_large}
 use Rattle.oe_top.proofs.run.run.Goals as goal
+
+pub returns-in-Ok-write_result : goal.returns-in-Ok-write_result
+returns-in-Ok-write_result g c =
+    run_finished c.args.sizes.0 c.args.sizes.1 _ _ c.in-Ok.checked c.in-Ok.ensures.judged.ends c.in-Ok-begin.run'.plan
+    c.in-Ok-begin.ensures.plan (c.in-Ok-write_result.ensures _ _ _ _) c.in-Ok.ensures.judged.taken c.in-Ok.ensures.judged.count
 
 pub returns-in-Ok-begin : goal.returns-in-Ok-begin
 returns-in-Ok-begin g c =
-    run_evaluated c.args.sizes.0 c.args.sizes.1 _ _ c.in-Ok.checked c.in-Ok.ensures.judged.ends c.in-Ok-begin.run'.plan
-    c.in-Ok-begin.ensures.plan c.write_result.result (c.write_result.ensures _ _ _ _) c.in-Ok.ensures.judged.taken
+    run_stopped c.args.sizes.0 c.args.sizes.1 _ _ c.in-Ok.checked c.in-Ok.ensures.judged.ends c.in-Ok-begin.run'.plan
+    c.in-Ok-begin.ensures.plan c.in-Err-write_result.fail (c.in-Err-write_result.ensures _ _ _ _) c.in-Ok.ensures.judged.taken
     c.in-Ok.ensures.judged.count
 
 pub returns-in-Err-TooLarge : goal.returns-in-Err-TooLarge
-returns-in-Err-TooLarge g c =
-    run_too_large c.args.sizes.0 c.args.sizes.1 _ _ c.in-Ok.checked c.in-Ok.ensures.judged.ends c.in-Err-TooLarge.cells c.of_number.result
+returns-in-Err-TooLarge g c = rw c.in-Err-TooLarge.field-0-is (
+    run_too_large c.args.sizes.0 c.args.sizes.1 _ _ c.in-Ok.checked c.in-Ok.ensures.judged.ends c.in-Err-TooLarge.cells
     (c.in-Err-TooLarge.ensures.too_large c.in-Err-TooLarge.cells (let same = c.in-Err-TooLarge.field-0-is in cc))
-    (rw c.in-Err-TooLarge.field-0-is at c.of_number.ensures)
     (record { out = refl; out_faults = refl; spool = refl; spool_faults = refl; collections = refl })
-    c.in-Ok.ensures.judged.taken c.in-Ok.ensures.judged.count (NeverFalls-refl _) (NeverFalls-refl _)
+    c.in-Ok.ensures.judged.taken c.in-Ok.ensures.judged.count (NeverFalls-refl _) (NeverFalls-refl _))

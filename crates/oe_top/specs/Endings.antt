@@ -1,0 +1,67 @@
+-- The endings of commands as those of the call.
+use Rattle.std.specs.Prelude.{List, ℕ, Result, Ok, Err}
+use Rattle.oe_top.specs.declared.check.CheckRefusal.{CheckRefusal}
+use Rattle.oe_top.specs.declared.check.CheckRefusal.TheVariants as check
+use Rattle.oe_top.specs.declared.demo.DemoRefusal.{DemoRefusal}
+use Rattle.oe_top.specs.declared.demo.DemoRefusal.TheVariants as demo
+use Rattle.oe_top.specs.declared.evaluation.EvaluationFail.{EvaluationFail}
+use Rattle.oe_top.specs.declared.evaluation.EvaluationFail.TheVariants as evaluation
+use Rattle.oe_top.specs.declared.judge.InputRefusal.{InputRefusal}
+use Rattle.oe_top.specs.declared.judge.InputRefusal.TheVariants as input
+use Rattle.oe_top.specs.declared.pack.PackRefusal.{PackRefusal}
+use Rattle.oe_top.specs.declared.pack.PackRefusal.TheVariants as pack
+use Rattle.oe_top.specs.declared.refusal.Refusal.{Refusal}
+use Rattle.oe_top.specs.declared.refusal.Refusal.TheVariants.{Graph, NoCubeText, NotMounted, TooLarge, Overflow, ReadFault, Damaged, SpoolFault, WriteFault, OutOfMemory, SpoolDamaged}
+use Rattle.oe_top.specs.declared.repack.RepackRefusal.{RepackRefusal}
+use Rattle.oe_top.specs.declared.repack.RepackRefusal.TheVariants as repack
+use Rattle.oe_top.specs.declared.run.RunRefusal.{RunRefusal}
+use Rattle.oe_top.specs.declared.run.RunRefusal.TheVariants as run
+
+-- the refusals of commands, by their own names
+
+abbrev pub of_input : InputRefusal → Refusal
+of_input (input.Graph fault) = Graph fault
+of_input input.ReadFault = ReadFault
+of_input input.OutOfMemory = OutOfMemory
+
+abbrev pub of_evaluation : EvaluationFail → Refusal
+of_evaluation (evaluation.Overflow position) = Overflow position
+of_evaluation evaluation.ReadFault = ReadFault
+of_evaluation (evaluation.Damaged id position) = Damaged id position
+of_evaluation evaluation.SpoolFault = SpoolFault
+of_evaluation evaluation.WriteFault = WriteFault
+of_evaluation (evaluation.SpoolDamaged position) = SpoolDamaged position
+
+abbrev pub of_run : RunRefusal → Refusal
+of_run (run.Input refusal) = of_input refusal
+of_run (run.TooLarge cells) = TooLarge cells
+of_run run.OutOfMemory = OutOfMemory
+of_run (run.Stopped fail) = of_evaluation fail
+
+abbrev pub of_check : CheckRefusal → Refusal
+of_check (check.Input refusal) = of_input refusal
+of_check check.WriteFault = WriteFault
+of_check check.OutOfMemory = OutOfMemory
+
+abbrev pub of_demo : DemoRefusal → Refusal
+of_demo (demo.TooLarge cells) = TooLarge cells
+of_demo demo.OutOfMemory = OutOfMemory
+of_demo (demo.Stopped fail) = of_evaluation fail
+
+abbrev pub of_pack : PackRefusal → Refusal
+of_pack pack.NoCubeText = NoCubeText
+of_pack pack.ReadFault = ReadFault
+of_pack pack.WriteFault = WriteFault
+of_pack pack.OutOfMemory = OutOfMemory
+
+abbrev pub of_repack : RepackRefusal → Refusal
+of_repack repack.NotMounted = NotMounted
+of_repack repack.ReadFault = ReadFault
+of_repack (repack.Damaged id position) = Damaged id position
+of_repack repack.WriteFault = WriteFault
+of_repack repack.OutOfMemory = OutOfMemory
+
+-- the ending of a command whose refusals these are, as that of the call
+abbrev pub ending_of : {E : Type 0} → (E → Refusal) → Result (Unit {0}) E → Result (Unit {0}) Refusal
+ending_of of (Ok x) = Ok x
+ending_of of (Err refusal) = Err (of refusal)

@@ -1,0 +1,146 @@
+// The endings of commands as those of the call.
+ghost use Rattle.std.specs.Prelude.{◌≡◌};
+ghost use Rattle.oe_top.specs.Endings as spec;
+
+use crate::check::CheckRefusal;
+use crate::demo::DemoRefusal;
+use crate::evaluation::EvaluationFail;
+use crate::judge::InputRefusal;
+use crate::pack::PackRefusal;
+use crate::refusal::Refusal;
+use crate::repack::RepackRefusal;
+use crate::run::RunRefusal;
+
+/// Why an input was refused.
+fn of_input(refusal: InputRefusal) -> Refusal
+    ensures { result ≡ spec.of_input refusal }
+{
+    match refusal {
+        InputRefusal::Graph(fault) => Refusal::Graph(fault),
+        InputRefusal::ReadFault => Refusal::ReadFault,
+        InputRefusal::OutOfMemory => Refusal::OutOfMemory,
+    }
+}
+
+/// Why the evaluation of a graph stopped.
+fn of_evaluation(fail: EvaluationFail) -> Refusal
+    ensures { result ≡ spec.of_evaluation fail }
+{
+    match fail {
+        EvaluationFail::Overflow(position) => Refusal::Overflow(position),
+        EvaluationFail::ReadFault => Refusal::ReadFault,
+        EvaluationFail::Damaged { id, position } => Refusal::Damaged { id, position },
+        EvaluationFail::SpoolFault => Refusal::SpoolFault,
+        EvaluationFail::WriteFault => Refusal::WriteFault,
+        EvaluationFail::SpoolDamaged(position) => Refusal::SpoolDamaged(position),
+    }
+}
+
+/// Why `run` did not finish.
+fn of_run(refusal: RunRefusal) -> Refusal
+    ensures { result ≡ spec.of_run refusal }
+{
+    match refusal {
+        RunRefusal::Input(refusal) => of_input(refusal),
+        RunRefusal::TooLarge(cells) => Refusal::TooLarge(cells),
+        RunRefusal::OutOfMemory => Refusal::OutOfMemory,
+        RunRefusal::Stopped(fail) => of_evaluation(fail),
+    }
+}
+
+/// Why `check` or `plan` did not finish.
+fn of_check(refusal: CheckRefusal) -> Refusal
+    ensures { result ≡ spec.of_check refusal }
+{
+    match refusal {
+        CheckRefusal::Input(refusal) => of_input(refusal),
+        CheckRefusal::WriteFault => Refusal::WriteFault,
+        CheckRefusal::OutOfMemory => Refusal::OutOfMemory,
+    }
+}
+
+/// Why `demo` did not finish.
+fn of_demo(refusal: DemoRefusal) -> Refusal
+    ensures { result ≡ spec.of_demo refusal }
+{
+    match refusal {
+        DemoRefusal::TooLarge(cells) => Refusal::TooLarge(cells),
+        DemoRefusal::OutOfMemory => Refusal::OutOfMemory,
+        DemoRefusal::Stopped(fail) => of_evaluation(fail),
+    }
+}
+
+/// Why `pack` did not finish.
+fn of_pack(refusal: PackRefusal) -> Refusal
+    ensures { result ≡ spec.of_pack refusal }
+{
+    match refusal {
+        PackRefusal::NoCubeText => Refusal::NoCubeText,
+        PackRefusal::ReadFault => Refusal::ReadFault,
+        PackRefusal::WriteFault => Refusal::WriteFault,
+        PackRefusal::OutOfMemory => Refusal::OutOfMemory,
+    }
+}
+
+/// Why `repack` did not finish.
+fn of_repack(refusal: RepackRefusal) -> Refusal
+    ensures { result ≡ spec.of_repack refusal }
+{
+    match refusal {
+        RepackRefusal::NotMounted => Refusal::NotMounted,
+        RepackRefusal::ReadFault => Refusal::ReadFault,
+        RepackRefusal::Damaged { id, position } => Refusal::Damaged { id, position },
+        RepackRefusal::WriteFault => Refusal::WriteFault,
+        RepackRefusal::OutOfMemory => Refusal::OutOfMemory,
+    }
+}
+
+/// The ending of `run`.
+pub(crate) fn ending_of_run(ended: Result<(), RunRefusal>) -> Result<(), Refusal>
+    ensures { result ≡ spec.ending_of spec.of_run ended }
+{
+    match ended {
+        Ok(()) => Ok(()),
+        Err(refusal) => Err(of_run(refusal)),
+    }
+}
+
+/// The ending of `check` or `plan`.
+pub(crate) fn ending_of_check(ended: Result<(), CheckRefusal>) -> Result<(), Refusal>
+    ensures { result ≡ spec.ending_of spec.of_check ended }
+{
+    match ended {
+        Ok(()) => Ok(()),
+        Err(refusal) => Err(of_check(refusal)),
+    }
+}
+
+/// The ending of `demo`.
+pub(crate) fn ending_of_demo(ended: Result<(), DemoRefusal>) -> Result<(), Refusal>
+    ensures { result ≡ spec.ending_of spec.of_demo ended }
+{
+    match ended {
+        Ok(()) => Ok(()),
+        Err(refusal) => Err(of_demo(refusal)),
+    }
+}
+
+/// The ending of `pack`.
+pub(crate) fn ending_of_pack(ended: Result<(), PackRefusal>) -> Result<(), Refusal>
+    ensures { result ≡ spec.ending_of spec.of_pack ended }
+{
+    match ended {
+        Ok(()) => Ok(()),
+        Err(refusal) => Err(of_pack(refusal)),
+    }
+}
+
+/// The ending of `repack`.
+pub(crate) fn ending_of_repack(ended: Result<(), RepackRefusal>) -> Result<(), Refusal>
+    ensures { result ≡ spec.ending_of spec.of_repack ended }
+{
+    match ended {
+        Ok(()) => Ok(()),
+        Err(refusal) => Err(of_repack(refusal)),
+    }
+}
