@@ -1,0 +1,4 @@
+mod QueryLemmas
+mod TableLemmas
+mod TokenLemmas
+mod Worked

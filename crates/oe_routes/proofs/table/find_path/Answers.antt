@@ -1,0 +1,5 @@
+use Rattle.oe_routes.proofs.table.find_path.Goals as goal
+
+-- the rows behind the reference are those of the constant
+pub returns : goal.returns
+returns c = c.find_in.ensures

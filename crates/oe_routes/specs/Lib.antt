@@ -1,0 +1,10 @@
+pub mod Codes
+pub mod Steps
+pub mod Rejections
+pub mod Table
+pub mod Paths
+pub mod Tokens
+pub mod Users
+pub mod Queries
+pub mod Fields
+pub mod Forms
