@@ -1,0 +1,7 @@
+mod CommitLemmas
+mod OpenLemmas
+mod BookLemmas
+mod ServiceLemmas
+mod KeptLemmas
+mod LifeLemmas
+mod Worked
