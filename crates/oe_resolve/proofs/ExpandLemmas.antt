@@ -18,6 +18,7 @@ use Rattle.oe_resolve.specs.Faults.{StandsWithStored}
 use Rattle.oe_resolve.specs.Judged as judged
 use Rattle.oe_resolve.specs.Judged.{IdsRise, IsInside, HasFault, OfItself, OfObject}
 use Rattle.oe_resolve.specs.Rounds.{round, expanded_by, expanded, known_stored, known_graph}
+use Rattle.oe_resolve.specs.Sizes.{IsWithinLimits}
 use Rattle.oe_graph.specs.Valid.{IsValidGraph, AreValidStored}
 use Rattle.oe_resolve.proofs.CountLemmas.{callee_known}
 use Rattle.oe_resolve.proofs.ExpansionLemmas.{Standing, Formed, expanded_in_order}
@@ -147,6 +148,9 @@ module _ (stored : List PlainStored) (g : PlainGraph) where
         let enough : is.times + (length stored - is.times) ≡ length stored = omega arith in
         sym (is.settled (length stored - is.times) (omega arith)) ∙ ap (λ k. expanded_by k stored g) enough
 
+    pub all_within : IsWithinLimits (expanded stored g)
+    all_within = subst (λ (h : PlainGraph). IsWithinLimits h) all_rounds is.within
+
     abbrev LastFault : Fault → Type 0
     LastFault f = OfObject stored true f [] [] after.nodes
 
@@ -190,9 +194,10 @@ none_by P (Some f) least none = absurd (true≢false none)
 
 -- a graph that calls no stored process and has no fault of names is its own expansion
 pub itself_expanded : (stored : List PlainStored) (g : Graph) (o : Option Fault) → AreValidStored stored → IsValidGraph (plain_graph g)
+    → IsWithinLimits (plain_graph g)
     → nodes_call stored (plain_graph g).nodes ≡ false → IsLeastOf (λ f. OfObject stored true f [] [] (plain_graph g).nodes) o
     → is_some o ≡ false → IsExpansion stored (plain_graph g) (g, None)
-itself_expanded stored written o stored_valid valid no_call least none =
+itself_expanded stored written o stored_valid valid within no_call least none =
     let g = plain_graph written in
     let faultless = none_by (λ f. OfObject stored true f [] [] g.nodes) o least none in
     let same = known_same stored true g faultless in
@@ -204,5 +209,10 @@ itself_expanded stored written o stored_valid valid no_call least none =
           ∙ same;
       few = omega arith;
       early = early_none stored g;
+      within = within;
     } in
-    record { graph = all_rounds stored g g None None is; fault = all_faults stored g g None None is faultless }
+    record {
+      graph = all_rounds stored g g None None is;
+      fault = all_faults stored g g None None is faultless;
+      within = all_within stored g g None None is;
+    }

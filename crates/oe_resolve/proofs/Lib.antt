@@ -35,3 +35,5 @@ pub mod RecursLemmas
 pub mod FirstCallLemmas
 pub mod FitLemmas
 pub mod LargeLemmas
+pub mod NoCallLemmas
+pub mod SizeLemmas

@@ -186,7 +186,7 @@ callback_unfilled m g has =
     (callbacks-defaults (of_row (process_named m.process_id)) (filled_named m.arguments) g
     (subst (λ ms. Contains (callbacks_named ms) g) (filled_arguments m) has)))
 
-node_unfilled : (outer whole_outer : Nodes) (n : PlainNode) → whole_outer ≡ filled_nodes outer → Contains (each_node whole_outer) n
+pub node_unfilled : (outer whole_outer : Nodes) (n : PlainNode) → whole_outer ≡ filled_nodes outer → Contains (each_node whole_outer) n
     → Image filled_node (each_node outer) n
 node_unfilled outer whole_outer n is has =
     in_map filled_node (each_node outer) n

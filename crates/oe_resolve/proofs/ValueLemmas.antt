@@ -71,7 +71,7 @@ mutual
 
 -- ---- hidden in one list of names and then in another
 
-any_append : (test : List ℕ → Bool) (xs ys : List (List ℕ))
+pub any_append : (test : List ℕ → Bool) (xs ys : List (List ℕ))
     → list_any test (xs ++ ys) ≡ (list_any test xs || list_any test ys)
 any_append test [] ys = refl
 any_append test (x ∷ xs) ys = ap (λ b. test x || b) (any_append test xs ys) ∙ or_split (test x) (list_any test xs) (list_any test ys)

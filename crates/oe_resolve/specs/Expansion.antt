@@ -1,4 +1,5 @@
--- For private functions. What expanding gives: the graph after all rounds, and the least fault of names.
+-- For private functions. What expanding gives: the graph after all rounds, within its limits, and the least fault of
+-- names.
 use Rattle.std.specs.Prelude.{◌≡◌, ◌<◌, ◌≤◌, ◌+◌, ℕ, false, List, [], length, Option}
 use Rattle.oe_graph.specs.Codes.{phase_of}
 use Rattle.oe_graph.specs.Tree.{PlainGraph, PlainStored}
@@ -8,6 +9,7 @@ use Rattle.oe_graph.specs.declared.tree.Graph.{Graph}
 use Rattle.oe_resolve.specs.Faults.{StandsWithStored}
 use Rattle.oe_resolve.specs.Judged.{IsLeastFault, OfObject}
 use Rattle.oe_resolve.specs.Rounds.{expanded_by, expanded}
+use Rattle.oe_resolve.specs.Sizes.{IsWithinLimits}
 
 -- a fault of names that stands
 abbrev pub IsNameFault : List PlainStored → PlainGraph → Fault → Type 0
@@ -16,6 +18,7 @@ IsNameFault stored g f = (phase_of f.code ≡ 4) × StandsWithStored stored g f.
 pub record IsExpansion (stored : List PlainStored) (g : PlainGraph) (result : Graph × Option Fault) : Type 0 where
   pub graph : plain_graph result.0 ≡ expanded stored g
   pub fault : IsLeastFault (IsNameFault stored g) result.1
+  pub within : IsWithinLimits (expanded stored g)
 
 -- a fault in the graph before one of so many rounds
 pub record IsEarly (stored : List PlainStored) (g : PlainGraph) (times : ℕ) (f : Fault) : Type 0 where
@@ -30,3 +33,4 @@ pub record IsSettled (stored : List PlainStored) (g after : PlainGraph) (fault :
   pub settled : (more : ℕ) → times + more ≤ length stored → expanded_by (times + more) stored g ≡ after
   pub few : times ≤ length stored
   pub early : IsLeastFault (IsEarly stored g times) fault
+  pub within : IsWithinLimits after

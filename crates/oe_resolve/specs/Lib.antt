@@ -3,6 +3,7 @@ pub mod Replaced
 pub mod Seen
 pub mod Rounds
 pub mod Filled
+pub mod Sizes
 pub mod Faults
 pub mod Judged
 pub mod Counted

@@ -1,6 +1,7 @@
--- What the code keeps of the values of parameters: those of the call, and in a callback which of them are hidden; and
+-- What the code keeps of the values of parameters: those of the call, and in a callback which of them are hidden; their
+-- sizes; and
 -- what it keeps to find the nodes of a graph object.
-use Rattle.std.specs.Prelude.{◌≡◌, ℕ, List, map, if◌then◌else◌}
+use Rattle.std.specs.Prelude.{◌≡◌, ℕ, List, Option, map, if◌then◌else◌}
 use denote.Bor.{Bor}
 use Rattle.oe_dims.specs.Names.{names_rise}
 use Rattle.oe_graph.specs.Plain.{plain_named, plain_nodes}
@@ -9,6 +10,7 @@ use Rattle.oe_graph.specs.Tree.{Named}
 use Rattle.oe_resolve.specs.Replaced.{inside}
 use Rattle.oe_resolve.specs.declared.find.Beside.{Beside}
 use Rattle.oe_resolve.specs.declared.values.Values.{Values}
+use Rattle.oe_resolve.specs.declared.weigh.ParameterSize.{ParameterSize}
 
 -- the names behind references
 abbrev pub names_behind : List (Bor (List ℕ)) → List (List ℕ)
@@ -19,6 +21,10 @@ abbrev pub seen : Values → Named
 seen values =
     if values.carried then inside (names_behind values.hidden.items) (plain_named values.given.now.items)
     else plain_named values.given.now.items
+
+-- the sizes of the values of parameters
+abbrev pub plain_sizes : List ParameterSize → List (List ℕ × Option ℕ)
+plain_sizes sizes = map (λ (s : ParameterSize). (s.name, s.size)) sizes
 
 -- it is noted whether the ids of the nodes rise
 abbrev pub NotesRise : Beside → Type 0

@@ -15,18 +15,21 @@ mod under;
 mod values;
 mod weigh;
 
-ghost use Rattle.std.specs.Prelude.{◌≡◌, ℕ, true, List, [], None, IfOk, IfErr, map};
+ghost use Rattle.std.specs.Prelude.{◌≡◌, ℕ, true, List, [], None, IfOk, IfErr, Contains, map};
 ghost use Rattle.oe_graph.specs.declared.code.Code.{Code};
 ghost use Rattle.oe_graph.specs.Plain.{plain_graph, plain_stored};
 ghost use Rattle.oe_graph.specs.Read.{IsFault};
+ghost use Rattle.oe_graph.specs.References.{each_node};
 ghost use Rattle.oe_graph.specs.Resolved.{IsResolved};
-ghost use Rattle.oe_graph.specs.Tree.{PlainGraph};
+ghost use Rattle.oe_graph.specs.Tree.{PlainGraph, PlainNode, PlainStored};
+ghost use Rattle.oe_resolve.specs.Calls.{Calls};
 ghost use Rattle.oe_resolve.specs.Faults.{StandsWithStored};
 ghost use Rattle.oe_resolve.specs.Called.{nodes_call};
 ghost use Rattle.oe_resolve.specs.Expansion.{IsExpansion, IsSettled};
 ghost use Rattle.oe_resolve.specs.Filled as spec;
 ghost use Rattle.oe_resolve.specs.Judged.{IdsRise, IsLeastFault, OfObject};
 ghost use Rattle.oe_resolve.specs.Rounds as rounds;
+ghost use Rattle.oe_resolve.specs.Sizes.{IsWithinLimits};
 ghost use Rattle.oe_graph.specs.Valid.{IsValidGraph, AreValidStored};
 
 use oe_dims::Text;
@@ -34,14 +37,12 @@ use oe_graph::{Code, Fault, Graph, Refusal, StoredProcess, least};
 use oe_memory::OutOfMemory;
 use std::alloc::Global;
 
-/// Most values in the arguments of an expanded graph.
-const MOST_VALUES: u64 = 1048576;
-
 /// The graph with each call of a stored process replaced by its graph and with all defaults (openEO API, process graphs
 /// and user-defined processes).
 ///
 /// Refuses: the least fault of the processes that it calls, of its size and of its names, exactly where one stands; out
-/// of memory, also where an expansion would hold over 1,048,576 values in its arguments.
+/// of memory, also where the graph or an expansion of it would hold over 1,048,576 values in its arguments, over
+/// 16,777,216 bytes of texts among them, or as many of names in them.
 pub fn resolve(alloc: Global, graph: &Graph, stored: &[StoredProcess]) -> Result<Graph, Refusal>
     requires graph_valid { IsValidGraph (plain_graph graph.now) }
     requires stored_valid { AreValidStored (map plain_stored stored.now) }
@@ -49,6 +50,13 @@ pub fn resolve(alloc: Global, graph: &Graph, stored: &[StoredProcess]) -> Result
     ensures graph { IfOk result (λ g. plain_graph g
         ≡ spec.resolved (map plain_stored stored.now) (plain_graph graph.now)) }
     ensures resolved { IfOk result (λ g. IsResolved (plain_graph g)) }
+    // It calls no stored process, at any depth of callbacks.
+    ensures calls_none { IfOk result (λ g. (n : PlainNode) (s : PlainStored)
+        → Contains (each_node (plain_graph g).nodes) n
+        → ¬ Calls (map plain_stored stored.now) n s) }
+    // Before its defaults it holds no more than it may.
+    ensures within { IfOk result (λ g. IsWithinLimits
+        (rounds.expanded (map plain_stored stored.now) (plain_graph graph.now))) }
     // Ok comes exactly where no fault stands, else the least one.
     ensures without_fault { IfOk result (λ g. (code : Code) (node : List ℕ)
         → ¬ StandsWithStored (map plain_stored stored.now) (plain_graph graph.now) code node) }
@@ -65,6 +73,7 @@ pub fn resolve(alloc: Global, graph: &Graph, stored: &[StoredProcess]) -> Result
             node: Text::of(alloc, "")?,
         }));
     }
+    weigh::keep_limits(graph)?;
     if is_expanded(alloc, stored, graph)? {
         return Ok(fill::filled_graph(alloc, graph)?);
     }
@@ -80,6 +89,7 @@ pub fn resolve(alloc: Global, graph: &Graph, stored: &[StoredProcess]) -> Result
 fn is_expanded(alloc: Global, stored: &[StoredProcess], graph: &Graph) -> Result<bool, OutOfMemory>
     requires graph_valid { IsValidGraph (plain_graph graph.now) }
     requires stored_valid { AreValidStored (map plain_stored stored.now) }
+    requires within { IsWithinLimits (plain_graph graph.now) }
     ensures { IfOk result (λ is. is ≡ true
         → IsExpansion (map plain_stored stored.now) (plain_graph graph.now) (graph.now, None)) }
 {
@@ -98,6 +108,7 @@ fn expand(
 ) -> Result<(Graph, Option<Fault>), OutOfMemory>
     requires graph_valid { IsValidGraph (plain_graph graph.now) }
     requires stored_valid { AreValidStored (map plain_stored stored.now) }
+    requires within { IsWithinLimits (plain_graph graph.now) }
     ensures { IfOk result
         (IsExpansion (map plain_stored stored.now) (plain_graph graph.now)) }
 {
@@ -145,14 +156,14 @@ fn names_fault(
     judge::names_fault(alloc, &judge, graph)
 }
 
-/// The graph after a round. More values than a graph may hold are out of memory.
+/// The graph after a round. Refuses: out of memory, also where it would hold more than a graph may, which is known before
+/// anything is built.
 fn next_round(alloc: Global, stored: &[StoredProcess], graph: &Graph) -> Result<Graph, OutOfMemory>
-    ensures { IfOk result (λ g. plain_graph g
+    ensures graph { IfOk result (λ g. plain_graph g
         ≡ rounds.round (map plain_stored stored.now) (plain_graph graph.now)) }
+    ensures within { IfOk result (λ g. IsWithinLimits (plain_graph g)) }
 {
-    if weigh::round_size(alloc, stored, &graph.nodes)? > MOST_VALUES {
-        return Err(OutOfMemory);
-    }
+    weigh::keep_limits_in_round(alloc, stored, graph)?;
     round::round(alloc, stored, graph)
 }
 

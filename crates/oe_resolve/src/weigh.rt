@@ -1,275 +1,506 @@
-// How many values the arguments of a graph hold after a round, counted before the round is built: a parameter that is
-// used twice at each of a few calls would make them grow without bound where the nodes do not. In each cycle the tree
-// that is walked stands first: by its depth they end.
+// How much the arguments of a graph hold, as it is and after a round, counted before the round is built: a parameter
+// that is used twice at each of a few calls would make them grow without bound where the nodes do not. In each cycle the
+// tree that is walked stands first, or behind the allocator: by its depth they end.
+ghost use Rattle.std.specs.Prelude.{◌≡◌, ◌+◌, if◌then◌else◌, IfOk, map, option_map};
+ghost use Rattle.std.specs.List.{list_any};
+ghost use Rattle.oe_dims.specs.Names.{same_name};
+ghost use Rattle.oe_graph.specs.Plain.{plain_arg, plain_args, plain_graph, plain_named, plain_node, plain_nodes, plain_parameter, plain_stored};
+ghost use Rattle.oe_graph.specs.Tree.{Named, Nodes, from_parameter};
+ghost use Rattle.oe_resolve.specs.Calls.{callee};
+ghost use Rattle.oe_resolve.specs.Replaced as replaced;
+ghost use Rattle.oe_resolve.specs.Rounds as rounds;
+ghost use Rattle.oe_resolve.specs.Seen.{names_behind, plain_sizes};
+ghost use Rattle.oe_resolve.specs.Sizes as spec;
+
 use crate::calls::{callback_parameters, callee};
 use crate::names::{is_among, names_of_both, same_text};
 use oe_dims::Text;
-use oe_graph::{Arg, Node, ParameterRow, StoredProcess};
+use oe_graph::{Arg, Graph, Node, ParameterRow, StoredProcess};
 use oe_memory::OutOfMemory;
 use std::alloc::Global;
 
-/// How many values the parameters of a call stand for.
+/// Most values in the arguments of a graph.
+const MOST_VALUES: u64 = 1048576;
+
+/// Most bytes of the texts among them, and of the names in them.
+const MOST_BYTES: u64 = 16777216;
+
+/// What is counted.
+#[derive(Clone, Copy)]
+pub enum Measure {
+    /// The values in arguments, each with those inside it.
+    Values,
+    /// The bytes of the texts among them.
+    TextBytes,
+    /// The bytes of the names of arguments, of members of objects, and of parameters that are referred to.
+    NameBytes,
+}
+
+/// The size of the value of a parameter, where it has one.
 #[derive(Drop)]
-struct Sizes<'a> {
-    parameters: &'a Vec<ParameterRow>,
-    sizes: Vec<u64>,
+pub struct ParameterSize {
+    pub name: Text,
+    pub size: Option<u64>,
 }
 
-/// The values of the arguments of these nodes and of their callbacks after a round.
-pub fn round_size(
-    alloc: Global,
-    stored: &[StoredProcess],
-    nodes: &Vec<Node>,
-) -> Result<u64, OutOfMemory> {
-    nodes_size(alloc, nodes, stored)
+/// The sizes of the values of the parameters of a call.
+#[derive(Drop)]
+pub struct Sizes {
+    pub measure: Measure,
+    pub each: Vec<ParameterSize>,
 }
 
-#[cycle(rounds)]
-fn nodes_size(
+/// Whether a graph holds no more than it may. Refuses: out of memory, where it holds more.
+pub fn keep_limits(graph: &Graph) -> Result<(), OutOfMemory>
+    ensures { IfOk result (λ u. spec.IsWithinLimits (plain_graph graph.now)) }
+{
+    nodes_left(&graph.nodes, Measure::Values, MOST_VALUES)?;
+    nodes_left(&graph.nodes, Measure::TextBytes, MOST_BYTES)?;
+    nodes_left(&graph.nodes, Measure::NameBytes, MOST_BYTES)?;
+    Ok(())
+}
+
+/// Whether a graph will hold no more than it may after a round. Refuses: out of memory, where it would hold more.
+pub fn keep_limits_in_round(
     alloc: Global,
-    nodes: &Vec<Node>,
     stored: &[StoredProcess],
-) -> Result<u64, OutOfMemory> {
-    let mut size: u64 = 0;
+    graph: &Graph,
+) -> Result<(), OutOfMemory>
+    ensures { IfOk result (λ u. spec.IsWithinLimits
+        (rounds.round (map plain_stored stored.now) (plain_graph graph.now))) }
+{
+    round_nodes_left(alloc, &graph.nodes, stored, Measure::Values, MOST_VALUES)?;
+    round_nodes_left(alloc, &graph.nodes, stored, Measure::TextBytes, MOST_BYTES)?;
+    round_nodes_left(alloc, &graph.nodes, stored, Measure::NameBytes, MOST_BYTES)?;
+    Ok(())
+}
+
+/// What is left of a budget from which so much is taken. Refuses: out of memory, where it is less.
+fn left_after(budget: u64, size: u64) -> Result<u64, OutOfMemory>
+    ensures { IfOk result (λ left. budget ≡ left + size) }
+{
+    if size > budget {
+        return Err(OutOfMemory);
+    }
+    Ok(budget - size)
+}
+
+fn value_size(measure: Measure) -> u64
+    ensures { result ≡ spec.value_size measure }
+{
+    match measure {
+        Measure::Values => 1,
+        Measure::TextBytes => 0,
+        Measure::NameBytes => 0,
+    }
+}
+
+fn text_size(measure: Measure, text: &str) -> u64
+    ensures { result ≡ spec.text_size measure text.now }
+{
+    match measure {
+        Measure::Values => 0,
+        Measure::TextBytes => text.len() as u64,
+        Measure::NameBytes => 0,
+    }
+}
+
+fn name_size(measure: Measure, name: &str) -> u64
+    ensures { result ≡ spec.name_size measure name.now }
+{
+    match measure {
+        Measure::Values => 0,
+        Measure::TextBytes => 0,
+        Measure::NameBytes => name.len() as u64,
+    }
+}
+
+/// The size of a reference to a parameter.
+fn reference_size(measure: Measure, name: &str) -> u64
+    ensures { result ≡ spec.size_in measure (from_parameter name.now) }
+{
+    match measure {
+        Measure::Values => 1,
+        Measure::TextBytes => 0,
+        Measure::NameBytes => name.len() as u64,
+    }
+}
+
+// ---- a graph as it is: what is left of a budget from which its arguments are taken
+
+#[cycle(plain)]
+fn nodes_left(nodes: &Vec<Node>, measure: Measure, budget: u64) -> Result<u64, OutOfMemory>
+    ensures { IfOk result
+        (λ left. budget ≡ left + spec.size_nodes measure (plain_nodes nodes.now.items)) }
+{
+    let mut left = budget;
     for node in nodes {
-        size = size.saturating_add(node_size(alloc, node, stored)?);
+        left = node_left(node, measure, left)?;
     }
-    Ok(size)
+    Ok(left)
+}
+
+#[cycle(plain)]
+fn node_left(node: &Node, measure: Measure, budget: u64) -> Result<u64, OutOfMemory>
+    ensures { IfOk result
+        (λ left. budget ≡ left + spec.size_named measure (plain_node node.now).arguments) }
+{
+    named_left(&node.arguments, measure, budget)
+}
+
+#[cycle(plain)]
+fn named_left(members: &Vec<(Text, Arg)>, measure: Measure, budget: u64) -> Result<u64, OutOfMemory>
+    ensures { IfOk result
+        (λ left. budget ≡ left + spec.size_named measure (plain_named members.now.items)) }
+{
+    let mut left = budget;
+    for member in members {
+        left = left_after(left, name_size(measure, member.0.as_str()))?;
+        left = arg_left(&member.1, measure, left)?;
+    }
+    Ok(left)
+}
+
+#[cycle(plain)]
+fn args_left(items: &Vec<Arg>, measure: Measure, budget: u64) -> Result<u64, OutOfMemory>
+    ensures { IfOk result
+        (λ left. budget ≡ left + spec.size_each measure (plain_args items.now.items)) }
+{
+    let mut left = budget;
+    for item in items {
+        left = arg_left(item, measure, left)?;
+    }
+    Ok(left)
+}
+
+#[cycle(plain)]
+fn arg_left(arg: &Arg, measure: Measure, budget: u64) -> Result<u64, OutOfMemory>
+    ensures { IfOk result (λ left. budget ≡ left + spec.size_in measure (plain_arg arg.now)) }
+{
+    let left = left_after(budget, value_size(measure))?;
+    match arg {
+        Arg::Str(text) => left_after(left, text_size(measure, text.as_str())),
+        Arg::List(items) => args_left(items, measure, left),
+        Arg::Object(members) => named_left(members, measure, left),
+        Arg::FromParameter(name) => left_after(left, name_size(measure, name.as_str())),
+        Arg::Callback(graph) => nodes_left(&graph.nodes, measure, left),
+        _ => Ok(left),
+    }
+}
+
+// ---- a graph after a round
+
+#[cycle(rounds)]
+fn round_nodes_left(
+    alloc: Global,
+    nodes: &Vec<Node>,
+    stored: &[StoredProcess],
+    measure: Measure,
+    budget: u64,
+) -> Result<u64, OutOfMemory>
+    ensures { IfOk result (λ left. (all : Nodes) → budget
+        ≡ left + spec.round_size measure (map plain_stored stored.now) all
+        (plain_nodes nodes.now.items)) }
+{
+    let mut left = budget;
+    for node in nodes {
+        left = round_node_left(alloc, node, stored, measure, left)?;
+    }
+    Ok(left)
 }
 
 #[cycle(rounds)]
-fn node_size(alloc: Global, node: &Node, stored: &[StoredProcess]) -> Result<u64, OutOfMemory> {
-    match callee(stored, node) {
-        Some(process) => {
-            let given = named_sizes(alloc, &node.arguments, stored)?;
-            call_size(alloc, stored, process, &node.arguments, &given)
+fn round_node_left(
+    alloc: Global,
+    node: &Node,
+    stored: &[StoredProcess],
+    measure: Measure,
+    budget: u64,
+) -> Result<u64, OutOfMemory>
+    ensures { IfOk result (λ left. (all : Nodes) → budget
+        ≡ left + spec.size_nodes measure (rounds.opened (map plain_stored stored.now)
+        record (plain_node node.now) {
+          arguments = rounds.round_named (map plain_stored stored.now) all
+              (plain_node node.now).arguments;
         }
-        None => named_size(alloc, &node.arguments, stored),
+        (callee (map plain_stored stored.now) node.now.namespace node.now.process_id))) }
+{
+    let Some(process) = callee(stored, node) else {
+        return round_named_left(alloc, &node.arguments, stored, measure, budget);
+    };
+    let mut each = Vec::with_capacity(alloc, process.parameters.len())?;
+    for parameter in &process.parameters {
+        let size = round_given_size(alloc, &node.arguments, stored, measure, parameter)?;
+        each.push(ParameterSize {
+            name: parameter.name.copy()?,
+            size,
+        })?;
     }
+    let sizes = Sizes { measure, each };
+    opened_nodes_left(alloc, &process.graph.nodes, stored, &sizes, &[], budget)
 }
 
 #[cycle(rounds)]
-fn named_size(
+fn round_named_left(
     alloc: Global,
     members: &Vec<(Text, Arg)>,
     stored: &[StoredProcess],
-) -> Result<u64, OutOfMemory> {
-    let mut size: u64 = 0;
+    measure: Measure,
+    budget: u64,
+) -> Result<u64, OutOfMemory>
+    ensures { IfOk result (λ left. (all : Nodes) → budget
+        ≡ left + spec.size_named measure (rounds.round_named (map plain_stored stored.now) all
+        (plain_named members.now.items))) }
+{
+    let mut left = budget;
     for member in members {
-        size = size.saturating_add(arg_size(alloc, &member.1, stored)?);
+        left = left_after(left, name_size(measure, member.0.as_str()))?;
+        left = round_arg_left(alloc, &member.1, stored, measure, left)?;
     }
-    Ok(size)
+    Ok(left)
 }
 
 #[cycle(rounds)]
-fn named_sizes(
-    alloc: Global,
-    members: &Vec<(Text, Arg)>,
-    stored: &[StoredProcess],
-) -> Result<Vec<u64>, OutOfMemory> {
-    let mut sizes = Vec::with_capacity(alloc, members.len())?;
-    for member in members {
-        sizes.push(arg_size(alloc, &member.1, stored)?)?;
-    }
-    Ok(sizes)
-}
-
-#[cycle(rounds)]
-fn args_size(
+fn round_args_left(
     alloc: Global,
     items: &Vec<Arg>,
     stored: &[StoredProcess],
-) -> Result<u64, OutOfMemory> {
-    let mut size: u64 = 0;
+    measure: Measure,
+    budget: u64,
+) -> Result<u64, OutOfMemory>
+    ensures { IfOk result (λ left. (all : Nodes) → budget
+        ≡ left + spec.size_each measure (rounds.round_each (map plain_stored stored.now) all
+        (plain_args items.now.items))) }
+{
+    let mut left = budget;
     for item in items {
-        size = size.saturating_add(arg_size(alloc, item, stored)?);
+        left = round_arg_left(alloc, item, stored, measure, left)?;
     }
-    Ok(size)
+    Ok(left)
 }
 
 #[cycle(rounds)]
-fn arg_size(alloc: Global, arg: &Arg, stored: &[StoredProcess]) -> Result<u64, OutOfMemory> {
-    match arg {
-        Arg::List(items) => Ok(args_size(alloc, items, stored)?.saturating_add(1)),
-        Arg::Object(members) => Ok(named_size(alloc, members, stored)?.saturating_add(1)),
-        Arg::Callback(graph) => Ok(nodes_size(alloc, &graph.nodes, stored)?.saturating_add(1)),
-        _ => Ok(1),
-    }
-}
-
-/// The values of the arguments of the graph of a process that is called with these arguments, which have these sizes.
-fn call_size(
+fn round_arg_left(
     alloc: Global,
+    arg: &Arg,
     stored: &[StoredProcess],
-    process: &StoredProcess,
-    arguments: &Vec<(Text, Arg)>,
-    given: &Vec<u64>,
-) -> Result<u64, OutOfMemory> {
-    let sizes = Sizes {
-        parameters: &process.parameters,
-        sizes: parameter_sizes(alloc, &process.parameters, arguments, given)?,
-    };
-    opened_nodes_size(alloc, &process.graph.nodes, stored, &sizes, &[])
-}
-
-fn parameter_sizes(
-    alloc: Global,
-    parameters: &Vec<ParameterRow>,
-    arguments: &Vec<(Text, Arg)>,
-    given: &Vec<u64>,
-) -> Result<Vec<u64>, OutOfMemory> {
-    let mut sizes = Vec::with_capacity(alloc, parameters.len())?;
-    for parameter in parameters {
-        sizes.push(given_size(parameter, arguments, given))?;
+    measure: Measure,
+    budget: u64,
+) -> Result<u64, OutOfMemory>
+    ensures { IfOk result (λ left. (all : Nodes) → budget
+        ≡ left + spec.size_in measure (rounds.round_argument (map plain_stored stored.now) all
+        (plain_arg arg.now))) }
+{
+    let left = left_after(budget, value_size(measure))?;
+    match arg {
+        Arg::Str(text) => left_after(left, text_size(measure, text.as_str())),
+        Arg::List(items) => round_args_left(alloc, items, stored, measure, left),
+        Arg::Object(members) => round_named_left(alloc, members, stored, measure, left),
+        Arg::FromParameter(name) => left_after(left, name_size(measure, name.as_str())),
+        Arg::Callback(graph) => round_nodes_left(alloc, &graph.nodes, stored, measure, left),
+        _ => Ok(left),
     }
-    Ok(sizes)
 }
 
-fn given_size(parameter: &ParameterRow, arguments: &Vec<(Text, Arg)>, given: &Vec<u64>) -> u64 {
-    for index in 0..arguments.len() {
-        if index < given.len() && same_text(arguments[index].0.as_str(), parameter.name.as_str()) {
-            return given[index];
+/// The size of the value of a parameter of a call with these arguments. Refuses: out of memory, also where it is more
+/// than a graph may hold.
+#[cycle(rounds)]
+fn round_given_size(
+    alloc: Global,
+    arguments: &Vec<(Text, Arg)>,
+    stored: &[StoredProcess],
+    measure: Measure,
+    parameter: &ParameterRow,
+) -> Result<Option<u64>, OutOfMemory>
+    ensures { IfOk result (λ size. (all : Nodes) → size ≡ spec.given_size measure
+        (rounds.round_named (map plain_stored stored.now) all (plain_named arguments.now.items))
+        (plain_parameter parameter.now)) }
+{
+    for argument in arguments {
+        if same_text(argument.0.as_str(), parameter.name.as_str()) {
+            let left = round_arg_left(alloc, &argument.1, stored, measure, MOST_BYTES)?;
+            return Ok(Some(MOST_BYTES - left));
         }
     }
+    default_size(parameter, measure)
+}
+
+/// The size of what a parameter has where no argument is given.
+fn default_size(parameter: &ParameterRow, measure: Measure) -> Result<Option<u64>, OutOfMemory>
+    ensures { IfOk result (λ size. size ≡ option_map (spec.size_in measure)
+        (replaced.default_of (plain_parameter parameter.now))) }
+{
     match &parameter.default {
-        Some(default) => size_of(default),
-        None => 1,
+        Some(default) => {
+            let left = arg_left(default, measure, MOST_BYTES)?;
+            Ok(Some(MOST_BYTES - left))
+        }
+        None if parameter.optional => Ok(Some(value_size(measure))),
+        None => Ok(None),
     }
 }
 
-/// The values of a plain value, itself among them.
-#[cycle(sizes)]
-fn size_of(arg: &Arg) -> u64 {
-    match arg {
-        Arg::List(items) => size_of_items(items).saturating_add(1),
-        Arg::Object(members) => size_of_members(members).saturating_add(1),
-        _ => 1,
-    }
-}
+// ---- the graph of a call, whose parameters have values of these sizes, where they are not hidden
 
-#[cycle(sizes)]
-fn size_of_items(items: &Vec<Arg>) -> u64 {
-    let mut size: u64 = 0;
-    for item in items {
-        size = size.saturating_add(size_of(item));
-    }
-    size
-}
-
-#[cycle(sizes)]
-fn size_of_members(members: &Vec<(Text, Arg)>) -> u64 {
-    let mut size: u64 = 0;
-    for member in members {
-        size = size.saturating_add(size_of(&member.1));
-    }
-    size
-}
-
-/// The values of the arguments of these nodes where each parameter that is not hidden counts as its value.
 #[cycle(opened)]
-fn opened_nodes_size(
+fn opened_nodes_left(
     alloc: Global,
     nodes: &Vec<Node>,
     stored: &[StoredProcess],
     sizes: &Sizes,
     hidden: &[&'static str],
-) -> Result<u64, OutOfMemory> {
-    let mut size: u64 = 0;
+    budget: u64,
+) -> Result<u64, OutOfMemory>
+    ensures { IfOk result (λ left. (values : Named)
+        → spec.HasSizes sizes.now.measure (plain_sizes sizes.now.each.items)
+        (names_behind hidden.now) values
+        → budget ≡ left + spec.size_nodes sizes.now.measure
+        (replaced.replaced_nodes (map plain_stored stored.now) values
+        (plain_nodes nodes.now.items))) }
+{
+    let mut left = budget;
     for node in nodes {
-        size = size.saturating_add(opened_node_size(alloc, node, stored, sizes, hidden)?);
+        left = opened_node_left(alloc, node, stored, sizes, hidden, left)?;
     }
-    Ok(size)
+    Ok(left)
 }
 
 #[cycle(opened)]
-fn opened_node_size(
+fn opened_node_left(
     alloc: Global,
     node: &Node,
     stored: &[StoredProcess],
     sizes: &Sizes,
     hidden: &[&'static str],
-) -> Result<u64, OutOfMemory> {
-    let inner = names_of_both(alloc, callback_parameters(stored, node), hidden)?;
-    opened_named_size(
-        alloc,
-        &node.arguments,
-        stored,
-        sizes,
-        hidden,
-        inner.as_slice(),
-    )
+    budget: u64,
+) -> Result<u64, OutOfMemory>
+    ensures { IfOk result (λ left. (values : Named)
+        → spec.HasSizes sizes.now.measure (plain_sizes sizes.now.each.items)
+        (names_behind hidden.now) values
+        → budget ≡ left + spec.size_named sizes.now.measure
+        (replaced.replaced_node (map plain_stored stored.now) values
+        (plain_node node.now)).arguments) }
+{
+    let own = callback_parameters(stored, node);
+    opened_named_left(alloc, &node.arguments, stored, own, sizes, hidden, budget)
 }
 
 #[cycle(opened)]
-fn opened_named_size(
+fn opened_named_left(
     alloc: Global,
     members: &Vec<(Text, Arg)>,
     stored: &[StoredProcess],
+    own: &'static [&'static str],
     sizes: &Sizes,
     hidden: &[&'static str],
-    inner: &[&'static str],
-) -> Result<u64, OutOfMemory> {
-    let mut size: u64 = 0;
+    budget: u64,
+) -> Result<u64, OutOfMemory>
+    ensures { IfOk result (λ left. (values : Named)
+        → spec.HasSizes sizes.now.measure (plain_sizes sizes.now.each.items)
+        (names_behind hidden.now) values
+        → budget ≡ left + spec.size_named sizes.now.measure
+        (replaced.replaced_named (map plain_stored stored.now) (names_behind own.now) values
+        (plain_named members.now.items))) }
+{
+    let mut left = budget;
     for member in members {
-        let more = opened_arg_size(alloc, &member.1, stored, sizes, hidden, inner)?;
-        size = size.saturating_add(more);
+        left = left_after(left, name_size(sizes.measure, member.0.as_str()))?;
+        left = opened_arg_left(alloc, &member.1, stored, own, sizes, hidden, left)?;
     }
-    Ok(size)
+    Ok(left)
 }
 
 #[cycle(opened)]
-fn opened_args_size(
+fn opened_args_left(
     alloc: Global,
     items: &Vec<Arg>,
     stored: &[StoredProcess],
+    own: &'static [&'static str],
     sizes: &Sizes,
     hidden: &[&'static str],
-    inner: &[&'static str],
-) -> Result<u64, OutOfMemory> {
-    let mut size: u64 = 0;
+    budget: u64,
+) -> Result<u64, OutOfMemory>
+    ensures { IfOk result (λ left. (values : Named)
+        → spec.HasSizes sizes.now.measure (plain_sizes sizes.now.each.items)
+        (names_behind hidden.now) values
+        → budget ≡ left + spec.size_each sizes.now.measure
+        (replaced.replaced_each (map plain_stored stored.now) (names_behind own.now) values
+        (plain_args items.now.items))) }
+{
+    let mut left = budget;
     for item in items {
-        let more = opened_arg_size(alloc, item, stored, sizes, hidden, inner)?;
-        size = size.saturating_add(more);
+        left = opened_arg_left(alloc, item, stored, own, sizes, hidden, left)?;
     }
-    Ok(size)
+    Ok(left)
 }
 
-/// The values of an argument, where those names are hidden in it, and these in its callbacks.
+/// Of an argument whose callbacks have these parameters of their own.
 #[cycle(opened)]
-fn opened_arg_size(
+fn opened_arg_left(
     alloc: Global,
     arg: &Arg,
     stored: &[StoredProcess],
+    own: &'static [&'static str],
     sizes: &Sizes,
     hidden: &[&'static str],
-    inner: &[&'static str],
-) -> Result<u64, OutOfMemory> {
+    budget: u64,
+) -> Result<u64, OutOfMemory>
+    ensures { IfOk result (λ left. (values : Named)
+        → spec.HasSizes sizes.now.measure (plain_sizes sizes.now.each.items)
+        (names_behind hidden.now) values
+        → budget ≡ left + spec.size_in sizes.now.measure
+        (replaced.replaced (map plain_stored stored.now) (names_behind own.now) values
+        (plain_arg arg.now))) }
+{
+    let size = value_size(sizes.measure);
     match arg {
+        Arg::FromParameter(name) => {
+            left_after(budget, parameter_size(sizes, hidden, name.as_str()))
+        }
+        Arg::Str(text) => {
+            let left = left_after(budget, size)?;
+            left_after(left, text_size(sizes.measure, text.as_str()))
+        }
         Arg::List(items) => {
-            let size = opened_args_size(alloc, items, stored, sizes, hidden, inner)?;
-            Ok(size.saturating_add(1))
+            let left = left_after(budget, size)?;
+            opened_args_left(alloc, items, stored, own, sizes, hidden, left)
         }
         Arg::Object(members) => {
-            let size = opened_named_size(alloc, members, stored, sizes, hidden, inner)?;
-            Ok(size.saturating_add(1))
+            let left = left_after(budget, size)?;
+            opened_named_left(alloc, members, stored, own, sizes, hidden, left)
         }
-        Arg::FromParameter(name) => Ok(parameter_size(sizes, hidden, name.as_str())),
         Arg::Callback(graph) => {
-            let size = opened_nodes_size(alloc, &graph.nodes, stored, sizes, inner)?;
-            Ok(size.saturating_add(1))
+            let left = left_after(budget, size)?;
+            let inner = names_of_both(alloc, own, hidden)?;
+            opened_nodes_left(alloc, &graph.nodes, stored, sizes, inner.as_slice(), left)
         }
-        _ => Ok(1),
+        _ => left_after(budget, size),
     }
 }
 
-fn parameter_size(sizes: &Sizes, hidden: &[&'static str], name: &str) -> u64 {
+/// The size of what stands for a parameter.
+fn parameter_size(sizes: &Sizes, hidden: &[&'static str], name: &str) -> u64
+    ensures { result ≡ (if list_any (same_name name.now) (names_behind hidden.now)
+        then spec.size_in sizes.now.measure (from_parameter name.now)
+        else spec.size_for sizes.now.measure (plain_sizes sizes.now.each.items) name.now) }
+{
     if is_among(hidden, name) {
-        return 1;
+        reference_size(sizes.measure, name)
+    } else {
+        size_for(sizes, name)
     }
-    for index in 0..sizes.parameters.len() {
-        if index < sizes.sizes.len() && same_text(sizes.parameters[index].name.as_str(), name) {
-            return sizes.sizes[index];
+}
+
+fn size_for(sizes: &Sizes, name: &str) -> u64
+    ensures { result
+        ≡ spec.size_for sizes.now.measure (plain_sizes sizes.now.each.items) name.now }
+{
+    for parameter in &sizes.each {
+        if let Some(size) = parameter.size {
+            if same_text(parameter.name.as_str(), name) {
+                return size;
+            }
         }
     }
-    1
+    reference_size(sizes.measure, name)
 }

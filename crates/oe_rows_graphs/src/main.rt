@@ -24,6 +24,7 @@
 //! | Line | What it does |
 //! |---|---|
 //! | `resolve P Q R < GRAPH` | the text of a graph that is resolved beside the stored processes `p`, `q` and `r` of these texts, or its fault; `-` is the text of one load; they have no blanks |
+//! | `repeated CALLS TIMES NULLS < VALUE` | `resolved`, or `out of memory` where it would hold too much, for a graph that calls `q` with this value, where `q` hands it on to so many calls of `p`, and `p` lists it so often and so many nulls; `zeros N` is a list of so many zeros, `text N` a text of so many bytes, `name N` an object with one null, whose name has so many bytes |
 //! | `collection ID DATES BANDS SIDE` | has a collection of numbers with so many dates, a day apart, these bands, and so many rows, whose labels fall from 0, and columns, whose labels rise from 0; ids come in byte order |
 //! | `figures SIZES < GRAPH` | how many cells a run holds, and in how many chunks it goes |
 //! | `plan SIZES < GRAPH` | the plan of a graph, or how many cells are too many |
@@ -111,6 +112,7 @@ mod gate;
 mod graphs;
 mod needs;
 mod plans;
+mod repeated;
 mod resolved;
 mod runs;
 mod sources;

@@ -3,6 +3,7 @@ ghost use Rattle.std.specs.Prelude.{◌<◌, length};
 ghost use Rattle.oe_plan.specs.Ranges.{IsWithinRanges};
 
 use crate::checked::{Sizes, checked_of, sizes_of};
+use crate::repeated::spell_repeated;
 use crate::resolved::spell_resolved;
 use crate::windows::spell_windows;
 use oe_dims::{CellKind, Dims, DimsRow, Shape, Text};
@@ -85,8 +86,10 @@ fn answer_to(
     answers: &mut Vec<u8>,
 ) -> Result<(), Fault> {
     let (words, graph) = parts_of(line, " < ")?;
-    if verb == "resolve" {
-        return spell_resolved(alloc, words, graph, answers);
+    match verb {
+        "resolve" => return spell_resolved(alloc, words, graph, answers),
+        "repeated" => return spell_repeated(alloc, words, graph, answers),
+        _ => {}
     }
     let checked = checked_of(alloc, graph, dims)?;
     match verb {

@@ -43,7 +43,7 @@ pub(crate) fn spell_refusal(refusal: &Refusal, answers: &mut Vec<u8>) -> Result<
 }
 
 /// The stored processes p, q and r.
-fn stored_of(alloc: Global, words: &str) -> Result<Vec<StoredProcess>, Fault>
+pub(crate) fn stored_of(alloc: Global, words: &str) -> Result<Vec<StoredProcess>, Fault>
     ensures { IfOk result (λ v. AreValidStored (map plain_stored v.items)) }
 {
     let [p, q, r, ..] = words_of(words);

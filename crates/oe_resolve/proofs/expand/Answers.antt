@@ -9,13 +9,20 @@ use Rattle.oe_resolve.specs.Expansion.{IsEarly, IsExpansion, IsSettled}
 use Rattle.oe_resolve.specs.Judged.{IdsRise, OfObject}
 use Rattle.oe_resolve.specs.Rounds as rounds
 use Rattle.oe_resolve.specs.Rounds.{expanded_by, known_graph}
+use Rattle.oe_resolve.specs.Sizes.{IsWithinLimits}
 use Rattle.oe_resolve.proofs.ExpandLemmas.{rise_by, early_none, early_more, settled_by}
+use Rattle.oe_resolve.proofs.SizeLemmas.{known_within}
 use Rattle.oe_resolve.proofs.expand.Goals as goal
 use Rattle.oe_resolve.proofs.expand.Goals.{then-loop-times-test+else-has_call, else-loop-times-test}
 
 pub loop-times-init : goal.loop-times-init
-loop-times-init c =
-    (omega arith, c.in_ok-first.ensures, early_none (map plain_stored c.args.stored.now) (plain_graph c.args.graph.now), λ below. absurd (omega arith))
+loop-times-init c = (
+  omega arith,
+  c.in_ok-first.ensures,
+  early_none (map plain_stored c.args.stored.now) (plain_graph c.args.graph.now),
+  λ below. absurd (omega arith),
+  subst (λ (h : PlainGraph). IsWithinLimits h) (sym c.in_ok-first.ensures) (known_within (plain_graph c.args.graph.now) c.requires.within),
+)
 
 pub names_fault-requires : goal.names_fault-requires
 names_fault-requires c =
@@ -43,7 +50,7 @@ loop-times-preserved c =
     let known = c.in_ok-known.ensures (subst (λ (h : PlainGraph). nodes_call stored h.nodes ≡ true) (sym c.in_ok-first.ensures) called) in
     let next : suc times ≡ times + 1 = omega arith in (
       omega (arith, c.loop-times-test.true),
-      c.in_ok-expanded.ensures
+      c.in_ok-expanded.ensures.graph
           ∙ ap (λ xs. rounds.round (map plain_stored xs) (plain_graph c.loop-times.expanded)) c.as_slice.ensures.value
           ∙ ap (λ xs. rounds.round xs (plain_graph c.loop-times.expanded)) known
           ∙ ap (rounds.round (map rounds.known_stored stored)) c.loop-times.invariant.1
@@ -52,6 +59,7 @@ loop-times-preserved c =
           (early_more stored g times c.loop-times.fault c.in_ok-found.found c.loop-times.invariant.2
           (subst (λ (h : PlainGraph). IsLeastOf (λ f. OfObject stored false f [] [] h.nodes) c.in_ok-found.found) c.loop-times.invariant.1 c.in_ok-found.ensures)),
       λ below. called,
+      c.in_ok-expanded.ensures.within,
     )
 
 pub judge_last-requires : goal.judge_last-requires
@@ -84,5 +92,6 @@ returns c =
       ];
       few = omega (arith, c.loop-times.invariant.0, length-map c.args.stored.now plain_stored);
       early = c.loop-times.invariant.2;
+      within = c.loop-times.invariant.4;
     } in
     IfOk-weaker c.judge_last.result _ (IsExpansion stored g) (λ r each. each g is) c.judge_last.ensures

@@ -9,5 +9,5 @@ names_fault-requires c = record { rise = rise_of (plain_graph c.args.graph.now) 
 pub returns : goal.returns
 returns c is =
     itself_expanded (map plain_stored c.args.stored.now) c.args.graph.now c.in_ok-fault.fault
-    c.requires.stored_valid c.requires.graph_valid (sym c.has_call.ensures ∙ c.if-has_call.false)
+    c.requires.stored_valid c.requires.graph_valid c.requires.within (sym c.has_call.ensures ∙ c.if-has_call.false)
     c.in_ok-fault.ensures (c.is_none.ensures ∙ ap not is)

@@ -1,11 +1,13 @@
-use Rattle.std.proofs.Common.{◌≡◌, ◌≢◌, false, true, List, [], ◌∙◌, None, ap, map, refl, sym, subst, true≢false}
+use Rattle.std.proofs.Common.{◌≡◌, ◌≢◌, false, true, List, [], ◌∙◌, None, Contains, ap, map, refl, sym, subst, true≢false}
 use Rattle.oe_graph.specs.Plain.{plain_graph, plain_stored}
+use Rattle.oe_graph.specs.References.{each_node}
 use Rattle.oe_graph.specs.Resolved.{IsResolved}
 use Rattle.oe_graph.specs.Tree.{PlainGraph}
 use Rattle.oe_graph.specs.declared.code.Code.TheVariants.{GraphTooLarge}
 use Rattle.oe_resolve.specs.Faults.{StandsWithStored}
 use Rattle.oe_resolve.specs.Filled.{filled_graph}
 use Rattle.oe_resolve.proofs.ExpansionLemmas.{resolved-without_fault}
+use Rattle.oe_resolve.proofs.NoCallLemmas.{calls_none}
 use Rattle.oe_resolve.proofs.RefusalLemmas.{of_calls_least, of_size_least, of_names_least, without_fault}
 use Rattle.oe_resolve.proofs.resolve.Goals as goal
 
@@ -66,3 +68,34 @@ returns-clause-resolved c =
     c.in_default.is (λ has. true≢false (sym (c.in_ok-is_too_large.ensures.1 has) ∙ c.if-branch.false))
     c.in_ok-expanded.fault c.in_ok-expanded.ensures.fault c.in_default-fault.is)
     c.requires.graph_valid)
+
+pub returns-then-branch-2-clause-calls_none : goal.returns-then-branch-2-clause-calls_none
+returns-then-branch-2-clause-calls_none c n s has =
+    let stored = map plain_stored c.args.stored.now in
+    let g = plain_graph c.args.graph.now in
+    let expansion = c.in_ok-is_expanded.ensures c.if-branch-2.true in
+    calls_none stored g c.requires.stored_valid
+    (without_fault stored g c.in_ok-fault.field-0 c.in_ok-fault.ensures
+    c.in_default.is (λ has. true≢false (sym (c.in_ok-is_too_large.ensures.1 has) ∙ c.if-branch.false))
+    None expansion.fault refl)
+    c.requires.graph_valid n s
+    (subst (λ (h : PlainGraph). Contains (each_node h.nodes) n)
+    (c.in_ok-filled_graph.ensures ∙ ap (λ (h : PlainGraph). filled_graph h) expansion.graph) has)
+
+pub returns-clause-calls_none : goal.returns-clause-calls_none
+returns-clause-calls_none c n s has =
+    let stored = map plain_stored c.args.stored.now in
+    let g = plain_graph c.args.graph.now in
+    calls_none stored g c.requires.stored_valid
+    (without_fault stored g c.in_ok-fault.field-0 c.in_ok-fault.ensures
+    c.in_default.is (λ has. true≢false (sym (c.in_ok-is_too_large.ensures.1 has) ∙ c.if-branch.false))
+    c.in_ok-expanded.fault c.in_ok-expanded.ensures.fault c.in_default-fault.is)
+    c.requires.graph_valid n s
+    (subst (λ (h : PlainGraph). Contains (each_node h.nodes) n)
+    (c.in_ok-filled_graph-2.ensures ∙ ap (λ (h : PlainGraph). filled_graph h) c.in_ok-expanded.ensures.graph) has)
+
+pub returns-then-branch-2-clause-within : goal.returns-then-branch-2-clause-within
+returns-then-branch-2-clause-within c = (c.in_ok-is_expanded.ensures c.if-branch-2.true).within
+
+pub returns-clause-within : goal.returns-clause-within
+returns-clause-within c = c.in_ok-expanded.ensures.within
