@@ -36,4 +36,5 @@ pub mod FirstCallLemmas
 pub mod FitLemmas
 pub mod LargeLemmas
 pub mod NoCallLemmas
+pub mod BareLemmas
 pub mod SizeLemmas

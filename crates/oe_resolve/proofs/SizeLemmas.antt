@@ -21,6 +21,7 @@ use Rattle.oe_resolve.specs.Sizes.{value_size, size_in, size_each, size_named, s
 use Rattle.oe_resolve.specs.declared.weigh.ParameterSize.{ParameterSize}
 use Rattle.oe_resolve.specs.declared.weigh.Measure.{Measure}
 use Rattle.oe_resolve.specs.declared.weigh.Measure.TheVariants.{Values, TextBytes, NameBytes}
+use Rattle.oe_resolve.proofs.BareLemmas.{bare_known, callee_none}
 use Rattle.oe_resolve.proofs.NodeLemmas.{graph_parts, node_parts}
 use Rattle.oe_resolve.proofs.ValueLemmas.{argument_named-inside, any_append}
 
@@ -41,7 +42,8 @@ module _ (m : Measure) where
     size_known ids (object ms) = ap (λ n. value_size m + n) (size_known_named ids ms)
     size_known ids (from_node id) = refl
     size_known ids (from_parameter name) = refl
-    size_known ids (callback ns result) = ap (λ n. value_size m + n) (size_known_nodes _ ns)
+    size_known ids (callback ns result) =
+        ap (λ n. value_size m + n) (both _ _ _ _ (bare_known m (ids_of ns) ns) (size_known_nodes (ids_of ns) ns))
 
     size_known_each : (ids : List (List ℕ)) (rest : ListValues) → size_each m (known_each ids rest) ≡ size_each m rest
     size_known_each ids no_arguments = refl
@@ -219,11 +221,6 @@ pub size_uncalled : (m : Measure) (stored : List PlainStored) (n : PlainNode) (o
     → budget ≡ left + size_named m n.arguments → budget ≡ left + size_nodes m (opened stored n o)
 size_uncalled m stored n o budget left is taken =
     subst (λ p. budget ≡ left + size_nodes m (opened stored n p)) (sym is) (omega (arith, taken))
-
-callee_none : (o : Option (Bor StoredProcess)) (found : Option PlainStored) → option_map (λ (s : Bor StoredProcess). plain_stored s.now) o ≡ found
-    → ((s : Bor StoredProcess) → o ≡ Some s → ⊥) → found ≡ None
-callee_none None found is none = sym is
-callee_none (Some s) found is none = absurd (none s refl)
 
 -- what stands in place of a node of the code that calls no stored process
 pub node_uncalled : (m : Measure) (stored : List PlainStored) (n : Node) (arguments : Named → Named) (o : Option (Bor StoredProcess))

@@ -7,13 +7,13 @@ use Rattle.oe_graph.specs.References.{argument_named}
 use Rattle.oe_graph.specs.Tree.{Argument, null, flag, whole, inexact, text, list, object, from_node, from_parameter, callback, ListValues, no_arguments, argument, Named, no_named, named, Nodes, no_nodes, node, PlainGraph, PlainNode, PlainParameter, PlainStored}
 use Rattle.oe_resolve.specs.Calls.{callee}
 use Rattle.oe_resolve.specs.Replaced.{default_of}
-use Rattle.oe_resolve.specs.Rounds.{opened, round_named}
+use Rattle.oe_resolve.specs.Rounds.{opened, round_named, under_nodes}
 use Rattle.oe_resolve.specs.declared.weigh.Measure.{Measure}
 use Rattle.oe_resolve.specs.declared.weigh.Measure.TheVariants.{Values, TextBytes, NameBytes}
 
 -- ---- what is counted
 
--- the values in arguments, each with those inside it
+-- the values in arguments, each with those inside it, of which a node of a callback is one
 abbrev pub value_size : Measure → ℕ
 value_size Values = 1
 value_size TextBytes = 0
@@ -25,12 +25,22 @@ text_size Values s = 0
 text_size TextBytes s = length s
 text_size NameBytes s = 0
 
--- the bytes of the names in them: of arguments, of the members of objects, and of parameters that are referred to
+-- the bytes of the names in them: of arguments, of the members of objects, of parameters that are referred to, and in
+-- callbacks the ids of nodes and of their processes
 abbrev pub name_size : Measure → List ℕ → ℕ
 name_size Values name = 0
 name_size TextBytes name = 0
 name_size NameBytes name = length name
 
+-- of a node of a callback without its arguments, and of all its nodes
+abbrev pub size_bare : Measure → List ℕ → List ℕ → ℕ
+size_bare m id process_id = value_size m + name_size m id + name_size m process_id
+
+abbrev pub size_bare_nodes : Measure → Nodes → ℕ
+size_bare_nodes m no_nodes = 0
+size_bare_nodes m (node id process_id namespace arguments rest) = size_bare m id process_id + size_bare_nodes m rest
+
+-- of an argument, and of the arguments of nodes
 abbrev mutual
   pub size_in : Measure → Argument → ℕ
   size_in m null = value_size m
@@ -42,7 +52,7 @@ abbrev mutual
   size_in m (object ms) = value_size m + size_named m ms
   size_in m (from_node id) = value_size m
   size_in m (from_parameter name) = value_size m + name_size m name
-  size_in m (callback ns result) = value_size m + size_nodes m ns
+  size_in m (callback ns result) = value_size m + (size_bare_nodes m ns + size_nodes m ns)
 
   pub size_each : Measure → ListValues → ℕ
   size_each m no_arguments = 0
@@ -78,6 +88,16 @@ round_size m stored all (node id process_id namespace arguments rest) =
     (record { id = id; process_id = process_id; namespace = namespace; arguments = round_named stored all arguments })
     (callee stored namespace process_id))
     + round_size m stored all rest
+
+-- of the same nodes without their arguments
+abbrev pub opened_bare : Measure → List ℕ → List ℕ → Option PlainStored → ℕ
+opened_bare m id process_id None = size_bare m id process_id
+opened_bare m id process_id (Some s) = size_bare_nodes m (under_nodes id s.graph.nodes)
+
+abbrev pub round_bare : Measure → List PlainStored → Nodes → ℕ
+round_bare m stored no_nodes = 0
+round_bare m stored (node id process_id namespace arguments rest) =
+    opened_bare m id process_id (callee stored namespace process_id) + round_bare m stored rest
 
 -- the size of the value of a parameter of a process that is called with these arguments, where it has one
 abbrev pub given_size : Measure → Named → PlainParameter → Option ℕ

@@ -41,8 +41,8 @@ use std::alloc::Global;
 /// and user-defined processes).
 ///
 /// Refuses: the least fault of the processes that it calls, of its size and of its names, exactly where one stands; out
-/// of memory, also where the graph or an expansion of it would hold over 1,048,576 values in its arguments, over
-/// 16,777,216 bytes of texts among them, or as many of names in them.
+/// of memory, also where the graph or an expansion of it would hold over 1,048,576 values in its arguments, of which a
+/// node of a callback is one, over 16,777,216 bytes of texts among them, or as many of names in them.
 pub fn resolve(alloc: Global, graph: &Graph, stored: &[StoredProcess]) -> Result<Graph, Refusal>
     requires graph_valid { IsValidGraph (plain_graph graph.now) }
     requires stored_valid { AreValidStored (map plain_stored stored.now) }

@@ -14,6 +14,7 @@ ghost use Rattle.oe_resolve.specs.Sizes as spec;
 
 use crate::calls::{callback_parameters, callee};
 use crate::names::{is_among, names_of_both, same_text};
+use crate::under::under_id;
 use oe_dims::Text;
 use oe_graph::{Arg, Graph, Node, ParameterRow, StoredProcess};
 use oe_memory::OutOfMemory;
@@ -28,11 +29,12 @@ const MOST_BYTES: u64 = 16777216;
 /// What is counted.
 #[derive(Clone, Copy)]
 pub enum Measure {
-    /// The values in arguments, each with those inside it.
+    /// The values in arguments, each with those inside it, of which a node of a callback is one.
     Values,
     /// The bytes of the texts among them.
     TextBytes,
-    /// The bytes of the names of arguments, of members of objects, and of parameters that are referred to.
+    /// The bytes of the names of arguments, of members of objects, of parameters that are referred to, and in callbacks
+    /// of the ids of nodes and of their processes.
     NameBytes,
 }
 
@@ -126,6 +128,100 @@ fn reference_size(measure: Measure, name: &str) -> u64
     }
 }
 
+// ---- the nodes of a callback without their arguments: what is left of a budget from which they are taken
+
+fn bare_left(
+    id: &Text,
+    process_id: &Text,
+    measure: Measure,
+    budget: u64,
+) -> Result<u64, OutOfMemory>
+    ensures { IfOk result
+        (λ left. budget ≡ left + spec.size_bare measure id.now process_id.now) }
+{
+    let left = left_after(budget, value_size(measure))?;
+    let left = left_after(left, name_size(measure, id.as_str()))?;
+    left_after(left, name_size(measure, process_id.as_str()))
+}
+
+/// Of a node in a call.
+fn under_left(
+    alloc: Global,
+    call: &Text,
+    node: &Node,
+    measure: Measure,
+    budget: u64,
+) -> Result<u64, OutOfMemory>
+    ensures { IfOk result (λ left. budget ≡ left
+        + spec.size_bare measure (rounds.under_id call.now node.now.id) node.now.process_id) }
+{
+    let id = under_id(alloc, call.as_str(), node.id.as_str())?;
+    bare_left(&id, &node.process_id, measure, budget)
+}
+
+fn bare_nodes_left(nodes: &Vec<Node>, measure: Measure, budget: u64) -> Result<u64, OutOfMemory>
+    ensures { IfOk result
+        (λ left. budget ≡ left + spec.size_bare_nodes measure (plain_nodes nodes.now.items)) }
+{
+    let mut left = budget;
+    for node in nodes {
+        left = bare_left(&node.id, &node.process_id, measure, left)?;
+    }
+    Ok(left)
+}
+
+fn under_nodes_left(
+    alloc: Global,
+    call: &Text,
+    nodes: &Vec<Node>,
+    measure: Measure,
+    budget: u64,
+) -> Result<u64, OutOfMemory>
+    ensures { IfOk result (λ left. budget ≡ left + spec.size_bare_nodes measure
+        (rounds.under_nodes call.now (plain_nodes nodes.now.items))) }
+{
+    let mut left = budget;
+    for node in nodes {
+        left = under_left(alloc, call, node, measure, left)?;
+    }
+    Ok(left)
+}
+
+/// Of what stands in place of a node after a round.
+fn opened_bare_left(
+    alloc: Global,
+    node: &Node,
+    stored: &[StoredProcess],
+    measure: Measure,
+    budget: u64,
+) -> Result<u64, OutOfMemory>
+    ensures { IfOk result (λ left. budget
+        ≡ left + spec.opened_bare measure node.now.id node.now.process_id
+        (callee (map plain_stored stored.now) node.now.namespace node.now.process_id)) }
+{
+    let Some(process) = callee(stored, node) else {
+        return bare_left(&node.id, &node.process_id, measure, budget);
+    };
+    under_nodes_left(alloc, &node.id, &process.graph.nodes, measure, budget)
+}
+
+fn round_bare_left(
+    alloc: Global,
+    nodes: &Vec<Node>,
+    stored: &[StoredProcess],
+    measure: Measure,
+    budget: u64,
+) -> Result<u64, OutOfMemory>
+    ensures { IfOk result (λ left. budget ≡ left
+        + spec.round_bare measure (map plain_stored stored.now) (plain_nodes nodes.now.items)) }
+{
+    let mut left = budget;
+    for node in nodes {
+        left = opened_bare_left(alloc, node, stored, measure, left)?;
+    }
+    Ok(left)
+}
+
 // ---- a graph as it is: what is left of a budget from which its arguments are taken
 
 #[cycle(plain)]
@@ -183,7 +279,10 @@ fn arg_left(arg: &Arg, measure: Measure, budget: u64) -> Result<u64, OutOfMemory
         Arg::List(items) => args_left(items, measure, left),
         Arg::Object(members) => named_left(members, measure, left),
         Arg::FromParameter(name) => left_after(left, name_size(measure, name.as_str())),
-        Arg::Callback(graph) => nodes_left(&graph.nodes, measure, left),
+        Arg::Callback(graph) => {
+            let inner = bare_nodes_left(&graph.nodes, measure, left)?;
+            nodes_left(&graph.nodes, measure, inner)
+        }
         _ => Ok(left),
     }
 }
@@ -297,7 +396,10 @@ fn round_arg_left(
         Arg::List(items) => round_args_left(alloc, items, stored, measure, left),
         Arg::Object(members) => round_named_left(alloc, members, stored, measure, left),
         Arg::FromParameter(name) => left_after(left, name_size(measure, name.as_str())),
-        Arg::Callback(graph) => round_nodes_left(alloc, &graph.nodes, stored, measure, left),
+        Arg::Callback(graph) => {
+            let inner = round_bare_left(alloc, &graph.nodes, stored, measure, left)?;
+            round_nodes_left(alloc, &graph.nodes, stored, measure, inner)
+        }
         _ => Ok(left),
     }
 }
@@ -471,8 +573,9 @@ fn opened_arg_left(
         }
         Arg::Callback(graph) => {
             let left = left_after(budget, size)?;
+            let room = bare_nodes_left(&graph.nodes, sizes.measure, left)?;
             let inner = names_of_both(alloc, own, hidden)?;
-            opened_nodes_left(alloc, &graph.nodes, stored, sizes, inner.as_slice(), left)
+            opened_nodes_left(alloc, &graph.nodes, stored, sizes, inner.as_slice(), room)
         }
         _ => left_after(budget, size),
     }

@@ -9,7 +9,8 @@ use Rattle.oe_graph.specs.declared.tree.Graph.{out-Graph}
 use Rattle.oe_resolve.specs.Calls.{callback_parameters}
 use Rattle.oe_resolve.specs.Replaced.{inside, replaced, replaced_each, replaced_named, replaced_node, replaced_nodes}
 use Rattle.oe_resolve.specs.Seen.{names_behind, plain_sizes}
-use Rattle.oe_resolve.specs.Sizes.{HasSizes, value_size, size_in, size_each, size_named, size_nodes}
+use Rattle.oe_resolve.specs.Sizes.{HasSizes, value_size, size_bare_nodes, size_in, size_each, size_named, size_nodes}
+use Rattle.oe_resolve.proofs.BareLemmas.{bare_replaced}
 use Rattle.oe_resolve.proofs.FaultLemmas.{list_is, object_is, callback_is}
 use Rattle.oe_resolve.proofs.NodeLemmas.{node_parts}
 use Rattle.oe_resolve.proofs.SizeLemmas.{has_inside_behind, size_next}
@@ -143,10 +144,14 @@ opened_arg_left-returns-in_ok-inner-in-Callback t c =
     subst (λ names. HasSizes m sizes (names_behind names) (inside own values))
     (sym (c.as_slice.ensures.value ∙ c.in_ok-inner-in-Callback.ensures))
     (has_inside_behind m sizes c.args.own.now c.args.hidden.now values has) in
-    let here : c.in_ok-left-in-Callback.left ≡ left + size_nodes m (replaced_nodes stored (inside own values) ns) =
+    let here : c.in_ok-room-in-Callback.room ≡ left + size_nodes m (replaced_nodes stored (inside own values) ns) =
     each (inside own values) has_inner in
-    let whole : c.args.budget ≡ left + (value_size m + size_nodes m (replaced_nodes stored (inside own values) ns)) =
-    omega (arith, here, c.in_ok-left-in-Callback.ensures, c.value_size-size.ensures) in
+    let bare : size_bare_nodes m (replaced_nodes stored (inside own values) ns) ≡ size_bare_nodes m ns =
+    bare_replaced m stored (inside own values) ns in
+    let whole : c.args.budget
+    ≡ left + (value_size m + (size_bare_nodes m (replaced_nodes stored (inside own values) ns)
+    + size_nodes m (replaced_nodes stored (inside own values) ns))) =
+    omega (arith, here, bare, c.in_ok-left-in-Callback.ensures, c.in_ok-room-in-Callback.ensures, c.value_size-size.ensures) in
     subst (λ (a : Argument). c.args.budget ≡ left + size_in m (replaced stored own values a))
     (sym (callback_is c.args.arg.now c.in-Callback.graph c.in-Callback.is)) whole)
     c.opened_nodes_left.ensures

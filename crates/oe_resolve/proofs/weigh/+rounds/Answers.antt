@@ -10,7 +10,8 @@ use Rattle.oe_graph.specs.declared.tree.Graph.{out-Graph}
 use Rattle.oe_resolve.specs.Rounds.{round_argument, round_each, round_named, round_nodes}
 use Rattle.oe_resolve.specs.Seen.{plain_sizes}
 use Rattle.oe_resolve.specs.declared.weigh.ParameterSize.{ParameterSize}
-use Rattle.oe_resolve.specs.Sizes.{given_sizes, round_size, name_size, value_size, size_in, size_each, size_named, size_nodes}
+use Rattle.oe_resolve.specs.Sizes.{given_sizes, round_bare, round_size, size_bare_nodes, name_size, value_size, size_in, size_each, size_named, size_nodes}
+use Rattle.oe_resolve.proofs.BareLemmas.{bare_round_all}
 use Rattle.oe_resolve.proofs.FaultLemmas.{list_is, object_is, callback_is}
 use Rattle.oe_resolve.proofs.SizeLemmas.{node_called, node_uncalled, size_next, size_round_all, sizes_next}
 use Rattle.oe_resolve.proofs.weigh.+rounds.Goals as goal
@@ -90,17 +91,20 @@ round_arg_left-returns-in-Object t c =
     (sym (object_is c.args.arg.now c.in-Object.members c.in-Object.is)) whole)
     c.round_named_left.ensures
 
-pub round_arg_left-returns-in-Callback : goal.round_arg_left-returns-in-Callback
-round_arg_left-returns-in-Callback t c =
+pub round_arg_left-returns-in_ok-inner-in-Callback : goal.round_arg_left-returns-in_ok-inner-in-Callback
+round_arg_left-returns-in_ok-inner-in-Callback t c =
     let m = c.args.measure in
     let stored = map plain_stored c.args.stored.now in
     let ns = plain_nodes (out-Graph c.in-Callback.graph).nodes.items in
     IfOk-weaker c.round_nodes_left.result _ _
     (λ left each all.
-    let here : c.in_ok-left.left ≡ left + round_size m stored ns ns = each ns in
+    let here : c.in_ok-inner-in-Callback.inner ≡ left + round_size m stored ns ns = each ns in
     let same : size_nodes m (round_nodes stored ns ns no_nodes) ≡ round_size m stored ns ns = size_round_all m stored ns in
-    let whole : c.args.budget ≡ left + (value_size m + size_nodes m (round_nodes stored ns ns no_nodes)) =
-    omega (arith, here, same, c.in_ok-left.ensures, c.value_size.ensures) in
+    let bare : c.in_ok-left.left ≡ c.in_ok-inner-in-Callback.inner + round_bare m stored ns = c.in_ok-inner-in-Callback.ensures in
+    let same_bare : size_bare_nodes m (round_nodes stored ns ns no_nodes) ≡ round_bare m stored ns = bare_round_all m stored ns in
+    let whole : c.args.budget
+    ≡ left + (value_size m + (size_bare_nodes m (round_nodes stored ns ns no_nodes) + size_nodes m (round_nodes stored ns ns no_nodes))) =
+    omega (arith, here, same, bare, same_bare, c.in_ok-left.ensures, c.value_size.ensures) in
     subst (λ (a : Argument). c.args.budget ≡ left + size_in m (round_argument stored all a))
     (sym (callback_is c.args.arg.now c.in-Callback.graph c.in-Callback.is)) whole)
     c.round_nodes_left.ensures
