@@ -1,5 +1,5 @@
 -- How much the nodes of callbacks hold without their arguments, also where calls give way to graphs.
-use Rattle.std.proofs.Common.{◌≡◌, ◌+◌, ℕ, Bool, true, false, if◌then◌else◌, List, [], ◌∷◌, Option, Some, None, option_map, refl, sym, ap, ◌∙◌, subst, arith}
+use Rattle.std.proofs.Common.{◌≡◌, ◌+◌, ℕ, Bool, true, false, if◌then◌else◌, List, [], ◌∷◌, Option, Some, None, is_some, option_map, refl, sym, ap, ◌∙◌, subst, arith}
 use denote.Bor.{Bor}
 use Rattle.oe_dims.specs.Names.{is_name_before}
 use Rattle.oe_graph.specs.Plain.{plain_node, plain_nodes, plain_stored}
@@ -54,7 +54,7 @@ module _ (m : Measure) where
       → size_bare_nodes m (round_nodes stored all ns found) ≡ size_bare_nodes m found + round_bare m stored ns
   bare_round stored all no_nodes found = omega arith
   bare_round stored all (node id p s args rest) found =
-      let n : PlainNode = record { id = id; process_id = p; namespace = s; arguments = round_named stored all args } in
+      let n : PlainNode = record { id = id; process_id = p; namespace = s; arguments = round_named stored (is_some (callee stored s p)) all args } in
       let more = opened stored n (callee stored s p) in
       let later = bare_round stored all rest (put_nodes more found) in
       let here = bare_put_nodes more found in

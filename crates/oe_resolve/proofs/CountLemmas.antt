@@ -1,5 +1,5 @@
 -- The nodes of expanded graphs, counted before they are built.
-use Rattle.std.proofs.Common.{◌≡◌, ℕ, zero, suc, ◌+◌, ◌<◌, ◌≤◌, min, get_or, slice_get, replicate, Bool, true, false, if◌then◌else◌, cond, List, [], ◌∷◌, length, map, Option, Some, None, option_map, refl, sym, ap, ◌∙◌, arith}
+use Rattle.std.proofs.Common.{◌≡◌, ℕ, zero, suc, ◌+◌, ◌<◌, ◌≤◌, min, get_or, slice_get, replicate, Bool, true, false, if◌then◌else◌, cond, List, [], ◌∷◌, length, map, Option, Some, None, is_some, option_map, refl, sym, ap, ◌∙◌, arith}
 use Rattle.std.specs.Option.{option_map_or}
 use Rattle.oe_dims.specs.Names.{is_name_before, same_name}
 use Rattle.oe_graph.specs.Printed.{ids_of, node_count}
@@ -7,7 +7,7 @@ use Rattle.oe_graph.specs.Tree.{Named, Nodes, no_nodes, node, PlainGraph, PlainN
 use Rattle.oe_resolve.specs.Calls.{callee, means_stored, stored_named}
 use Rattle.oe_resolve.specs.Counted.{enough, count_with, total, size_by}
 use Rattle.oe_resolve.specs.Replaced.{replaced_nodes, values_given}
-use Rattle.oe_resolve.specs.Rounds.{under_nodes, put_node, put_nodes, opened, round_nodes, round_named, round, rounds, known_nodes, known_graph, known_stored, expanded}
+use Rattle.oe_resolve.specs.Rounds.{under_nodes, put_node, put_nodes, opened, round_nodes, round_named, round, rounds, known_nodes, known_graph, known_stored, expanded_by}
 
 abbrev one_each : PlainStored → ℕ
 one_each s = 1
@@ -69,7 +69,7 @@ module _ (stored : List PlainStored) where
       → count_with stored size (round_nodes stored all ns found) ≡ count_with stored (one_more size) ns + count_with stored size found
   count_round size all no_nodes found = omega arith
   count_round size all (node id p s args rest) found =
-      let n : PlainNode = record { id = id; process_id = p; namespace = s; arguments = round_named stored all args } in
+      let n : PlainNode = record { id = id; process_id = p; namespace = s; arguments = round_named stored (is_some (callee stored s p)) all args } in
       let more = opened stored n (callee stored s p) in
       count_round size all rest (put_nodes more found)
       ∙ ap (λ k. count_with stored (one_more size) rest + k)
@@ -211,7 +211,7 @@ given_known stored (suc times) s =
 
 -- how many nodes the expanded graph has, up to one more than it may have
 pub expanded_count : (stored : List PlainStored) (g : PlainGraph)
-    → min enough (node_count (expanded stored g).nodes) ≡ total stored (size_by stored (length stored)) g.nodes
+    → min enough (node_count (expanded_by (length stored) stored g).nodes) ≡ total stored (size_by stored (length stored)) g.nodes
 expanded_count stored g =
     let known = map known_stored stored in
     let times = length stored in

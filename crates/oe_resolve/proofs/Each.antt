@@ -1,5 +1,5 @@
 -- Changes of lists of trees, element by element.
-use Rattle.std.proofs.Common.{◌≡◌, ℕ, List, [], ◌∷◌, map, refl, ap}
+use Rattle.std.proofs.Common.{◌≡◌, ℕ, Bool, List, [], ◌∷◌, map, refl, ap}
 use Rattle.oe_graph.specs.Tree.{Argument, argument, named, node, ListValues, Named, Nodes, PlainNode, PlainStored, values_from_list, named_from_list, nodes_from_list}
 use Rattle.oe_graph.specs.Plain.{plain_arg, plain_args, plain_named, plain_nodes, plain_node}
 use Rattle.oe_graph.specs.declared.tree.Arg.{Arg}
@@ -95,12 +95,14 @@ replaced_nodes stored values (n ∷ ns) =
     let m = replaced.replaced_node stored values (plain_node n) in
     ap (node m.id m.process_id m.namespace m.arguments) (replaced_nodes stored values ns)
 
-pub round_each : (stored : List PlainStored) (all : Nodes) (xs : List Arg)
-    → values_from_list (map (λ a. rounds.round_argument stored all (plain_arg a)) xs) ≡ rounds.round_each stored all (plain_args xs)
-round_each stored all [] = refl
-round_each stored all (a ∷ xs) = ap (argument (rounds.round_argument stored all (plain_arg a))) (round_each stored all xs)
+pub round_each : (stored : List PlainStored) (waits : Bool) (all : Nodes) (xs : List Arg)
+    → values_from_list (map (λ a. rounds.round_argument stored waits all (plain_arg a)) xs) ≡ rounds.round_each stored waits all (plain_args xs)
+round_each stored waits all [] = refl
+round_each stored waits all (a ∷ xs) =
+    ap (argument (rounds.round_argument stored waits all (plain_arg a))) (round_each stored waits all xs)
 
-pub round_named : (stored : List PlainStored) (all : Nodes) (ms : List (List ℕ × Arg))
-    → named_from_list (map (member_by (rounds.round_argument stored all)) ms) ≡ rounds.round_named stored all (plain_named ms)
-round_named stored all [] = refl
-round_named stored all (m ∷ ms) = ap (named m.0 (rounds.round_argument stored all (plain_arg m.1))) (round_named stored all ms)
+pub round_named : (stored : List PlainStored) (waits : Bool) (all : Nodes) (ms : List (List ℕ × Arg))
+    → named_from_list (map (member_by (rounds.round_argument stored waits all)) ms) ≡ rounds.round_named stored waits all (plain_named ms)
+round_named stored waits all [] = refl
+round_named stored waits all (m ∷ ms) =
+    ap (named m.0 (rounds.round_argument stored waits all (plain_arg m.1))) (round_named stored waits all ms)

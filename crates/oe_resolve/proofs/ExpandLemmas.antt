@@ -1,5 +1,5 @@
 -- Expanding round by round.
-use Rattle.std.proofs.Common.{◌≡◌, ℕ, zero, suc, ◌+◌, ◌-◌, ◌<◌, ◌≤◌, ◌⊎◌, inl, inr, Bool, true, false, List, [], Option, Some, None, is_some, option_map, Contains, length, map, refl, sym, ap, ◌∙◌, subst, true≢false, arith}
+use Rattle.std.proofs.Common.{◌≡◌, ℕ, zero, suc, ◌+◌, ◌-◌, ◌<◌, ◌≤◌, ◌⊎◌, inl, inr, Bool, true, false, List, [], Option, Some, None, is_some, option_map, Contains, map, refl, sym, ap, ◌∙◌, subst, true≢false, arith}
 use Rattle.oe_dims.specs.Names.{names_rise}
 use Rattle.oe_graph.specs.Codes.{phase_of}
 use Rattle.oe_graph.specs.Faults.{least}
@@ -17,11 +17,11 @@ use Rattle.oe_resolve.specs.Expansion.{IsNameFault, IsExpansion, IsEarly, IsSett
 use Rattle.oe_resolve.specs.Faults.{StandsWithStored}
 use Rattle.oe_resolve.specs.Judged as judged
 use Rattle.oe_resolve.specs.Judged.{IdsRise, IsInside, HasFault, OfItself, OfObject}
-use Rattle.oe_resolve.specs.Rounds.{round, expanded_by, expanded, known_stored, known_graph}
+use Rattle.oe_resolve.specs.Rounds.{round, expanded_by, expanded, known_stored, known_graph, most_rounds}
 use Rattle.oe_resolve.specs.Sizes.{IsWithinLimits}
 use Rattle.oe_graph.specs.Valid.{IsValidGraph, AreValidStored}
 use Rattle.oe_resolve.proofs.CountLemmas.{callee_known}
-use Rattle.oe_resolve.proofs.ExpansionLemmas.{Standing, Formed, expanded_in_order}
+use Rattle.oe_resolve.proofs.ExpansionLemmas.{Brought, Formed, expanded_in_order}
 use Rattle.oe_resolve.proofs.KnownLemmas.{known_same}
 use Rattle.oe_resolve.proofs.OrderLemmas.{each_ordered, valid_in_order}
 use Rattle.oe_resolve.proofs.SettledLemmas.{settled}
@@ -48,7 +48,7 @@ module _ (stored : List PlainStored) (g : PlainGraph) (stored_valid : AreValidSt
   rise_by times inner inside =
       let h = expanded_by times stored g in
       let w = within_of inner h.nodes false [] h.result inside in
-      (each_ordered (Standing stored g times) (Formed stored g times) h (expanded_in_order stored g stored_valid times valid)
+      (each_ordered (Brought stored g) (Formed stored g) h (expanded_in_order stored g stored_valid times valid)
       w.in_callback w.scope inner w.result w.within).ids_rise
 
   -- ---- rounds that change nothing
@@ -69,7 +69,7 @@ module _ (stored : List PlainStored) (g : PlainGraph) (stored_valid : AreValidSt
       let next : times + suc more ≡ suc (times + more) = omega arith in
       ap (λ k. expanded_by k stored g) next
       ∙ ap (round (map known_stored stored)) (settled_by times more is)
-      ∙ settled stored (map known_stored stored) leaf (Standing stored g times) (Formed stored g times) false (expanded_by times stored g) is
+      ∙ settled stored (map known_stored stored) leaf (Brought stored g) (Formed stored g) false (expanded_by times stored g) is
       (expanded_in_order stored g stored_valid times valid)
 
 -- in a graph as it is written too
@@ -126,7 +126,7 @@ module _ (stored : List PlainStored) (g : PlainGraph) where
       → OfObject stored true f at scope nodes
   later f at scope nodes (judged.by_itself {n = n} there own) =
       judged.by_itself there (record { at = own.at; has = later_fault scope nodes n f.code own.has })
-  later f at scope nodes (judged.inside there argument callback of) = judged.inside there argument callback (later f _ _ _ of)
+  later f at scope nodes (judged.inside there none argument callback of) = judged.inside there none argument callback (later f _ _ _ of)
 
   phase_by : (last : Bool) (scope : List (List ℕ)) (nodes : Nodes) (n : PlainNode) (code : Code) → HasFault stored last scope nodes n code
       → phase_of code ≡ 4
@@ -139,26 +139,27 @@ module _ (stored : List PlainStored) (g : PlainGraph) where
   phase : (last : Bool) (f : Fault) (at : List ℕ) (scope : List (List ℕ)) (nodes : Nodes) → OfObject stored last f at scope nodes
       → phase_of f.code ≡ 4
   phase last f at scope nodes (judged.by_itself {n = n} there own) = phase_by last scope nodes n f.code own.has
-  phase last f at scope nodes (judged.inside there argument callback of) = phase last f _ _ _ of
+  phase last f at scope nodes (judged.inside there none argument callback of) = phase last f _ _ _ of
 
   module _ (after : PlainGraph) (fault found : Option Fault) (is : IsSettled stored g after fault) where
     pub all_rounds : after ≡ expanded stored g
     all_rounds =
         let few = is.few in
-        let enough : is.times + (length stored - is.times) ≡ length stored = omega arith in
-        sym (is.settled (length stored - is.times) (omega arith)) ∙ ap (λ k. expanded_by k stored g) enough
+        let enough : is.times + (most_rounds - is.times) ≡ most_rounds = omega arith in
+        sym (is.settled (most_rounds - is.times)) ∙ ap (λ k. expanded_by k stored g) enough
 
     pub all_within : IsWithinLimits (expanded stored g)
     all_within = subst (λ (h : PlainGraph). IsWithinLimits h) all_rounds is.within
+
+    pub all_none : nodes_call stored (expanded stored g).nodes ≡ false
+    all_none = subst (λ (h : PlainGraph). nodes_call stored h.nodes ≡ false) all_rounds is.none_left
 
     abbrev LastFault : Fault → Type 0
     LastFault f = OfObject stored true f [] [] after.nodes
 
     stands_all : (f : Fault) → Either (IsEarly stored g is.times) LastFault f → IsNameFault stored g f
     stands_all f (inl e) =
-        let below = e.below in
-        let few = is.few in
-        (phase false f [] [] (expanded_by e.round stored g).nodes e.has, early_stands stored g e.round f (omega arith) e.has)
+        (phase false f [] [] (expanded_by e.round stored g).nodes e.has, early_stands stored g e.round f e.has)
     stands_all f (inr has) = (
       phase true f [] [] after.nodes has,
       last_stands stored g f (subst (λ (h : PlainGraph). OfObject stored true f [] [] h.nodes) all_rounds has),
@@ -169,17 +170,17 @@ module _ (stored : List PlainStored) (g : PlainGraph) where
     past_or_early zero (suc n) = inl (omega arith)
     past_or_early (suc k) (suc n) = elim (past_or_early k n) [ inl less ↦ inl (omega arith) | inr past ↦ inr (omega arith) ]
 
-    round_found : (f : Fault) (k : ℕ) → k ≤ length stored → OfObject stored false f [] [] (expanded_by k stored g).nodes → (k < is.times) ⊎ (is.times ≤ k)
+    round_found : (f : Fault) (k : ℕ) → OfObject stored false f [] [] (expanded_by k stored g).nodes → (k < is.times) ⊎ (is.times ≤ k)
         → Either (IsEarly stored g is.times) LastFault f
-    round_found f k few has (inl below) = inl (record { round = k; below = below; has = has })
-    round_found f k few has (inr past) =
+    round_found f k has (inl below) = inl (record { round = k; below = below; has = has })
+    round_found f k has (inr past) =
         let enough : is.times + (k - is.times) ≡ k = omega arith in
         let same : expanded_by k stored g ≡ after =
-        ap (λ j. expanded_by j stored g) (sym enough) ∙ is.settled (k - is.times) (omega arith) in
+        ap (λ j. expanded_by j stored g) (sym enough) ∙ is.settled (k - is.times) in
         inr (later f [] [] after.nodes (subst (λ (h : PlainGraph). OfObject stored false f [] [] h.nodes) same has))
 
     found_all : (f : Fault) → InRound stored g f → Either (IsEarly stored g is.times) LastFault f
-    found_all f (earlier k few has) = round_found f k few has (past_or_early k is.times)
+    found_all f (earlier k has) = round_found f k has (past_or_early k is.times)
     found_all f (last_round has) = inr (subst (λ (h : PlainGraph). OfObject stored true f [] [] h.nodes) (sym all_rounds) has)
 
     pub all_faults : IsLeastOf LastFault found → IsLeastOf (IsNameFault stored g) (least fault found)
@@ -200,19 +201,21 @@ pub itself_expanded : (stored : List PlainStored) (g : Graph) (o : Option Fault)
 itself_expanded stored written o stored_valid valid within no_call least none =
     let g = plain_graph written in
     let faultless = none_by (λ f. OfObject stored true f [] [] g.nodes) o least none in
-    let same = known_same stored true g faultless in
+    let same = known_same stored true g no_call faultless in
     let is : IsSettled stored g g None = record {
       times = 0;
       is = sym same;
-      settled = λ more fits.
+      settled = λ more.
           settled_by stored g stored_valid valid 0 more (subst (λ (h : PlainGraph). nodes_call stored h.nodes ≡ false) (sym same) no_call)
           ∙ same;
       few = omega arith;
       early = early_none stored g;
+      none_left = no_call;
       within = within;
     } in
     record {
       graph = all_rounds stored g g None None is;
       fault = all_faults stored g g None None is faultless;
+      none_left = all_none stored g g None None is;
       within = all_within stored g g None None is;
     }

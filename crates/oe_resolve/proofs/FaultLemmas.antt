@@ -1,5 +1,5 @@
 -- The faults of graph objects, node by node and argument by argument.
-use Rattle.std.proofs.Common.{◌≡◌, ◌↔◌, ℕ, zero, suc, ◌+◌, ◌<◌, ◌≤◌, ◌⊎◌, inl, inr, Bool, true, false, not, ◌&&◌, ◌||◌, List, [], ◌∷◌, ◌++◌, Option, Some, None, is_none, Contains, length, map, option_map, get_or, slice_get, slice_index_or, refl, sym, ap, ◌∙◌, subst, true≢false, Vec, Global, arith}
+use Rattle.std.proofs.Common.{◌≡◌, ◌↔◌, ℕ, zero, suc, ◌+◌, ◌<◌, ◌≤◌, ◌⊎◌, inl, inr, Bool, true, false, not, ◌&&◌, ◌||◌, List, [], ◌∷◌, ◌++◌, Option, Some, None, is_none, is_some, Contains, length, map, option_map, get_or, slice_get, slice_index_or, refl, sym, ap, ◌∙◌, subst, true≢false, Vec, Global, arith}
 use Rattle.std.specs.Cmp.Lexicographic.{slice_cmp}
 use Rattle.std.specs.List.{list_any}
 use Rattle.std.specs.Ordering.{nat_cmp, is_lt}
@@ -25,6 +25,7 @@ use Rattle.oe_graph.specs.declared.tree.Arg.TheVariants as variant
 use Rattle.oe_graph.specs.declared.tree.Graph.{Graph, out-Graph}
 use Rattle.oe_graph.specs.declared.tree.Node.{Node}
 use Rattle.oe_graph.proofs.LeastLemmas.{IsLeastOf, IsLeastOf-iff, IsLeastOf-least, OneOf}
+use Rattle.oe_resolve.specs.Calls.{callee}
 use Rattle.oe_resolve.specs.Faults.{each_argument}
 use Rattle.oe_resolve.specs.Judged.{AreMarks, IsMark, IdsRise, IdsRiseIn, itself, deeper, OfArgument, OfArguments, OfItself, OfNode, OfObject, by_itself, inside, know_named, node_code}
 use Rattle.oe_resolve.proofs.Along.{first_there, later_there, none_there, there_cases, map_there, map_back, one_mapped, one_back}
@@ -245,19 +246,22 @@ module _ (stored : List PlainStored) (last : Bool) where
   of_node : (name : List ℕ) (scope : List (List ℕ)) (nodes : Nodes) (n : PlainNode) (f : Fault) → Contains (each_node nodes) n
       → OfNode stored last name scope nodes n f → OfObject stored last f name scope nodes
   of_node name scope nodes n f there (inl own) = by_itself there own
-  of_node name scope nodes n f there (inr of) = inside there of.is_there of.has.is_there of.has.has
+  of_node name scope nodes n f there (inr of) = inside there of.0 of.1.is_there of.1.has.is_there of.1.has.has
 
   to_node : (name : List ℕ) (scope : List (List ℕ)) (nodes : Nodes) (f : Fault) → OfObject stored last f name scope nodes
       → OneOf (OfNode stored last name scope nodes) (each_node nodes) f
   to_node name scope nodes f (by_itself {n = n} there own) = record { one = n; is_there = there; has = inl own }
-  to_node name scope nodes f (inside {n = n} {a = a} {g = g} there argument_there callback_there of) = record {
+  to_node name scope nodes f (inside {n = n} {a = a} {g = g} there none argument_there callback_there of) = record {
     one = n;
     is_there = there;
-    has = inr (record {
-      one = a;
-      is_there = argument_there;
-      has = record { graph = g; is_there = callback_there; has = of };
-    });
+    has = inr (
+      none,
+      record {
+        one = a;
+        is_there = argument_there;
+        has = record { graph = g; is_there = callback_there; has = of };
+      },
+    );
   }
 
   pub object_least : (name : List ℕ) (scope : List (List ℕ)) (ns : List Node) (o : Option Fault)
@@ -292,23 +296,73 @@ module _ (stored : List PlainStored) (last : Bool) where
       (callback_least node_at name scope h o
       (subst (λ n. IsLeastOf (λ f. OfObject stored last f n scope ns) o) same (found inner)))
 
-  -- of a node
+  -- of a node by itself
+  own_is : (name : List ℕ) (scope : List (List ℕ)) (nodes : Nodes) (n : Node) (known mark : Bool) (own : Option Fault) (at : List ℕ)
+      → at ≡ node_name name n.id
+      → own ≡ option_map (λ code. record { code = code; node = at }) (node_code stored last scope (plain_node n) known mark)
+      → known ≡ know_named (ids_of nodes) (plain_node n).arguments → IsMark last nodes (plain_node n) mark
+      → IsLeastOf (OfItself stored last (node_name name (plain_node n).id) scope nodes (plain_node n)) own
+  own_is name scope nodes n known mark own at called_at is knows marked =
+      let m = plain_node n in
+      let called : at ≡ node_name name m.id = called_at ∙ ap (λ (k : PlainNode). node_name name k.id) (sym (node_is n)) in
+      subst (λ a. IsLeastOf (OfItself stored last a scope nodes m) own) called
+      (subst (IsLeastOf (OfItself stored last at scope nodes m))
+      (sym (is ∙ ap (λ b. option_map (λ code. record { code = code; node = at }) (node_code stored last scope m b mark)) knows))
+      (own_least stored last scope nodes m mark at marked))
+
+  abbrev Inner : List ℕ → List (List ℕ) → PlainNode → Fault → Type 0
+  Inner name scope m f =
+      (callee stored m.namespace m.process_id ≡ None)
+      × OfArguments stored last (node_name name m.id) (scope_inside m scope) m.arguments f
+
+  called_none : (o : Option PlainStored) → is_some o ≡ true → o ≡ None → ⊥
+  called_none None is none = true≢false (sym is)
+  called_none (Some s) is none = absurd cc
+
+  uncalled : (o : Option PlainStored) → is_some o ≡ false → o ≡ None
+  uncalled None is = refl
+  uncalled (Some s) is = absurd (true≢false is)
+
+  -- of a call, whose callbacks wait
+  pub call_least : (name : List ℕ) (scope : List (List ℕ)) (nodes : Nodes) (n : Node) (known mark : Bool) (own : Option Fault)
+      (at : List ℕ)
+      → is_some (callee stored n.namespace n.process_id) ≡ true → at ≡ node_name name n.id
+      → own ≡ option_map (λ code. record { code = code; node = at }) (node_code stored last scope (plain_node n) known mark)
+      → known ≡ know_named (ids_of nodes) (plain_node n).arguments → IsMark last nodes (plain_node n) mark
+      → IsLeastOf (OfNode stored last name scope nodes (plain_node n)) own
+  call_least name scope nodes n known mark own at call called_at is knows marked =
+      let m = plain_node n in
+      let calls : is_some (callee stored m.namespace m.process_id) ≡ true =
+      ap (λ (k : PlainNode). is_some (callee stored k.namespace k.process_id)) (node_is n) ∙ call in
+      IsLeastOf-iff (OfItself stored last (node_name name m.id) scope nodes m) (OfNode stored last name scope nodes m) own
+      (λ f has. inl has)
+      (λ f has. own_only m has (called_none (callee stored m.namespace m.process_id) calls))
+      (own_is name scope nodes n known mark own at called_at is knows marked)
+    where
+      own_only : {A B C : Type 0} (m : PlainNode) → A ⊎ (B × C) → (B → ⊥) → A
+      own_only m (inl has) never = has
+      own_only m (inr has) never = absurd (never has.0)
+
+  -- of another node
   pub node_least : (name : List ℕ) (scope : List (List ℕ)) (nodes : Nodes) (n : Node) (known mark : Bool) (own inner : Option Fault)
       (at : List ℕ) (inner_scope : List (List ℕ))
+      → is_some (callee stored n.namespace n.process_id) ≡ false
       → at ≡ node_name name n.id → inner_scope ≡ scope_inside (plain_node n) scope
       → own ≡ option_map (λ code. record { code = code; node = at }) (node_code stored last scope (plain_node n) known mark)
       → known ≡ know_named (ids_of nodes) (plain_node n).arguments → IsMark last nodes (plain_node n) mark
       → IsLeastOf (OfArguments stored last at inner_scope (plain_named n.arguments.items)) inner
       → IsLeastOf (OfNode stored last name scope nodes (plain_node n)) (least own inner)
-  node_least name scope nodes n known mark own inner at inner_scope called_at scoped is knows marked found =
+  node_least name scope nodes n known mark own inner at inner_scope no_call called_at scoped is knows marked found =
       let m = plain_node n in
       let called : at ≡ node_name name m.id = called_at ∙ ap (λ (k : PlainNode). node_name name k.id) (sym (node_is n)) in
-      IsLeastOf-least (OfItself stored last (node_name name m.id) scope nodes m)
-      (OfArguments stored last (node_name name m.id) (scope_inside m scope) m.arguments) own inner
-      (subst (λ a. IsLeastOf (OfItself stored last a scope nodes m) own) called
-      (subst (IsLeastOf (OfItself stored last at scope nodes m))
-      (sym (is ∙ ap (λ b. option_map (λ code. record { code = code; node = at }) (node_code stored last scope m b mark)) knows))
-      (own_least stored last scope nodes m mark at marked)))
-      (subst (λ a. IsLeastOf (OfArguments stored last a (scope_inside m scope) m.arguments) inner) called
+      let none : callee stored m.namespace m.process_id ≡ None =
+      uncalled (callee stored m.namespace m.process_id)
+      (ap (λ (k : PlainNode). is_some (callee stored k.namespace k.process_id)) (node_is n) ∙ no_call) in
+      let arguments : IsLeastOf (OfArguments stored last (node_name name m.id) (scope_inside m scope) m.arguments) inner =
+      subst (λ a. IsLeastOf (OfArguments stored last a (scope_inside m scope) m.arguments) inner) called
       (subst (λ sc. IsLeastOf (OfArguments stored last at sc m.arguments) inner) scoped
-      (subst (λ (k : PlainNode). IsLeastOf (OfArguments stored last at inner_scope k.arguments) inner) (sym (node_is n)) found)))
+      (subst (λ (k : PlainNode). IsLeastOf (OfArguments stored last at inner_scope k.arguments) inner) (sym (node_is n)) found)) in
+      IsLeastOf-least (OfItself stored last (node_name name m.id) scope nodes m) (Inner name scope m) own inner
+      (own_is name scope nodes n known mark own at called_at is knows marked)
+      (IsLeastOf-iff (OfArguments stored last (node_name name m.id) (scope_inside m scope) m.arguments) (Inner name scope m) inner
+      (λ f has. (none, has)) (λ f has. has.1) arguments)

@@ -132,10 +132,10 @@ module _ (stored : List PlainStored) where
     }
     call_of code at (faults.graph_too_large more) phase = absurd (omega arith)
     call_of code at (faults.callback_too_large has brings written more) phase = absurd (omega arith)
-    call_of code at (faults.argument_unknown times few h same there absent) phase = absurd (omega arith)
-    call_of code at (faults.process_parameter_missing times few h same there default optional absent) phase = absurd (omega arith)
+    call_of code at (faults.argument_unknown times h same there absent) phase = absurd (omega arith)
+    call_of code at (faults.process_parameter_missing times h same there default optional absent) phase = absurd (omega arith)
     call_of code at (faults.parameter_unknown h there absent) phase = absurd (omega arith)
-    call_of code at (faults.node_unknown times few h there absent) phase = absurd (omega arith)
+    call_of code at (faults.node_unknown times h there absent) phase = absurd (omega arith)
     call_of code at (faults.graph_cycle h leads) phase = absurd (omega arith)
 
     stands_by : (n : PlainNode) (code : Code) → Contains (each_node g.nodes) n → HasCode n code → StandsWithStored stored g code n.id

@@ -1,6 +1,6 @@
 -- Ids of the nodes of a graph object through a round. They rise, none is empty, and none is another one followed by `/`:
 -- so the ids that calls give way to are new, and differ from each other.
-use Rattle.std.proofs.Common.{◌≡◌, ◌≢◌, ◌⊎◌, inl, inr, ℕ, zero, suc, ◌+◌, ◌<◌, ◌≤◌, ◌&&◌, Bool, true, false, cond, if◌then◌else◌, List, [], ◌∷◌, ◌++◌, map, length, find, Contains, Ordering, Less, Equal, Greater, Option, Some, None, option_and_then, refl, sym, ap, ◌∙◌, subst, true≢false, append_assoc, arith}
+use Rattle.std.proofs.Common.{◌≡◌, ◌≢◌, ◌⊎◌, inl, inr, ℕ, zero, suc, ◌+◌, ◌<◌, ◌≤◌, ◌&&◌, Bool, true, false, cond, if◌then◌else◌, List, [], ◌∷◌, ◌++◌, map, length, find, Contains, Ordering, Less, Equal, Greater, Option, Some, None, is_some, option_and_then, refl, sym, ap, ◌∙◌, subst, true≢false, append_assoc, arith}
 use Rattle.std.specs.Ordering.{is_lt}
 use Rattle.std.proofs.lemmas.Cmp.{nat_list_cmp_total, tied_itself}
 use Rattle.std.proofs.lemmas.List.Elements.{Contains-append_left, Contains-append_right, Contains-append_cases}
@@ -219,7 +219,7 @@ pub ids_of-round : (stored : List PlainStored) (all ns found : Nodes)
     → ids_of (round_nodes stored all ns found) ≡ put_names (new_ids stored ns) (ids_of found)
 ids_of-round stored all no_nodes found = refl
 ids_of-round stored all (node id p s args rest) found =
-    let n : PlainNode = record { id = id; process_id = p; namespace = s; arguments = round_named stored all args } in
+    let n : PlainNode = record { id = id; process_id = p; namespace = s; arguments = round_named stored (is_some (callee stored s p)) all args } in
     let put = opened stored n (callee stored s p) in
     ids_of-round stored all rest (put_nodes put found)
     ∙ (ap (put_names (new_ids stored rest)) (ids_of-puts put found ∙ ap (λ xs. put_names xs (ids_of found)) (ids_of-opened stored n (callee stored s p)))

@@ -1,5 +1,5 @@
 -- A graph without a fault of names is the same with its known references.
-use Rattle.std.proofs.Common.{◌≡◌, ℕ, Bool, true, List, [], ◌++◌, if◌then◌else◌, Contains, refl, sym, ap, ◌∙◌}
+use Rattle.std.proofs.Common.{◌≡◌, ℕ, Bool, true, false, List, [], ◌++◌, if◌then◌else◌, Contains, refl, sym, ap, ◌∙◌}
 use Rattle.std.proofs.lemmas.List.Elements.{Contains-append_left, Contains-append_right}
 use Rattle.oe_graph.specs.Form.{node_name, callback_name}
 use Rattle.oe_graph.specs.Printed.{ids_of}
@@ -8,12 +8,14 @@ use Rattle.oe_graph.specs.Resolved.{scope_inside}
 use Rattle.oe_graph.specs.Tree.{Argument, null, flag, whole, inexact, text, list, object, from_node, from_parameter, callback, ListValues, no_arguments, argument, Named, no_named, named, Nodes, no_nodes, node, PlainGraph, PlainNode, PlainStored}
 use Rattle.oe_graph.specs.declared.code.Code.TheVariants.{NodeUnknown}
 use Rattle.oe_graph.specs.declared.fault.Fault.{Fault}
+use Rattle.oe_resolve.specs.Called.{nodes_call}
 use Rattle.oe_resolve.specs.Judged as judged
 use Rattle.oe_resolve.specs.Judged.{IsInside, OfObject}
 use Rattle.oe_resolve.specs.Rounds.{known_id, known, known_each, known_named, known_nodes, known_graph}
 use Rattle.oe_resolve.proofs.Along.{first_there, later_there}
 use Rattle.oe_resolve.proofs.CodeLemmas.{among}
 use Rattle.oe_resolve.proofs.ResolvingLemmas.{callback_of, stands_among}
+use Rattle.oe_resolve.proofs.UncalledLemmas.{node_uncalled, callback_uncalled}
 
 -- in a graph object and in all callbacks in it each reference names a node beside it
 abbrev AreKnown : Nodes → Type 0
@@ -85,18 +87,21 @@ module _ (stored : List PlainStored) (last : Bool) where
   -- an unknown reference is a fault
   never_unknown : (inner outer : Nodes) (n : PlainNode) (id at : List ℕ) (scope : List (List ℕ)) → IsInside inner outer
       → Contains (each_node inner) n → Contains (references_named n.arguments) id
+      → nodes_call stored outer ≡ false
       → ((f : Fault) → ¬ OfObject stored last f at scope outer) → (Contains (ids_of inner) id → ⊥) → ⊥
-  never_unknown inner outer n id at scope judged.itself has refers none absent =
+  never_unknown inner outer n id at scope judged.itself has refers no_call none absent =
       none (record { code = NodeUnknown; node = node_name at n.id })
       (judged.by_itself has (record { at = refl; has = judged.node_unknown refers absent }))
-  never_unknown inner outer n id at scope (judged.deeper {n = m} {g = g} there calls inside) has refers none absent =
+  never_unknown inner outer n id at scope (judged.deeper {n = m} {g = g} there calls inside) has refers no_call none absent =
       let a = callback_of m.arguments g calls in
+      let uncalled = node_uncalled stored outer m no_call there in
       never_unknown inner g.nodes n id (callback_name (node_name at m.id) a.argument.0) (scope_inside m scope) inside has refers
-      (λ f of. none f (judged.inside there a.has a.calls of)) absent
+      (callback_uncalled stored m.arguments g uncalled.1 calls)
+      (λ f of. none f (judged.inside there uncalled.0 a.has a.calls of)) absent
 
-  pub known_same : (g : PlainGraph) → ((f : Fault) → ¬ OfObject stored last f [] [] g.nodes) → known_graph g ≡ g
-  known_same g none =
+  pub known_same : (g : PlainGraph) → nodes_call stored g.nodes ≡ false → ((f : Fault) → ¬ OfObject stored last f [] [] g.nodes) → known_graph g ≡ g
+  known_same g no_call none =
       let all : AreKnown g.nodes = λ inner n id inside has refers.
-      stands_among (ids_of inner) id (never_unknown inner g.nodes n id [] [] inside has refers none) in
+      stands_among (ids_of inner) id (never_unknown inner g.nodes n id [] [] inside has refers no_call none) in
       ap (λ ns. record { nodes = ns; result = g.result }) (same_nodes (ids_of g.nodes) g.nodes (λ n has.
       (λ id refers. all g.nodes n id judged.itself has refers, λ h there inner m id inside. all inner m id (judged.deeper has there inside))))

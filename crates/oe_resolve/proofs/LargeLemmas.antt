@@ -12,7 +12,7 @@ use Rattle.oe_resolve.specs.Counted.{total, size_by, fit_nodes}
 use Rattle.oe_resolve.specs.Faults as faults
 use Rattle.oe_resolve.specs.Faults.{StandsWithStored}
 use Rattle.oe_resolve.specs.Reached.{index_at, IsReached}
-use Rattle.oe_resolve.specs.Rounds.{expanded}
+use Rattle.oe_resolve.specs.Rounds.{expanded_by}
 use Rattle.oe_resolve.proofs.Along.{none_there}
 use Rattle.oe_resolve.proofs.BringLemmas.{nodes_have, nodes_at, brings_more}
 use Rattle.oe_resolve.proofs.CallFaultLemmas.{callee_at, last_call}
@@ -23,10 +23,10 @@ module _ (stored : List PlainStored) (g : PlainGraph) where
   abbrev pub size : PlainStored → ℕ
   size = size_by stored (length stored)
 
-  too_many : (h : PlainGraph) → nat_le (total stored size h.nodes) 64 ≡ false → 64 < node_count (expanded stored h).nodes
+  too_many : (h : PlainGraph) → nat_le (total stored size h.nodes) 64 ≡ false → 64 < node_count (expanded_by (length stored) stored h).nodes
   too_many h larger = omega (arith, leb-false (total stored size h.nodes) 64 larger, expanded_count stored h)
 
-  few_enough : (h : PlainGraph) → nat_le (total stored size h.nodes) 64 ≡ true → 64 < node_count (expanded stored h).nodes → ⊥
+  few_enough : (h : PlainGraph) → nat_le (total stored size h.nodes) 64 ≡ true → 64 < node_count (expanded_by (length stored) stored h).nodes → ⊥
   few_enough h fits more =
       let larger : 64 < total stored size h.nodes = omega (arith, more, expanded_count stored h) in
       true≢false (sym fits ∙ lt-leb (total stored size h.nodes) 64 larger)
@@ -81,10 +81,10 @@ module _ (stored : List PlainStored) (g : PlainGraph) where
               }))
               c.holds there) more
         ]
-    none_by code at (faults.argument_unknown times few h same there absent) phase = absurd (omega arith)
-    none_by code at (faults.process_parameter_missing times few h same there default optional absent) phase = absurd (omega arith)
+    none_by code at (faults.argument_unknown times h same there absent) phase = absurd (omega arith)
+    none_by code at (faults.process_parameter_missing times h same there default optional absent) phase = absurd (omega arith)
     none_by code at (faults.parameter_unknown h there absent) phase = absurd (omega arith)
-    none_by code at (faults.node_unknown times few h there absent) phase = absurd (omega arith)
+    none_by code at (faults.node_unknown times h there absent) phase = absurd (omega arith)
     none_by code at (faults.graph_cycle h leads) phase = absurd (omega arith)
 
     pub none_large : ¬ StandsWithStored stored g GraphTooLarge []

@@ -1,17 +1,15 @@
--- What a graph without a fault resolves to calls no stored process, at any depth of callbacks.
+-- Where no call is left in the expanded graph, none is in the one with defaults, at any depth of callbacks.
 use Rattle.std.proofs.Common.{◌≡◌, ℕ, Bool, true, false, List, [], map, Contains, Option, Some, None, refl, sym, ap, ◌∙◌}
 use Rattle.oe_graph.specs.References.{each_node}
 use Rattle.oe_graph.specs.Resolved.{IsScopedWithin, itself, inside, scope_inside}
 use Rattle.oe_graph.specs.Tree.{Nodes, PlainGraph, PlainNode, PlainStored}
-use Rattle.oe_graph.specs.Valid.{IsValidGraph, AreValidStored}
-use Rattle.oe_graph.specs.declared.code.Code.{Code}
+use Rattle.oe_resolve.specs.Called.{nodes_call}
 use Rattle.oe_resolve.specs.Calls as calls
 use Rattle.oe_resolve.specs.Calls.{callee, Calls, HoldsNode}
-use Rattle.oe_resolve.specs.Faults.{StandsWithStored}
 use Rattle.oe_resolve.specs.Filled.{filled_nodes, resolved}
 use Rattle.oe_resolve.specs.Rounds.{expanded}
-use Rattle.oe_resolve.proofs.ExpansionLemmas.{expanded-stands}
 use Rattle.oe_resolve.proofs.ResolvingLemmas.{within_filled, node_unfilled}
+use Rattle.oe_resolve.proofs.UncalledLemmas.{node_uncalled, within_uncalled}
 
 -- the graph object in which a node stands that another holds
 record StandsIn (m : PlainNode) (outer_in_callback : Bool) (outer_scope : List (List ℕ)) (outer : Nodes) (outer_result : ℕ) : Type 0 where
@@ -37,15 +35,15 @@ held n m (calls.by_callback {k = k} {g = g} is_callback there rest) in_callback 
       has = deep.has;
     }
 
-pub calls_none : (stored : List PlainStored) (g : PlainGraph) → AreValidStored stored
-    → ((code : Code) (node : List ℕ) → ¬ StandsWithStored stored g code node) → IsValidGraph g
+pub calls_none : (stored : List PlainStored) (g : PlainGraph) → nodes_call stored (expanded stored g).nodes ≡ false
     → (n : PlainNode) (s : PlainStored) → Contains (each_node (resolved stored g).nodes) n → ¬ Calls stored n s
-calls_none stored g stored_valid faultless valid n s has call =
+calls_none stored g no_call n s has call =
     let e = expanded stored g in
     let at = held n call.caller call.holds false [] (filled_nodes e.nodes) e.result has in
     let w = within_filled at.in_callback at.scope at.nodes at.result false [] (filled_nodes e.nodes) e.result e.nodes at.within refl in
     let m = node_unfilled w.unfilled at.nodes call.caller w.is_filled at.has in
-    let none = (expanded-stands stored g stored_valid faultless valid at.in_callback at.scope w.unfilled at.result w.within m.of m.has).0 in
+    let none = (node_uncalled stored w.unfilled m.of
+    (within_uncalled stored at.in_callback at.scope w.unfilled at.result false [] e.nodes e.result w.within no_call) m.has).0 in
     let same : callee stored call.caller.namespace call.caller.process_id ≡ None =
     ap (λ (k : PlainNode). callee stored k.namespace k.process_id) (sym m.is) ∙ none in
     let both : None ≡ Some s = sym same ∙ call.calls in

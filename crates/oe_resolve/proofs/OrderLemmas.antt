@@ -426,67 +426,70 @@ module _ (Holding : Bool → Option (List ℕ) → List ℕ → Type 0) (Forming
 
 -- ---- one round
 
-round_names : (stored : List PlainStored) (all : Nodes) (ms : Named) → names_of (rounds.round_named stored all ms) ≡ names_of ms
-round_names stored all no_named = refl
-round_names stored all (named k a rest) = ap (λ xs. k ∷ xs) (round_names stored all rest)
+round_names : (stored : List PlainStored) (waits : Bool) (all : Nodes) (ms : Named)
+    → names_of (rounds.round_named stored waits all ms) ≡ names_of ms
+round_names stored waits all no_named = refl
+round_names stored waits all (named k a rest) = ap (λ xs. k ∷ xs) (round_names stored waits all rest)
 
--- A round keeps a graph in order, where what holds of a node holds after the round too: of one that is kept, and of those
--- that a call gives way to.
-module _ (Before After : Bool → Option (List ℕ) → List ℕ → Type 0) (Formed Reformed : List Place → Type 0) (stored : List PlainStored)
+-- A round keeps a graph in order, where what holds of a node holds of those that a call gives way to.
+module _ (Holding : Bool → Option (List ℕ) → List ℕ → Type 0) (Forming : List Place → Type 0) (stored : List PlainStored)
     (names : (namespace : Option (List ℕ)) (p : List ℕ) (s : PlainStored) → callee stored namespace p ≡ Some s → HasNames s)
-    (kept : (in_callback : Bool) (namespace : Option (List ℕ)) (p : List ℕ) → Before in_callback namespace p
-    → callee stored namespace p ≡ None → After in_callback namespace p)
-    (called : (in_callback : Bool) (namespace : Option (List ℕ)) (p : List ℕ) (s : PlainStored) → Before in_callback namespace p
-    → callee stored namespace p ≡ Some s → IsStoredInOrder After Reformed in_callback s)
-    (formed : (ns : Nodes) → Formed (places_of ns) → Reformed (places_of (rounds.round_nodes stored ns ns no_nodes))) where
-  opened_ordered : (in_callback : Bool) (n : PlainNode) (call : Option PlainStored)
-      → (call ≡ None → After in_callback n.namespace n.process_id)
-      → ((s : PlainStored) → call ≡ Some s → IsStoredInOrder After Reformed in_callback s)
-      → (names_rise (names_of n.arguments) ≡ true) → OrderedNamed After Reformed n.arguments
-      → OrderedNodes After Reformed in_callback (opened stored n call)
-  opened_ordered in_callback n None is_kept stored_is rise is = (rise, is, is_kept refl, tt)
-  opened_ordered in_callback n (Some s) is_kept stored_is rise is =
+    (called : (in_callback : Bool) (namespace : Option (List ℕ)) (p : List ℕ) (s : PlainStored) → Holding in_callback namespace p
+    → callee stored namespace p ≡ Some s → IsStoredInOrder Holding Forming in_callback s)
+    (formed : (ns : Nodes) → Forming (places_of ns) → Forming (places_of (rounds.round_nodes stored ns ns no_nodes))) where
+  opened_ordered : (in_callback : Bool) (n : PlainNode) (call : Option PlainStored) → Holding in_callback n.namespace n.process_id
+      → ((s : PlainStored) → call ≡ Some s → IsStoredInOrder Holding Forming in_callback s)
+      → (names_rise (names_of n.arguments) ≡ true) → OrderedNamed Holding Forming n.arguments
+      → OrderedNodes Holding Forming in_callback (opened stored n call)
+  opened_ordered in_callback n None holds stored_is rise is = (rise, is, holds, tt)
+  opened_ordered in_callback n (Some s) holds stored_is rise is =
       let s_is = stored_is s refl in
-      replaced_ordered_nodes After Reformed in_callback stored (values_given s.parameters n.arguments) (under_nodes n.id s.graph.nodes)
-      (given_ordered After Reformed s.parameters n.arguments s_is.defaults is)
-      (under_ordered_nodes After Reformed in_callback n.id s.graph.nodes s_is.nodes)
+      replaced_ordered_nodes Holding Forming in_callback stored (values_given s.parameters n.arguments) (under_nodes n.id s.graph.nodes)
+      (given_ordered Holding Forming s.parameters n.arguments s_is.defaults is)
+      (under_ordered_nodes Holding Forming in_callback n.id s.graph.nodes s_is.nodes)
 
   mutual
-    round_ordered_nodes : (in_callback : Bool) (all ns found : Nodes) → OrderedNodes Before Formed in_callback ns
-        → OrderedNodes After Reformed in_callback found → OrderedNodes After Reformed in_callback (rounds.round_nodes stored all ns found)
+    round_ordered_nodes : (in_callback : Bool) (all ns found : Nodes) → OrderedNodes Holding Forming in_callback ns
+        → OrderedNodes Holding Forming in_callback found → OrderedNodes Holding Forming in_callback (rounds.round_nodes stored all ns found)
     round_ordered_nodes in_callback all no_nodes found is each = each
     round_ordered_nodes in_callback all (node id p s args rest) found is each =
-        let n : PlainNode = record { id = id; process_id = p; namespace = s; arguments = rounds.round_named stored all args } in
+        let waits = is_some (callee stored s p) in
+        let n : PlainNode = record { id = id; process_id = p; namespace = s; arguments = rounds.round_named stored waits all args } in
         let put = opened stored n (callee stored s p) in
         round_ordered_nodes in_callback all rest (put_nodes put found) is.3
-        (puts_ordered After Reformed in_callback put found
-        (opened_ordered in_callback n (callee stored s p) (kept in_callback s p is.2)
+        (puts_ordered Holding Forming in_callback put found
+        (opened_ordered in_callback n (callee stored s p) is.2
         (λ t calls. called in_callback s p t is.2 calls)
-        (ap names_rise (round_names stored all args) ∙ is.0) (round_ordered_named all args is.1))
+        (ap names_rise (round_names stored waits all args) ∙ is.0) (round_ordered_named waits all args is.1))
         each)
 
-    round_ordered_named : (all : Nodes) (ms : Named) → OrderedNamed Before Formed ms → OrderedNamed After Reformed (rounds.round_named stored all ms)
-    round_ordered_named all no_named is = tt
-    round_ordered_named all (named k a rest) is = (round_ordered all a is.0, round_ordered_named all rest is.1)
+    round_ordered_named : (waits : Bool) (all : Nodes) (ms : Named) → OrderedNamed Holding Forming ms
+        → OrderedNamed Holding Forming (rounds.round_named stored waits all ms)
+    round_ordered_named waits all no_named is = tt
+    round_ordered_named waits all (named k a rest) is = (round_ordered waits all a is.0, round_ordered_named waits all rest is.1)
 
-    round_ordered : (all : Nodes) (a : Argument) → Ordered Before Formed a → Ordered After Reformed (rounds.round_argument stored all a)
-    round_ordered all null is = tt
-    round_ordered all (flag b) is = tt
-    round_ordered all (whole z) is = tt
-    round_ordered all inexact is = tt
-    round_ordered all (text s) is = tt
-    round_ordered all (list rest) is = round_ordered_each all rest is
-    round_ordered all (object ms) is = round_ordered_named all ms is
-    round_ordered all (from_node id) is = tt
-    round_ordered all (from_parameter name) is = tt
-    round_ordered all (callback ns result) is =
+    round_ordered : (waits : Bool) (all : Nodes) (a : Argument) → Ordered Holding Forming a
+        → Ordered Holding Forming (rounds.round_argument stored waits all a)
+    round_ordered waits all null is = tt
+    round_ordered waits all (flag b) is = tt
+    round_ordered waits all (whole z) is = tt
+    round_ordered waits all inexact is = tt
+    round_ordered waits all (text s) is = tt
+    round_ordered waits all (list rest) is = round_ordered_each waits all rest is
+    round_ordered waits all (object ms) is = round_ordered_named waits all ms is
+    round_ordered waits all (from_node id) is = tt
+    round_ordered waits all (from_parameter name) is = tt
+    round_ordered true all (callback ns result) is = is
+    round_ordered false all (callback ns result) is =
         ((round_in_order stored names ns result is.0.0, formed ns is.0.1), round_ordered_nodes true ns ns no_nodes is.1 tt)
 
-    round_ordered_each : (all : Nodes) (rest : ListValues) → OrderedEach Before Formed rest → OrderedEach After Reformed (rounds.round_each stored all rest)
-    round_ordered_each all no_arguments is = tt
-    round_ordered_each all (argument a rest) is = (round_ordered all a is.0, round_ordered_each all rest is.1)
+    round_ordered_each : (waits : Bool) (all : Nodes) (rest : ListValues) → OrderedEach Holding Forming rest
+        → OrderedEach Holding Forming (rounds.round_each stored waits all rest)
+    round_ordered_each waits all no_arguments is = tt
+    round_ordered_each waits all (argument a rest) is = (round_ordered waits all a is.0, round_ordered_each waits all rest is.1)
 
-  pub round_is_in_order : (in_callback : Bool) (g : PlainGraph) → IsInOrder Before Formed in_callback g → IsInOrder After Reformed in_callback (round stored g)
+  pub round_is_in_order : (in_callback : Bool) (g : PlainGraph) → IsInOrder Holding Forming in_callback g
+      → IsInOrder Holding Forming in_callback (round stored g)
   round_is_in_order in_callback g is =
       (round_in_order stored names g.nodes g.result is.0, round_ordered_nodes in_callback g.nodes g.nodes no_nodes is.1 tt)
 

@@ -1,6 +1,6 @@
 -- What a round makes of the nodes of a graph object, apart from their arguments: it depends on their ids and on what they
 -- call alone. So a callback has as many nodes after expansion wherever it stands.
-use Rattle.std.proofs.Common.{◌≡◌, ◌⊎◌, inl, inr, ℕ, zero, suc, ◌+◌, ◌<◌, ◌≤◌, Bool, true, false, if◌then◌else◌, List, [], ◌∷◌, length, Contains, Option, Some, None, refl, sym, ap, ◌∙◌, subst, arith}
+use Rattle.std.proofs.Common.{◌≡◌, ◌⊎◌, inl, inr, ℕ, zero, suc, ◌+◌, ◌<◌, ◌≤◌, Bool, true, false, if◌then◌else◌, List, [], ◌∷◌, length, Contains, Option, Some, None, is_some, refl, sym, ap, ◌∙◌, subst, arith}
 use Rattle.std.proofs.lemmas.Bool.{cases_lt}
 use Rattle.oe_dims.specs.Names.{is_name_before}
 use Rattle.oe_graph.specs.Printed.{node_count}
@@ -38,19 +38,19 @@ places_of-replaced stored values (node id p s args rest) =
 
 -- ---- a round of places
 
-abbrev put_place : Place → List Place → List Place
+abbrev pub put_place : Place → List Place → List Place
 put_place t [] = t ∷ []
 put_place t (u ∷ us) = if is_name_before u.0 t.0 then u ∷ put_place t us else t ∷ u ∷ us
 
-abbrev put_places : List Place → List Place → List Place
+abbrev pub put_places : List Place → List Place → List Place
 put_places [] found = found
 put_places (t ∷ ts) found = put_places ts (put_place t found)
 
-abbrev under_places : List ℕ → List Place → List Place
+abbrev pub under_places : List ℕ → List Place → List Place
 under_places call [] = []
 under_places call (t ∷ ts) = (under_id call t.0, t.1, t.2) ∷ under_places call ts
 
-abbrev opened_places : Place → Option PlainStored → List Place
+abbrev pub opened_places : Place → Option PlainStored → List Place
 opened_places t None = t ∷ []
 opened_places t (Some s) = under_places t.0 (places_of s.graph.nodes)
 
@@ -91,7 +91,7 @@ pub places_of-round : (stored : List PlainStored) (all ns found : Nodes)
     → places_of (round_nodes stored all ns found) ≡ round_places stored (places_of ns) (places_of found)
 places_of-round stored all no_nodes found = refl
 places_of-round stored all (node id p s args rest) found =
-    let n : PlainNode = record { id = id; process_id = p; namespace = s; arguments = round_named stored all args } in
+    let n : PlainNode = record { id = id; process_id = p; namespace = s; arguments = round_named stored (is_some (callee stored s p)) all args } in
     let put = opened stored n (callee stored s p) in
     places_of-round stored all rest (put_nodes put found)
     ∙ ap (round_places stored (places_of rest))

@@ -25,10 +25,10 @@ module _ (stored : List PlainStored) (g : PlainGraph) where
   phase code at (faults.process_recursive has reach reaches) = of_calls refl
   phase code at (faults.graph_too_large more) = of_size
   phase code at (faults.callback_too_large has brings written more) = of_size
-  phase code at (faults.argument_unknown times few h same there absent) = of_names refl
-  phase code at (faults.process_parameter_missing times few h same there default optional absent) = of_names refl
+  phase code at (faults.argument_unknown times h same there absent) = of_names refl
+  phase code at (faults.process_parameter_missing times h same there default optional absent) = of_names refl
   phase code at (faults.parameter_unknown h there absent) = of_names refl
-  phase code at (faults.node_unknown times few h there absent) = of_names refl
+  phase code at (faults.node_unknown times h there absent) = of_names refl
   phase code at (faults.graph_cycle h leads) = of_names refl
 
   -- a fault of a later phase than that of calls

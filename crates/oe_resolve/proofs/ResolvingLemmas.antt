@@ -16,12 +16,14 @@ use Rattle.oe_graph.specs.References as named_references
 use Rattle.oe_graph.specs.Resolved.{parameter_names, IsResolvedNode, IsResolvedObject, IsResolved, IsScopedWithin, itself, inside, scope_inside, most_nodes}
 use Rattle.oe_graph.specs.Tree.{Argument, null, flag, whole, inexact, text, list, object, from_node, from_parameter, callback, ListValues, no_arguments, argument, Named, no_named, named, Nodes, no_nodes, node, PlainGraph, PlainNode, PlainParameter, PlainStored}
 use Rattle.oe_graph.specs.declared.code.Code.{Code}
+use Rattle.oe_resolve.specs.Called.{nodes_call}
 use Rattle.oe_resolve.specs.Calls.{callee, means_catalogue, row_meant, may_stand, parameters_of}
 use Rattle.oe_resolve.specs.Faults as faults
 use Rattle.oe_resolve.specs.Faults.{each_argument, HasNode, names_among, StandsWithStored, argument_unknown, process_parameter_missing, parameter_unknown, node_unknown, graph_cycle}
 use Rattle.oe_resolve.specs.Filled.{parameters_named, filled, filled_each, filled_named, filled_nodes, filled_node, filled_graph, put_defaults, resolved}
-use Rattle.oe_resolve.specs.Rounds.{expanded}
+use Rattle.oe_resolve.specs.Rounds.{expanded, most_rounds}
 use Rattle.oe_resolve.proofs.FilledLemmas.{in_cons, in_none, in_first, in_rest, the_names, references-defaults, parameters-defaults, callbacks-defaults, names-defaults, names-kept, names-given, names_rise-defaults}
+use Rattle.oe_resolve.proofs.UncalledLemmas.{node_uncalled, callback_uncalled}
 
 -- ---- lists
 
@@ -217,9 +219,10 @@ within_filled in_callback scope nodes result outer_in_callback outer_scope whole
 
 -- ---- a graph object has a name
 
-pub record HasName (scope : List (List ℕ)) (nodes : Nodes) (at : List ℕ) (outer_scope : List (List ℕ)) (outer : Nodes) : Type 0 where
+pub record HasName (stored : List PlainStored) (scope : List (List ℕ)) (nodes : Nodes) (at : List ℕ) (outer_scope : List (List ℕ))
+    (outer : Nodes) : Type 0 where
   pub name : List ℕ
-  pub within : faults.IsWithin name scope nodes at outer_scope outer
+  pub within : faults.IsWithin stored name scope nodes at outer_scope outer
 
 pub record CallbackOf (ms : Named) (g : PlainGraph) : Type 0 where
   pub argument : List ℕ × Argument
@@ -235,17 +238,18 @@ callback_of (named k a rest) g has =
           record { argument = later.argument; has = in_rest (k, a) (each_argument rest) later.argument later.has; calls = later.calls }
     ]
 
-pub has_name : (in_callback : Bool) (scope : List (List ℕ)) (nodes : Nodes) (result : ℕ)
+pub has_name : (stored : List PlainStored) (in_callback : Bool) (scope : List (List ℕ)) (nodes : Nodes) (result : ℕ)
     (outer_in_callback : Bool) (outer_scope : List (List ℕ)) (outer : Nodes) (outer_result : ℕ)
     → IsScopedWithin in_callback scope nodes result outer_in_callback outer_scope outer outer_result
-    → (at : List ℕ) → HasName scope nodes at outer_scope outer
-has_name in_callback scope nodes result outer_in_callback outer_scope outer outer_result itself at =
+    → nodes_call stored outer ≡ false → (at : List ℕ) → HasName stored scope nodes at outer_scope outer
+has_name stored in_callback scope nodes result outer_in_callback outer_scope outer outer_result itself none at =
     record { name = at; within = faults.itself }
-has_name in_callback scope nodes result outer_in_callback outer_scope outer outer_result (inside {n = n} {g = g} has calls within) at =
+has_name stored in_callback scope nodes result outer_in_callback outer_scope outer outer_result (inside {n = n} {g = g} has calls within) none at =
     let a = callback_of n.arguments g calls in
-    let deep = has_name in_callback scope nodes result true (scope_inside n outer_scope) g.nodes g.result within
-    (callback_name (node_name at n.id) a.argument.0) in
-    record { name = deep.name; within = faults.inside has a.has a.calls deep.within }
+    let uncalled = node_uncalled stored outer n none has in
+    let deep = has_name stored in_callback scope nodes result true (scope_inside n outer_scope) g.nodes g.result within
+    (callback_uncalled stored n.arguments g uncalled.1 calls) (callback_name (node_name at n.id) a.argument.0) in
+    record { name = deep.name; within = faults.inside has uncalled.0 a.has a.calls deep.within }
 
 -- ---- the row of a node that may stand where it does, and calls no stored process
 
@@ -317,12 +321,12 @@ names_map [] = refl
 names_map (p ∷ ps) = ap (λ xs. p.name ∷ xs) (names_map ps)
 
 module _ (stored : List PlainStored) (g : PlainGraph) (faultless : (code : Code) (node : List ℕ) → ¬ StandsWithStored stored g code node)
-    (in_callback : Bool) (scope : List (List ℕ)) (nodes : Nodes) (result : ℕ)
+    (none : nodes_call stored (expanded stored g).nodes ≡ false) (in_callback : Bool) (scope : List (List ℕ)) (nodes : Nodes) (result : ℕ)
     (within : IsScopedWithin in_callback scope nodes result false [] (expanded stored g).nodes (expanded stored g).result) where
-  abbrev named_object : HasName scope nodes [] [] (expanded stored g).nodes
-  named_object = has_name in_callback scope nodes result false [] (expanded stored g).nodes (expanded stored g).result within []
+  abbrev named_object : HasName stored scope nodes [] [] (expanded stored g).nodes
+  named_object = has_name stored in_callback scope nodes result false [] (expanded stored g).nodes (expanded stored g).result within none []
 
-  abbrev has_node : (n : PlainNode) → Contains (each_node nodes) n → HasNode (expanded stored g) n (node_name named_object.name n.id)
+  abbrev has_node : (n : PlainNode) → Contains (each_node nodes) n → HasNode stored (expanded stored g) n (node_name named_object.name n.id)
   has_node n has = record {
     object = nodes;
     object_name = named_object.name;
@@ -360,7 +364,7 @@ module _ (stored : List PlainStored) (g : PlainGraph) (faultless : (code : Code)
   given_or_default m row has q is_parameter none =
       subst (λ xs. Contains xs q.name) (sym (names_of-filled m.arguments))
       (stands_among (names_of m.arguments) q.name
-      (λ missing. faultless _ _ (process_parameter_missing (length stored) (omega arith) (has_node m has) row.parameters
+      (λ missing. faultless _ _ (process_parameter_missing most_rounds (has_node m has) row.parameters
       (map_in plain_parameter row.process.parameters q is_parameter)
       (ap (λ d. option_map literal_value d) none) (ap is_some none) missing)))
 
@@ -380,7 +384,7 @@ module _ (stored : List PlainStored) (g : PlainGraph) (faultless : (code : Code)
       as (λ _. Contains (parameter_names row.process) name) [
         | inl there ↦ there
         | inr given ↦ stands_among (parameter_names row.process) name
-            (λ unknown. faultless _ _ (argument_unknown (length stored) (omega arith) (has_node m has) row.parameters
+            (λ unknown. faultless _ _ (argument_unknown most_rounds (has_node m has) row.parameters
             (subst (λ xs. Contains xs name) (names_of-filled m.arguments) given)
             (λ known. unknown (subst (λ xs. Contains xs name) (names_map row.process.parameters) known))))
       ]
@@ -402,7 +406,7 @@ module _ (stored : List PlainStored) (g : PlainGraph) (faultless : (code : Code)
         has_no_other = has_no_other_argument m row has;
         names_nodes = λ id refers_to. subst (λ xs. Contains xs id) (sym (ids_of-filled nodes))
             (stands_among (ids_of nodes) id
-            (λ unknown. faultless _ _ (node_unknown (length stored) (omega arith) (has_node m has)
+            (λ unknown. faultless _ _ (node_unknown most_rounds (has_node m has)
             (filled_references m id refers_to) unknown)));
         names_parameters = λ name refers_to. stands_among scope name
             (λ unknown. faultless _ _ (parameter_unknown (has_node m has) (filled_parameters m name refers_to) unknown));
@@ -451,15 +455,16 @@ module _ (stored : List PlainStored) (g : PlainGraph) (faultless : (code : Code)
 -- the graph that a graph without a fault resolves to
 pub resolved-is : (stored : List PlainStored) (g : PlainGraph)
     → ((code : Code) (node : List ℕ) → ¬ StandsWithStored stored g code node)
+    → nodes_call stored (expanded stored g).nodes ≡ false
     → EachObject (λ in_callback nodes result. IsOrderedObject nodes result) (expanded stored g)
     → EachObject (λ in_callback nodes result. node_count nodes ≤ most_nodes in_callback) (expanded stored g)
     → EachObject (StandInCatalogue stored) (expanded stored g)
     → IsResolved (resolved stored g)
-resolved-is stored g faultless ordered fits stand in_callback scope nodes result within =
+resolved-is stored g faultless none ordered fits stand in_callback scope nodes result within =
     let e = expanded stored g in
     let w = within_filled in_callback scope nodes result false [] (filled_nodes e.nodes) e.result e.nodes within refl in
     subst (λ ns. IsResolvedObject in_callback scope ns result) (sym w.is_filled)
-    (resolved_object stored g faultless in_callback scope w.unfilled result w.within
+    (resolved_object stored g faultless none in_callback scope w.unfilled result w.within
     (ordered in_callback scope w.unfilled result w.within)
     (stand in_callback scope w.unfilled result w.within)
     (fits in_callback scope w.unfilled result w.within))

@@ -1,5 +1,5 @@
 -- One round, node by node: what a reference means after it, and what is put in place of a node.
-use Rattle.std.proofs.Common.{◌≡◌, ℕ, zero, suc, ◌+◌, ◌<◌, ◌≤◌, Bool, true, false, cond, if◌then◌else◌, List, [], ◌∷◌, ◌++◌, map, length, get_or, drop, find, option_and_then, Option, Some, None, refl, sym, ap, ◌∙◌, arith}
+use Rattle.std.proofs.Common.{◌≡◌, ℕ, zero, suc, ◌+◌, ◌<◌, ◌≤◌, Bool, true, false, cond, if◌then◌else◌, List, [], ◌∷◌, ◌++◌, map, length, get_or, drop, find, option_and_then, Option, Some, None, is_some, refl, sym, ap, ◌∙◌, arith}
 use Rattle.std.proofs.lemmas.List.{drop_more}
 use Rattle.oe_dims.specs.Names.{same_name}
 use Rattle.oe_graph.specs.Plain.{plain_node, plain_named, plain_nodes}
@@ -70,7 +70,7 @@ landed-at stored ns id n below is =
 pub round_nodes-next : (stored : List PlainStored) (all : Nodes) (ns : List Node) (i : ℕ) (n : Node) (found : Nodes)
     (arguments : Named) (more after : Nodes)
     → i < length ns → n ≡ get_or ns i n
-    → arguments ≡ round_named stored all (plain_named n.arguments.items)
+    → arguments ≡ round_named stored (is_some (callee stored n.namespace n.process_id)) all (plain_named n.arguments.items)
     → more ≡ opened stored (record (plain_node n) { arguments = arguments }) (callee stored n.namespace n.process_id)
     → after ≡ put_nodes more found
     → round_nodes stored all (plain_nodes (drop i ns)) found ≡ round_nodes stored all (plain_nodes (drop (i + 1) ns)) after
@@ -81,7 +81,7 @@ round_nodes-next stored all ns i n found arguments more after below is same_argu
       id = n.id;
       process_id = n.process_id;
       namespace = n.namespace;
-      arguments = round_named stored all (plain_named n.arguments.items);
+      arguments = round_named stored (is_some call) all (plain_named n.arguments.items);
     }) call =
     same_more
     ∙ (ap (λ (m : PlainNode). opened stored (record m { arguments = arguments }) call) (node_parts n)

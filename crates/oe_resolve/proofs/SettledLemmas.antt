@@ -135,7 +135,7 @@ module _ (called stored : List PlainStored)
         let own = or_none (is_some (callee called s p)) (named_call called args) parts.0 in
         let n : PlainNode = record { id = id; process_id = p; namespace = s; arguments = args } in
         ap (λ o. round_nodes stored all rest (put_nodes (opened stored
-        (record { id = id; process_id = p; namespace = s; arguments = round_named stored all args }) o) found)) (leaf s p own.0)
+        (record { id = id; process_id = p; namespace = s; arguments = round_named stored (is_some o) all args }) o) found)) (leaf s p own.0)
         ∙ ap (λ others. round_nodes stored all rest (put_node (record { id = id; process_id = p; namespace = s; arguments = others }) found))
         (same_named all args each own.1 order.1)
         ∙ ap (round_nodes stored all rest) (put_last n found (λ a has. before a id has (first_there id (ids_of rest))))
@@ -144,15 +144,15 @@ module _ (called stored : List PlainStored)
         ∙ joined_next found id p s args rest
 
     same_named : (all : Nodes) (ms : Named) → NoCall (each_node all) → named_call called ms ≡ false → OrderedNamed Holding Forming ms
-        → round_named stored all ms ≡ ms
+        → round_named stored false all ms ≡ ms
     same_named all no_named each is order = refl
     same_named all (named k a rest) each is order =
         let parts = or_none (calls called a) (named_call called rest) is in
-        ap (λ b. named k b (round_named stored all rest)) (same_argument all a each parts.0 order.0)
+        ap (λ b. named k b (round_named stored false all rest)) (same_argument all a each parts.0 order.0)
         ∙ ap (named k a) (same_named all rest each parts.1 order.1)
 
     same_argument : (all : Nodes) (a : Argument) → NoCall (each_node all) → calls called a ≡ false → Ordered Holding Forming a
-        → round_argument stored all a ≡ a
+        → round_argument stored false all a ≡ a
     same_argument all null each is order = refl
     same_argument all (flag b) each is order = refl
     same_argument all (whole z) each is order = refl
@@ -170,11 +170,11 @@ module _ (called stored : List PlainStored)
         ∙ ap (callback ns) (index_same ns result order.0.0.rise order.0.0.has_result)
 
     same_each : (all : Nodes) (xs : ListValues) → NoCall (each_node all) → each_call called xs ≡ false → OrderedEach Holding Forming xs
-        → round_each stored all xs ≡ xs
+        → round_each stored false all xs ≡ xs
     same_each all no_arguments each is order = refl
     same_each all (argument a rest) each is order =
         let parts = or_none (calls called a) (each_call called rest) is in
-        ap (λ b. argument b (round_each stored all rest)) (same_argument all a each parts.0 order.0)
+        ap (λ b. argument b (round_each stored false all rest)) (same_argument all a each parts.0 order.0)
         ∙ ap (argument a) (same_each all rest each parts.1 order.1)
 
   -- a round more changes nothing

@@ -1,5 +1,5 @@
 -- How much graphs hold after changes: what a round puts in place of calls, and values that stand for parameters.
-use Rattle.std.proofs.Common.{◌≡◌, ◌<◌, ◌≤◌, ◌+◌, ◌||◌, ℕ, Bool, true, false, if◌then◌else◌, List, [], ◌∷◌, ◌++◌, map, length, drop, take, get_or, Option, Some, None, option_map, unwrap_or, refl, sym, ap, ◌∙◌, subst, arith}
+use Rattle.std.proofs.Common.{◌≡◌, ◌<◌, ◌≤◌, ◌+◌, ◌||◌, ℕ, Bool, true, false, if◌then◌else◌, List, [], ◌∷◌, ◌++◌, map, length, drop, take, get_or, Option, Some, None, is_some, option_map, unwrap_or, refl, sym, ap, ◌∙◌, subst, arith}
 use denote.Bor.{Bor}
 use Rattle.std.specs.List.{list_any}
 use Rattle.std.specs.Option.{option_or}
@@ -15,7 +15,7 @@ use Rattle.oe_graph.specs.declared.tree.Graph.{Graph, out-Graph}
 use Rattle.oe_graph.specs.declared.tree.Node.{Node}
 use Rattle.oe_resolve.specs.Calls.{callee, callback_parameters}
 use Rattle.oe_resolve.specs.Replaced.{default_of, value_before, values_given, carried, carried_each, carried_named, inside, replaced, replaced_each, replaced_named, replaced_nodes}
-use Rattle.oe_resolve.specs.Rounds.{known, known_each, known_named, known_nodes, known_graph, under, under_each, under_named, under_nodes, put_node, put_nodes, opened, round_named, round_nodes, round}
+use Rattle.oe_resolve.specs.Rounds.{known, known_each, known_named, known_nodes, known_graph, under, under_each, under_named, under_nodes, put_node, put_nodes, opened, round_argument, round_each, round_named, round_nodes, round}
 use Rattle.oe_resolve.specs.Seen.{names_behind, plain_sizes}
 use Rattle.oe_resolve.specs.Sizes.{value_size, size_in, size_each, size_named, size_nodes, name_size, most, IsWithinLimits, round_size, given_size, given_sizes, size_or, size_for, HasSizes}
 use Rattle.oe_resolve.specs.declared.weigh.ParameterSize.{ParameterSize}
@@ -138,7 +138,7 @@ module _ (m : Measure) where
       → size_nodes m (round_nodes stored all ns found) ≡ size_nodes m found + round_size m stored all ns
   size_round stored all no_nodes found = omega arith
   size_round stored all (node id p s args rest) found =
-      let n : PlainNode = record { id = id; process_id = p; namespace = s; arguments = round_named stored all args } in
+      let n : PlainNode = record { id = id; process_id = p; namespace = s; arguments = round_named stored (is_some (callee stored s p)) all args } in
       let more = opened stored n (callee stored s p) in
       let later = size_round stored all rest (put_nodes more found) in
       let here = size_put_nodes more found in
@@ -223,37 +223,103 @@ size_uncalled m stored n o budget left is taken =
     subst (λ p. budget ≡ left + size_nodes m (opened stored n p)) (sym is) (omega (arith, taken))
 
 -- what stands in place of a node of the code that calls no stored process
-pub node_uncalled : (m : Measure) (stored : List PlainStored) (n : Node) (arguments : Named → Named) (o : Option (Bor StoredProcess))
+pub node_uncalled : (m : Measure) (stored : List PlainStored) (n : Node) (arguments : Bool → Named → Named) (o : Option (Bor StoredProcess))
     (budget left : ℕ)
     → option_map (λ (s : Bor StoredProcess). plain_stored s.now) o ≡ callee stored n.namespace n.process_id
     → ((s : Bor StoredProcess) → o ≡ Some s → ⊥)
-    → budget ≡ left + size_named m (arguments (plain_named n.arguments.items))
+    → budget ≡ left + size_named m (arguments false (plain_named n.arguments.items))
     → budget ≡ left
-    + size_nodes m (opened stored (record (plain_node n) { arguments = arguments (plain_node n).arguments })
+    + size_nodes m
+    (opened stored
+    (record (plain_node n) { arguments = arguments (is_some (callee stored n.namespace n.process_id)) (plain_node n).arguments })
     (callee stored n.namespace n.process_id))
 node_uncalled m stored n arguments o budget left is none taken =
-    size_uncalled m stored (record (plain_node n) { arguments = arguments (plain_node n).arguments })
-    (callee stored n.namespace n.process_id) budget left (callee_none o (callee stored n.namespace n.process_id) is none)
-    (subst (λ ms. budget ≡ left + size_named m (arguments ms)) (sym (ap (λ (k : PlainNode). k.arguments) (node_parts n))) taken)
+    subst (λ p. budget ≡ left
+    + size_nodes m (opened stored (record (plain_node n) { arguments = arguments (is_some p) (plain_node n).arguments }) p))
+    (sym (callee_none o (callee stored n.namespace n.process_id) is none))
+    (subst (λ ms. budget ≡ left + (size_named m (arguments false ms) + 0))
+    (sym (ap (λ (k : PlainNode). k.arguments) (node_parts n))) (omega (arith, taken)))
+
+-- ---- arguments of a call, whose callbacks wait
+
+module _ (m : Measure) (stored : List PlainStored) (all : Nodes) where
+  mutual
+    size_waiting : (a : Argument) → size_in m (round_argument stored true all a) ≡ size_in m a
+    size_waiting null = refl
+    size_waiting (flag b) = refl
+    size_waiting (whole z) = refl
+    size_waiting inexact = refl
+    size_waiting (text s) = refl
+    size_waiting (list rest) = ap (λ n. value_size m + n) (size_waiting_each rest)
+    size_waiting (object ms) = ap (λ n. value_size m + n) (size_waiting_named ms)
+    size_waiting (from_node id) = refl
+    size_waiting (from_parameter name) = refl
+    size_waiting (callback ns result) = refl
+
+    size_waiting_each : (rest : ListValues) → size_each m (round_each stored true all rest) ≡ size_each m rest
+    size_waiting_each no_arguments = refl
+    size_waiting_each (argument a rest) = both _ _ _ _ (size_waiting a) (size_waiting_each rest)
+
+    size_waiting_named : (ms : Named) → size_named m (round_named stored true all ms) ≡ size_named m ms
+    size_waiting_named no_named = refl
+    size_waiting_named (named name a rest) =
+        both _ _ _ _ (ap (λ n. name_size m name + n) (size_waiting a)) (size_waiting_named rest)
+
+  found_by : (same : Bool) (a : Argument) (found rest : Option Argument)
+      → option_map (size_in m) found ≡ option_map (size_in m) rest
+      → option_map (size_in m) (if same then Some (round_argument stored true all a) else found)
+      ≡ option_map (size_in m) (if same then Some a else rest)
+  found_by true a found rest later = ap Some (size_waiting a)
+  found_by false a found rest later = later
+
+  found_waiting : (name : List ℕ) (ms : Named)
+      → option_map (size_in m) (argument_named name (round_named stored true all ms)) ≡ option_map (size_in m) (argument_named name ms)
+  found_waiting name no_named = refl
+  found_waiting name (named k a rest) =
+      found_by (same_name k name) a (argument_named name (round_named stored true all rest)) (argument_named name rest)
+      (found_waiting name rest)
+
+  or_sized : (found rest other : Option Argument) → option_map (size_in m) found ≡ option_map (size_in m) rest
+      → option_map (size_in m) (option_or found other) ≡ option_map (size_in m) (option_or rest other)
+  or_sized None None other is = refl
+  or_sized None (Some a) other is = absurd cc
+  or_sized (Some a) None other is = absurd cc
+  or_sized (Some a) (Some b) other is = is
+
+  -- they have the sizes that they have as they were written
+  pub given_waiting : (ms : Named) (ps : List PlainParameter)
+      → given_sizes m (round_named stored true all ms) ps ≡ given_sizes m ms ps
+  given_waiting ms [] = refl
+  given_waiting ms (p ∷ ps) =
+      ap (λ (size : Option ℕ). (p.name, size) ∷ given_sizes m (round_named stored true all ms) ps)
+      (or_sized (argument_named p.name (round_named stored true all ms)) (argument_named p.name ms) (default_of p) (found_waiting p.name ms))
+      ∙ ap (λ sizes. (p.name, given_size m ms p) ∷ sizes) (given_waiting ms ps)
 
 -- and of one that calls this process
-pub node_called : (m : Measure) (stored : List PlainStored) (n : Node) (arguments : Named → Named) (o : Option (Bor StoredProcess))
+pub node_called : (m : Measure) (stored : List PlainStored) (n : Node) (all : Nodes) (o : Option (Bor StoredProcess))
     (process : Bor StoredProcess) (budget left : ℕ) (sizes : List (List ℕ × Option ℕ))
     → option_map (λ (s : Bor StoredProcess). plain_stored s.now) o ≡ callee stored n.namespace n.process_id → o ≡ Some process
-    → sizes ≡ given_sizes m (arguments (plain_named n.arguments.items)) (map plain_parameter process.now.parameters.items)
+    → sizes ≡ given_sizes m (plain_named n.arguments.items) (map plain_parameter process.now.parameters.items)
     → ((values : Named) → HasSizes m sizes [] values
     → budget ≡ left + size_nodes m (replaced_nodes stored values (plain_nodes (out-Graph process.now.graph).nodes.items)))
     → budget ≡ left
-    + size_nodes m (opened stored (record (plain_node n) { arguments = arguments (plain_node n).arguments })
+    + size_nodes m
+    (opened stored
+    (record (plain_node n) {
+      arguments = round_named stored (is_some (callee stored n.namespace n.process_id)) all (plain_node n).arguments;
+    })
     (callee stored n.namespace n.process_id))
-node_called m stored n arguments o process budget left sizes is found sized each =
-    let k : PlainNode = record (plain_node n) { arguments = arguments (plain_node n).arguments } in
-    let given : sizes ≡ given_sizes m k.arguments (map plain_parameter process.now.parameters.items) =
-    sized ∙ ap (λ ms. given_sizes m (arguments ms) (map plain_parameter process.now.parameters.items))
-    (sym (ap (λ (q : PlainNode). q.arguments) (node_parts n))) in
+node_called m stored n all o process budget left sizes is found sized each =
+    let k : PlainNode = record (plain_node n) { arguments = round_named stored true all (plain_node n).arguments } in
+    let parameters = map plain_parameter process.now.parameters.items in
+    let given : sizes ≡ given_sizes m k.arguments parameters =
+    sized
+    ∙ (ap (λ ms. given_sizes m ms parameters) (sym (ap (λ (q : PlainNode). q.arguments) (node_parts n)))
+    ∙ sym (given_waiting m stored all (plain_node n).arguments parameters)) in
     let called : callee stored n.namespace n.process_id ≡ Some (plain_stored process.now) =
     sym is ∙ ap (option_map (λ (s : Bor StoredProcess). plain_stored s.now)) found in
-    subst (λ p. budget ≡ left + size_nodes m (opened stored k p)) (sym called)
+    subst (λ p. budget ≡ left + size_nodes m
+    (opened stored (record (plain_node n) { arguments = round_named stored (is_some p) all (plain_node n).arguments }) p)) (sym called)
     (size_call m stored k (plain_stored process.now) budget left
     (λ values has. subst (λ (h : PlainGraph). budget ≡ left + size_nodes m (replaced_nodes stored values h.nodes))
     (sym (graph_parts process.now.graph))

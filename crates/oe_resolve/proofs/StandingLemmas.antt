@@ -1,5 +1,5 @@
 -- What judging the rounds finds, and the faults of names that stand.
-use Rattle.std.proofs.Common.{◌≡◌, ℕ, ◌≤◌, ◌⊎◌, inl, inr, Bool, true, false, List, [], Contains, length, refl, sym, ap, ◌∙◌, subst, true≢false, arith}
+use Rattle.std.proofs.Common.{◌≡◌, ℕ, ◌⊎◌, inl, inr, Bool, true, false, List, [], Contains, refl, sym, ap, ◌∙◌, subst, true≢false, arith}
 use Rattle.oe_graph.specs.Codes.{phase_of}
 use Rattle.oe_graph.specs.Form.{node_name}
 use Rattle.oe_graph.specs.References.{each_node}
@@ -10,7 +10,7 @@ use Rattle.oe_resolve.specs.Faults as faults
 use Rattle.oe_resolve.specs.Faults.{IsWithin, HasNode, StandsWithStored}
 use Rattle.oe_resolve.specs.Judged as judged
 use Rattle.oe_resolve.specs.Judged.{HasFault, OfObject}
-use Rattle.oe_resolve.specs.Rounds.{expanded_by, expanded}
+use Rattle.oe_resolve.specs.Rounds.{expanded_by, expanded, most_rounds}
 
 -- a fault of a node of a graph object that stands within one
 record Found (stored : List PlainStored) (last : Bool) (f : Fault) (at : List ℕ) (outer_scope : List (List ℕ)) (outer : Nodes)
@@ -19,7 +19,7 @@ record Found (stored : List PlainStored) (last : Bool) (f : Fault) (at : List �
   pub scope : List (List ℕ)
   pub object : Nodes
   pub node : PlainNode
-  pub within : IsWithin name scope object at outer_scope outer
+  pub within : IsWithin stored name scope object at outer_scope outer
   pub is_node : Contains (each_node object) node
   pub is_named : f.node ≡ node_name name node.id
   pub has : HasFault stored last scope object node f.code
@@ -37,57 +37,57 @@ module _ (stored : List PlainStored) (last : Bool) (f : Fault) where
     is_named = own.at;
     has = own.has;
   }
-  found_of at scope outer (judged.inside there argument callback of) =
+  found_of at scope outer (judged.inside there none argument callback of) =
       let r = found_of _ _ _ of in record {
         name = r.name;
         scope = r.scope;
         object = r.object;
         node = r.node;
-        within = faults.inside there argument callback r.within;
+        within = faults.inside there none argument callback r.within;
         is_node = r.is_node;
         is_named = r.is_named;
         has = r.has;
       }
 
   of_found : (name : List ℕ) (scope : List (List ℕ)) (object : Nodes) (at : List ℕ) (outer_scope : List (List ℕ)) (outer : Nodes)
-      (n : PlainNode) → IsWithin name scope object at outer_scope outer → Contains (each_node object) n
+      (n : PlainNode) → IsWithin stored name scope object at outer_scope outer → Contains (each_node object) n
       → f.node ≡ node_name name n.id → HasFault stored last scope object n f.code → OfObject stored last f at outer_scope outer
   of_found name scope object at outer_scope outer n faults.itself there named has =
       judged.by_itself there (record { at = named; has = has })
-  of_found name scope object at outer_scope outer n (faults.inside outer_there argument callback within) there named has =
-      judged.inside outer_there argument callback (of_found name scope object _ _ _ n within there named has)
+  of_found name scope object at outer_scope outer n (faults.inside outer_there none argument callback within) there named has =
+      judged.inside outer_there none argument callback (of_found name scope object _ _ _ n within there named has)
 
-  pub of_node : (g : PlainGraph) (n : PlainNode) (h : HasNode g n f.node) → HasFault stored last h.scope h.object n f.code
+  pub of_node : (g : PlainGraph) (n : PlainNode) (h : HasNode stored g n f.node) → HasFault stored last h.scope h.object n f.code
       → OfObject stored last f [] [] g.nodes
   of_node g n h has = of_found h.object_name h.scope h.object [] [] g.nodes n h.within h.is_node (sym h.is_named) has
 
 module _ (stored : List PlainStored) (g : PlainGraph) where
   -- ---- what is found stands
 
-  early : (times : ℕ) (code : Code) (at : List ℕ) (n : PlainNode) → times ≤ length stored
-      → (h : HasNode (expanded_by times stored g) n at) → HasFault stored false h.scope h.object n code → StandsWithStored stored g code at
-  early times code at n few h (judged.argument_unknown same there absent) = faults.argument_unknown times few h same there absent
-  early times code at n few h (judged.process_parameter_missing same there default optional absent) =
-      faults.process_parameter_missing times few h same there default optional absent
-  early times code at n few h (judged.parameter_unknown is there absent) = absurd (true≢false (sym is))
-  early times code at n few h (judged.node_unknown there absent) = faults.node_unknown times few h there absent
-  early times code at n few h (judged.graph_cycle is leads) = absurd (true≢false (sym is))
+  early : (times : ℕ) (code : Code) (at : List ℕ) (n : PlainNode)
+      → (h : HasNode stored (expanded_by times stored g) n at) → HasFault stored false h.scope h.object n code → StandsWithStored stored g code at
+  early times code at n h (judged.argument_unknown same there absent) = faults.argument_unknown times h same there absent
+  early times code at n h (judged.process_parameter_missing same there default optional absent) =
+      faults.process_parameter_missing times h same there default optional absent
+  early times code at n h (judged.parameter_unknown is there absent) = absurd (true≢false (sym is))
+  early times code at n h (judged.node_unknown there absent) = faults.node_unknown times h there absent
+  early times code at n h (judged.graph_cycle is leads) = absurd (true≢false (sym is))
 
   late : (code : Code) (at : List ℕ) (n : PlainNode)
-      → (h : HasNode (expanded stored g) n at) → HasFault stored true h.scope h.object n code → StandsWithStored stored g code at
+      → (h : HasNode stored (expanded stored g) n at) → HasFault stored true h.scope h.object n code → StandsWithStored stored g code at
   late code at n h (judged.argument_unknown same there absent) =
-      faults.argument_unknown (length stored) (omega arith) h same there absent
+      faults.argument_unknown most_rounds h same there absent
   late code at n h (judged.process_parameter_missing same there default optional absent) =
-      faults.process_parameter_missing (length stored) (omega arith) h same there default optional absent
+      faults.process_parameter_missing most_rounds h same there default optional absent
   late code at n h (judged.parameter_unknown is there absent) = faults.parameter_unknown h there absent
-  late code at n h (judged.node_unknown there absent) = faults.node_unknown (length stored) (omega arith) h there absent
+  late code at n h (judged.node_unknown there absent) = faults.node_unknown most_rounds h there absent
   late code at n h (judged.graph_cycle is leads) = faults.graph_cycle h leads
 
-  pub early_stands : (times : ℕ) (f : Fault) → times ≤ length stored
+  pub early_stands : (times : ℕ) (f : Fault)
       → OfObject stored false f [] [] (expanded_by times stored g).nodes → StandsWithStored stored g f.code f.node
-  early_stands times f few of =
+  early_stands times f of =
       let r = found_of stored false f [] [] (expanded_by times stored g).nodes of in
-      early times f.code f.node r.node few (record {
+      early times f.code f.node r.node (record {
         object = r.object;
         object_name = r.name;
         scope = r.scope;
@@ -112,7 +112,7 @@ module _ (stored : List PlainStored) (g : PlainGraph) where
 
   -- in an earlier round, or in the last one
   pub data InRound (f : Fault) : Type 0 where
-    earlier : (times : ℕ) → times ≤ length stored → OfObject stored false f [] [] (expanded_by times stored g).nodes → InRound f
+    earlier : (times : ℕ) → OfObject stored false f [] [] (expanded_by times stored g).nodes → InRound f
     last_round : OfObject stored true f [] [] (expanded stored g).nodes → InRound f
 
   pub in_round : (code : Code) (at : List ℕ) → StandsWithStored stored g code at → phase_of code ≡ 4
@@ -121,17 +121,17 @@ module _ (stored : List PlainStored) (g : PlainGraph) where
   in_round code at (faults.process_recursive has reach reaches) phase = absurd (omega arith)
   in_round code at (faults.graph_too_large more) phase = absurd (omega arith)
   in_round code at (faults.callback_too_large has brings written more) phase = absurd (omega arith)
-  in_round code at (faults.argument_unknown times {n = n} few h same there absent) phase =
-      earlier times few (of_node stored false (record { code = code; node = at }) (expanded_by times stored g) n h
+  in_round code at (faults.argument_unknown times {n = n} h same there absent) phase =
+      earlier times (of_node stored false (record { code = code; node = at }) (expanded_by times stored g) n h
       (judged.argument_unknown same there absent))
-  in_round code at (faults.process_parameter_missing times {n = n} few h same there default optional absent) phase =
-      earlier times few (of_node stored false (record { code = code; node = at }) (expanded_by times stored g) n h
+  in_round code at (faults.process_parameter_missing times {n = n} h same there default optional absent) phase =
+      earlier times (of_node stored false (record { code = code; node = at }) (expanded_by times stored g) n h
       (judged.process_parameter_missing same there default optional absent))
   in_round code at (faults.parameter_unknown {n = n} h there absent) phase =
       last_round (of_node stored true (record { code = code; node = at }) (expanded stored g) n h
       (judged.parameter_unknown refl there absent))
-  in_round code at (faults.node_unknown times {n = n} few h there absent) phase =
-      earlier times few (of_node stored false (record { code = code; node = at }) (expanded_by times stored g) n h
+  in_round code at (faults.node_unknown times {n = n} h there absent) phase =
+      earlier times (of_node stored false (record { code = code; node = at }) (expanded_by times stored g) n h
       (judged.node_unknown there absent))
   in_round code at (faults.graph_cycle {n = n} h leads) phase =
       last_round (of_node stored true (record { code = code; node = at }) (expanded stored g) n h

@@ -3,7 +3,8 @@ use Rattle.std.specs.Prelude.{◌≡◌, ℕ, pos, true, false, List, [], ◌∷
 use Rattle.oe_graph.specs.Printed.{node_count}
 use Rattle.oe_graph.specs.Tree.{Argument, null, flag, text, whole, list, object, from_node, from_parameter, callback, argument, no_arguments, Named, no_named, named, Nodes, no_nodes, node, PlainGraph, PlainParameter, PlainStored}
 use Rattle.oe_resolve.specs.Replaced.{values_given, replaced_nodes}
-use Rattle.oe_resolve.specs.Rounds.{round, expanded_by, expanded}
+use Rattle.oe_resolve.specs.Called.{nodes_call}
+use Rattle.oe_resolve.specs.Rounds.{round, expanded_by}
 use Rattle.oe_resolve.specs.Filled.{filled_graph}
 use Rattle.oe_graph.specs.Valid.{is_valid}
 
@@ -75,7 +76,7 @@ pub expanded_by-main : expanded_by 1 (inner ∷ outer ∷ []) main ≡ record {
 }
 expanded_by-main = refl
 
--- after all rounds the result is that of `inner`, and what was carried into its callback refers to no node
+-- after two rounds no call is left; the result is that of `inner`, and what was carried into its callback refers to no node
 abbrev pub main_expanded : PlainGraph
 main_expanded = record {
   nodes =
@@ -89,8 +90,8 @@ main_expanded = record {
   result = 3;
 }
 
-pub expanded-main : expanded (inner ∷ outer ∷ []) main ≡ main_expanded
-expanded-main = refl
+pub expanded_by_two-main : expanded_by 2 (inner ∷ outer ∷ []) main ≡ main_expanded
+expanded_by_two-main = refl
 
 -- a round more changes nothing
 pub round-main : round (inner ∷ outer ∷ []) main_expanded ≡ main_expanded
@@ -139,3 +140,54 @@ pub filled_graph-apply :
       result = 0;
     }
 filled_graph-apply = refl
+
+-- ---- callbacks that are given to calls
+
+-- applies the callback `f` to a cube
+abbrev pub using : PlainStored
+using = record {
+  id = codes "p";
+  parameters = needed (codes "f") ∷ [];
+  graph = record {
+    nodes = plain_node (codes "m") (codes "apply") (one (codes "process") (from_parameter (codes "f"))) no_nodes;
+    result = 0;
+  };
+  text = [];
+}
+
+-- in a callback: the absolute value of `u`, which may hold a callback too
+abbrev pub holding : PlainStored
+holding = record {
+  id = codes "r";
+  parameters = needed (codes "u") ∷ [];
+  graph = record {
+    nodes = plain_node (codes "s") (codes "absolute") (one (codes "x") (from_parameter (codes "u"))) no_nodes;
+    result = 0;
+  };
+  text = [];
+}
+
+-- a callback of one node that calls `r`
+abbrev pub calling : List ℕ → Argument → Argument
+calling id u = callback (plain_node id (codes "r") (one (codes "u") u) no_nodes) 0
+
+abbrev pub given : PlainGraph
+given = record {
+  nodes = plain_node (codes "c") (codes "p") (one (codes "f") (calling (codes "k") (calling (codes "j") (whole (pos 1))))) no_nodes;
+  result = 0;
+}
+
+-- after one round the callback stands in `apply`, and its own call is as it was written
+pub expanded_by-given : expanded_by 1 (using ∷ holding ∷ []) given ≡ record {
+  nodes = plain_node (codes "c/m") (codes "apply")
+      (one (codes "process") (calling (codes "k") (calling (codes "j") (whole (pos 1))))) no_nodes;
+  result = 0;
+}
+expanded_by-given = refl
+
+-- two processes need three rounds
+pub nodes_call-two : nodes_call (using ∷ holding ∷ []) (expanded_by 2 (using ∷ holding ∷ []) given).nodes ≡ true
+nodes_call-two = refl
+
+pub nodes_call-three : nodes_call (using ∷ holding ∷ []) (expanded_by 3 (using ∷ holding ∷ []) given).nodes ≡ false
+nodes_call-three = refl

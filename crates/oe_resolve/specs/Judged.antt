@@ -14,7 +14,7 @@ use Rattle.oe_graph.specs.declared.code.Code.{Code}
 use Rattle.oe_graph.specs.declared.code.Code.TheVariants.{ArgumentUnknown, ProcessParameterMissing, ParameterUnknown, NodeUnknown, GraphCycle}
 use Rattle.oe_graph.specs.declared.fault.Fault.{Fault}
 use Rattle.oe_order.specs.Graph as order
-use Rattle.oe_resolve.specs.Calls.{parameters_of}
+use Rattle.oe_resolve.specs.Calls.{callee, parameters_of}
 use Rattle.oe_resolve.specs.Faults.{each_argument, names_among}
 
 -- an answer is the least of the faults that a predicate has, or none where it has none
@@ -125,7 +125,7 @@ pub record OfItself (stored : List PlainStored) (last : Bool) (name : List ℕ) 
 
 -- ---- graph objects, under their names and scopes
 
--- a fault of a node of a graph object, or of a callback in it
+-- a fault of a node of a graph object, or of a callback in an argument of one that is no call
 pub data OfObject (stored : List PlainStored) (last : Bool) (f : Fault)
     : List ℕ → List (List ℕ) → Nodes → Type 0 where
   by_itself : {name : List ℕ} {scope : List (List ℕ)} {nodes : Nodes} {n : PlainNode}
@@ -133,7 +133,8 @@ pub data OfObject (stored : List PlainStored) (last : Bool) (f : Fault)
       → OfObject stored last f name scope nodes
   inside : {name : List ℕ} {scope : List (List ℕ)} {nodes : Nodes} {n : PlainNode} {a : List ℕ × Argument}
       {g : PlainGraph}
-      → Contains (each_node nodes) n → Contains (each_argument n.arguments) a → Contains (callbacks_in a.1) g
+      → Contains (each_node nodes) n → callee stored n.namespace n.process_id ≡ None
+      → Contains (each_argument n.arguments) a → Contains (callbacks_in a.1) g
       → OfObject stored last f (callback_name (node_name name n.id) a.0) (scope_inside n scope) g.nodes
       → OfObject stored last f name scope nodes
 
@@ -152,11 +153,12 @@ pub record OfArguments (stored : List PlainStored) (last : Bool) (node : List �
   pub is_there : Contains (each_argument arguments) one
   pub has : OfArgument stored last node one.0 scope one.1 f
 
--- of a node, by itself or in the callbacks in its arguments
+-- of a node, by itself or, where it is no call, in the callbacks in its arguments
 abbrev pub OfNode : List PlainStored → Bool → List ℕ → List (List ℕ) → Nodes → PlainNode → Fault → Type 0
 OfNode stored last name scope nodes n f =
     OfItself stored last (node_name name n.id) scope nodes n f
-    ⊎ OfArguments stored last (node_name name n.id) (scope_inside n scope) n.arguments f
+    ⊎ ((callee stored n.namespace n.process_id ≡ None)
+    × OfArguments stored last (node_name name n.id) (scope_inside n scope) n.arguments f)
 
 -- ---- where ids rise
 

@@ -1,7 +1,8 @@
 -- The expanded graph. A round replaces each call of a stored process by the graph of that process, and leaves what that
--- graph calls to the next round. Nodes stand in byte order of their ids after each. Where no stored process reaches
--- itself, no chain of calls is longer than there are stored processes, so as many rounds replace all calls.
-use Rattle.std.specs.Prelude.{ℕ, zero, suc, List, [], ◌∷◌, ◌++◌, length, map, Option, Some, None, option_and_then, find, if◌then◌else◌}
+-- graph calls to the next round. Calls are replaced outermost first: a callback in an argument of a call waits, and its
+-- own calls are replaced where a node that is no call uses it. Nodes stand in byte order of their ids after each round.
+-- Rounds go on until no call is left.
+use Rattle.std.specs.Prelude.{ℕ, zero, suc, Bool, List, [], ◌∷◌, ◌++◌, map, Option, Some, None, is_some, option_and_then, find, if◌then◌else◌}
 use Rattle.std.specs.List.{list_any}
 use Rattle.oe_dims.specs.Names.{same_name, is_name_before}
 use Rattle.oe_graph.specs.Printed.{ids_of}
@@ -140,37 +141,46 @@ opened stored n (Some s) =
 abbrev pub callback_with_result : List ℕ → Nodes → Argument
 callback_with_result id ns = callback ns (index_of id ns)
 
--- the nodes of a graph object that has all of these, put beside those that stand already; and the arguments in it
+-- The nodes of a graph object that has all of these, put beside those that stand already; and the arguments in it. In
+-- those of a call callbacks wait.
 abbrev mutual
   pub round_nodes : List PlainStored → Nodes → Nodes → Nodes → Nodes
   round_nodes stored all no_nodes found = found
   round_nodes stored all (node id process_id namespace arguments rest) found =
       round_nodes stored all rest (put_nodes
       (opened stored
-      (record { id = id; process_id = process_id; namespace = namespace; arguments = round_named stored all arguments })
+      (record {
+        id = id;
+        process_id = process_id;
+        namespace = namespace;
+        arguments = round_named stored (is_some (callee stored namespace process_id)) all arguments;
+      })
       (callee stored namespace process_id))
       found)
 
-  pub round_named : List PlainStored → Nodes → Named → Named
-  round_named stored all no_named = no_named
-  round_named stored all (named name a rest) = named name (round_argument stored all a) (round_named stored all rest)
+  pub round_named : List PlainStored → Bool → Nodes → Named → Named
+  round_named stored waits all no_named = no_named
+  round_named stored waits all (named name a rest) =
+      named name (round_argument stored waits all a) (round_named stored waits all rest)
 
-  pub round_argument : List PlainStored → Nodes → Argument → Argument
-  round_argument stored all null = null
-  round_argument stored all (flag b) = flag b
-  round_argument stored all (whole z) = whole z
-  round_argument stored all inexact = inexact
-  round_argument stored all (text s) = text s
-  round_argument stored all (list rest) = list (round_each stored all rest)
-  round_argument stored all (object ms) = object (round_named stored all ms)
-  round_argument stored all (from_node id) = from_node (landed stored all id)
-  round_argument stored all (from_parameter name) = from_parameter name
-  round_argument stored all (callback ns result) =
-      callback_with_result (landed stored ns (id_at ns result)) (round_nodes stored ns ns no_nodes)
+  pub round_argument : List PlainStored → Bool → Nodes → Argument → Argument
+  round_argument stored waits all null = null
+  round_argument stored waits all (flag b) = flag b
+  round_argument stored waits all (whole z) = whole z
+  round_argument stored waits all inexact = inexact
+  round_argument stored waits all (text s) = text s
+  round_argument stored waits all (list rest) = list (round_each stored waits all rest)
+  round_argument stored waits all (object ms) = object (round_named stored waits all ms)
+  round_argument stored waits all (from_node id) = from_node (landed stored all id)
+  round_argument stored waits all (from_parameter name) = from_parameter name
+  round_argument stored waits all (callback ns result) =
+      if waits then callback ns result
+      else callback_with_result (landed stored ns (id_at ns result)) (round_nodes stored ns ns no_nodes)
 
-  pub round_each : List PlainStored → Nodes → ListValues → ListValues
-  round_each stored all no_arguments = no_arguments
-  round_each stored all (argument a rest) = argument (round_argument stored all a) (round_each stored all rest)
+  pub round_each : List PlainStored → Bool → Nodes → ListValues → ListValues
+  round_each stored waits all no_arguments = no_arguments
+  round_each stored waits all (argument a rest) =
+      argument (round_argument stored waits all a) (round_each stored waits all rest)
 
 abbrev pub graph_with_result : List ℕ → Nodes → PlainGraph
 graph_with_result id ns = record { nodes = ns; result = index_of id ns }
@@ -189,6 +199,10 @@ rounds stored (suc times) g = round stored (rounds stored times g)
 abbrev pub expanded_by : ℕ → List PlainStored → PlainGraph → PlainGraph
 expanded_by times stored g = rounds (map known_stored stored) times (known_graph g)
 
--- the graph after all rounds
+-- The graph after all rounds. Once no call is left, a round more changes nothing; a graph that has calls after so many
+-- rounds is not resolved.
+unfoldable pub most_rounds : ℕ
+most_rounds = 1048576
+
 abbrev pub expanded : List PlainStored → PlainGraph → PlainGraph
-expanded stored g = expanded_by (length stored) stored g
+expanded stored g = expanded_by most_rounds stored g

@@ -1,5 +1,5 @@
 -- How much the arguments of graphs hold, and the most that they may.
-use Rattle.std.specs.Prelude.{◌≡◌, ◌≤◌, ◌+◌, ℕ, Bool, List, [], ◌∷◌, length, map, Option, Some, None, option_map, unwrap_or, if◌then◌else◌}
+use Rattle.std.specs.Prelude.{◌≡◌, ◌≤◌, ◌+◌, ℕ, Bool, List, [], ◌∷◌, length, map, Option, Some, None, is_some, option_map, unwrap_or, if◌then◌else◌}
 use Rattle.std.specs.List.{list_any}
 use Rattle.std.specs.Option.{option_or}
 use Rattle.oe_dims.specs.Names.{same_name}
@@ -85,7 +85,12 @@ round_size m stored all no_nodes = 0
 round_size m stored all (node id process_id namespace arguments rest) =
     size_nodes m
     (opened stored
-    (record { id = id; process_id = process_id; namespace = namespace; arguments = round_named stored all arguments })
+    (record {
+      id = id;
+      process_id = process_id;
+      namespace = namespace;
+      arguments = round_named stored (is_some (callee stored namespace process_id)) all arguments;
+    })
     (callee stored namespace process_id))
     + round_size m stored all rest
 

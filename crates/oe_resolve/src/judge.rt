@@ -16,7 +16,7 @@ ghost use Rattle.oe_resolve.specs.Judged as spec;
 ghost use Rattle.oe_resolve.specs.Judged.{AreMarks, IsIndexed, IsMark, IdsRise, IdsRiseIn, IsLeastFault, OfArgument, OfArguments, OfNode, OfObject};
 ghost use Rattle.oe_resolve.specs.Seen.{names_behind};
 
-use crate::calls::{callee, means_catalogue};
+use crate::calls::{callee, is_call, means_catalogue};
 use crate::cycle::{cyclic_marks, read_references};
 use crate::find::argument_named;
 use crate::names::{is_among, names_of_both};
@@ -102,7 +102,7 @@ fn marks_of(
     Ok(vec![in alloc; false; nodes.len()]?)
 }
 
-/// The least fault of a node and of the callbacks in its arguments.
+/// The least fault of a node and of the callbacks in its arguments; those of a call wait.
 #[cycle(judge)]
 fn node_faults(
     alloc: Global,
@@ -130,6 +130,9 @@ fn node_faults(
         is_known,
         is_cyclic,
     )?;
+    if is_call(judge.stored, node) {
+        return Ok(own);
+    }
     let scope = scope_inside(alloc, node, scope)?;
     let inner = named_fault(
         alloc,

@@ -37,6 +37,9 @@ use oe_graph::{Code, Fault, Graph, Refusal, StoredProcess, least};
 use oe_memory::OutOfMemory;
 use std::alloc::Global;
 
+/// Most rounds, after which calls that are left are out of memory.
+const MOST_ROUNDS: usize = 1048576;
+
 /// The graph with each call of a stored process replaced by its graph and with all defaults (openEO API, process graphs
 /// and user-defined processes).
 ///
@@ -117,11 +120,14 @@ fn expand(
     let mut expanded = first;
     let mut fault = None;
     let mut times: usize = 0;
-    while times < stored.len() && reach::has_call(stored, &expanded) {
+    while times < MOST_ROUNDS && reach::has_call(stored, &expanded) {
         let found = names_fault(alloc, stored, false, &expanded)?;
         fault = least(fault, found);
         expanded = next_round(alloc, known.as_slice(), &expanded)?;
         times += 1;
+    }
+    if reach::has_call(stored, &expanded) {
+        return Err(OutOfMemory);
     }
     judge_last(alloc, stored, expanded, fault)
 }

@@ -7,14 +7,14 @@ ghost use Rattle.oe_resolve.specs.Calls.{callee};
 ghost use Rattle.oe_resolve.specs.Rounds as spec;
 ghost use Rattle.oe_resolve.specs.Seen.{NotesRise};
 
-use crate::calls::callee;
+use crate::calls::{callee, is_call};
 use crate::find::{Beside, guesses_of, id_at, index_beside, index_of};
 use crate::known::copy_namespace;
 use crate::names::is_before;
 use crate::under::{under_id, under_nodes};
 use crate::values::{Values, replaced_nodes, values_given};
 use oe_dims::Text;
-use oe_graph::{Arg, Graph, Node, StoredProcess};
+use oe_graph::{Arg, Graph, Node, StoredProcess, copy_arg};
 use oe_memory::OutOfMemory;
 use std::alloc::Global;
 
@@ -60,7 +60,8 @@ fn round_nodes(
     };
     let mut found = Vec::with_capacity(alloc, all.len())?;
     for node in all {
-        let arguments = round_named(alloc, &node.arguments, stored, &beside)?;
+        let waits = is_call(stored, node);
+        let arguments = round_named(alloc, &node.arguments, stored, waits, &beside)?;
         let more = expand_node(alloc, stored, node, arguments)?;
         put_nodes(&mut found, more)?;
     }
@@ -186,22 +187,25 @@ fn landing_beside(
     landing_id(alloc, stored, beside.nodes, index_beside(beside, id), id)
 }
 
+/// The arguments of a node after a round. Those of a call have callbacks that wait.
 #[cycle(round)]
 fn round_named(
     alloc: Global,
     members: &Vec<(Text, Arg)>,
     stored: &[StoredProcess],
+    waits: bool,
     beside: &Beside,
 ) -> Result<Vec<(Text, Arg)>, OutOfMemory>
     requires rise { NotesRise beside.now }
     ensures { IfOk result (λ v. plain_named v.items
-        ≡ spec.round_named (map plain_stored stored.now) (plain_nodes beside.now.nodes.now.items)
+        ≡ spec.round_named (map plain_stored stored.now) waits
+        (plain_nodes beside.now.nodes.now.items)
         (plain_named members.now.items)) }
 {
     let mut copy = Vec::with_capacity(alloc, members.len())?;
     for member in members {
         let name = member.0.copy()?;
-        copy.push((name, round_arg(alloc, &member.1, stored, beside)?))?;
+        copy.push((name, round_arg(alloc, &member.1, stored, waits, beside)?))?;
     }
     Ok(copy)
 }
@@ -211,16 +215,18 @@ fn round_args(
     alloc: Global,
     items: &Vec<Arg>,
     stored: &[StoredProcess],
+    waits: bool,
     beside: &Beside,
 ) -> Result<Vec<Arg>, OutOfMemory>
     requires rise { NotesRise beside.now }
     ensures { IfOk result (λ v. plain_args v.items
-        ≡ spec.round_each (map plain_stored stored.now) (plain_nodes beside.now.nodes.now.items)
+        ≡ spec.round_each (map plain_stored stored.now) waits
+        (plain_nodes beside.now.nodes.now.items)
         (plain_args items.now.items)) }
 {
     let mut copy = Vec::with_capacity(alloc, items.len())?;
     for item in items {
-        copy.push(round_arg(alloc, item, stored, beside)?)?;
+        copy.push(round_arg(alloc, item, stored, waits, beside)?)?;
     }
     Ok(copy)
 }
@@ -230,11 +236,13 @@ fn round_arg(
     alloc: Global,
     arg: &Arg,
     stored: &[StoredProcess],
+    waits: bool,
     beside: &Beside,
 ) -> Result<Arg, OutOfMemory>
     requires rise { NotesRise beside.now }
     ensures { IfOk result (λ a. plain_arg a
-        ≡ spec.round_argument (map plain_stored stored.now) (plain_nodes beside.now.nodes.now.items)
+        ≡ spec.round_argument (map plain_stored stored.now) waits
+        (plain_nodes beside.now.nodes.now.items)
         (plain_arg arg.now)) }
 {
     match arg {
@@ -243,10 +251,13 @@ fn round_arg(
         Arg::Whole(whole) => Ok(Arg::Whole(*whole)),
         Arg::Inexact => Ok(Arg::Inexact),
         Arg::Str(text) => Ok(Arg::Str(text.copy()?)),
-        Arg::List(items) => Ok(Arg::List(round_args(alloc, items, stored, beside)?)),
-        Arg::Object(members) => Ok(Arg::Object(round_named(alloc, members, stored, beside)?)),
+        Arg::List(items) => Ok(Arg::List(round_args(alloc, items, stored, waits, beside)?)),
+        Arg::Object(members) => Ok(Arg::Object(round_named(
+            alloc, members, stored, waits, beside,
+        )?)),
         Arg::FromNode(id) => Ok(Arg::FromNode(landing_beside(alloc, stored, beside, id.as_str())?)),
         Arg::FromParameter(name) => Ok(Arg::FromParameter(name.copy()?)),
+        Arg::Callback(_) if waits => copy_arg(alloc, arg),
         Arg::Callback(graph) => Ok(Arg::Callback(round_graph(alloc, graph, stored)?)),
     }
 }

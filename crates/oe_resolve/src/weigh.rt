@@ -1,7 +1,7 @@
 // How much the arguments of a graph hold, as it is and after a round, counted before the round is built: a parameter
 // that is used twice at each of a few calls would make them grow without bound where the nodes do not. In each cycle the
 // tree that is walked stands first, or behind the allocator: by its depth they end.
-ghost use Rattle.std.specs.Prelude.{◌≡◌, ◌+◌, if◌then◌else◌, IfOk, map, option_map};
+ghost use Rattle.std.specs.Prelude.{◌≡◌, ◌+◌, false, if◌then◌else◌, IfOk, is_some, map, option_map};
 ghost use Rattle.std.specs.List.{list_any};
 ghost use Rattle.oe_dims.specs.Names.{same_name};
 ghost use Rattle.oe_graph.specs.Plain.{plain_arg, plain_args, plain_graph, plain_named, plain_node, plain_nodes, plain_parameter, plain_stored};
@@ -13,6 +13,7 @@ ghost use Rattle.oe_resolve.specs.Seen.{names_behind, plain_sizes};
 ghost use Rattle.oe_resolve.specs.Sizes as spec;
 
 use crate::calls::{callback_parameters, callee};
+use crate::find::argument_named;
 use crate::names::{is_among, names_of_both, same_text};
 use crate::under::under_id;
 use oe_dims::Text;
@@ -319,8 +320,10 @@ fn round_node_left(
     ensures { IfOk result (λ left. (all : Nodes) → budget
         ≡ left + spec.size_nodes measure (rounds.opened (map plain_stored stored.now)
         record (plain_node node.now) {
-          arguments = rounds.round_named (map plain_stored stored.now) all
-              (plain_node node.now).arguments;
+          arguments = rounds.round_named (map plain_stored stored.now)
+              (is_some
+              (callee (map plain_stored stored.now) node.now.namespace node.now.process_id))
+              all (plain_node node.now).arguments;
         }
         (callee (map plain_stored stored.now) node.now.namespace node.now.process_id))) }
 {
@@ -329,7 +332,7 @@ fn round_node_left(
     };
     let mut each = Vec::with_capacity(alloc, process.parameters.len())?;
     for parameter in &process.parameters {
-        let size = round_given_size(alloc, &node.arguments, stored, measure, parameter)?;
+        let size = given_size(&node.arguments, measure, parameter)?;
         each.push(ParameterSize {
             name: parameter.name.copy()?,
             size,
@@ -348,7 +351,7 @@ fn round_named_left(
     budget: u64,
 ) -> Result<u64, OutOfMemory>
     ensures { IfOk result (λ left. (all : Nodes) → budget
-        ≡ left + spec.size_named measure (rounds.round_named (map plain_stored stored.now) all
+        ≡ left + spec.size_named measure (rounds.round_named (map plain_stored stored.now) false all
         (plain_named members.now.items))) }
 {
     let mut left = budget;
@@ -368,7 +371,7 @@ fn round_args_left(
     budget: u64,
 ) -> Result<u64, OutOfMemory>
     ensures { IfOk result (λ left. (all : Nodes) → budget
-        ≡ left + spec.size_each measure (rounds.round_each (map plain_stored stored.now) all
+        ≡ left + spec.size_each measure (rounds.round_each (map plain_stored stored.now) false all
         (plain_args items.now.items))) }
 {
     let mut left = budget;
@@ -387,7 +390,7 @@ fn round_arg_left(
     budget: u64,
 ) -> Result<u64, OutOfMemory>
     ensures { IfOk result (λ left. (all : Nodes) → budget
-        ≡ left + spec.size_in measure (rounds.round_argument (map plain_stored stored.now) all
+        ≡ left + spec.size_in measure (rounds.round_argument (map plain_stored stored.now) false all
         (plain_arg arg.now))) }
 {
     let left = left_after(budget, value_size(measure))?;
@@ -404,27 +407,23 @@ fn round_arg_left(
     }
 }
 
-/// The size of the value of a parameter of a call with these arguments. Refuses: out of memory, also where it is more
-/// than a graph may hold.
-#[cycle(rounds)]
-fn round_given_size(
-    alloc: Global,
+/// The size of the value of a parameter of a call with these arguments. Refuses: out of memory, where it is more than a
+/// graph may hold.
+fn given_size(
     arguments: &Vec<(Text, Arg)>,
-    stored: &[StoredProcess],
     measure: Measure,
     parameter: &ParameterRow,
 ) -> Result<Option<u64>, OutOfMemory>
-    ensures { IfOk result (λ size. (all : Nodes) → size ≡ spec.given_size measure
-        (rounds.round_named (map plain_stored stored.now) all (plain_named arguments.now.items))
-        (plain_parameter parameter.now)) }
+    ensures { IfOk result (λ size. size ≡ spec.given_size measure
+        (plain_named arguments.now.items) (plain_parameter parameter.now)) }
 {
-    for argument in arguments {
-        if same_text(argument.0.as_str(), parameter.name.as_str()) {
-            let left = round_arg_left(alloc, &argument.1, stored, measure, MOST_BYTES)?;
-            return Ok(Some(MOST_BYTES - left));
+    match argument_named(arguments, parameter.name.as_str()) {
+        Some(argument) => {
+            let left = arg_left(argument, measure, MOST_BYTES)?;
+            Ok(Some(MOST_BYTES - left))
         }
+        None => default_size(parameter, measure),
     }
-    default_size(parameter, measure)
 }
 
 /// The size of what a parameter has where no argument is given.

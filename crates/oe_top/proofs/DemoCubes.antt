@@ -21,10 +21,11 @@ use Rattle.oe_expr.proofs.NodeLemmas.{node_is}
 use Rattle.oe_graph.specs.Read.{IsFaultless}
 use Rattle.oe_graph.specs.References.{each_node}
 use Rattle.oe_graph.specs.Tree as tree
-use Rattle.oe_graph.specs.Tree.{Argument, Named, Nodes, PlainNode}
+use Rattle.oe_graph.specs.Tree.{Argument, Named, Nodes, PlainGraph, PlainNode}
 use Rattle.oe_kernel.specs.Kernels.{KernelValues}
 use Rattle.oe_kernel.specs.declared.border.Border.TheVariants.{Replicate}
-use Rattle.oe_resolve.specs.Filled.{resolved}
+use Rattle.oe_resolve.specs.Filled.{filled_graph, resolved}
+use Rattle.oe_resolve.specs.Rounds.{most_rounds}
 use Rattle.oe_shape.specs.Graphs.{outline_at}
 use Rattle.oe_shape.specs.Operations.{Outline}
 use Rattle.oe_shape.specs.Requests.{CubeRequest, apply_kernel, called, cube_request_at, load_collection, reduce_dimension}
@@ -37,7 +38,7 @@ use Rattle.oe_sources.specs.CatalogueDims.{dims_of}
 use Rattle.oe_sources.specs.Generated.{falling_labels, generated_days, generated_shape, rising_labels}
 use Rattle.oe_top.specs.Demonstration.{demo_graph}
 use Rattle.oe_top.proofs.DemoReadings.{demo_plain, demo_reads, kernel}
-use Rattle.oe_top.proofs.DemoNames.{names_valid, node_with, of_one, of_three}
+use Rattle.oe_top.proofs.DemoNames.{names_valid, node_with, of_one, of_three, same_graph}
 use Rattle.oe_judge.proofs.Phases.{none_stands}
 use Rattle.oe_top.proofs.Checks.{none_over}
 use Rattle.oe_top.specs.Faults.{StandsOver}
@@ -82,7 +83,7 @@ filled =
     tree.node (codes "top") (codes "reduce_dimension") None top_filled tree.no_nodes))
 
 filled_is : (resolved [] demo_plain).nodes ≡ filled
-filled_is = refl
+filled_is = ap (λ (h : PlainGraph). (filled_graph h).nodes) (same_graph most_rounds)
 
 abbrev load : PlainNode
 load = node_with (codes "load") (codes "load_collection") load_filled
@@ -260,4 +261,5 @@ module _ (side : ℕ) (most : side ≤ 1024) where
 pub demo_valid : (seed side : ℕ) → side ≤ 1024 → IsFaultless (StandsOver (dims_of (demonstration seed side)) demo_graph)
 demo_valid seed side most =
     let rows = dims_of (demonstration seed side) in
-    none_over rows demo_graph demo_plain demo_reads (none_stands rows [] demo_plain names_valid (cubes_valid side most))
+    none_over rows demo_graph demo_plain demo_reads (none_stands rows [] demo_plain names_valid
+    (subst (λ (ns : Nodes). IsFaultless (StandsInGraph rows ns)) (sym filled_is) (cubes_valid side most)))

@@ -1,5 +1,5 @@
 -- No fault of the processes, the size and the names of the graph of the demonstration stands.
-use Rattle.std.proofs.Common.{◌≡◌, ℕ, ◌<◌, inl, inr, Bool, true, false, List, [], ◌∷◌, Option, Some, None, codes, Contains, option_map, slice_get, if◌then◌else◌, refl, ap, ◌∙◌, subst, arith}
+use Rattle.std.proofs.Common.{◌≡◌, ℕ, zero, suc, ◌<◌, inl, inr, Bool, true, false, List, [], ◌∷◌, Option, Some, None, codes, Contains, option_map, slice_get, if◌then◌else◌, refl, ap, ◌∙◌, subst, arith}
 use Rattle.std.specs.Prelude.{⊤}
 use Rattle.oe_dims.specs.Names.{same_name}
 use Rattle.oe_graph.specs.Codes.{phase_of}
@@ -21,7 +21,7 @@ use Rattle.oe_resolve.specs.Faults.{StandsWithStored, each_argument}
 use Rattle.oe_resolve.specs.Judged as judged
 use Rattle.oe_resolve.specs.Judged.{HasFault, IsMark, OfItself, OfObject, know_named, node_code}
 use Rattle.oe_resolve.specs.Reached.{AreReached, IsCallGraph, IsReached, supports_node}
-use Rattle.oe_resolve.specs.Rounds.{expanded, expanded_by}
+use Rattle.oe_resolve.specs.Rounds.{expanded, expanded_by, most_rounds, round}
 use Rattle.oe_resolve.proofs.Along.{none_there, there_cases}
 use Rattle.oe_resolve.proofs.CallFaultLemmas.{all_stand, callee_at}
 use Rattle.oe_resolve.proofs.CodeLemmas.{own_least}
@@ -216,7 +216,7 @@ of_reducer last f at scope nodes (judged.by_itself {n = n} has own) s is =
     without last inner_scope max_nodes n (node_name at n.id) (none_leads n.id n.id) (max_code last n here) f
     (subst (λ (ns : Nodes). OfItself [] last (node_name at n.id) inner_scope ns n f) is
     (subst (λ (names : List (List ℕ)). OfItself [] last (node_name at n.id) names nodes n f) s own))
-of_reducer last f at scope nodes (judged.inside {n = n} {a = a} {g = g} has argument callback inner) s is =
+of_reducer last f at scope nodes (judged.inside {n = n} {a = a} {g = g} has none argument callback inner) s is =
     max_callbacks n (subst (λ (ns : Nodes). Contains (each_node ns) n) is has) a argument g callback
 
 of_main : (last : Bool) (f : Fault) (at : List ℕ) (scope : List (List ℕ)) (nodes : Nodes)
@@ -226,19 +226,22 @@ of_main last f at scope nodes (judged.by_itself {n = n} has own) s is =
     without last [] main_nodes n (node_name at n.id) (main_acyclic n.id) (main_code last n here) f
     (subst (λ (ns : Nodes). OfItself [] last (node_name at n.id) [] ns n f) is
     (subst (λ (names : List (List ℕ)). OfItself [] last (node_name at n.id) names nodes n f) s own))
-of_main last f at scope nodes (judged.inside {n = n} {a = a} {g = g} has argument callback inner) s is =
+of_main last f at scope nodes (judged.inside {n = n} {a = a} {g = g} has none argument callback inner) s is =
     let reducer = main_callbacks n (subst (λ (ns : Nodes). Contains (each_node ns) n) is has) a argument g callback in
     of_reducer last f (callback_name (node_name at n.id) a.0) (scope_inside n scope) g.nodes inner
     (ap (scope_inside n) s ∙ reducer.0) reducer.1
 
-expanded_main : (expanded [] demo_plain).nodes ≡ main_nodes
-expanded_main = refl
+-- a round changes nothing
+pub same_graph : (times : ℕ) → expanded_by times [] demo_plain ≡ expanded_by 0 [] demo_plain
+same_graph zero = refl
+same_graph (suc times) = ap (λ (h : PlainGraph). round [] h) (same_graph times)
+
+expanded_main : (times : ℕ) → (expanded_by times [] demo_plain).nodes ≡ main_nodes
+expanded_main times = ap (λ (h : PlainGraph). h.nodes) (same_graph times)
 
 no_name : (f : Fault) → InRound [] demo_plain f → ⊥
-no_name f (earlier times few of) =
-    let first : times ≡ 0 = omega arith in
-    of_main false f [] [] (expanded_by times [] demo_plain).nodes of refl (ap (λ k. (expanded_by k [] demo_plain).nodes) first)
-no_name f (last_round of) = of_main true f [] [] (expanded [] demo_plain).nodes of refl expanded_main
+no_name f (earlier times of) = of_main false f [] [] (expanded_by times [] demo_plain).nodes of refl (expanded_main times)
+no_name f (last_round of) = of_main true f [] [] (expanded [] demo_plain).nodes of refl (expanded_main most_rounds)
 
 named_fault : (code : Code) (at : List ℕ) → StandsWithStored [] demo_plain code at → phase_of code ≡ 4 → ⊥
 named_fault code at stands phase = no_name (record { code = code; node = at }) (in_round [] demo_plain code at stands phase)
@@ -252,10 +255,10 @@ names_valid code at (faults.process_unsupported {n = n} {m = m} {in_callback = i
 names_valid code at (faults.process_recursive {n = n} {s = s} has reach reaches) = none_recurs n s reach
 names_valid code at (faults.graph_too_large more) = not_large (faults.graph_too_large more)
 names_valid code at (faults.callback_too_large has brings there more) = not_large (faults.callback_too_large has brings there more)
-names_valid code at (faults.argument_unknown times few has same there absent) =
-    named_fault code at (faults.argument_unknown times few has same there absent) refl
-names_valid code at (faults.process_parameter_missing times few has same there default optional absent) =
-    named_fault code at (faults.process_parameter_missing times few has same there default optional absent) refl
+names_valid code at (faults.argument_unknown times has same there absent) =
+    named_fault code at (faults.argument_unknown times has same there absent) refl
+names_valid code at (faults.process_parameter_missing times has same there default optional absent) =
+    named_fault code at (faults.process_parameter_missing times has same there default optional absent) refl
 names_valid code at (faults.parameter_unknown has there absent) = named_fault code at (faults.parameter_unknown has there absent) refl
-names_valid code at (faults.node_unknown times few has there absent) = named_fault code at (faults.node_unknown times few has there absent) refl
+names_valid code at (faults.node_unknown times has there absent) = named_fault code at (faults.node_unknown times has there absent) refl
 names_valid code at (faults.graph_cycle has leads) = named_fault code at (faults.graph_cycle has leads) refl

@@ -8,12 +8,11 @@ use Rattle.oe_resolve.specs.Called.{nodes_call}
 use Rattle.oe_resolve.specs.Expansion.{IsEarly, IsExpansion, IsSettled}
 use Rattle.oe_resolve.specs.Judged.{IdsRise, OfObject}
 use Rattle.oe_resolve.specs.Rounds as rounds
-use Rattle.oe_resolve.specs.Rounds.{expanded_by, known_graph}
+use Rattle.oe_resolve.specs.Rounds.{expanded_by, known_graph, most_rounds}
 use Rattle.oe_resolve.specs.Sizes.{IsWithinLimits}
 use Rattle.oe_resolve.proofs.ExpandLemmas.{rise_by, early_none, early_more, settled_by}
 use Rattle.oe_resolve.proofs.SizeLemmas.{known_within}
 use Rattle.oe_resolve.proofs.expand.Goals as goal
-use Rattle.oe_resolve.proofs.expand.Goals.{then-loop-times-test+else-has_call, else-loop-times-test}
 
 pub loop-times-init : goal.loop-times-init
 loop-times-init c = (
@@ -32,6 +31,10 @@ names_fault-requires c =
       rise = subst (λ (h : PlainGraph). IdsRise h.nodes) (sym c.loop-times.invariant.1)
           (rise_by stored g c.requires.stored_valid c.requires.graph_valid c.loop-times.times);
     }
+
+most_of : (times : ℕ) → times ≤ 1048576 → times ≤ most_rounds
+unfolding most_rounds
+most_of times few = few
 
 -- a later graph comes of a call in the first
 first_calls : (stored : List PlainStored) (g h : PlainGraph) (times : ℕ) → h ≡ expanded_by times stored g
@@ -77,20 +80,16 @@ returns c =
     let g = plain_graph c.args.graph.now in
     let after = plain_graph c.loop-times.expanded in
     let times = c.loop-times.times in
+    let none : nodes_call stored after.nodes ≡ false = sym c.has_call-2.ensures ∙ c.if-has_call-2.false in
     let is : IsSettled stored g after c.loop-times.fault = record {
       times = times;
       is = c.loop-times.invariant.1;
-      settled = λ more fits. elim c.loop-times-test.branch [
-        | then-loop-times-test+else-has_call w ↦
-            settled_by stored g c.requires.stored_valid c.requires.graph_valid times more
-            (subst (λ (h : PlainGraph). nodes_call stored h.nodes ≡ false) c.loop-times.invariant.1
-            (sym w.has_call.ensures ∙ w.if-has_call.false))
-            ∙ sym c.loop-times.invariant.1
-        | else-loop-times-test w ↦
-            let none : times + more ≡ times = omega (arith, w.loop-times-test.false, length-map c.args.stored.now plain_stored) in
-            ap (λ k. expanded_by k stored g) none ∙ sym c.loop-times.invariant.1
-      ];
-      few = omega (arith, c.loop-times.invariant.0, length-map c.args.stored.now plain_stored);
+      settled = λ more.
+          settled_by stored g c.requires.stored_valid c.requires.graph_valid times more
+          (subst (λ (h : PlainGraph). nodes_call stored h.nodes ≡ false) c.loop-times.invariant.1 none)
+          ∙ sym c.loop-times.invariant.1;
+      few = most_of times c.loop-times.invariant.0;
+      none_left = none;
       early = c.loop-times.invariant.2;
       within = c.loop-times.invariant.4;
     } in

@@ -8,11 +8,11 @@ use Rattle.oe_resolve.specs.Sizes.{IsWithinLimits}
 use Rattle.oe_resolve.proofs.expand.Given as goal
 
 abbrev pub decreases-loop-times : goal.decreases-loop-times
-decreases-loop-times l = length l.stored - l.times
+decreases-loop-times l = 1048576 - l.times
 
 abbrev pub invariant-loop-times : goal.invariant-loop-times
 invariant-loop-times l =
-    (l.times ≤ length l.stored)
+    (l.times ≤ 1048576)
     × (plain_graph l.expanded ≡ expanded_by l.times (map plain_stored l.stored) (plain_graph l.graph))
     × IsLeastFault (IsEarly (map plain_stored l.stored) (plain_graph l.graph) l.times) l.fault
     × (0 < l.times → nodes_call (map plain_stored l.stored) (known_graph (plain_graph l.graph)).nodes ≡ true)

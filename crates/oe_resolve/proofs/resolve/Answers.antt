@@ -43,7 +43,7 @@ returns-then-branch-2-clause-resolved c =
     (without_fault stored g c.in_ok-fault.field-0 c.in_ok-fault.ensures
     c.in_default.is (λ has. true≢false (sym (c.in_ok-is_too_large.ensures.1 has) ∙ c.if-branch.false))
     None expansion.fault refl)
-    c.requires.graph_valid)
+    expansion.none_left c.requires.graph_valid)
 
 pub returns-in-Some-fault-clause-refused : goal.returns-in-Some-fault-clause-refused
 returns-in-Some-fault-clause-refused c =
@@ -67,30 +67,18 @@ returns-clause-resolved c =
     (without_fault stored g c.in_ok-fault.field-0 c.in_ok-fault.ensures
     c.in_default.is (λ has. true≢false (sym (c.in_ok-is_too_large.ensures.1 has) ∙ c.if-branch.false))
     c.in_ok-expanded.fault c.in_ok-expanded.ensures.fault c.in_default-fault.is)
-    c.requires.graph_valid)
+    c.in_ok-expanded.ensures.none_left c.requires.graph_valid)
 
 pub returns-then-branch-2-clause-calls_none : goal.returns-then-branch-2-clause-calls_none
 returns-then-branch-2-clause-calls_none c n s has =
-    let stored = map plain_stored c.args.stored.now in
-    let g = plain_graph c.args.graph.now in
     let expansion = c.in_ok-is_expanded.ensures c.if-branch-2.true in
-    calls_none stored g c.requires.stored_valid
-    (without_fault stored g c.in_ok-fault.field-0 c.in_ok-fault.ensures
-    c.in_default.is (λ has. true≢false (sym (c.in_ok-is_too_large.ensures.1 has) ∙ c.if-branch.false))
-    None expansion.fault refl)
-    c.requires.graph_valid n s
+    calls_none (map plain_stored c.args.stored.now) (plain_graph c.args.graph.now) expansion.none_left n s
     (subst (λ (h : PlainGraph). Contains (each_node h.nodes) n)
     (c.in_ok-filled_graph.ensures ∙ ap (λ (h : PlainGraph). filled_graph h) expansion.graph) has)
 
 pub returns-clause-calls_none : goal.returns-clause-calls_none
 returns-clause-calls_none c n s has =
-    let stored = map plain_stored c.args.stored.now in
-    let g = plain_graph c.args.graph.now in
-    calls_none stored g c.requires.stored_valid
-    (without_fault stored g c.in_ok-fault.field-0 c.in_ok-fault.ensures
-    c.in_default.is (λ has. true≢false (sym (c.in_ok-is_too_large.ensures.1 has) ∙ c.if-branch.false))
-    c.in_ok-expanded.fault c.in_ok-expanded.ensures.fault c.in_default-fault.is)
-    c.requires.graph_valid n s
+    calls_none (map plain_stored c.args.stored.now) (plain_graph c.args.graph.now) c.in_ok-expanded.ensures.none_left n s
     (subst (λ (h : PlainGraph). Contains (each_node h.nodes) n)
     (c.in_ok-filled_graph-2.ensures ∙ ap (λ (h : PlainGraph). filled_graph h) c.in_ok-expanded.ensures.graph) has)
 

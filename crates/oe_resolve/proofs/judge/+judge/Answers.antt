@@ -13,7 +13,7 @@ use Rattle.oe_graph.specs.declared.tree.Node.{Node}
 use Rattle.oe_resolve.specs.Judged.{IdsRiseIn, OfArgument, OfArguments, OfNode, know_named, node_code}
 use Rattle.oe_resolve.specs.Seen.{names_behind}
 use Rattle.oe_resolve.proofs.Along.{least_more}
-use Rattle.oe_resolve.proofs.FaultLemmas.{there_by, least-none, none_least, rise_of_item, rise_of_member, rise_of_node, rise_of_object, arguments_least, items_least, members_least, object_least, node_least, mapped_at, mark_there, there_node, list_is, object_is, callback_argument}
+use Rattle.oe_resolve.proofs.FaultLemmas.{there_by, least-none, none_least, rise_of_item, rise_of_member, rise_of_node, rise_of_object, arguments_least, items_least, members_least, object_least, call_least, node_least, mapped_at, mark_there, there_node, list_is, object_is, callback_argument}
 use Rattle.oe_resolve.proofs.JudgeLemmas.{node_is}
 use Rattle.oe_resolve.proofs.judge.+judge.Goals as goal
 use Rattle.oe_resolve.proofs.judge.+judge.Goals.{items_fault-then-may_hold_callback+in_ok-found, items_fault-else-may_hold_callback, members_fault-then-may_hold_callback+in_ok-found, members_fault-else-may_hold_callback}
@@ -120,6 +120,19 @@ argument_fault-returns-in_ok-name-in-Callback t c =
     (c.as_str.ensures ∙ c.in_ok-name-in-Callback.ensures) found)
     c.object_fault.ensures
 
+pub node_faults-returns-then-is_call : goal.node_faults-returns-then-is_call
+node_faults-returns-then-is_call t c nodes rise known marked =
+    let stored = map plain_stored c.args.judge.now.stored.now in
+    let last = c.args.judge.now.last in
+    let n = c.args.node.now in
+    let scope = names_behind c.args.scope.now in
+    let code = node_code stored last scope (plain_node n) c.args.is_known c.args.is_cyclic in
+    call_least stored last c.args.name.now scope nodes n c.args.is_known c.args.is_cyclic c.in_ok-own.own c.in_ok-name.name
+    (sym c.is_call.ensures ∙ c.if-is_call.true)
+    (c.in_ok-name.ensures ∙ ap (node_name c.args.name.now) c.as_str.ensures)
+    (c.in_ok-own.ensures ∙ ap (λ at. option_map (λ k. record { code = k; node = at }) code) c.as_str-2.ensures)
+    known marked
+
 pub node_faults-returns : goal.node_faults-returns
 node_faults-returns t c nodes rise known marked =
     let stored = map plain_stored c.args.judge.now.stored.now in
@@ -137,6 +150,7 @@ node_faults-returns t c nodes rise known marked =
     c.as_slice.ensures.value (c.in_ok-inner.ensures rises)) in
     subst (IsLeastOf (OfNode stored last c.args.name.now scope nodes (plain_node n))) (sym c.least.ensures)
     (node_least stored last c.args.name.now scope nodes n c.args.is_known c.args.is_cyclic c.in_ok-own.own c.in_ok-inner.inner c.in_ok-name.name scoped
+    (sym c.is_call.ensures ∙ c.if-is_call.false)
     (c.in_ok-name.ensures ∙ ap (node_name c.args.name.now) c.as_str.ensures)
     c.in_ok-scope.ensures
     (c.in_ok-own.ensures ∙ ap (λ at. option_map (λ k. record { code = k; node = at }) code) c.as_str-2.ensures)

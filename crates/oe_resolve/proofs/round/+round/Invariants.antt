@@ -8,13 +8,13 @@ use Rattle.oe_resolve.proofs.round.+round.Given as goal
 abbrev pub invariant-round_args-loop-item : goal.invariant-round_args-loop-item
 invariant-round_args-loop-item l =
     map plain_arg l.copy.items
-    ≡ map (λ a. round_argument (map plain_stored l.stored) (plain_nodes l.beside.nodes.now.items) (plain_arg a))
+    ≡ map (λ a. round_argument (map plain_stored l.stored) l.waits (plain_nodes l.beside.nodes.now.items) (plain_arg a))
     (take l.item-index l.item-items)
 
 abbrev pub invariant-round_named-loop-member : goal.invariant-round_named-loop-member
 invariant-round_named-loop-member l =
     map plain_pair l.copy.items
-    ≡ map (member_by (round_argument (map plain_stored l.stored) (plain_nodes l.beside.nodes.now.items)))
+    ≡ map (member_by (round_argument (map plain_stored l.stored) l.waits (plain_nodes l.beside.nodes.now.items)))
     (take l.member-index l.member-items)
 
 abbrev pub invariant-round_nodes-loop-node : goal.invariant-round_nodes-loop-node
