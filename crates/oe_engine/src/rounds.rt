@@ -76,7 +76,7 @@ impl Run {
     ghost use Rattle.oe_outside.specs.Visible.{AddsBytes, AddsSome, Appends, AppendsPrefix};
     ghost use Rattle.oe_outside.specs.Faults.{HasCauseOf};
     ghost use Rattle.oe_plan.specs.Figures.{shape_of_node};
-    ghost use Rattle.oe_render.specs.Rendered.{IsRefusalWithin};
+    ghost use Rattle.oe_render.specs.Rendered.{AppendsCube, IsRefusalWithin};
     ghost use Rattle.oe_render.specs.Text.{cube_text};
     ghost use Rattle.oe_render.specs.declared.rendering.RenderFail.{RenderFail};
     ghost use Rattle.oe_shape.specs.Graphs.{Collections};
@@ -179,6 +179,9 @@ impl Run {
             → ShowsDone self.old (P.bytes spool.old) (result_cube collections self.old.plan)
             → AppendsPrefix (O.written out.old) (cube_text (result_cube collections self.old.plan))
             (O.written out.new)) }
+        // it is that of cells that stand there, also where collections are hidden
+        ensures cells { OnOk result (AppendsCube (P.bytes spool.old) self.old.base
+            (result_shape self.old.plan) (O.written out.old) (O.written out.new)) }
         // and how many bytes it has
         ensures counted { OnOk result ((collections : Collections)
             → AreCollectionsOf self.old.plan.graph collections

@@ -61,6 +61,17 @@ returns-clause-prefix g c =
     (subst (λ (plan : PlanOf). AppendsCubePrefix store c.self.inside.base (result_shape plan) before after) (sym same) h)))
     c.render.ensures.prefix
 
+pub returns-clause-cells : goal.returns-clause-cells
+returns-clause-cells g c =
+    let same : c.self.inside.plan ≡ c.args.self.now.plan = ap (λ (r : RunOf). r.plan) c.self.view_is in
+    let base : c.self.inside.base ≡ c.args.self.now.base = ap (λ (r : RunOf). r.base) c.self.view_is in
+    let store = g.P.Store.bytes c.args.spool.now in
+    let before = g.O.Sink.written c.args.out.now in
+    let after = g.O.Sink.written c.render.new.out in
+    subst (λ (n : ℕ). OnOk c.render.result (AppendsCube store n (result_shape c.args.self.now.plan) before after)) base
+    (subst (λ (p : PlanOf). OnOk c.render.result (AppendsCube store c.self.inside.base (result_shape p) before after)) same
+    c.render.ensures.text)
+
 pub returns-clause-counted : goal.returns-clause-counted
 returns-clause-counted g c =
     let r = c.args.self.now in
