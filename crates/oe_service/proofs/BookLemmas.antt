@@ -41,7 +41,7 @@ found_one P test (y ∷ xs) x all e =
     ]
 
 -- one that is found has another id than one that stands before it
-id_differs : (test : PlainJob → Bool) (low next : ℕ) (a : PlainJob) (jobs : List PlainJob) (job : PlainJob) → next ≤ last_next
+pub id_differs : (test : PlainJob → Bool) (low next : ℕ) (a : PlainJob) (jobs : List PlainJob) (job : PlainJob) → next ≤ last_next
     → AreNumbered low (a ∷ jobs) next → find test jobs ≡ Some job → is_job job.id a ≡ false
 id_differs test low next a jobs job small numbered e =
     elim (cases_Bool (is_job job.id a)) [
@@ -55,7 +55,7 @@ id_differs test low next a jobs job small numbered e =
 
 -- ---- the job that runs after a step
 
-abbrev runs_in : List PlainJob → Option PlainJob
+abbrev pub runs_in : List PlainJob → Option PlainJob
 runs_in jobs = find (λ (job : PlainJob). is_running job.status) jobs
 
 none_beside : (job : PlainJob) (jobs : List PlainJob) → is_running job.status ≡ true → AllByRecursion (AreApart job) jobs
@@ -133,7 +133,7 @@ running_is Canceled e = absurd cc
 running_is Finished e = absurd cc
 running_is Error e = absurd cc
 
-abbrev first_queued : PlainBook → PlainJob → Bool
+abbrev pub first_queued : PlainBook → PlainJob → Bool
 first_queued book job = is_queued job.status && is_first book job
 
 pub queued_found : (book : PlainBook) (job : PlainJob) → next_queued book ≡ Some job → job.status ≡ Queued
@@ -167,7 +167,7 @@ running_has_ran book job valid e =
 abbrev pub started : ℤ → PlainJob → PlainJob
 started now job = with_status Running (machine.begins now job)
 
-start_of : (s : Status) (some : Bool) (now : ℤ) (job : PlainJob) → s ≡ Queued
+pub start_of : (s : Status) (some : Bool) (now : ℤ) (job : PlainJob) → s ≡ Queued
     → after (step_of s (machine.start now) some) job ≡ started now job
 start_of Created some now job e = absurd cc
 start_of Queued some now job e = refl
@@ -185,7 +185,7 @@ start_runs book job now valid free e =
     (ap (λ (j : PlainJob). is_running j.status) line) ∙ ap Some line
 
 -- an asset, the end and a failure
-asset_of : (s : Status) (some : Bool) (now : ℤ) (new : assets.Asset) (job : PlainJob) → s ≡ Running
+pub asset_of : (s : Status) (some : Bool) (now : ℤ) (new : assets.Asset) (job : PlainJob) → s ≡ Running
     → after (step_of s (machine.asset now new) some) job ≡ with_status Running (machine.gains now new job)
 asset_of Created some now new job e = absurd cc
 asset_of Queued some now new job e = absurd cc
@@ -194,7 +194,7 @@ asset_of Canceled some now new job e = absurd cc
 asset_of Finished some now new job e = absurd cc
 asset_of Error some now new job e = absurd cc
 
-finish_of : (s : Status) (some : Bool) (now : ℤ) (job : PlainJob) → s ≡ Running
+pub finish_of : (s : Status) (some : Bool) (now : ℤ) (job : PlainJob) → s ≡ Running
     → after (step_of s (machine.finish now) some) job ≡ with_status Finished (machine.ends now job)
 finish_of Created some now job e = absurd cc
 finish_of Queued some now job e = absurd cc
@@ -203,7 +203,7 @@ finish_of Canceled some now job e = absurd cc
 finish_of Finished some now job e = absurd cc
 finish_of Error some now job e = absurd cc
 
-fail_of : (s : Status) (some : Bool) (now : ℤ) (code : List ℕ) (job : PlainJob) → s ≡ Running
+pub fail_of : (s : Status) (some : Bool) (now : ℤ) (code : List ℕ) (job : PlainJob) → s ≡ Running
     → after (step_of s (machine.fail now code) some) job ≡ with_status Error (machine.breaks now code job)
 fail_of Created some now code job e = absurd cc
 fail_of Queued some now code job e = absurd cc

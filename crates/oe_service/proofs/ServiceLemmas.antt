@@ -1,9 +1,7 @@
 -- What a service keeps after the step of a job.
 use Rattle.std.proofs.Common.{◌≡◌, ℤ, [], Option, Some, None, true, refl, ap, sym, ◌∙◌}
 use Rattle.std.specs.Prelude.{is_some}
-use Rattle.std.specs.Option.{option_map_or}
 use Rattle.oe_jobs.specs.Events.{event_of, moved_book, running_job}
-use Rattle.oe_jobs.specs.Machine as machine
 use Rattle.oe_jobs.specs.Plain.{PlainBook, PlainJob, plain_book}
 use Rattle.oe_jobs.specs.Valid.{IsBook}
 use Rattle.oe_jobs.specs.declared.event.JobEvent.{JobEvent}
@@ -14,16 +12,13 @@ use Rattle.oe_service.specs.States.{EndsRun, moved_running}
 use Rattle.oe_service.specs.declared.service.Service.{Service}
 use Rattle.oe_service.proofs.KeptLemmas.{fits_by}
 use Rattle.oe_service.proofs.BookLemmas.{fail_ends, finish_ends}
+use Rattle.oe_service.proofs.NextLemmas.{moved_is}
 
 -- ---- which job runs
 
 pub some_of : {X : Type 0} (o : Option X) → is_some o ≡ true → (x : X) × (o ≡ Some x)
 some_of None some = absurd cc
 some_of (Some x) some = (x, refl)
-
-pub moved_is : (book : PlainBook) (job : PlainJob) (event : machine.Event) → running_job book ≡ Some job
-    → moved_running book event ≡ moved_book book job.id event
-moved_is book job event e = ap (λ o. option_map_or (λ (j : PlainJob). moved_book book j.id event) o book) e
 
 ends_of : (book : PlainBook) (job : PlainJob) (event : JobEvent) (now : ℤ) → IsBook book → running_job book ≡ Some job
     → EndsRun event → running_job (moved_book book job.id (event_of event now)) ≡ None

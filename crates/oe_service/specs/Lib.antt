@@ -1,6 +1,11 @@
 pub mod Runs
 pub mod Refusals
 pub mod States
+pub mod Causes
 pub mod Calls
 pub mod GoesOn
 pub mod Lives
+pub mod Finishes
+pub mod Texts
+pub mod Ticks
+pub mod Steps

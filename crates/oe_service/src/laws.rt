@@ -1,5 +1,9 @@
 // What holds of every life of a service.
+ghost use Rattle.oe_service.specs.Finishes.{FinishedJobsHaveTexts, JobsFinishInTime, StatusesMoveAlong};
 ghost use Rattle.oe_service.specs.Lives.{CallsLeadOn, CrashesLeaveOne, NothingIsLost, RunningIsQueued};
+ghost use Rattle.oe_service.specs.Texts.{TicksBringTexts};
+
+use oe_book::keeps_running;
 
 /// Does nothing. Its contract says that after any calls, one after the other, the state of a service is that of the
 /// events which came, and that its book is kept.
@@ -27,4 +31,34 @@ pub fn nothing_is_lost()
 #[tactic(auto, using(crate::proofs::LifeLemmas::running_is_queued))]
 pub fn running_is_queued()
     ensures { RunningIsQueued }
+{}
+
+/// Does nothing. Its contract says that the status of a job moves along a line of the status machine, or stays, whatever
+/// comes to a valid book.
+#[tactic(auto, using(crate::proofs::StatusLemmas::statuses_move_along))]
+pub fn statuses_move_along()
+    ensures { StatusesMoveAlong }
+{}
+
+/// Does nothing. Its contract says that a job which has started is finished after exactly so many ticks, if none is
+/// refused and nothing else comes: for each asset one that plans it, its rounds of two chunks a worker, and one that
+/// stores it, and one more at the end.
+#[tactic(auto, using(crate::proofs::FinishLemmas::jobs_finish_in_time))]
+pub fn jobs_finish_in_time()
+    ensures { JobsFinishInTime }
+{}
+
+/// Does nothing. Its contract says that after an opening and any events each finished job was finished before, or has all
+/// its assets, named after their nodes and with the texts that were stored for them.
+pub fn finished_jobs_have_texts()
+    ensures { FinishedJobsHaveTexts }
+{
+    keeps_running();
+}
+
+/// Does nothing. Its contract says that the text which a tick stores is that of what the graph of the asset means over
+/// the collections of the catalogue, where they and the spool are visible, and that reading leaves this text as it is.
+#[tactic(auto, using(crate::proofs::TextsLemmas::ticks_bring_texts))]
+pub fn ticks_bring_texts()
+    ensures { TicksBringTexts }
 {}

@@ -1,0 +1,32 @@
+-- What a step of the running job, and a tick, leave of a service.
+use Rattle.std.specs.Prelude.{◌≡◌, ℕ, ℤ, Bool, Option, IfSome}
+use Rattle.oe_jobs.specs.Kept.{Kept}
+use Rattle.oe_jobs.specs.Plain.{PlainBook, plain_book}
+use Rattle.oe_service.specs.Calls.{IsKept}
+use Rattle.oe_service.specs.Ticks.{Commits, Ticks}
+use Rattle.oe_service.specs.Causes.{Outside}
+use Rattle.oe_service.specs.GoesOn.{GoesOn, HasSizesOf, IsService, StaysWithin, state_of}
+use Rattle.oe_service.specs.declared.answer.Ticked.{Ticked}
+use Rattle.oe_service.specs.declared.service.Service.{Service}
+
+-- The running job takes a step that makes this book, or all stays as it was. A run that is under way afterwards is the
+-- one from before.
+pub record Steps (made : PlainBook) (s s_after : Service) (kept kept_after : Option Kept) (faults faults_after : ℕ)
+    (has_failed : Bool) (result : Ticked) : Type 0 where
+  pub service : IsService s_after
+  pub sizes : HasSizesOf s s_after
+  pub is_kept : IsKept kept_after (plain_book s_after.book)
+  pub run : IfSome s_after.run (λ _. s_after.run ≡ s.run)
+  pub commits : Commits made (state_of s) (state_of s_after) kept kept_after faults faults_after has_failed result
+
+-- a tick of a service at a moment, and what holds again after it, whatever it answers
+pub record TicksService (before after : Outside) (now : ℤ) (s s_after : Service) (has_failed : Bool) (result : Ticked)
+    : Type 0 where
+  pub service : IsService s_after
+  pub sizes : HasSizesOf s s_after
+  pub is_kept : IsKept after.kept (plain_book s_after.book)
+  pub going : GoesOn s_after.run after.rows after.spool
+  -- it reads no more than a round of its run does, and writes records of the run alone
+  pub within : StaysWithin s.run before.rows after.rows before.spool after.spool
+  -- it is an event, or none, and its answer has its cause
+  pub ticks : Ticks s.size s.workers before after now (state_of s) (state_of s_after) has_failed result

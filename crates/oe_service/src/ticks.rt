@@ -1,0 +1,68 @@
+// One tick of a service.
+ghost use Rattle.oe_dims.specs.Instant.{IsInstant};
+ghost use Rattle.oe_jobs.specs.Plain.{plain_book};
+ghost use Rattle.oe_service.specs.Calls.{IsKept};
+ghost use Rattle.oe_service.specs.Causes.{outside};
+ghost use Rattle.oe_service.specs.GoesOn.{GoesOn, IsService};
+ghost use Rattle.oe_service.specs.Steps.{TicksService};
+ghost use Rattle.oe_sources.specs.CatalogueRows.{rows_of};
+
+use crate::answer::Ticked;
+use crate::due::{finish, misses_asset, plan, round, start, store};
+use crate::service::Service;
+use oe_jobs::Keeper;
+use oe_outside::{Gate, Store};
+use oe_sources::Catalogue;
+use std::alloc::Global;
+
+/// Does the first of these that is due at a moment, in seconds since 1970-01-01T00:00:00Z: where no job runs, the queued
+/// job of least turn starts; else the next asset of the running job is planned, a round of its chunks is done, its text
+/// is stored, or, where none is missing, the job is finished. A run that is refused fails the job with its code.
+///
+/// `Idle` comes exactly where no job is queued or runs. `KeeperFailed` comes only where the keeper's fault counter rose,
+/// and then, as after `OutOfMemory`, the book and the run stand as before.
+pub fn tick<P: Store, K: Keeper, G: Gate>(
+    alloc: Global,
+    service: &mut Service,
+    catalogue: &mut Catalogue,
+    spool: &mut P,
+    keeper: &mut K,
+    now: i64,
+    gate: &G,
+) -> Ticked
+    requires moment { IsInstant now }
+    requires service { IsService service.old }
+
+    // The keeper has the service's book. While a run is under way, what it loads is mounted as it was when it was planned,
+    // and the records that its rounds wrote stand in the spool.
+    requires kept { IsKept (K.kept keeper.old) (plain_book service.old.book) }
+    requires going { GoesOn service.old.run (rows_of seen catalogue.old) (P.bytes spool.old) }
+
+    // Whatever it answers, this holds again; and the tick is an event, or none.
+    ensures { TicksService
+        (outside (rows_of seen catalogue.old) (P.bytes spool.old) (P.faults spool.old)
+        (K.kept keeper.old) (K.faults keeper.old))
+        (outside (rows_of seen catalogue.new) (P.bytes spool.new) (P.faults spool.new)
+        (K.kept keeper.new) (K.faults keeper.new))
+        now service.old service.new (K.has_failed keeper.new) result }
+{
+    if service.book.running().is_none() {
+        return start(alloc, service, keeper, now);
+    }
+    match &service.run {
+        None => {
+            if misses_asset(service) {
+                plan(alloc, service, catalogue, keeper, now)
+            } else {
+                finish(alloc, service, keeper, now)
+            }
+        }
+        Some(run) => {
+            if run.done() < run.chunks() {
+                round(alloc, service, catalogue, spool, keeper, now, gate)
+            } else {
+                store(alloc, service, spool, keeper, now)
+            }
+        }
+    }
+}
