@@ -10,6 +10,7 @@ use crate::streams::{answer_link, answer_sink, answer_source};
 use oe_lines::{Fault, end_line, number_of, push, push_number, words_of};
 use oe_outside::{Failed, ReadRefusal};
 use std::alloc::Global;
+use std::fmt::Display;
 
 /// How many bytes of an object are spelled at most.
 const MOST: usize = 16;
@@ -71,12 +72,19 @@ pub(crate) fn plain_bytes(word: &str) -> &[u8] {
 
 /// Prints the text of the fault, and those of a refusal to read.
 fn print_texts(alloc: Global, answers: &mut Vec<u8>) -> Result<(), Fault> {
-    let text = format!(in alloc;
-        "{Failed}\n{}\n{}\n",
-        ReadRefusal::Failed,
-        ReadRefusal::OutOfMemory
-    )?;
-    push(text.as_str(), answers)
+    print_text(alloc, &Failed, answers)?;
+    print_text(alloc, &ReadRefusal::Failed, answers)?;
+    print_text(alloc, &ReadRefusal::OutOfMemory, answers)
+}
+
+/// Prints a text of one line.
+pub(crate) fn print_text<T: Display>(
+    alloc: Global,
+    value: &T,
+    answers: &mut Vec<u8>,
+) -> Result<(), Fault> {
+    push(value.to_string(alloc)?.as_str(), answers)?;
+    end_line(answers)
 }
 
 /// Spells the first of the bytes behind a blank.

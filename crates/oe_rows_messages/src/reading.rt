@@ -1,6 +1,7 @@
 // What is read of messages.
 use crate::bytes::{push_bytes, spell_part};
 use crate::links::{Links, incoming_link, spell_end};
+use crate::objects::print_text;
 use oe_dims::Text;
 use oe_http::{Request, RequestRefusal, Response, ResponseRefusal, read_request, read_response};
 use oe_lines::{Fault, push, push_number};
@@ -146,7 +147,7 @@ fn request_texts(alloc: Global, answers: &mut Vec<u8>) -> Result<(), Fault> {
         RequestRefusal::LinkFailed,
         RequestRefusal::OutOfMemory,
     ] {
-        push(format!(in alloc; "{refusal}\n")?.as_str(), answers)?;
+        print_text(alloc, &refusal, answers)?;
     }
     Ok(())
 }
@@ -159,7 +160,7 @@ fn response_texts(alloc: Global, answers: &mut Vec<u8>) -> Result<(), Fault> {
         ResponseRefusal::LinkFailed,
         ResponseRefusal::OutOfMemory,
     ] {
-        push(format!(in alloc; "{refusal}\n")?.as_str(), answers)?;
+        print_text(alloc, &refusal, answers)?;
     }
     Ok(())
 }
