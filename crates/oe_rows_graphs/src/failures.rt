@@ -2,9 +2,10 @@
 use crate::attempt::Failing;
 use crate::calls::{spell, words_of_call};
 use crate::cubes::cube_of_text;
-use crate::runs::{MOST_CALLS, Object, failing_of, none_failing};
-use oe_lines::{Fault, end_line, first_word, push, push_number};
-use oe_outside::{MemorySink, MemorySource, MemoryStore, NoGate};
+use crate::gate::CountGate;
+use crate::runs::{MOST_CALLS, Object, failing_of, none_failing, spell_entries};
+use oe_lines::{Fault, end_line, first_word, number_of, push, push_number};
+use oe_outside::{MemorySink, MemorySource, MemoryStore};
 use oe_sources::Catalogue;
 use oe_top::openeo;
 use std::alloc::Global;
@@ -12,12 +13,13 @@ use std::alloc::Global;
 /// How many bytes the output, the error output and the spool have room for.
 const ROOM: usize = 4096;
 
-/// What a call left: its status, and what stands on the output and on the error output.
+/// What a call left: its status, what stands on the output and on the error output, and how often it entered the gate.
 #[derive(Drop)]
 struct Called {
     status: u8,
     out: MemorySink,
     err: MemorySink,
+    gate: CountGate,
 }
 
 /// Spells what a call leaves in which nothing fails and, behind a semicolon, what each call leaves in which one call of
@@ -37,6 +39,22 @@ pub(crate) fn spell_failures(
     spell(alloc, " | ", whole.err.bytes(), answers)?;
     push(" ;", answers)?;
     spell_each(alloc, cubes, words, input, object, &whole, answers)?;
+    end_line(answers)
+}
+
+/// Spells the status of a call in which nothing fails, and how often it entered the gate for each of so many chunks.
+pub(crate) fn spell_entered(
+    alloc: Global,
+    cubes: &[(&str, &str)],
+    words: &str,
+    input: &str,
+    answers: &mut Vec<u8>,
+) -> Result<(), Fault> {
+    let (chunks, words) = first_word(words);
+    let chunks = number_of(chunks)?;
+    let called = call_failing(alloc, cubes, words, input, none_failing())?;
+    push_number("", called.status, answers)?;
+    spell_entries(&called.gate, chunks, answers)?;
     end_line(answers)
 }
 
@@ -142,6 +160,7 @@ fn call_failing(
     let mut spool = MemoryStore::new(Vec::new(alloc), ROOM, failing.spool.to_vec(alloc)?)?;
     let mut out = MemorySink::new(alloc, ROOM, failing.writes.to_vec(alloc)?)?;
     let mut err = MemorySink::new(alloc, ROOM, Vec::new(alloc))?;
+    let gate = CountGate::new(alloc)?;
     let status = openeo(
         alloc,
         &words,
@@ -150,7 +169,12 @@ fn call_failing(
         &mut err,
         &mut catalogue,
         &mut spool,
-        &NoGate,
+        &gate,
     );
-    Ok(Called { status, out, err })
+    Ok(Called {
+        status,
+        out,
+        err,
+        gate,
+    })
 }

@@ -45,6 +45,7 @@
 //! | `run SIZES < GRAPH` | evaluates a graph in chunks: the number of chunks, how many were evaluated, how often the gate was entered for each, with commas between, the text, and the bytes of the spool in hexadecimal digits |
 //! | `resume SIZES < GRAPH` | evaluates it again and again, while each read of a collection, then each call of the spool, then each write of the output fails once, and the run is taken up where it stands: how many chunks were evaluated each time, and `?` behind it where the records or the text are others than without the failure |
 //! | `fails OBJECT WORDS < INPUT` | calls `openeo` with these words and this input again and again, while each call of the object fails once: of the `input`, of collections (`reads`), of the `spool`, or of the output (`writes`) |
+//! | `entered CHUNKS WORDS < INPUT` | calls `openeo` with these words and this input: the status, and how often the gate was entered for each of so many chunks, with commas between |
 //!
 //! The spool begins with the bytes `front` in `run` and `resume`. How their expected lines were found:
 //!

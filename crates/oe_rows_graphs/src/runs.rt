@@ -3,7 +3,7 @@ ghost use Rattle.oe_plan.specs.Ranges.{IsWithinRanges};
 
 use crate::attempt::{Counts, Failing, attempt};
 use crate::checked::{Sizes, sizes_of};
-use crate::failures::spell_failures;
+use crate::failures::{spell_entered, spell_failures};
 use crate::gate::CountGate;
 use oe_lines::{Fault, end_line, first_word, parts_of, push, push_number};
 use std::alloc::Global;
@@ -48,6 +48,7 @@ fn answer_run(
         "run" => spell_run(alloc, cubes, sizes_of(words)?, input, answers),
         "resume" => spell_resumed(alloc, cubes, sizes_of(words)?, input, answers),
         "fails" => spell_failures(alloc, cubes, words, input, answers),
+        "entered" => spell_entered(alloc, cubes, words, input, answers),
         _ => Err(Fault::Line),
     }
 }
@@ -75,7 +76,11 @@ fn spell_run(
 }
 
 /// Spells behind a blank how often a gate was entered for each of so many chunks, with commas between the numbers.
-fn spell_entries(gate: &CountGate, chunks: u64, answers: &mut Vec<u8>) -> Result<(), Fault> {
+pub(crate) fn spell_entries(
+    gate: &CountGate,
+    chunks: u64,
+    answers: &mut Vec<u8>,
+) -> Result<(), Fault> {
     for chunk in 0..chunks {
         let Some(count) = gate.entered(chunk) else {
             return Err(Fault::Line);
