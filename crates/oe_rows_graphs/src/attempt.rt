@@ -6,13 +6,13 @@ ghost use Rattle.oe_plan.specs.Ranges.{IsWithinRanges};
 ghost use Rattle.oe_sources.specs.CatalogueRows.{rows_of};
 
 use crate::checked::{Sizes, checked_of};
-use crate::cubes::cube_of_text;
+use crate::cubes::named_cube;
 use crate::gate::CountGate;
 use oe_engine::{
     Progress, Run, RunFail, Workspace, collections_are_mounted, over_is_of_the_result,
     reads_change_nothing,
 };
-use oe_lines::{Fault, push_digits};
+use oe_lines::{Fault, first_word, push_digits};
 use oe_outside::{MemorySink, MemoryStore, Pending};
 use oe_plan::Plan;
 use oe_render::RenderFail;
@@ -58,7 +58,7 @@ pub(crate) struct Counts {
 /// the bytes of the spool in hexadecimal digits.
 pub(crate) fn attempt(
     alloc: Global,
-    cubes: &[(&str, &str)],
+    cubes: &[&str],
     sizes: Sizes,
     graph: &str,
     failing: Failing<'_>,
@@ -69,9 +69,10 @@ pub(crate) fn attempt(
 {
     // The boxes of collections stay in this function, which drops them.
     let mut catalogue = Catalogue::new(alloc);
-    for (id, text) in cubes {
-        let cube = Box::new(alloc, cube_of_text(alloc, text, failing.reads)?)?;
-        if catalogue.mount(id, cube).is_err() {
+    for line in cubes {
+        let (verb, rest) = first_word(line);
+        let (id, cube) = named_cube(alloc, verb, rest, failing.reads)?;
+        if catalogue.mount(id, Box::new(alloc, cube)?).is_err() {
             return Err(Fault::Line);
         }
     }

@@ -1,127 +1,186 @@
 // Calls of `openeo` over objects in memory.
-use crate::cubes::{collection_of, open_file};
+use crate::attempt::Failing;
+use crate::cubes::{named_cube, named_file};
+use crate::gate::CountGate;
+use crate::runs::none_failing;
 use oe_dims::Text;
-use oe_lines::{
-    Fault, bytes_of, end_line, first_word, number_of, parts_of, push, push_digits, push_number,
-};
-use oe_outside::{MemorySink, MemorySource, MemoryStore, NoGate};
-use oe_sources::{Catalogue, CubeSource};
+use oe_lines::{Fault, end_line, first_word, number_of, parts_of, push, push_digits, push_number};
+use oe_outside::{MemorySink, MemorySource, MemoryStore};
+use oe_sources::{Catalogue, CubeSource, MountFail};
 use oe_top::openeo;
 use std::alloc::Global;
 
 /// How many bytes the output, the error output and the spool of a call have room for.
 const OUT_ROOM: usize = 65536;
 
-const ERR_ROOM: usize = 1024;
+const ERR_ROOM: usize = 4096;
 
 const SPOOL_ROOM: usize = 2097152;
 
 /// What a call reads and writes.
 #[derive(Drop)]
 struct Objects {
+    words: Vec<Text>,
     input: MemorySource,
     out: MemorySink,
     err: MemorySink,
     spool: MemoryStore,
+    gate: CountGate,
 }
 
-/// The objects of a call with this input.
-fn objects_of(alloc: Global, input: Vec<u8>) -> Result<Objects, Fault> {
-    Ok(Objects {
-        input: MemorySource::new(input, Vec::new(alloc))?,
-        out: MemorySink::new(alloc, OUT_ROOM, Vec::new(alloc))?,
-        err: MemorySink::new(alloc, ERR_ROOM, Vec::new(alloc))?,
-        spool: MemoryStore::new(Vec::new(alloc), SPOOL_ROOM, Vec::new(alloc))?,
-    })
+/// What a call left: its status, what stands on the output and on the error output, and how often it entered the gate.
+#[derive(Drop)]
+pub(crate) struct Called {
+    pub(crate) status: u8,
+    pub(crate) out: MemorySink,
+    pub(crate) err: MemorySink,
+    pub(crate) gate: CountGate,
 }
 
-// Boxes for collections are made and taken out here, and the catalogue that holds them is handed to no function of this
-// crate: `demo` makes boxes too, and a function over a catalogue that makes some may hand them out.
+/// The answer to a line.
+#[derive(Drop)]
+pub(crate) enum Answer {
+    /// A word, or none.
+    Word(&'static str),
+    Call(Called),
+}
+
 /// Appends the answers to lines about calls.
 pub(crate) fn answer_calls(alloc: Global, text: &str, answers: &mut Vec<u8>) -> Result<(), Fault> {
-    let mut catalogue = Catalogue::new(alloc);
+    let mut lines = Vec::new(alloc);
     for line in text.lines() {
-        let (verb, rest) = first_word(line);
-        match verb {
-            "#" => {}
-            "catalogue" => catalogue = Catalogue::new(alloc),
-            "collection" => {
-                let (id, cube) = collection_of(alloc, rest)?;
-                if catalogue.mount(id, Box::new(alloc, cube)?).is_err() {
-                    return Err(Fault::Line);
-                }
-            }
-            "replace" => {
-                let (id, cube) = collection_of(alloc, rest)?;
-                spell_found(
-                    catalogue.replace(id, Box::new(alloc, cube)?).is_ok(),
-                    answers,
-                )?;
-            }
-            "detach" => spell_found(catalogue.detach(rest).is_some(), answers)?,
-            "file" => match open_file(alloc, bytes_of(alloc, rest)?)? {
-                Ok(source) => {
-                    let id = source.id().copy()?;
-                    if catalogue
-                        .mount(id.as_str(), Box::new(alloc, source)?)
-                        .is_err()
-                    {
-                        return Err(Fault::Line);
-                    }
-                }
-                Err(store) => spell_refused(alloc, store.bytes(), rest, answers)?,
-            },
-            _ => {
-                let (words, objects) = call_of(alloc, line)?;
-                let Objects {
-                    mut input,
-                    mut out,
-                    mut err,
-                    mut spool,
-                } = objects;
-                let status = openeo(
-                    alloc,
-                    &words,
-                    &mut input,
-                    &mut out,
-                    &mut err,
-                    &mut catalogue,
-                    &mut spool,
-                    &NoGate,
-                );
-                spell_answer(alloc, status, out.bytes(), err.bytes(), answers)?;
-            }
+        if line == "catalogue" {
+            spell_answers(alloc, &lines, answers)?;
+            lines.clear();
+        } else {
+            lines.push(line)?;
+        }
+    }
+    spell_answers(alloc, &lines, answers)
+}
+
+/// Appends the answers to lines that begin with an empty catalogue.
+fn spell_answers(alloc: Global, lines: &[&str], answers: &mut Vec<u8>) -> Result<(), Fault> {
+    for answer in &answers_of(alloc, lines, none_failing())? {
+        match answer {
+            Answer::Word(word) => push(word, answers)?,
+            Answer::Call(called) => spell_called(alloc, called, answers)?,
         }
     }
     Ok(())
 }
 
-/// Spells `none` where no collection was mounted under an id.
-fn spell_found(found: bool, answers: &mut Vec<u8>) -> Result<(), Fault> {
-    push(if found { "" } else { "none\n" }, answers)
+// Boxes for collections are made and taken out here, and the catalogue that holds them is handed to no function of this
+// crate: `demo` makes boxes too, and a function over a catalogue that makes some may hand them out.
+/// The answers to lines that begin with an empty catalogue, while these calls of each object fail.
+pub(crate) fn answers_of(
+    alloc: Global,
+    lines: &[&str],
+    failing: Failing<'_>,
+) -> Result<Vec<Answer>, Fault> {
+    let mut catalogue = Catalogue::new(alloc);
+    let mut answers = Vec::new(alloc);
+    for line in lines {
+        let (verb, rest) = first_word(line);
+        let answer = match verb {
+            "#" => Answer::Word(""),
+            "cube" | "collection" => {
+                let (id, cube) = named_cube(alloc, verb, rest, failing.reads)?;
+                mount_answer(catalogue.mount(id, Box::new(alloc, cube)?))?
+            }
+            "replace" => {
+                let (id, cube) = named_cube(alloc, verb, rest, failing.reads)?;
+                replace_answer(catalogue.replace(id, Box::new(alloc, cube)?))
+            }
+            "detach" => detach_answer(catalogue.detach(rest)),
+            "file" => match named_file(alloc, rest)? {
+                Ok((id, source)) => {
+                    mount_answer(catalogue.mount(id.as_str(), Box::new(alloc, source)?))?
+                }
+                Err(word) => Answer::Word(word),
+            },
+            _ => {
+                let mut objects = objects_of(alloc, line, failing)?;
+                let status = openeo(
+                    alloc,
+                    &objects.words,
+                    &mut objects.input,
+                    &mut objects.out,
+                    &mut objects.err,
+                    &mut catalogue,
+                    &mut objects.spool,
+                    &objects.gate,
+                );
+                call_answer(status, objects)
+            }
+        };
+        answers.push(answer)?;
+    }
+    Ok(answers)
 }
 
-/// Spells that bytes are no cube file, and whether the store was handed back as it was.
-fn spell_refused(
-    alloc: Global,
-    bytes: &[u8],
-    digits: &str,
-    answers: &mut Vec<u8>,
-) -> Result<(), Fault> {
-    if hex::encode(alloc, bytes)?.as_str() == digits {
-        push("invalid\n", answers)
-    } else {
-        push("changed\n", answers)
+/// The answer where a collection was mounted. Refuses: one that was not.
+fn mount_answer(outcome: Result<(), MountFail>) -> Result<Answer, Fault> {
+    match outcome {
+        Ok(()) => Ok(Answer::Word("")),
+        Err(_) => Err(Fault::Line),
     }
 }
 
-/// The words of a call and its objects, whose input has blanks behind it up to as many bytes as the line says.
-fn call_of(alloc: Global, line: &str) -> Result<(Vec<Text>, Objects), Fault> {
+/// The answer where a collection was replaced, or was to be: `none` where none was mounted under the id.
+fn replace_answer(outcome: Result<Box<dyn CubeSource>, Box<dyn CubeSource>>) -> Answer {
+    match outcome {
+        Ok(_) => Answer::Word(""),
+        Err(_) => Answer::Word("none\n"),
+    }
+}
+
+/// The answer where a collection was taken out, likewise.
+fn detach_answer(outcome: Option<Box<dyn CubeSource>>) -> Answer {
+    match outcome {
+        Some(_) => Answer::Word(""),
+        None => Answer::Word("none\n"),
+    }
+}
+
+/// The answer to a call that ended with a status.
+fn call_answer(status: u8, objects: Objects) -> Answer {
+    let Objects { out, err, gate, .. } = objects;
+    Answer::Call(Called {
+        status,
+        out,
+        err,
+        gate,
+    })
+}
+
+/// The words of a call and its objects, of which these calls fail. The input has blanks behind it up to as many bytes as
+/// the line says.
+fn objects_of(alloc: Global, line: &str, failing: Failing<'_>) -> Result<Objects, Fault> {
     let (size, line) = size_of(line)?;
     let (words, input) = line.split_once(" < ").unwrap_or((line, ""));
-    let words = words_of_call(alloc, words)?;
-    let input = padded_bytes(alloc, input, size)?;
-    Ok((words, objects_of(alloc, input)?))
+    Ok(Objects {
+        words: words_of_call(alloc, words)?,
+        input: source_of(alloc, input, size, failing.input)?,
+        out: sink_of(alloc, OUT_ROOM, failing.writes)?,
+        err: sink_of(alloc, ERR_ROOM, &[])?,
+        spool: MemoryStore::new(Vec::new(alloc), SPOOL_ROOM, failing.spool.to_vec(alloc)?)?,
+        gate: CountGate::new(alloc)?,
+    })
+}
+
+fn source_of(
+    alloc: Global,
+    text: &str,
+    size: usize,
+    failing: &[u64],
+) -> Result<MemorySource, Fault> {
+    let bytes = padded_bytes(alloc, text, size)?;
+    Ok(MemorySource::new(bytes, failing.to_vec(alloc)?)?)
+}
+
+fn sink_of(alloc: Global, room: usize, failing: &[u64]) -> Result<MemorySink, Fault> {
+    Ok(MemorySink::new(alloc, room, failing.to_vec(alloc)?)?)
 }
 
 /// How many bytes the input of a call has at least, and the rest of its line.
@@ -135,7 +194,7 @@ fn size_of(line: &str) -> Result<(usize, &str), Fault> {
 }
 
 /// The words of a command, with blanks between them.
-pub(crate) fn words_of_call(alloc: Global, line: &str) -> Result<Vec<Text>, Fault> {
+fn words_of_call(alloc: Global, line: &str) -> Result<Vec<Text>, Fault> {
     let mut words = Vec::new(alloc);
     for word in line.split_whitespace() {
         words.push(Text::of(alloc, word)?)?;
@@ -153,17 +212,20 @@ pub(crate) fn padded_bytes(alloc: Global, text: &str, size: usize) -> Result<Vec
 }
 
 /// Spells a status and what stands on the output and on the error output, behind the answers so far.
-fn spell_answer(
+fn spell_called(alloc: Global, called: &Called, answers: &mut Vec<u8>) -> Result<(), Fault> {
+    spell_ending(alloc, called, answers)?;
+    end_line(answers)
+}
+
+/// Spells the same, without the end of the line.
+pub(crate) fn spell_ending(
     alloc: Global,
-    status: u8,
-    out: &[u8],
-    err: &[u8],
+    called: &Called,
     answers: &mut Vec<u8>,
 ) -> Result<(), Fault> {
-    push_number("", status, answers)?;
-    spell(alloc, " ", out, answers)?;
-    spell(alloc, " | ", err, answers)?;
-    end_line(answers)
+    push_number("", called.status, answers)?;
+    spell(alloc, " ", called.out.bytes(), answers)?;
+    spell(alloc, " | ", called.err.bytes(), answers)
 }
 
 /// Spells bytes behind a mark, and nothing where there are none.

@@ -1,61 +1,55 @@
-// The top call, while each call of one of its objects fails in turn.
+// Calls of `openeo`, while each call of one of its objects fails in turn.
 use crate::attempt::Failing;
-use crate::calls::{spell, words_of_call};
-use crate::cubes::cube_of_text;
-use crate::gate::CountGate;
+use crate::calls::{Answer, Called, answers_of, spell, spell_ending};
 use crate::runs::{MOST_CALLS, Object, failing_of, none_failing, spell_entries};
 use oe_lines::{Fault, end_line, first_word, number_of, push, push_number};
-use oe_outside::{MemorySink, MemorySource, MemoryStore};
-use oe_sources::Catalogue;
-use oe_top::openeo;
 use std::alloc::Global;
-
-/// How many bytes the output, the error output and the spool have room for.
-const ROOM: usize = 4096;
-
-/// What a call left: its status, what stands on the output and on the error output, and how often it entered the gate.
-#[derive(Drop)]
-struct Called {
-    status: u8,
-    out: MemorySink,
-    err: MemorySink,
-    gate: CountGate,
-}
 
 /// Spells what a call leaves in which nothing fails and, behind a semicolon, what each call leaves in which one call of
 /// the object failed, where that differs from the one before it.
-pub(crate) fn spell_failures(
+pub(crate) fn spell_failures<'a>(
     alloc: Global,
-    cubes: &[(&str, &str)],
-    words: &str,
-    input: &str,
+    cubes: &[&'a str],
+    line: &'a str,
     answers: &mut Vec<u8>,
 ) -> Result<(), Fault> {
-    let (object, words) = first_word(words);
+    let (object, line) = first_word(line);
     let object = object_of(object)?;
-    let whole = call_failing(alloc, cubes, words, input, none_failing())?;
-    push_number("", whole.status, answers)?;
-    spell(alloc, " ", whole.out.bytes(), answers)?;
-    spell(alloc, " | ", whole.err.bytes(), answers)?;
+    let whole = call_over(alloc, cubes, line, none_failing())?;
+    spell_ending(alloc, &whole, answers)?;
     push(" ;", answers)?;
-    spell_each(alloc, cubes, words, input, object, &whole, answers)?;
+    spell_each(alloc, cubes, line, object, &whole, answers)?;
     end_line(answers)
 }
 
 /// Spells the status of a call in which nothing fails, and how often it entered the gate for each of so many chunks.
-pub(crate) fn spell_entered(
+pub(crate) fn spell_entered<'a>(
     alloc: Global,
-    cubes: &[(&str, &str)],
-    words: &str,
-    input: &str,
+    cubes: &[&'a str],
+    line: &'a str,
     answers: &mut Vec<u8>,
 ) -> Result<(), Fault> {
-    let (chunks, words) = first_word(words);
+    let (chunks, line) = first_word(line);
     let chunks = number_of(chunks)?;
-    let called = call_failing(alloc, cubes, words, input, none_failing())?;
+    let called = call_over(alloc, cubes, line, none_failing())?;
     push_number("", called.status, answers)?;
     spell_entries(&called.gate, chunks, answers)?;
     end_line(answers)
+}
+
+/// What the call of a line leaves over the collections of these lines, while these calls of each object fail.
+fn call_over<'a>(
+    alloc: Global,
+    cubes: &[&'a str],
+    line: &'a str,
+    failing: Failing<'_>,
+) -> Result<Called, Fault> {
+    let mut lines = cubes.to_vec(alloc)?;
+    lines.push(line)?;
+    match answers_of(alloc, &lines, failing)?.pop() {
+        Some(Answer::Call(called)) => Ok(called),
+        _ => Err(Fault::Line),
+    }
 }
 
 fn object_of(word: &str) -> Result<Object, Fault> {
@@ -69,11 +63,10 @@ fn object_of(word: &str) -> Result<Object, Fault> {
 }
 
 /// Spells the calls of which one of the object failed, until the command has no call of that number.
-fn spell_each(
+fn spell_each<'a>(
     alloc: Global,
-    cubes: &[(&str, &str)],
-    words: &str,
-    input: &str,
+    cubes: &[&'a str],
+    line: &'a str,
     object: Object,
     whole: &Called,
     answers: &mut Vec<u8>,
@@ -81,17 +74,14 @@ fn spell_each(
     let mut before = answers.len();
     for number in 0..MOST_CALLS {
         let calls = [number];
-        let one = call_failing(alloc, cubes, words, input, failing_of(object, &calls))?;
+        let one = call_over(alloc, cubes, line, failing_of(object, &calls))?;
         if one.status == 0 {
             return spell_end(&one, whole, answers);
         }
         let from = answers.len();
         push_number(" ", one.status, answers)?;
         spell(alloc, " ", one.err.bytes(), answers)?;
-        push(
-            part_word(&one, whole, is_read_first(object, words)),
-            answers,
-        )?;
+        push(part_word(&one, whole, is_read_first(object, line)), answers)?;
         before = last_other(before, from, answers);
     }
     Err(Fault::Line)
@@ -108,10 +98,10 @@ fn last_other(before: usize, from: usize, answers: &mut Vec<u8>) -> usize {
 }
 
 /// Whether all calls of the object come before the first write of the output.
-fn is_read_first(object: Object, words: &str) -> bool {
+fn is_read_first(object: Object, line: &str) -> bool {
     match object {
         Object::Input => true,
-        Object::Collections => words.starts_with("run"),
+        Object::Collections => line.starts_with("run"),
         Object::Spool | Object::Output => false,
     }
 }
@@ -134,47 +124,4 @@ fn part_word(one: &Called, whole: &Called, read_first: bool) -> &'static str {
     } else {
         " another output"
     }
-}
-
-/// Calls `openeo` over the collections of cube texts, where these calls of its objects fail.
-fn call_failing(
-    alloc: Global,
-    cubes: &[(&str, &str)],
-    words: &str,
-    input: &str,
-    failing: Failing<'_>,
-) -> Result<Called, Fault> {
-    // The boxes of collections stay in this function, which drops them and hands the catalogue to `openeo` alone.
-    let mut catalogue = Catalogue::new(alloc);
-    for (id, text) in cubes {
-        let cube = Box::new(alloc, cube_of_text(alloc, text, failing.reads)?)?;
-        if catalogue.mount(id, cube).is_err() {
-            return Err(Fault::Line);
-        }
-    }
-    let words = words_of_call(alloc, words)?;
-    let mut input = MemorySource::new(
-        input.as_bytes().to_vec(alloc)?,
-        failing.input.to_vec(alloc)?,
-    )?;
-    let mut spool = MemoryStore::new(Vec::new(alloc), ROOM, failing.spool.to_vec(alloc)?)?;
-    let mut out = MemorySink::new(alloc, ROOM, failing.writes.to_vec(alloc)?)?;
-    let mut err = MemorySink::new(alloc, ROOM, Vec::new(alloc))?;
-    let gate = CountGate::new(alloc)?;
-    let status = openeo(
-        alloc,
-        &words,
-        &mut input,
-        &mut out,
-        &mut err,
-        &mut catalogue,
-        &mut spool,
-        &gate,
-    );
-    Ok(Called {
-        status,
-        out,
-        err,
-        gate,
-    })
 }

@@ -28,7 +28,7 @@ pub(crate) fn answer_runs(alloc: Global, text: &str, answers: &mut Vec<u8>) -> R
         match word {
             "#" => {}
             "catalogue" => cubes.clear(),
-            "cube" => cubes.push(first_word(rest))?,
+            "cube" => cubes.push(line)?,
             _ => answer_run(alloc, word, rest, &cubes, answers)?,
         }
     }
@@ -36,19 +36,33 @@ pub(crate) fn answer_runs(alloc: Global, text: &str, answers: &mut Vec<u8>) -> R
 }
 
 /// Appends the answer of a line that evaluates a graph or calls `openeo`.
-fn answer_run(
+fn answer_run<'a>(
+    alloc: Global,
+    word: &str,
+    rest: &'a str,
+    cubes: &[&'a str],
+    answers: &mut Vec<u8>,
+) -> Result<(), Fault> {
+    match word {
+        "fails" => spell_failures(alloc, cubes, rest, answers),
+        "entered" => spell_entered(alloc, cubes, rest, answers),
+        _ => answer_graph(alloc, word, rest, cubes, answers),
+    }
+}
+
+/// Appends the answer of a line that evaluates a graph.
+fn answer_graph(
     alloc: Global,
     word: &str,
     rest: &str,
-    cubes: &[(&str, &str)],
+    cubes: &[&str],
     answers: &mut Vec<u8>,
 ) -> Result<(), Fault> {
-    let (words, input) = parts_of(rest, " < ")?;
+    let (words, graph) = parts_of(rest, " < ")?;
+    let sizes = sizes_of(words)?;
     match word {
-        "run" => spell_run(alloc, cubes, sizes_of(words)?, input, answers),
-        "resume" => spell_resumed(alloc, cubes, sizes_of(words)?, input, answers),
-        "fails" => spell_failures(alloc, cubes, words, input, answers),
-        "entered" => spell_entered(alloc, cubes, words, input, answers),
+        "run" => spell_run(alloc, cubes, sizes, graph, answers),
+        "resume" => spell_resumed(alloc, cubes, sizes, graph, answers),
         _ => Err(Fault::Line),
     }
 }
@@ -57,7 +71,7 @@ fn answer_run(
 /// the bytes of the spool of a run in which no call fails.
 fn spell_run(
     alloc: Global,
-    cubes: &[(&str, &str)],
+    cubes: &[&str],
     sizes: Sizes,
     graph: &str,
     answers: &mut Vec<u8>,
@@ -93,7 +107,7 @@ pub(crate) fn spell_entries(
 /// Spells of each object, for each of its calls in turn, the number of evaluations of the run in which that call failed.
 fn spell_resumed(
     alloc: Global,
-    cubes: &[(&str, &str)],
+    cubes: &[&str],
     sizes: Sizes,
     graph: &str,
     answers: &mut Vec<u8>,
@@ -120,7 +134,7 @@ fn spell_resumed(
 /// Spells the same of one object. `whole` is what a run leaves in which no call fails.
 fn spell_calls(
     alloc: Global,
-    cubes: &[(&str, &str)],
+    cubes: &[&str],
     sizes: Sizes,
     graph: &str,
     object: Object,
