@@ -3,7 +3,7 @@ use Rattle.std.proofs.Common.{◌≡◌, ℕ, ◌^◌, ◌<◌, List, [], ◌∷
 use Rattle.oe_top.proofs.Numbers.{one_number}
 use Rattle.oe_top.specs.Words.{AreRunNumbers, IsNumberWord, Spells, SpellsDemo, SpellsId, SpellsNumbers}
 use Rattle.oe_top.specs.declared.words.Command.{Command}
-use Rattle.oe_top.specs.declared.words.Command.TheVariants.{Run, Plan, Demo, Check, Pack, Repack}
+use Rattle.oe_top.specs.declared.words.Command.TheVariants.{Run, Plan, Demo, Check, Pack, Repack, DescribeAll, Describe}
 use Rattle.oe_window.specs.declared.grid.ChunkSize.{ChunkSize}
 
 -- ---- the verb of a command
@@ -15,6 +15,8 @@ verb_of (Demo seed side size workers) = codes "demo"
 verb_of Check = codes "check"
 verb_of Pack = codes "pack"
 verb_of Repack = codes "repack"
+verb_of DescribeAll = codes "describe"
+verb_of Describe = codes "describe"
 
 -- it is the first word
 begins : (words : List (List ℕ)) (command : Command) → Spells words command → get_or words 0 [] ≡ verb_of command
@@ -24,6 +26,8 @@ begins words (Demo seed side size workers) spells = ap (λ w. get_or w 0 []) spe
 begins words Check is = ap (λ w. get_or w 0 []) is
 begins words Pack spells = ap (λ w. get_or w 0 []) spells.words_are
 begins words Repack spells = ap (λ w. get_or w 0 []) spells.words_are
+begins words DescribeAll is = ap (λ w. get_or w 0 []) is
+begins words Describe spells = ap (λ w. get_or w 0 []) spells.words_are
 
 -- so words that spell two commands have one verb
 one_verb : (words : List (List ℕ)) (a b : Command) → Spells words a → Spells words b → verb_of a ≡ verb_of b
@@ -66,6 +70,10 @@ one_demo words seed seed2 side side2 size other workers number one two =
 
 -- ---- the command
 
+-- one word is not two
+apart : (words : List (List ℕ)) → Spells words DescribeAll → Spells words Describe → ⊥
+apart words alone spells = let same : codes "describe" ∷ [] ≡ codes "describe" ∷ spells.id ∷ [] = sym alone ∙ spells.words_are in cc
+
 pub one_command : (words : List (List ℕ)) (a b : Command) → Spells words a → Spells words b → a ≡ b
 one_command words (Run s n) (Run t m) one two = ap (λ (p : ChunkSize × ℕ). Run p.0 p.1) (one_run (codes "run") words s t n m one two)
 one_command words (Run s n) (Plan t m) one two = let same : verb_of (Run s n) ≡ verb_of (Plan t m) = one_verb words (Run s n) (Plan t m) one two in cc
@@ -73,33 +81,61 @@ one_command words (Run s n) (Demo l e t m) one two = let same : verb_of (Run s n
 one_command words (Run s n) Check one two = let same : verb_of (Run s n) ≡ verb_of Check = one_verb words (Run s n) Check one two in cc
 one_command words (Run s n) Pack one two = let same : verb_of (Run s n) ≡ verb_of Pack = one_verb words (Run s n) Pack one two in cc
 one_command words (Run s n) Repack one two = let same : verb_of (Run s n) ≡ verb_of Repack = one_verb words (Run s n) Repack one two in cc
+one_command words (Run s n) DescribeAll one two = let same : verb_of (Run s n) ≡ verb_of DescribeAll = one_verb words (Run s n) DescribeAll one two in cc
+one_command words (Run s n) Describe one two = let same : verb_of (Run s n) ≡ verb_of Describe = one_verb words (Run s n) Describe one two in cc
 one_command words (Plan s n) (Run t m) one two = let same : verb_of (Plan s n) ≡ verb_of (Run t m) = one_verb words (Plan s n) (Run t m) one two in cc
 one_command words (Plan s n) (Plan t m) one two = ap (λ (p : ChunkSize × ℕ). Plan p.0 p.1) (one_run (codes "plan") words s t n m one two)
 one_command words (Plan s n) (Demo l e t m) one two = let same : verb_of (Plan s n) ≡ verb_of (Demo l e t m) = one_verb words (Plan s n) (Demo l e t m) one two in cc
 one_command words (Plan s n) Check one two = let same : verb_of (Plan s n) ≡ verb_of Check = one_verb words (Plan s n) Check one two in cc
 one_command words (Plan s n) Pack one two = let same : verb_of (Plan s n) ≡ verb_of Pack = one_verb words (Plan s n) Pack one two in cc
 one_command words (Plan s n) Repack one two = let same : verb_of (Plan s n) ≡ verb_of Repack = one_verb words (Plan s n) Repack one two in cc
+one_command words (Plan s n) DescribeAll one two = let same : verb_of (Plan s n) ≡ verb_of DescribeAll = one_verb words (Plan s n) DescribeAll one two in cc
+one_command words (Plan s n) Describe one two = let same : verb_of (Plan s n) ≡ verb_of Describe = one_verb words (Plan s n) Describe one two in cc
 one_command words (Demo k d s n) (Run t m) one two = let same : verb_of (Demo k d s n) ≡ verb_of (Run t m) = one_verb words (Demo k d s n) (Run t m) one two in cc
 one_command words (Demo k d s n) (Plan t m) one two = let same : verb_of (Demo k d s n) ≡ verb_of (Plan t m) = one_verb words (Demo k d s n) (Plan t m) one two in cc
 one_command words (Demo k d s n) (Demo l e t m) one two = one_demo words k l d e s t n m one two
 one_command words (Demo k d s n) Check one two = let same : verb_of (Demo k d s n) ≡ verb_of Check = one_verb words (Demo k d s n) Check one two in cc
 one_command words (Demo k d s n) Pack one two = let same : verb_of (Demo k d s n) ≡ verb_of Pack = one_verb words (Demo k d s n) Pack one two in cc
 one_command words (Demo k d s n) Repack one two = let same : verb_of (Demo k d s n) ≡ verb_of Repack = one_verb words (Demo k d s n) Repack one two in cc
+one_command words (Demo k d s n) DescribeAll one two = let same : verb_of (Demo k d s n) ≡ verb_of DescribeAll = one_verb words (Demo k d s n) DescribeAll one two in cc
+one_command words (Demo k d s n) Describe one two = let same : verb_of (Demo k d s n) ≡ verb_of Describe = one_verb words (Demo k d s n) Describe one two in cc
 one_command words Check (Run t m) one two = let same : verb_of Check ≡ verb_of (Run t m) = one_verb words Check (Run t m) one two in cc
 one_command words Check (Plan t m) one two = let same : verb_of Check ≡ verb_of (Plan t m) = one_verb words Check (Plan t m) one two in cc
 one_command words Check (Demo l e t m) one two = let same : verb_of Check ≡ verb_of (Demo l e t m) = one_verb words Check (Demo l e t m) one two in cc
 one_command words Check Check one two = refl
 one_command words Check Pack one two = let same : verb_of Check ≡ verb_of Pack = one_verb words Check Pack one two in cc
 one_command words Check Repack one two = let same : verb_of Check ≡ verb_of Repack = one_verb words Check Repack one two in cc
+one_command words Check DescribeAll one two = let same : verb_of Check ≡ verb_of DescribeAll = one_verb words Check DescribeAll one two in cc
+one_command words Check Describe one two = let same : verb_of Check ≡ verb_of Describe = one_verb words Check Describe one two in cc
 one_command words Pack (Run t m) one two = let same : verb_of Pack ≡ verb_of (Run t m) = one_verb words Pack (Run t m) one two in cc
 one_command words Pack (Plan t m) one two = let same : verb_of Pack ≡ verb_of (Plan t m) = one_verb words Pack (Plan t m) one two in cc
 one_command words Pack (Demo l e t m) one two = let same : verb_of Pack ≡ verb_of (Demo l e t m) = one_verb words Pack (Demo l e t m) one two in cc
 one_command words Pack Check one two = let same : verb_of Pack ≡ verb_of Check = one_verb words Pack Check one two in cc
 one_command words Pack Pack one two = refl
 one_command words Pack Repack one two = let same : verb_of Pack ≡ verb_of Repack = one_verb words Pack Repack one two in cc
+one_command words Pack DescribeAll one two = let same : verb_of Pack ≡ verb_of DescribeAll = one_verb words Pack DescribeAll one two in cc
+one_command words Pack Describe one two = let same : verb_of Pack ≡ verb_of Describe = one_verb words Pack Describe one two in cc
 one_command words Repack (Run t m) one two = let same : verb_of Repack ≡ verb_of (Run t m) = one_verb words Repack (Run t m) one two in cc
 one_command words Repack (Plan t m) one two = let same : verb_of Repack ≡ verb_of (Plan t m) = one_verb words Repack (Plan t m) one two in cc
 one_command words Repack (Demo l e t m) one two = let same : verb_of Repack ≡ verb_of (Demo l e t m) = one_verb words Repack (Demo l e t m) one two in cc
 one_command words Repack Check one two = let same : verb_of Repack ≡ verb_of Check = one_verb words Repack Check one two in cc
 one_command words Repack Pack one two = let same : verb_of Repack ≡ verb_of Pack = one_verb words Repack Pack one two in cc
 one_command words Repack Repack one two = refl
+one_command words Repack DescribeAll one two = let same : verb_of Repack ≡ verb_of DescribeAll = one_verb words Repack DescribeAll one two in cc
+one_command words Repack Describe one two = let same : verb_of Repack ≡ verb_of Describe = one_verb words Repack Describe one two in cc
+one_command words DescribeAll (Run t m) one two = let same : verb_of DescribeAll ≡ verb_of (Run t m) = one_verb words DescribeAll (Run t m) one two in cc
+one_command words DescribeAll (Plan t m) one two = let same : verb_of DescribeAll ≡ verb_of (Plan t m) = one_verb words DescribeAll (Plan t m) one two in cc
+one_command words DescribeAll (Demo l e t m) one two = let same : verb_of DescribeAll ≡ verb_of (Demo l e t m) = one_verb words DescribeAll (Demo l e t m) one two in cc
+one_command words DescribeAll Check one two = let same : verb_of DescribeAll ≡ verb_of Check = one_verb words DescribeAll Check one two in cc
+one_command words DescribeAll Pack one two = let same : verb_of DescribeAll ≡ verb_of Pack = one_verb words DescribeAll Pack one two in cc
+one_command words DescribeAll Repack one two = let same : verb_of DescribeAll ≡ verb_of Repack = one_verb words DescribeAll Repack one two in cc
+one_command words DescribeAll DescribeAll one two = refl
+one_command words DescribeAll Describe one two = absurd (apart words one two)
+one_command words Describe (Run t m) one two = let same : verb_of Describe ≡ verb_of (Run t m) = one_verb words Describe (Run t m) one two in cc
+one_command words Describe (Plan t m) one two = let same : verb_of Describe ≡ verb_of (Plan t m) = one_verb words Describe (Plan t m) one two in cc
+one_command words Describe (Demo l e t m) one two = let same : verb_of Describe ≡ verb_of (Demo l e t m) = one_verb words Describe (Demo l e t m) one two in cc
+one_command words Describe Check one two = let same : verb_of Describe ≡ verb_of Check = one_verb words Describe Check one two in cc
+one_command words Describe Pack one two = let same : verb_of Describe ≡ verb_of Pack = one_verb words Describe Pack one two in cc
+one_command words Describe Repack one two = let same : verb_of Describe ≡ verb_of Repack = one_verb words Describe Repack one two in cc
+one_command words Describe DescribeAll one two = absurd (apart words two one)
+one_command words Describe Describe one two = refl

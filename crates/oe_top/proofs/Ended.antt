@@ -2,7 +2,8 @@
 use Rattle.std.proofs.Common.{◌≡◌, ◌≢◌, ℕ, List, Result, Ok, Err, codes, get_or, refl, sym, ap, ◌∙◌, subst}
 use Rattle.oe_top.proofs.Commands.{one_command}
 use Rattle.oe_top.specs.Answer.{CommandEnds, Ends}
-use Rattle.oe_top.specs.Endings.{ending_of, of_check, of_demo, of_evaluation, of_input, of_pack, of_repack, of_run}
+use Rattle.oe_top.specs.DescribeAnswer.{DescribeAnswers}
+use Rattle.oe_top.specs.Endings.{ending_of, of_check, of_demo, of_describe, of_evaluation, of_input, of_listing, of_pack, of_repack, of_run}
 use Rattle.oe_top.specs.Objects.{Objects}
 use Rattle.oe_top.specs.PackAnswer.{PackAnswers}
 use Rattle.oe_top.specs.RepackAnswer.{RepackAnswers}
@@ -11,6 +12,10 @@ use Rattle.oe_top.specs.declared.check.CheckRefusal.{CheckRefusal}
 use Rattle.oe_top.specs.declared.check.CheckRefusal.TheVariants as check
 use Rattle.oe_top.specs.declared.demo.DemoRefusal.{DemoRefusal}
 use Rattle.oe_top.specs.declared.demo.DemoRefusal.TheVariants as demo
+use Rattle.oe_top.specs.declared.describe.DescribeRefusal.{DescribeRefusal}
+use Rattle.oe_top.specs.declared.describe.DescribeRefusal.TheVariants as describe
+use Rattle.oe_top.specs.declared.describe.UnwrittenCause.{UnwrittenCause}
+use Rattle.oe_top.specs.declared.describe.UnwrittenCause.TheVariants as unwritten
 use Rattle.oe_top.specs.declared.evaluation.EvaluationFail.{EvaluationFail}
 use Rattle.oe_top.specs.declared.evaluation.EvaluationFail.TheVariants as evaluation
 use Rattle.oe_top.specs.declared.judge.InputRefusal.{InputRefusal}
@@ -24,7 +29,7 @@ use Rattle.oe_top.specs.declared.repack.RepackRefusal.TheVariants as repack
 use Rattle.oe_top.specs.declared.run.RunRefusal.{RunRefusal}
 use Rattle.oe_top.specs.declared.run.RunRefusal.TheVariants as run
 use Rattle.oe_top.specs.declared.words.Command.{Command}
-use Rattle.oe_top.specs.declared.words.Command.TheVariants.{Run, Plan, Demo, Check, Pack, Repack}
+use Rattle.oe_top.specs.declared.words.Command.TheVariants.{Run, Plan, Demo, Check, Pack, Repack, DescribeAll, Describe}
 
 -- ---- no command ends by `Usage`
 
@@ -70,6 +75,14 @@ repack_other (repack.Damaged id position) is = cc
 repack_other repack.WriteFault is = cc
 repack_other repack.OutOfMemory is = cc
 
+listing_other : (cause : UnwrittenCause) → of_listing cause ≢ Usage
+listing_other unwritten.WriteFault is = cc
+listing_other unwritten.OutOfMemory is = cc
+
+describe_other : (refusal : DescribeRefusal) → of_describe refusal ≢ Usage
+describe_other describe.NotMounted is = cc
+describe_other (describe.Unwritten cause) is = listing_other cause is
+
 other : {E : Type 0} (of : E → Refusal) → ((refusal : E) → of refusal ≢ Usage) → (ended : Result (Unit {0}) E)
     (ending : Result (Unit {0}) Refusal) → ending ≡ ending_of of ended → ending ≢ Err Usage
 other of never (Ok x) ending same is = let no : Ok x ≡ Err Usage = sym same ∙ is in cc
@@ -87,6 +100,8 @@ not_usage words (Demo seed side size workers) before after ending (ended, same, 
 not_usage words Check before after ending (ended, same, answers) = other of_check check_other ended ending same
 not_usage words Pack before after ending (ended, same, answers) = other of_pack pack_other ended ending same
 not_usage words Repack before after ending (ended, same, answers) = other of_repack repack_other ended ending same
+not_usage words DescribeAll before after ending (ended, same, answers) = other of_listing listing_other ended ending same
+not_usage words Describe before after ending (ended, same, answers) = other of_describe describe_other ended ending same
 
 -- the words spell this command, which has ended so
 pub ends_of : (words : List (List ℕ)) (command : Command) (before after : Objects) (ending : Result (Unit {0}) Refusal)
@@ -118,6 +133,13 @@ pub ends_repack : (words : List (List ℕ)) (word : List ℕ) (before after : Ob
 ends_repack words word before after ended ending same spells is answers =
     ends_of words Repack before after ending spells
     (ended, same, subst (λ id. RepackAnswers id before after ended) (second_word (codes "repack") words word spells is) answers)
+
+pub ends_describe : (words : List (List ℕ)) (word : List ℕ) (before after : Objects) (ended : Result (Unit {0}) DescribeRefusal)
+    (ending : Result (Unit {0}) Refusal) → ending ≡ ending_of of_describe ended → Spells words Describe → word ≡ get_or words 1 word
+    → DescribeAnswers word before after ended → Ends words before after ending
+ends_describe words word before after ended ending same spells is answers =
+    ends_of words Describe before after ending spells
+    (ended, same, subst (λ id. DescribeAnswers id before after ended) (second_word (codes "describe") words word spells is) answers)
 
 -- ---- no command
 

@@ -14,6 +14,7 @@ pub mod DemoReadings
 pub mod DemoNames
 pub mod DemoCubes
 pub mod Demos
+pub mod Descriptions
 pub mod Namings
 pub mod Runs
 pub mod Writings

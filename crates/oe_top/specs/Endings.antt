@@ -4,6 +4,10 @@ use Rattle.oe_top.specs.declared.check.CheckRefusal.{CheckRefusal}
 use Rattle.oe_top.specs.declared.check.CheckRefusal.TheVariants as check
 use Rattle.oe_top.specs.declared.demo.DemoRefusal.{DemoRefusal}
 use Rattle.oe_top.specs.declared.demo.DemoRefusal.TheVariants as demo
+use Rattle.oe_top.specs.declared.describe.DescribeRefusal.{DescribeRefusal}
+use Rattle.oe_top.specs.declared.describe.DescribeRefusal.TheVariants as describe
+use Rattle.oe_top.specs.declared.describe.UnwrittenCause.{UnwrittenCause}
+use Rattle.oe_top.specs.declared.describe.UnwrittenCause.TheVariants as unwritten
 use Rattle.oe_top.specs.declared.evaluation.EvaluationFail.{EvaluationFail}
 use Rattle.oe_top.specs.declared.evaluation.EvaluationFail.TheVariants as evaluation
 use Rattle.oe_top.specs.declared.judge.InputRefusal.{InputRefusal}
@@ -60,6 +64,14 @@ of_repack repack.ReadFault = ReadFault
 of_repack (repack.Damaged id position) = Damaged id position
 of_repack repack.WriteFault = WriteFault
 of_repack repack.OutOfMemory = OutOfMemory
+
+abbrev pub of_listing : UnwrittenCause → Refusal
+of_listing unwritten.WriteFault = WriteFault
+of_listing unwritten.OutOfMemory = OutOfMemory
+
+abbrev pub of_describe : DescribeRefusal → Refusal
+of_describe describe.NotMounted = NotMounted
+of_describe (describe.Unwritten cause) = of_listing cause
 
 -- the ending of a command whose refusals these are, as that of the call
 abbrev pub ending_of : {E : Type 0} → (E → Refusal) → Result (Unit {0}) E → Result (Unit {0}) Refusal

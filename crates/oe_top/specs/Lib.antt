@@ -2,6 +2,7 @@ pub mod Answer
 pub mod CheckAnswer
 pub mod Demonstration
 pub mod DemoAnswer
+pub mod DescribeAnswer
 pub mod Endings
 pub mod Evaluated
 pub mod Faults

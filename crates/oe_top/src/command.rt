@@ -6,8 +6,10 @@ ghost use Rattle.oe_top.specs.Objects.{lends};
 
 use crate::check::check;
 use crate::demo::demo;
+use crate::describe::{describe, describe_all};
 use crate::endings::{
-    ending_of_check, ending_of_demo, ending_of_pack, ending_of_repack, ending_of_run,
+    ending_of_check, ending_of_demo, ending_of_describe, ending_of_listing, ending_of_pack,
+    ending_of_repack, ending_of_run,
 };
 use crate::pack::pack;
 use crate::plan::plan;
@@ -31,6 +33,8 @@ use std::alloc::Global;
 /// | `demo SEED SIDE CX CY CT W` | evaluates a graph over a generated collection: `cells N first A last B` |
 /// | `pack ID` | writes the cube file of the result text of `input` under the id |
 /// | `repack ID` | writes the cube file of the mounted collection of the id, in least widths |
+/// | `describe` | writes the mounted collections as a JSON text, without their dimensions |
+/// | `describe ID` | writes the mounted collection of the id as a JSON text, with its dimensions |
 ///
 /// A graph is evaluated in chunks of CX × CY × CT labels with W workers. A line ends with a line feed.
 ///
@@ -96,6 +100,8 @@ fn obey<I: Source, O: Sink, P: Store, G: Gate>(
         Some(Command::Check) => ending_of_check(check(alloc, input, out, catalogue)),
         Some(Command::Pack) => ending_of_pack(pack(alloc, &words[1], input, out)),
         Some(Command::Repack) => ending_of_repack(repack(alloc, &words[1], out, catalogue)),
+        Some(Command::DescribeAll) => ending_of_listing(describe_all(alloc, out, catalogue)),
+        Some(Command::Describe) => ending_of_describe(describe(alloc, &words[1], out, catalogue)),
         None => Err(Refusal::Usage),
     }
 }

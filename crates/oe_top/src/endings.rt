@@ -4,6 +4,7 @@ ghost use Rattle.oe_top.specs.Endings as spec;
 
 use crate::check::CheckRefusal;
 use crate::demo::DemoRefusal;
+use crate::describe::{DescribeRefusal, UnwrittenCause};
 use crate::evaluation::EvaluationFail;
 use crate::judge::InputRefusal;
 use crate::pack::PackRefusal;
@@ -95,6 +96,26 @@ fn of_repack(refusal: RepackRefusal) -> Refusal
     }
 }
 
+/// Why `describe` did not finish, where it lists all collections.
+fn of_listing(cause: UnwrittenCause) -> Refusal
+    ensures { result ≡ spec.of_listing cause }
+{
+    match cause {
+        UnwrittenCause::WriteFault => Refusal::WriteFault,
+        UnwrittenCause::OutOfMemory => Refusal::OutOfMemory,
+    }
+}
+
+/// Why `describe` did not finish, where it describes one.
+fn of_describe(refusal: DescribeRefusal) -> Refusal
+    ensures { result ≡ spec.of_describe refusal }
+{
+    match refusal {
+        DescribeRefusal::NotMounted => Refusal::NotMounted,
+        DescribeRefusal::Unwritten(cause) => of_listing(cause),
+    }
+}
+
 /// The ending of `run`.
 pub(crate) fn ending_of_run(ended: Result<(), RunRefusal>) -> Result<(), Refusal>
     ensures { result ≡ spec.ending_of spec.of_run ended }
@@ -142,5 +163,25 @@ pub(crate) fn ending_of_repack(ended: Result<(), RepackRefusal>) -> Result<(), R
     match ended {
         Ok(()) => Ok(()),
         Err(refusal) => Err(of_repack(refusal)),
+    }
+}
+
+/// The ending of `describe`, where it lists all collections.
+pub(crate) fn ending_of_listing(ended: Result<(), UnwrittenCause>) -> Result<(), Refusal>
+    ensures { result ≡ spec.ending_of spec.of_listing ended }
+{
+    match ended {
+        Ok(()) => Ok(()),
+        Err(cause) => Err(of_listing(cause)),
+    }
+}
+
+/// The ending of `describe`, where it describes one.
+pub(crate) fn ending_of_describe(ended: Result<(), DescribeRefusal>) -> Result<(), Refusal>
+    ensures { result ≡ spec.ending_of spec.of_describe ended }
+{
+    match ended {
+        Ok(()) => Ok(()),
+        Err(refusal) => Err(of_describe(refusal)),
     }
 }

@@ -10,6 +10,7 @@ mod check;
 mod collection_id;
 mod command;
 mod demo;
+mod describe;
 mod endings;
 mod evaluation;
 mod input;

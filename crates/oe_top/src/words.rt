@@ -33,6 +33,10 @@ pub enum Command {
     Pack,
     /// To write the cube file of the mounted collection of the id of the second word.
     Repack,
+    /// To write what collections are mounted.
+    DescribeAll,
+    /// To write the dimensions of the mounted collection of the id of the second word.
+    Describe,
 }
 
 /// The command that the words spell, `None` exactly where they spell none.
@@ -58,6 +62,8 @@ fn read_alone(verb: &Text) -> Option<Command>
 {
     if is_word(verb, "check") {
         Some(Command::Check)
+    } else if is_word(verb, "describe") {
+        Some(Command::DescribeAll)
     } else {
         None
     }
@@ -76,6 +82,9 @@ fn read_with_id(verb: &Text, id: &Text) -> Option<Command>
     }
     if is_word(verb, "repack") {
         return Some(Command::Repack);
+    }
+    if is_word(verb, "describe") {
+        return Some(Command::Describe);
     }
     None
 }

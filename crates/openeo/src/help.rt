@@ -14,6 +14,7 @@ Usage:
   openeo demo SEED SIDE CX CY CT W evaluate a graph over a generated collection and write its first and last cell
   openeo pack ID                   read a result text and write it as a cube file
   openeo repack ID                 write the cube file of a collection, as short as it can be
+  openeo describe [ID]             write which collections are mounted, or the dimensions and labels of one
   openeo --help                    print this text; after a command, the text about that command
   openeo --version                 print the version
 
@@ -32,7 +33,7 @@ Exit status, and the line on standard error:
   0   the whole text was written
   1   Usage: the words are no command
   2   CODE NODE: the least fault of a graph; CubeTextInvalid: the input of pack, also one over 1048576 bytes;
-      CollectionNotFound: the id of repack
+      CollectionNotFound: the id of repack or describe
   3   PlanTooLarge CELLS: a run would hold more than 67108864 cells; try smaller chunks or extents
   4   NumberOverflow POSITION: a number of the result is out of range
   5   ReadFault: the input or a collection could not be read
@@ -99,6 +100,15 @@ folder and moved in: written onto the file that is mounted it would empty it fir
 Exit status: 0, 1 Usage, 2 CollectionNotFound, 5 ReadFault, 6 SourceDamaged, 8 WriteFault, 9 OutOfMemory, 14 Setup.
 ";
 
+const DESCRIBE: &str = "\
+openeo describe [ID]
+
+Writes the mounted collections as one line of JSON, as openEO's GET /collections has it: their ids, by rising ids, and
+their extents. With an id it writes that collection as GET /collections/ID has it, with its dimensions: the names of its
+bands, the first and the last label of t, y and x, and the reference system. No collection is read.
+Exit status: 0, 1 Usage, 2 CollectionNotFound, 8 WriteFault, 9 OutOfMemory, 14 Setup.
+";
+
 const VERSION: &str = "openeo 0.1.0 (openEO API 1.2)\n";
 
 /// The text that the words ask for, if they ask for one: `--help` or `--version`, alone or after the word of a command.
@@ -136,6 +146,7 @@ fn help_of(verb: &str) -> Option<&'static str>
         "demo" => Some(DEMO),
         "pack" => Some(PACK),
         "repack" => Some(REPACK),
+        "describe" => Some(DESCRIBE),
         _ => None,
     }
 }

@@ -1,6 +1,6 @@
 use Rattle.oe_sources.specs.CatalogueRows.{rows_of}
-use Rattle.oe_top.proofs.Ended.{ends_of, ends_pack, ends_repack, ends_usage}
-use Rattle.oe_top.specs.declared.words.Command.TheVariants.{Run, Plan, Demo, Check, Pack, Repack}
+use Rattle.oe_top.proofs.Ended.{ends_describe, ends_of, ends_pack, ends_repack, ends_usage}
+use Rattle.oe_top.specs.declared.words.Command.TheVariants.{Run, Plan, Demo, Check, Pack, Repack, DescribeAll, Describe}
 use Rattle.oe_top.proofs.command.obey.Goals as goal
 
 pub returns-in-Some-Run : goal.returns-in-Some-Run
@@ -38,6 +38,24 @@ returns-in-Some-Repack g c =
     c.ending_of_repack.ensures
     (rw c.in-Some-Repack.field-0-is at c.in-Some-Repack.ensures.some) c.index-words-1-in-Some-Repack.is
     (c.repack.ensures (g.I.Source.left c.args.input.now) (g.I.Source.faults c.args.input.now) (g.P.Store.bytes c.args.spool.now)
+    (g.P.Store.faults c.args.spool.now))
+
+pub returns-in-Some-DescribeAll : goal.returns-in-Some-DescribeAll
+returns-in-Some-DescribeAll g c =
+    ends_of c.args.words.now DescribeAll _ _ c.ending_of_listing.result
+    (rw c.in-Some-DescribeAll.field-0-is at c.in-Some-DescribeAll.ensures.some) (
+      c.describe_all.result,
+      c.ending_of_listing.ensures,
+      c.describe_all.ensures (g.I.Source.left c.args.input.now)
+          (g.I.Source.faults c.args.input.now) (g.P.Store.bytes c.args.spool.now) (g.P.Store.faults c.args.spool.now),
+    )
+
+pub returns-in-Some-Describe : goal.returns-in-Some-Describe
+returns-in-Some-Describe g c =
+    ends_describe c.args.words.now c.index-words-1-in-Some-Describe.result _ _ c.describe.result c.ending_of_describe.result
+    c.ending_of_describe.ensures
+    (rw c.in-Some-Describe.field-0-is at c.in-Some-Describe.ensures.some) c.index-words-1-in-Some-Describe.is
+    (c.describe.ensures (g.I.Source.left c.args.input.now) (g.I.Source.faults c.args.input.now) (g.P.Store.bytes c.args.spool.now)
     (g.P.Store.faults c.args.spool.now))
 
 pub returns-in-None : goal.returns-in-None
