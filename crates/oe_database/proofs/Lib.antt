@@ -1,0 +1,4 @@
+mod Steps
+mod Asks
+mod Lists
+mod NumberLemmas

@@ -1,0 +1,130 @@
+// The keeper over a database.
+ghost use Rattle.std.specs.Prelude.{◌≡◌, ◌↔◌, IfOk, IsErrOf, IsTrue, None, OnErr, OnOk};
+ghost use Rattle.sqlite.specs.Held.{state};
+ghost use Rattle.sqlite.specs.State.{HasCleanDisk, Survives};
+ghost use Rattle.oe_outside.specs.Faults.{HasCauseOf, NeverFalls, Rose};
+ghost use Rattle.oe_jobs.specs.Plain.{plain_book, plain_change};
+ghost use Rattle.oe_jobs.specs.Valid.{IsBook};
+ghost use Rattle.oe_database.specs.Each.{IsMadeBy};
+ghost use Rattle.oe_database.specs.Makes.{Makes};
+
+use crate::commit::commit;
+use crate::refusal::Refusal;
+use crate::tables::load;
+use oe_jobs::{Book, Change, Keeper, KeeperFail};
+use sqlite::{Alter, Connection};
+use std::alloc::Global;
+
+/// A keeper of a job book over a database. Its book is not visible.
+#[derive(Drop)]
+pub struct SqliteKeeper<S: Alter> {
+    conn: Connection<S>,
+    alloc: Global,
+    faults: u64,
+    has_failed: bool,
+}
+
+impl<S: Alter + Drop> SqliteKeeper<S> {
+    /// A keeper over an open database, which is not looked at before the first call.
+    pub fn new(alloc: Global, conn: Connection<S>) -> SqliteKeeper<S>
+        ensures conn { result.conn ≡ conn }
+        ensures faults { result.faults ≡ 0 }
+        ensures last { ¬ IsTrue result.has_failed }
+    {
+        SqliteKeeper {
+            conn,
+            alloc,
+            faults: 0,
+            has_failed: false,
+        }
+    }
+
+    /// How often a call has failed.
+    pub fn faults(&self) -> u64
+        ensures { result ≡ self.now.faults }
+    {
+        self.faults
+    }
+
+    /// Ends keeping, and gives the connection back, so that its files can be closed.
+    pub fn into_connection(self) -> Connection<S>
+        ensures { result ≡ self.conn }
+    {
+        let SqliteKeeper { conn, .. } = self;
+        conn
+    }
+
+    /// What a call that was refused answers, counted where it failed.
+    fn count(&mut self, refusal: Refusal) -> KeeperFail
+        ensures conn { self.new.conn ≡ self.old.conn }
+        ensures count { NeverFalls self.old.faults self.new.faults }
+        ensures failed { result ≡ KeeperFail.Failed → Rose self.old.faults self.new.faults }
+        ensures last { IsTrue self.new.has_failed ↔ result ≡ KeeperFail.Failed }
+    {
+        match refusal {
+            Refusal::OutOfMemory => {
+                self.has_failed = false;
+                KeeperFail::OutOfMemory
+            }
+            Refusal::Failed => {
+                self.has_failed = true;
+                self.faults = self.faults.saturating_add(1);
+                KeeperFail::Failed
+            }
+        }
+    }
+}
+
+impl<S: Alter + Drop> Keeper for SqliteKeeper<S> {
+    ghost kept = { λ k. None };
+
+    ghost faults = { λ k. k.faults };
+
+    ghost has_failed = { λ k. k.has_failed };
+
+    /// The book of the database. A new one gets its tables, and one of version 1 is written anew as version 2.
+    ///
+    /// Refuses: `Failed` where the database refuses, or a row or the book is not in form; out of memory.
+    fn load(&mut self) -> Result<Book, KeeperFail>
+        ensures valid { IfOk result (λ b. IsBook (plain_book b)) }
+        ensures cause { HasCauseOf KeeperFail.Failed self.old.faults self.new.faults result }
+        ensures last { IsTrue self.new.has_failed ↔ IsErrOf result KeeperFail.Failed }
+    {
+        match load(self.alloc, &mut self.conn) {
+            Ok(book) => {
+                self.has_failed = false;
+                Ok(book)
+            }
+            Err(refusal) => Err(self.count(refusal)),
+        }
+    }
+
+    /// Runs the statements of the change in one transaction. Over a disk that gives back what was written, an Ok leaves
+    /// the database that they make in turn, and a refusal the one before; and a crash in the call leaves one of the two.
+    /// What a statement makes of the tables is SQL's to say, and no clause follows it.
+    ///
+    /// Refuses: `Failed` where the database refuses, where the entry of a job that gets an asset is not in form, or
+    /// where a job has an id without a number, which none of a valid book has; out of memory.
+    fn commit(&mut self, change: &Change) -> Result<(), KeeperFail>
+        ensures all { HasCleanDisk (state S.Store self.new.conn) → OnOk result
+            (IsMadeBy S.Store (Makes S.Store (plain_change change.now)) self.old.conn
+            (state S.Store self.new.conn).committed) }
+        ensures none { HasCleanDisk (state S.Store self.new.conn)
+            → IsTrue (state S.Store self.new.conn).is_open → OnErr result
+            ((state S.Store self.new.conn).committed ≡ (state S.Store self.old.conn).committed) }
+        ensures crash { Survives (state S.Store self.old.conn) (state S.Store self.new.conn)
+            (λ trees. (db : _)
+            × IsMadeBy S.Store (Makes S.Store (plain_change change.now)) self.old.conn db
+            × (trees ≡ db.trees)) }
+        ensures cause { HasCauseOf KeeperFail.Failed self.old.faults self.new.faults result }
+        ensures last { IsTrue self.new.has_failed ↔ IsErrOf result KeeperFail.Failed }
+    {
+        match commit(self.alloc, &mut self.conn, change) {
+            Ok(()) => {
+                self.has_failed = false;
+                Ok(())
+            }
+            Err(refusal) => Err(self.count(refusal)),
+        }
+    }
+}

@@ -1,0 +1,19 @@
+//! The keeper of a job book over a database of SQLite.
+//!
+//! A [`SqliteKeeper`] keeps a book in four tables. One change is one transaction: all of its statements or none,
+//! whatever fails, also over a crash.
+#![tactic(auto)]
+
+mod commit;
+mod held;
+mod keeper;
+mod make;
+mod number;
+mod refusal;
+mod rows;
+mod run;
+mod statement;
+mod statements;
+mod tables;
+
+pub use keeper::SqliteKeeper;
