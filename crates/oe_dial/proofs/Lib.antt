@@ -1,0 +1,6 @@
+mod Inputs
+mod Endings
+mod Hosts
+mod Ports
+mod Sayings
+mod Spellings

@@ -1,0 +1,55 @@
+// The command, from its words to its status and what it says.
+ghost use Rattle.std.specs.Prelude.{List, ℕ};
+ghost use Rattle.oe_dial.specs.Answer.{Answers};
+ghost use Rattle.oe_dial.specs.Ends.{input_from, lent, views_of};
+ghost use Rattle.oe_dial.specs.Lines.{error_output};
+ghost use Rattle.oe_dial.specs.Words.{SpellsCall, plain_call};
+
+use crate::call::call_back_end;
+use crate::refusal::say;
+use crate::words::ClientCall;
+use oe_outside::{Door, Sink, Source};
+use std::alloc::Global;
+
+/// Makes the call, and answers the exit status of the command `client`.
+///
+/// | Status | Line on `err` | Comes |
+/// |---|---|---|
+/// | 0 | none | the peer's response has a status from 200 to 299, and its body follows what `out` held |
+/// | 5 | `openeo: ReadFault` | only where the fault counter of `input` rose |
+/// | 2 | `openeo: InputTooLong` | exactly where the verb sends the input and it is over 1048576 bytes |
+/// | 8 | `openeo: WriteFault` | only where the fault counter of `out` rose |
+/// | 11 | `openeo: LinkFault` | only where the counter of dials or of connections that failed rose |
+/// | 12 | `openeo: PeerInvalid` | only where what the peer sent is no response |
+/// | 13 | `openeo: Refused STATUS`, and the body on the next line | exactly where the response has another status |
+/// | 9 | `openeo: OutOfMemory` | an allocation was refused |
+///
+/// `Exactly` is of an input and a peer whose bytes are visible. A door that shows its connections was dialled once at most,
+/// with the host and the port, and behind the input. A fault of `err` changes nothing. In each status but 0 and 8 nothing
+/// is written to `out`, and in 8 a prefix of the body stands there.
+pub fn client<I: Source, O: Sink, E: Sink, D: Door>(
+    alloc: Global,
+    call: &ClientCall<'_>,
+    input: &mut I,
+    out: &mut O,
+    err: &mut E,
+    door: &mut D,
+) -> u8
+    requires spelled { (words : List (List ℕ)) × SpellsCall words (plain_call call.now) }
+    ensures { Answers (views_of D.Conn.left D.Conn.written D.Conn.faults) (plain_call call.now)
+        (input_from (I.left input.old) (I.faults input.old) (I.left input.new) (I.faults input.new))
+        (lent (O.written out.old) (O.faults out.old) (D.visible door.old)
+        (D.faults door.old) (D.dial_faults door.old) (D.link_faults door.old))
+        (lent (O.written out.new) (O.faults out.new) (D.visible door.new)
+        (D.faults door.new) (D.dial_faults door.new) (D.link_faults door.new))
+        (error_output E.written E.faults err.old err.new) result }
+{
+    match call_back_end(alloc, call, input, out, door) {
+        Ok(()) => 0,
+        Err(refusal) => {
+            // What became of the line changes nothing.
+            let _ = say(err, &refusal);
+            refusal.status()
+        }
+    }
+}
