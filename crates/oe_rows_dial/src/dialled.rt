@@ -1,0 +1,154 @@
+// The command over a door that dials a peer in memory.
+ghost use Rattle.std.specs.Prelude.{◌≡◌, ℕ, All, IfOk, List};
+ghost use Rattle.oe_dial.specs.Words.{SpellsCall, plain_call};
+ghost use Rattle.oe_outside.specs.ScriptDoors.{IsSound};
+
+use crate::bytes::{push_bytes, spell_part, text_of};
+use crate::setting::Setting;
+use oe_dial::{ClientCall, client, read_call};
+use oe_dims::Text;
+use oe_lines::{Fault, end_line, number_of, numbers_of, push, push_number};
+use oe_outside::{MemoryLink, MemorySink, MemorySource, ScriptDoor, Source};
+use std::alloc::Global;
+
+/// How many bytes a connection has room for: those of the longest input and the head before it.
+const SENT_ROOM: usize = 1049600;
+
+/// How many bytes the outputs have room for: those of the longest body and more.
+const OUT_ROOM: usize = 16778240;
+
+/// Carries out the command of these words, and appends its status and what became of all that it was lent.
+pub(crate) fn answer_client(
+    alloc: Global,
+    setting: Setting<'_>,
+    line: &str,
+    answers: &mut Vec<u8>,
+) -> Result<(), Fault> {
+    let words = words_of(alloc, line)?;
+    match read_call(&words) {
+        Some(call) => answer_call(alloc, setting, &call, answers),
+        None => push("Usage\n", answers),
+    }
+}
+
+fn answer_call(
+    alloc: Global,
+    setting: Setting<'_>,
+    call: &ClientCall<'_>,
+    answers: &mut Vec<u8>,
+) -> Result<(), Fault>
+    requires spelled { (words : List (List ℕ)) × SpellsCall words (plain_call call.now) }
+{
+    let mut input = input_of(alloc, setting)?;
+    let mut door = door_of(alloc, setting)?;
+    make_call(alloc, setting, call, &mut input, &mut door, answers)
+}
+
+fn make_call(
+    alloc: Global,
+    setting: Setting<'_>,
+    call: &ClientCall<'_>,
+    input: &mut MemorySource,
+    door: &mut ScriptDoor,
+    answers: &mut Vec<u8>,
+) -> Result<(), Fault>
+    requires spelled { (words : List (List ℕ)) × SpellsCall words (plain_call call.now) }
+{
+    let mut out = sink_of(alloc, setting.fails.out)?;
+    let mut err = sink_of(alloc, setting.fails.err)?;
+    let status = client(alloc, call, input, &mut out, &mut err, door);
+    spell_ending(status, input, &out, &err, door, answers)
+}
+
+/// Appends a status, and what became of all that the command was lent.
+fn spell_ending(
+    status: u8,
+    input: &mut MemorySource,
+    out: &MemorySink,
+    err: &MemorySink,
+    door: &ScriptDoor,
+    answers: &mut Vec<u8>,
+) -> Result<(), Fault> {
+    push_number("", status, answers)?;
+    spell_sent(door, answers)?;
+    spell_part(" out ", out.bytes(), answers)?;
+    spell_part(" err ", err.bytes(), answers)?;
+    spell_left(input, answers)?;
+    spell_count(" dial_faults ", door.dial_faults(), answers)?;
+    spell_count(" link_faults ", door.link_faults(), answers)?;
+    end_line(answers)
+}
+
+/// Appends what was sent to the connections that were given back.
+fn spell_sent(door: &ScriptDoor, answers: &mut Vec<u8>) -> Result<(), Fault> {
+    for link in door.given_back() {
+        spell_part(" sent ", link.written(), answers)?;
+    }
+    Ok(())
+}
+
+/// Appends the first bytes of the input that were left, where there are any.
+fn spell_left(input: &mut MemorySource, answers: &mut Vec<u8>) -> Result<(), Fault> {
+    let mut first = [0; 16];
+    match input.read(&mut first) {
+        Ok(count) if count > 0 => spell_part(" left ", &first[..count], answers),
+        _ => Ok(()),
+    }
+}
+
+/// Appends a counter that is not 0.
+fn spell_count(mark: &str, count: u64, answers: &mut Vec<u8>) -> Result<(), Fault> {
+    if count == 0 {
+        return Ok(());
+    }
+    push_number(mark, count, answers)
+}
+
+/// The words, with blanks between them.
+fn words_of(alloc: Global, line: &str) -> Result<Vec<Text>, Fault> {
+    let mut words = Vec::new(alloc);
+    for word in line.split(' ') {
+        words.push(text_of(alloc, word)?)?;
+    }
+    Ok(words)
+}
+
+/// An output with room for all that a command may write.
+fn sink_of(alloc: Global, fails: &str) -> Result<MemorySink, Fault> {
+    Ok(MemorySink::new(alloc, OUT_ROOM, numbers_of(alloc, fails)?)?)
+}
+
+fn input_of(alloc: Global, setting: Setting<'_>) -> Result<MemorySource, Fault> {
+    let mut bytes = Vec::new(alloc);
+    push_bytes(alloc, setting.input.text, &mut bytes)?;
+    Ok(MemorySource::new(bytes, numbers_of(alloc, setting.fails.input)?)?)
+}
+
+/// A door that dials one peer.
+fn door_of(alloc: Global, setting: Setting<'_>) -> Result<ScriptDoor, Fault> {
+    let peers = peers_of(alloc, setting)?;
+    Ok(ScriptDoor::new(
+        alloc,
+        Vec::new(alloc),
+        peers,
+        numbers_of(alloc, setting.fails.dial)?,
+    )?)
+}
+
+fn peers_of(alloc: Global, setting: Setting<'_>) -> Result<Vec<MemoryLink>, Fault>
+    ensures { IfOk result (λ peers. All IsSound peers.items) }
+{
+    let mut peers = Vec::new(alloc);
+    peers.push(peer_of(alloc, setting)?)?;
+    Ok(peers)
+}
+
+fn peer_of(alloc: Global, setting: Setting<'_>) -> Result<MemoryLink, Fault>
+    ensures { IfOk result (λ peer. peer.faults ≡ 0) }
+{
+    let mut bytes = Vec::new(alloc);
+    push_bytes(alloc, setting.peer.text, &mut bytes)?;
+    let piece: usize = number_of(setting.piece.text)?;
+    let calls = numbers_of(alloc, setting.fails.link)?;
+    Ok(MemoryLink::new(alloc, bytes, piece.max(1), SENT_ROOM, calls)?)
+}
