@@ -6,7 +6,7 @@ use Rattle.oe_dims.specs.Names.{names_rise}
 use Rattle.oe_jobs.specs.declared.level.Level.TheVariants as levels
 use Rattle.oe_replies.specs.declared.code.ReplyCode.TheVariants.{QueryInvalid}
 use Rattle.oe_routes.specs.Queries.{logs_asked}
-use Rattle.oe_routes.specs.Table.{Method, Route, router_of, routes}
+use Rattle.oe_routes.specs.Table.{Method, Route, go_in, router_of, routes}
 use Rattle.oe_routes.specs.Tokens.{entries_in}
 
 -- ---- the table: paths and methods stand in byte order
@@ -21,6 +21,10 @@ methods_rise = refl
 router_is_whole : length (router_of routes) ≡ 16
 unfolding matchit_on_literals
 router_is_whole = refl
+
+pub routes_go_in : go_in 0 routes [] ≡ true
+unfolding matchit_on_literals
+routes_go_in = refl
 
 -- ---- files of tokens
 

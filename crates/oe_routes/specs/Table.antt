@@ -1,9 +1,9 @@
 -- The one table of routes, and the route that `matchit` finds for a path.
-use Rattle.std.specs.Prelude.{ℕ, ◌+◌, List, [], ◌∷◌, map, Bool, true, false, codes, Option, Some, None, Ok, Err, Result, option_and_then, slice_get, find, bytes_eq}
+use Rattle.std.specs.Prelude.{ℕ, ◌+◌, List, [], ◌∷◌, map, Bool, true, false, codes, Option, Some, None, Ok, Err, Result, option_and_then, slice_get, find, bytes_eq, ◌&&◌, is_none}
 use denote.Bor.{Bor}
 use Rattle.matchit.specs.Order.{placed}
 use Rattle.matchit.specs.Route.{Scan, parse_route}
-use Rattle.matchit.specs.Router.{RouteOf, route_from}
+use Rattle.matchit.specs.Router.{RouteOf, nearest, route_from}
 use Rattle.matchit.specs.Rows.{RowsOf}
 use Rattle.matchit.specs.Seek.{first}
 use Rattle.matchit.specs.declared.error.InsertError.{InsertError}
@@ -99,6 +99,18 @@ numbered number (route ∷ rest) rows = numbered (number + 1) rest (with_row (pa
 
 abbrev pub router_of : List Route → RowsOf (RouteOf ℕ)
 router_of rows = numbered 0 rows []
+
+-- a text is a route that conflicts with no row
+abbrev pub goes_in : Result Scan InsertError → RowsOf (RouteOf ℕ) → Bool
+goes_in (Err e) rows = false
+goes_in (Ok s) rows = is_none (nearest s.pattern rows)
+
+-- all of them are, each behind those before it
+abbrev pub go_in : ℕ → List Route → RowsOf (RouteOf ℕ) → Bool
+go_in number [] rows = true
+go_in number (route ∷ rest) rows =
+    goes_in (parse_route route.text) rows
+    && go_in (number + 1) rest (with_row (parse_route route.text) number rows)
 
 abbrev pub methods_of : Option Route → Result (List Method) ReplyCode
 methods_of None = Err NotFound

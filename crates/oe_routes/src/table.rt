@@ -1,6 +1,7 @@
 // The one table of routes, and the route of a path.
-ghost use Rattle.std.specs.Prelude.{◌≡◌, IfOk, map, slice_get};
+ghost use Rattle.std.specs.Prelude.{◌≡◌, [], IfOk, OnOk, map, slice_get, true};
 ghost use Rattle.std.specs.Option.{option_map};
+ghost use Rattle.matchit.specs.Route.{parse_route};
 ghost use Rattle.matchit.specs.Seek.{first};
 ghost use Rattle.oe_replies.specs.Bodies.{plain_endpoint};
 ghost use Rattle.oe_routes.specs.Steps.{Gives};
@@ -127,13 +128,11 @@ fn find_in<'a>(
     entries: &'a [RouteEntry],
     path: &str,
 ) -> Result<&'a [MethodEntry], Refusal>
+    requires { spec.go_in 0 (map spec.route_of entries.now) [] ≡ true }
     ensures { Gives (λ r. map spec.method_of r.now) result
         (spec.path_in (map spec.route_of entries.now) path.now) }
 {
-    let router = match router_of(alloc, entries) {
-        Ok(router) => router,
-        Err(_) => return Err(Refusal::OutOfMemory),
-    };
+    let router = router_of(alloc, entries)?;
     match number_of(&router, path) {
         Some(number) => methods_at(entries, number),
         None => Err(Refusal::Code(ReplyCode::NotFound)),
@@ -163,16 +162,32 @@ fn methods_at<'a>(entries: &'a [RouteEntry], number: usize) -> Result<&'a [Metho
 }
 
 /// A router of these routes, each by its number.
-fn router_of(alloc: Global, entries: &[RouteEntry]) -> Result<Router<usize>, InsertError>
+#[tactic(auto, using(crate::proofs::TableLemmas::goes_on))]
+fn router_of(alloc: Global, entries: &[RouteEntry]) -> Result<Router<usize>, OutOfMemory>
+    requires { spec.go_in 0 (map spec.route_of entries.now) [] ≡ true }
     ensures { IfOk result (λ r. r ≡ spec.router_of (map spec.route_of entries.now)) }
 {
     let mut router = Router::new(alloc);
     let mut number = 0;
     for entry in entries {
-        router.insert(entry.0, number)?;
+        add_route(&mut router, entry.0, number)?;
         number += 1;
     }
     Ok(router)
+}
+
+/// Adds a route that conflicts with none.
+#[tactic(auto, using(crate::proofs::TableLemmas::refused_by_memory, crate::proofs::TableLemmas::taken))]
+fn add_route(router: &mut Router<usize>, text: &str, number: usize) -> Result<(), OutOfMemory>
+    requires { spec.goes_in (parse_route text.now) router.old ≡ true }
+    ensures { OnOk result
+        (router.new ≡ spec.with_row (parse_route text.now) number router.old) }
+{
+    match router.insert(text, number) {
+        Ok(()) => Ok(()),
+        Err(InsertError::OutOfMemory) => Err(OutOfMemory),
+        Err(_) => unreachable!(),
+    }
 }
 
 /// What a method does there, and whether it needs a user. Takes no memory.
