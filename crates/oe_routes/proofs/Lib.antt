@@ -1,4 +1,9 @@
+mod CommandLemmas
+mod FormLemmas
+mod FoundLemmas
+mod NamedLemmas
 mod QueryLemmas
+mod StoreLemmas
 mod TableLemmas
 mod TokenLemmas
 mod Worked

@@ -1,35 +1,24 @@
 -- What the body of a request asks for, by its JSON value and the least fault of the graph that it brings. A step that
 -- refuses decides before the next one is looked at.
-use Rattle.std.specs.Prelude.{ℕ, nat_lt, if◌then◌else◌, List, length, codes, Option, Some, None, is_some, unwrap_or, Result, Ok, Err, ⊤}
-use Rattle.serde_json.specs.Data.{Data, no_members}
+use Rattle.std.specs.Prelude.{ℕ, ◌≤◌, nat_lt, if◌then◌else◌, List, length, codes, Option, Some, None, IfSome, is_some, unwrap_or, Result, Ok, Err, ⊤}
+use Rattle.serde_json.specs.Data.{Data, depth, no_members}
 use Rattle.serde_json.specs.Find.{as_object, get}
+use Rattle.serde_json.specs.Read.{max_depth}
 use Rattle.serde_json.specs.Written.{compact_text, has_float}
 use Rattle.oe_graph.specs.Built.{graph_of}
-use Rattle.oe_graph.specs.Faults.{IsLeast}
-use Rattle.oe_graph.specs.Form.{IsReading, nodes_in}
+use Rattle.oe_graph.specs.Form.{StandsIn, nodes_in}
 use Rattle.oe_graph.specs.Read.{IsFaultless}
 use Rattle.oe_graph.specs.Tree.{PlainGraph}
-use Rattle.oe_graph.specs.declared.code.Code.{Code}
 use Rattle.oe_graph.specs.declared.fault.Fault.{Fault}
-use Rattle.oe_jobs.specs.Texts.{Finds}
-use Rattle.oe_jobs.specs.Valid.{most_process}
+use Rattle.oe_jobs.specs.Valid.{AreWords, IsProcessText, most_process}
 use Rattle.oe_jobs.specs.declared.level.Level.TheVariants.{Info}
 use Rattle.oe_replies.specs.declared.code.ReplyCode.TheVariants.{BodyInvalid, NumberUnsupported, ProcessTooLong}
 use Rattle.oe_routes.specs.Fields.{fields_in}
+use Rattle.oe_routes.specs.Found.{IsFaultWhere, process_in}
 use Rattle.oe_routes.specs.Rejections.{Rejected, of_fault, reject, plainly, ◌>>=◌}
+use Rattle.oe_routes.specs.declared.fields.Fields.{Fields}
 use Rattle.oe_routes.specs.declared.form.Changes.{Changes}
 use Rattle.oe_routes.specs.declared.form.NewJob.{NewJob}
-
--- ---- what is found in a body
-
--- the bytes are the text of this JSON value, or of none
-abbrev pub IsJson : List ℕ → Option Data → Type 0
-IsJson bytes json = Finds (IsReading bytes) json
-
--- the least of the faults that stand, or none where none stands
-abbrev pub IsLeastOf : (Code → List ℕ → Type 0) → Option Fault → Type 0
-IsLeastOf Stands None = IsFaultless Stands
-IsLeastOf Stands (Some fault) = IsLeast Stands fault
 
 -- ---- members
 
@@ -88,3 +77,23 @@ job_changes json fault =
     faultless fault >>= λ sound.
     text_where process >>= λ text.
     Ok (record { fields = fields; process = text })
+
+-- ---- what a valid book takes
+
+-- the JSON value of a body, with the least fault of its process
+abbrev pub IsSent : Option Data → Option Fault → Type 0
+IsSent json fault = IfSome json (λ d. depth d ≤ max_depth) × IsFaultWhere (process_in json) fault
+
+-- texts that are not too long, and the text of a process
+abbrev pub AreFields : Fields → Type 0
+AreFields fields = IfSome fields.title AreWords × IfSome fields.description AreWords
+
+abbrev pub IsNewJob : NewJob → Type 0
+IsNewJob job = AreWords job.title × AreWords job.description × IsProcessText job.process
+
+abbrev pub AreChanges : Changes → Type 0
+AreChanges new = AreFields new.fields × IfSome new.process IsProcessText
+
+-- a value whose text may be that of a process
+abbrev pub IsProcess : Data → Type 0
+IsProcess d = IsFaultless (StandsIn d) × (depth d ≤ max_depth)

@@ -7,4 +7,9 @@ pub mod Tokens
 pub mod Users
 pub mod Queries
 pub mod Fields
+pub mod Found
 pub mod Forms
+pub mod Sent
+pub mod Scenes
+pub mod Actions
+pub mod Answers

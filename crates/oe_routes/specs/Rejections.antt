@@ -1,6 +1,8 @@
 -- Steps that are refused with a code and, where it is that of a graph's fault, a node: the first that refuses decides.
-use Rattle.std.specs.Prelude.{◌≡◌, ℕ, List, [], Result, Ok, Err, ⊤}
+use Rattle.std.specs.Prelude.{◌≡◌, ℕ, List, [], Option, Some, Result, Ok, Err, ⊤}
 use Rattle.oe_graph.specs.declared.fault.Fault.{Fault}
+use Rattle.oe_graph.specs.declared.fault.Refusal as graphs
+use Rattle.oe_graph.specs.declared.fault.Refusal.TheVariants as graph
 use Rattle.oe_replies.specs.declared.code.ReplyCode.{ReplyCode}
 use Rattle.oe_replies.specs.declared.code.ReplyCode.TheVariants.{Graph}
 use Rattle.oe_routes.specs.declared.refusal.Refusal.{Refusal}
@@ -32,6 +34,11 @@ abbrev pub plainly : {A : Type 0} → Result A ReplyCode → Result A Rejected
 plainly (Ok x) = Ok x
 plainly (Err code) = reject code
 
+-- a step whose value may be missing, where it gives one
+abbrev pub as_some : {A : Type 0} → Result A Rejected → Result (Option A) Rejected
+as_some (Ok x) = Ok (Some x)
+as_some (Err rejected) = Err rejected
+
 -- what a rejection says of a step: that it is refused so, or nothing where it is out of memory
 abbrev pub Rejects : {Y : Type 0} → Rejection → Result Y Rejected → Type 0
 Rejects rejection.OutOfMemory step = ⊤
@@ -47,3 +54,8 @@ Settles view (Err e) step = Rejects e step
 abbrev pub rejection_of : Refusal → Rejection
 rejection_of refusal.OutOfMemory = rejection.OutOfMemory
 rejection_of (refusal.Code code) = rejection.Code code
+
+-- a refusal of a graph
+abbrev pub rejection_of_graph : graphs.Refusal → Rejection
+rejection_of_graph graph.OutOfMemory = rejection.OutOfMemory
+rejection_of_graph (graph.Fault fault) = rejection.Fault fault

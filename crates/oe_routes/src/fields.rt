@@ -1,7 +1,10 @@
 // The members of a body beside its process.
+ghost use Rattle.std.specs.Prelude.{IfOk, IfSome};
 ghost use Rattle.std.specs.Option.{option_map};
 ghost use Rattle.serde_json.specs.View.{view};
+ghost use Rattle.oe_jobs.specs.Valid.{AreWords};
 ghost use Rattle.oe_routes.specs.Fields as spec;
+ghost use Rattle.oe_routes.specs.Forms.{AreFields};
 ghost use Rattle.oe_routes.specs.Steps.{Gives};
 
 use crate::refusal::Refusal;
@@ -28,7 +31,8 @@ pub struct Fields {
 ///
 /// Refuses: `JobFieldInvalid` where one of them is not in form; out of memory.
 pub fn fields_in(alloc: Global, body: &Value) -> Result<Fields, Refusal>
-    ensures { Gives (λ fields. fields) result (spec.fields_in (view body.now)) }
+    ensures fields { Gives (λ fields. fields) result (spec.fields_in (view body.now)) }
+    ensures short { IfOk result AreFields }
 {
     let title = words_in(alloc, body.get("title"))?;
     let description = words_in(alloc, body.get("description"))?;
@@ -44,7 +48,9 @@ pub fn fields_in(alloc: Global, body: &Value) -> Result<Fields, Refusal>
 ///
 /// Refuses: `JobFieldInvalid` where it is anything else; out of memory.
 pub fn words_in(alloc: Global, member: Option<&Value>) -> Result<Option<Option<Text>>, Refusal>
-    ensures { Gives (λ w. w) result (spec.words_in (option_map (λ v. view v.now) member.entry)) }
+    ensures words { Gives (λ w. w) result
+        (spec.words_in (option_map (λ v. view v.now) member.entry)) }
+    ensures short { IfOk result (λ w. IfSome w AreWords) }
 {
     match member {
         None => Ok(None),

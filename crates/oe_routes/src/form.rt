@@ -1,8 +1,10 @@
 // What the bodies of requests ask for.
-ghost use Rattle.std.specs.Prelude.{◌≡◌, IfOk, unwrap_or};
+ghost use Rattle.std.specs.Prelude.{IfOk, IfSome};
 ghost use Rattle.std.specs.Option.{option_map};
 ghost use Rattle.serde_json.specs.View.{view};
+ghost use Rattle.oe_jobs.specs.Valid.{IsProcessText};
 ghost use Rattle.oe_routes.specs.Forms as spec;
+ghost use Rattle.oe_routes.specs.Found.{IsJson};
 ghost use Rattle.oe_routes.specs.Rejections.{Settles};
 
 use crate::fields::{Fields, fields_in};
@@ -36,7 +38,7 @@ pub struct Changes {
 
 /// The JSON value that a body is, where it is one. Refuses: out of memory.
 pub fn read_json(alloc: Global, body: &[u8]) -> Result<Option<Value>, OutOfMemory>
-    ensures { IfOk result (λ json. spec.IsJson body.now (option_map view json)) }
+    ensures { IfOk result (λ json. IsJson body.now (option_map view json)) }
 {
     match Value::from_slice(alloc, body) {
         Ok(value) => Ok(Some(value)),
@@ -52,13 +54,17 @@ pub fn read_json(alloc: Global, body: &[u8]) -> Result<Option<Value>, OutOfMemor
 /// Refuses: `BodyInvalid` where the body or its process is no object; `JobFieldInvalid`; the fault of the process;
 /// `NumberUnsupported` where a number of the process is not whole; `ProcessTooLong` where its text is over 65536 bytes:
 /// the first that stands; out of memory.
+#[tactic(auto, using(crate::proofs::FormLemmas::words_of, crate::proofs::FormLemmas::process_is))]
 pub fn new_job(
     alloc: Global,
     json: Option<&Value>,
     fault: Option<Fault>,
 ) -> Result<NewJob, Rejection>
-    ensures { Settles (λ job. job) result
+    ensures job { Settles (λ job. job) result
         (spec.new_job (option_map (λ v. view v.now) json.entry) fault) }
+    // A valid book takes it.
+    ensures valid { IfOk result
+        (λ job. spec.IsSent (option_map (λ v. view v.now) json.entry) fault → spec.IsNewJob job) }
 {
     let body = object_in(json)?;
     let process = object_in(body.get("process"))?;
@@ -77,13 +83,16 @@ pub fn new_job(
 /// `fault` is the fault of the form of the process, taken as it is handed in.
 ///
 /// Refuses: as [`new_job`], but a process may be missing; out of memory.
+#[tactic(auto, using(crate::proofs::FormLemmas::process_where_is))]
 pub fn job_changes(
     alloc: Global,
     json: Option<&Value>,
     fault: Option<Fault>,
 ) -> Result<Changes, Rejection>
-    ensures { Settles (λ c. c) result
+    ensures changes { Settles (λ c. c) result
         (spec.job_changes (option_map (λ v. view v.now) json.entry) fault) }
+    ensures valid { IfOk result
+        (λ c. spec.IsSent (option_map (λ v. view v.now) json.entry) fault → spec.AreChanges c) }
 {
     let body = object_in(json)?;
     let process = object_where(body.get("process"))?;
@@ -125,8 +134,10 @@ fn faultless(fault: Option<Fault>) -> Result<(), Rejection>
 }
 
 /// The text of a process.
-fn text_of(alloc: Global, process: &Value) -> Result<Text, Rejection>
-    ensures { Settles (λ t. t) result (spec.text_of (view process.now)) }
+pub(crate) fn text_of(alloc: Global, process: &Value) -> Result<Text, Rejection>
+    ensures text { Settles (λ t. t) result (spec.text_of (view process.now)) }
+    ensures valid { IfOk result
+        (λ t. spec.IsProcess (view process.now) → IsProcessText t) }
 {
     match process_text(alloc, process) {
         Ok(text) => Ok(text),
@@ -139,8 +150,11 @@ fn text_of(alloc: Global, process: &Value) -> Result<Text, Rejection>
 }
 
 fn text_where(alloc: Global, process: Option<&Value>) -> Result<Option<Text>, Rejection>
-    ensures { Settles (λ t. t) result
+    ensures text { Settles (λ t. t) result
         (spec.text_where (option_map (λ v. view v.now) process.entry)) }
+    ensures valid { IfOk result
+        (λ t. IfSome (option_map (λ v. view v.now) process.entry) spec.IsProcess
+        → IfSome t IsProcessText) }
 {
     match process {
         None => Ok(None),

@@ -1,10 +1,10 @@
 // Why a step of a request is refused.
 ghost use Rattle.std.specs.Prelude.{◌≡◌};
-ghost use Rattle.oe_routes.specs.Rejections.{rejection_of};
+ghost use Rattle.oe_routes.specs.Rejections.{rejection_of, rejection_of_graph};
 ghost use Rattle.oe_routes.specs.declared.refusal.Refusal.TheVariants as refusal;
 ghost use Rattle.oe_routes.specs.declared.refusal.Rejection.TheVariants as rejection;
 
-use oe_graph::Fault;
+use oe_graph::{Fault, Refusal as GraphRefusal};
 use oe_memory::OutOfMemory;
 use oe_replies::ReplyCode;
 use std::alloc::AllocError;
@@ -56,5 +56,16 @@ impl From<OutOfMemory> for Rejection {
 
     fn from(_error: OutOfMemory) -> Rejection {
         Rejection::OutOfMemory
+    }
+}
+
+impl From<GraphRefusal> for Rejection {
+    ghost from_gives = { λ refusal e. e ≡ rejection_of_graph refusal };
+
+    fn from(refusal: GraphRefusal) -> Rejection {
+        match refusal {
+            GraphRefusal::Fault(fault) => Rejection::Fault(fault),
+            GraphRefusal::OutOfMemory => Rejection::OutOfMemory,
+        }
     }
 }

@@ -1,0 +1,10 @@
+use Rattle.std.proofs.Common.{◌≡◌, drop, map}
+use Rattle.std.specs.Prelude.{find}
+use Rattle.oe_jobs.specs.Plain.{plain_job}
+use Rattle.oe_jobs.specs.Verdicts.{is_found}
+use Rattle.oe_routes.proofs.named.named_job.Given as goal
+
+abbrev pub invariant-loop-job : goal.invariant-loop-job
+invariant-loop-job l =
+    find (is_found l.user l.id) (map plain_job l.job-items)
+    ≡ find (is_found l.user l.id) (map plain_job (drop l.job-index l.job-items))
