@@ -15,6 +15,8 @@ Usage:
   openeo pack ID                   read a result text and write it as a cube file
   openeo repack ID                 write the cube file of a collection, as short as it can be
   openeo describe [ID]             write which collections are mounted, or the dimensions and labels of one
+  openeo client HOST PORT TOKEN VERB [ARG]
+                                   make one call of an openEO back end and write what it answers
   openeo --help                    print this text; after a command, the text about that command
   openeo --version                 print the version
 
@@ -33,7 +35,7 @@ Exit status, and the line on standard error:
   0   the whole text was written
   1   Usage: the words are no command
   2   CODE NODE: the least fault of a graph; CubeTextInvalid: the input of pack, also one over 1048576 bytes;
-      CollectionNotFound: the id of repack or describe
+      CollectionNotFound: the id of repack or describe; InputTooLong: what client sends is over 1048576 bytes
   3   PlanTooLarge CELLS: a run would hold more than 67108864 cells; try smaller chunks or extents
   4   NumberOverflow POSITION: a number of the result is out of range
   5   ReadFault: the input or a collection could not be read
@@ -41,6 +43,9 @@ Exit status, and the line on standard error:
   7   SpoolFault: the file of the run's cells could not be read or written
   8   WriteFault: standard output could not be written
   9   OutOfMemory: an allocation was refused
+  11  LinkFault: no connection came, or it broke, or the back end took too long
+  12  PeerInvalid: what the back end answered is no response that client reads
+  13  Refused STATUS: the back end refused the call; its own words are on the next line
   14  Setup NAME: this file could not be opened, made or mounted; bytes that do not print are \\x and two digits
   15  SpoolDamaged POSITION: the file of the run's cells gave back what was not written
 ";
@@ -109,6 +114,38 @@ bands, the first and the last label of t, y and x, and the reference system. No 
 Exit status: 0, 1 Usage, 2 CollectionNotFound, 8 WriteFault, 9 OutOfMemory, 14 Setup.
 ";
 
+const CLIENT: &str = "\
+openeo client HOST PORT TOKEN VERB [ARG]
+
+Makes one call of an openEO back end by HTTP and writes the body of its response. Where the back end refuses the call,
+the line 'openeo: Refused STATUS' is written on standard error, and the back end's own words on the next.
+HOST is a name or an address, of IPv6 without brackets; PORT is from 1 to 65535; TOKEN is the user's token, and '-'
+sends none. ID is the id of a job or of a stored process. Verbs:
+
+  collections        all collections                   openeo client localhost 8080 - collections
+  processes          all processes                     openeo client localhost 8080 - processes
+  validate           faults of a graph, from stdin     openeo client localhost 8080 - validate < GRAPH
+  result             the result of a graph, at once    openeo client localhost 8080 abc result < PROCESS > RESULT
+  jobs               the user's jobs                   openeo client localhost 8080 abc jobs
+  create             a new job, from stdin             openeo client localhost 8080 abc create < JOB
+  status ID          what is known of a job            openeo client localhost 8080 abc status j-1
+  start ID           queue a job                       openeo client localhost 8080 abc start j-1
+  cancel ID          cancel a job                      openeo client localhost 8080 abc cancel j-1
+  delete ID          delete a job                      openeo client localhost 8080 abc delete j-1
+  logs ID            a job's log entries               openeo client localhost 8080 abc logs j-1
+  logsafter ID/N     those after the entry N           openeo client localhost 8080 abc logsafter j-1/20
+  results ID         a job's assets                    openeo client localhost 8080 abc results j-1
+  asset ID/NAME      one asset of a job                openeo client localhost 8080 abc asset j-1/save.json > RESULT
+  processgraphs      the user's stored processes       openeo client localhost 8080 abc processgraphs
+  store ID           store a process, from stdin       openeo client localhost 8080 abc store ndvi < PROCESS
+  forget ID          delete a stored process           openeo client localhost 8080 abc forget ndvi
+
+What is sent has at most 1048576 bytes, and what comes back 16777216. A connection may take 10 seconds, and an answer an
+hour. No redirection is followed, no proxy is asked, and nothing is encrypted.
+Exit status: 0, 1 Usage, 2 InputTooLong, 5 ReadFault, 8 WriteFault, 9 OutOfMemory, 11 LinkFault, 12 PeerInvalid,
+13 Refused STATUS, 14 Setup.
+";
+
 const VERSION: &str = "openeo 0.1.0 (openEO API 1.2)\n";
 
 /// The text that the words ask for, if they ask for one: `--help` or `--version`, alone or after the word of a command.
@@ -147,6 +184,7 @@ fn help_of(verb: &str) -> Option<&'static str>
         "pack" => Some(PACK),
         "repack" => Some(REPACK),
         "describe" => Some(DESCRIBE),
+        "client" => Some(CLIENT),
         _ => None,
     }
 }

@@ -1,15 +1,18 @@
 //! The program `openeo`: an openEO back end over exact datacubes.
 //!
 //! `main` makes a text of each word and prints a text about the program where they ask for one. Else it sets up what a
-//! command works on, the cube files of the folder `collections` and a file for the cells of a run, and calls `oe_top`,
-//! whose answer is the exit status. The boxed collections are made in `main` itself; all else runs over traits, so that
-//! it can be made to fail. The bytes that pass the adapters of `oe_adapters` are hidden, so over them the causes by
-//! fault counters hold; what the top call writes is its own contract.
+//! command works on, the cube files of the folder `collections` and a file for the cells of a run, and calls `oe_dial`
+//! where the words are those of a client, and else `oe_top`, whose answer is the exit status. The boxed collections are
+//! made in `main` itself; all else runs over traits, so that it can be made to fail. The bytes that pass the adapters of
+//! `oe_adapters` and `oe_sockets` are hidden, so over them the causes by fault counters hold; what the calls write is
+//! their own contract.
 #![tactic(auto)]
 
+mod client;
 mod help;
 mod program;
 
+use client::client_words;
 use oe_adapters::{Fault, Reader, Writer, mount_outcome, open_collection, open_spool, words_of};
 use oe_outside::NoGate;
 use oe_sources::Catalogue;
@@ -41,17 +44,21 @@ fn main(rt: HostRuntime) -> ExitCode {
         }
     }
     let mut input = Reader::new(rt.stdin());
-    match open_spool(alloc, &rt) {
-        Ok(mut spool) => ExitCode::from(oe_top::openeo(
-            alloc,
-            &start.words,
-            &mut input,
-            &mut out,
-            &mut err,
-            &mut catalogue,
-            &mut spool,
-            &NoGate,
-        )),
-        Err(fault) => ExitCode::from(end(&fault, &mut err)),
+    let mut spool = match open_spool(alloc, &rt) {
+        Ok(spool) => spool,
+        Err(fault) => return ExitCode::from(end(&fault, &mut err)),
+    };
+    if let Some(status) = client_words(alloc, rt, &start.words, &mut input, &mut out, &mut err) {
+        return ExitCode::from(status);
     }
+    ExitCode::from(oe_top::openeo(
+        alloc,
+        &start.words,
+        &mut input,
+        &mut out,
+        &mut err,
+        &mut catalogue,
+        &mut spool,
+        &NoGate,
+    ))
 }
