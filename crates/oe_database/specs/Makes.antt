@@ -34,7 +34,7 @@ abbrev pub Holds : {S : Type 0} → Ghosts S → List ℕ → Option ℕ → Opt
 Holds g id (Some number) held old new = HoldsJob g id (number_bytes number) held old new
 Holds g id None held old new = new ≡ old
 
--- The statements of a change are run. Of an asset that is added the entry of its job is read before.
+-- The statements of a change are run. Where an asset is added, the entry of its job is read before.
 abbrev pub Makes : {S : Type 0} → Ghosts S → PlainChange → Held S → Held S → Type 0
 Makes g (put_job job next) old new =
     (number : ℕ) × NamesNumber job.id number

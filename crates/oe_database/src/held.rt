@@ -19,7 +19,7 @@ const ENTRY: &str = "SELECT entry FROM jobs WHERE number = ?1";
 
 /// The job of an id as its entry has it, by its number, in a transaction. None where it has no entry.
 ///
-/// Refuses: an entry that is not in form; what the database refuses; out of memory.
+/// Refuses: an entry that is not valid; what the database refuses; out of memory.
 pub(crate) fn held_job<S: Alter>(
     alloc: Global,
     tx: &mut Transaction<'_, S>,

@@ -84,7 +84,7 @@ impl<S: Alter + Drop> Keeper for SqliteKeeper<S> {
 
     /// The book of the database. A new one gets its tables, and one of version 1 is written anew as version 2.
     ///
-    /// Refuses: `Failed` where the database refuses, or a row or the book is not in form; out of memory.
+    /// Refuses: `Failed` where the database refuses, or a row or the book is not valid; out of memory.
     fn load(&mut self) -> Result<Book, KeeperFail>
         ensures valid { IfOk result (λ b. IsBook (plain_book b)) }
         ensures cause { HasCauseOf KeeperFail.Failed self.old.faults self.new.faults result }
@@ -100,11 +100,13 @@ impl<S: Alter + Drop> Keeper for SqliteKeeper<S> {
     }
 
     /// Runs the statements of the change in one transaction. Over a disk that gives back what was written, an Ok leaves
-    /// the database that they make in turn, and a refusal the one before; and a crash in the call leaves one of the two.
-    /// What a statement makes of the tables is SQL's to say, and no clause follows it.
+    /// the database that they make in turn, and a refusal the one before, where the connection is still open; and a
+    /// crash in the call leaves one of the two. What a statement makes of the tables is SQL's to say, and no clause
+    /// follows it.
     ///
-    /// Refuses: `Failed` where the database refuses, where the entry of a job that gets an asset is not in form, or
-    /// where a job has an id without a number, which none of a valid book has; out of memory.
+    /// Refuses: `Failed` where the database refuses, where the entry of a job that gets an asset is not valid, or where
+    /// a job has an id without a number, which none of a valid book has; out of memory. That it fails nowhere else is
+    /// of no clause, which says only that the failure was counted.
     fn commit(&mut self, change: &Change) -> Result<(), KeeperFail>
         ensures all { HasCleanDisk (state S.Store self.new.conn) → OnOk result
             (IsMadeBy S.Store (Makes S.Store (plain_change change.now)) self.old.conn

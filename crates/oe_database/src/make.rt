@@ -20,7 +20,7 @@ use std::alloc::Global;
 
 /// Runs the statements of a change in turn, up to the first that is refused.
 ///
-/// Refuses: a job to be put whose id has no number; an entry that is not in form, of a job that gets an asset; what the
+/// Refuses: a job to be put whose id has no number; an entry that is not valid, of a job that gets an asset; what the
 /// database refuses; out of memory.
 pub(crate) fn make<S: Alter>(
     alloc: Global,

@@ -3,7 +3,8 @@ use oe_memory::OutOfMemory;
 use sqlite::{Error, ErrorCode};
 use std::alloc::{AllocError, AllocFailed};
 
-/// Why a call on the database is refused: the database refused it, or a row or a book is not in form; or memory ran out.
+/// Why a call on the database is refused: the database refused it, or a row or a book is not valid; or an allocation
+/// was refused.
 #[derive(Clone, Copy, Debug, PartialEq, Eq)]
 pub(crate) enum Refusal {
     Failed,
