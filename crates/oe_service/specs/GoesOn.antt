@@ -2,7 +2,7 @@
 use Rattle.std.specs.Prelude.{◌≡◌, ◌≤◌, ◌<◌, ⊤, ℕ, ◌+◌, ◌*◌, List, [], length, Option, Some, None, IfSome}
 use Rattle.std.specs.Option.{option_map, option_map_or}
 use Rattle.oe_engine.specs.Collections.{AreRead}
-use Rattle.oe_engine.specs.Going.{ChangesOwnRecords, IsGoing}
+use Rattle.oe_engine.specs.Going.{ChangesOwnRecords, IsGoing, records_end}
 use Rattle.oe_engine.specs.Runs.{RunOf, chunks_in_round, load_count}
 use Rattle.oe_jobs.specs.Events.{running_job}
 use Rattle.oe_jobs.specs.Plain.{PlainBook, PlainJob, PlainRan, plain_book}
@@ -76,6 +76,10 @@ pub record IsFree (s : Service) : Type 0 where
   pub running : running_job (plain_book s.book) ≡ None
   pub ids : s.ids.items ≡ []
   pub run : s.run ≡ None
+
+-- where the records of the run end, of which one may be under way: the front of the spool where none is
+abbrev pub records_end_of : Option RunOf → ℕ
+records_end_of run = option_map_or records_end run 0
 
 -- ---- what the run relies on
 

@@ -1,12 +1,12 @@
 // The service: its book, and the run of its running job.
-ghost use Rattle.std.specs.Prelude.{◌≡◌, ℕ, ℤ, IfSome, List, None, []};
+ghost use Rattle.std.specs.Prelude.{◌≡◌, ◌≤◌, ◌^◌, ℕ, ℤ, IfSome, List, None, []};
 ghost use Rattle.oe_jobs.specs.Changes.{changed};
 ghost use Rattle.oe_jobs.specs.Events.{has_busy_job};
 ghost use Rattle.oe_jobs.specs.Plain.{PlainCommand, plain_book, plain_change};
 ghost use Rattle.oe_jobs.specs.Valid.{IsBook};
 ghost use Rattle.oe_jobs.specs.Verdicts as verdicts;
 ghost use Rattle.oe_service.specs.Calls.{Goes, Installs, IsDecided, IsKept, Obeys, is_done};
-ghost use Rattle.oe_service.specs.GoesOn.{HasSizesOf, IsService, state_of};
+ghost use Rattle.oe_service.specs.GoesOn.{HasSizesOf, IsService, records_end_of, state_of};
 ghost use Rattle.oe_service.specs.States.{Setting, command};
 
 use oe_book::keeps_running;
@@ -35,6 +35,26 @@ impl Service {
         ensures { result.now ≡ self.now.book }
     {
         &self.book
+    }
+
+    /// The sides of the chunks in which assets are made, and how many workers make them, 1 to 64.
+    pub fn sizes(&self) -> (ChunkSize, u32)
+        ensures { result ≡ (self.now.size, self.now.workers) }
+    {
+        (self.size, self.workers)
+    }
+
+    /// The byte of the spool at which the records of its run end, 0 where none is under way: those of another run may
+    /// stand from there on.
+    pub fn records_end(&self) -> u64
+        requires { IsService self.now }
+        ensures value { result ≡ records_end_of self.now.run }
+        ensures most { result ≤ 2 ^ 45 }
+    {
+        match &self.run {
+            Some(run) => run.records_end(),
+            None => 0,
+        }
     }
 
     /// Whether a job is queued or runs.
