@@ -46,6 +46,11 @@ module _ (change : PlainChange) (book : PlainBook) where
   is_kept (Some k) (Err fail.Failed) is = is
   is_kept (Some k) (Err fail.OutOfMemory) is = is
 
+pub unbegun : (change : PlainChange) (kept : Option Kept)
+    → option_map (kept_after change (Err fail.OutOfMemory)) kept ≡ kept
+unbegun change None = refl
+unbegun change (Some k) = refl
+
 -- ---- installing
 
 module _ (book made : PlainBook) (kept : Option Kept) (faults : ℕ) (has_failed : Bool) where
@@ -56,6 +61,7 @@ module _ (book made : PlainBook) (kept : Option Kept) (faults : ℕ) (has_failed
     book_is = same;
     is_kept = subst (IsKept kept) (sym same) is;
     commits = begins_none kept made;
+    unbegun = λ e. refl;
     failed = λ e. absurd cc;
     count = NeverFalls-refl faults;
   }
@@ -67,6 +73,7 @@ module _ (book made : PlainBook) (kept : Option Kept) (faults : ℕ) (has_failed
     book_is = same ∙ sym still;
     is_kept = subst (IsKept kept) (sym same) is;
     commits = begins_none kept made;
+    unbegun = λ e. refl;
     failed = λ e. absurd cc;
     count = NeverFalls-refl faults;
   }
@@ -88,6 +95,7 @@ module _ (change : PlainChange) (book : PlainBook) (kept kept_new : Option Kept)
     book_is = after_is;
     is_kept = rw (new_is, after_is) (is_kept change book kept r is);
     commits = rw new_is (commits_one change book kept r is);
+    unbegun = λ e. new_is ∙ ap (λ x. option_map (kept_after change x) kept) e ∙ unbegun change kept;
     failed = failed_by;
     count = cause.count;
   }

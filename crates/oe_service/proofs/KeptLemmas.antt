@@ -106,7 +106,13 @@ module _ (book made book_after : PlainBook) (done : Option ℕ) (kept kept_after
 
   pub obeys_by : (s_after : State) → s_after ≡ (if is_done r then commanded made done else before)
       → Obeys made before s_after kept kept_after faults faults_after has_failed r
-  obeys_by s_after is = record { state = is; commits = i.commits; failed = i.failed; count = i.count }
+  obeys_by s_after is = record {
+    state = is;
+    commits = i.commits;
+    unbegun = i.unbegun;
+    failed = i.failed;
+    count = i.count;
+  }
 
   pub goes_by : (s_after : State) → s_after ≡ (if is_done r then commanded made done else before) → (setting : Setting)
       (user : List ℕ) (asked : PlainCommand) (now : ℤ) → made ≡ verdicts.next book user asked now

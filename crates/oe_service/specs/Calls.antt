@@ -63,22 +63,25 @@ pub record Failed (made : PlainBook) (kept kept_after : Option Kept) (faults fau
   pub last : has_failed ≡ true
   pub begun : FailsOne kept made kept_after
 
--- a commit that makes a book, and the book in memory
+-- a commit that makes a book, and the book in memory; out of memory begins none
 pub record Installs (book made book_after : PlainBook) (kept kept_after : Option Kept) (faults faults_after : ℕ)
     (has_failed : Bool) (result : Result (Unit {0}) KeeperFail) : Type 0 where
   pub book_is : book_after ≡ (if is_done result then made else book)
   pub is_kept : IsKept kept_after book_after
   pub commits : CommitsOne kept made kept_after
+  pub unbegun : IsErrOf result fail.OutOfMemory → kept_after ≡ kept
   pub failed : IsErrOf result fail.Failed → Failed made kept kept_after faults faults_after has_failed
   pub count : NeverFalls faults faults_after
 
 -- ---- commands
 
--- A command's change, which makes this book, is committed and installed. The run goes on while its job runs.
+-- A command's change, which makes this book, is committed and installed. The run goes on while its job runs. Out of memory
+-- begins no commit.
 pub record Obeys (made : PlainBook) (s s_after : State) (kept kept_after : Option Kept) (faults faults_after : ℕ)
     (has_failed : Bool) (result : Result (Unit {0}) KeeperFail) : Type 0 where
   pub state : s_after ≡ (if is_done result then commanded made s.done else s)
   pub commits : CommitsOne kept made kept_after
+  pub unbegun : IsErrOf result fail.OutOfMemory → kept_after ≡ kept
   pub failed : IsErrOf result fail.Failed → Failed made kept kept_after faults faults_after has_failed
   pub count : NeverFalls faults faults_after
 
