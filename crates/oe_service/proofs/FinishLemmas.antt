@@ -1,63 +1,32 @@
--- A job that has started is finished after exactly the ticks of its assets and one more.
-use Rattle.std.proofs.Common.{◌≡◌, ◌<◌, ◌≤◌, ℕ, zero, suc, ℤ, ◌+◌, ◌*◌, ◌-◌, min, Bool, true, List, [], ◌∷◌, ◌++◌, length, Option, Some, None, refl, ap, sym, ◌∙◌, subst, inl, inr, arith, length-append}
-use Rattle.std.specs.Prelude.{find}
-use Rattle.std.specs.List.{AllByRecursion}
+-- A job that has started is finished after exactly the ticks of its assets and one more, whatever else comes between them
+-- that does not interrupt its run.
+use Rattle.std.proofs.Common.{◌≡◌, ◌⊎◌, ◌<◌, ◌≤◌, ℕ, zero, suc, ℤ, ◌+◌, ◌*◌, ◌-◌, min, true, false, List, [], ◌∷◌, length, Option, Some, None, refl, ap, sym, ◌∙◌, subst, inl, inr, arith, length-append}
+use Rattle.std.specs.Prelude.{cond, count_by, find, is_some}
 use Rattle.std.proofs.lemmas.Bool.{cases_Bool}
+use Rattle.std.proofs.lemmas.List.Sums.{sum_by-cons}
 use Rattle.std.proofs.lemmas.Option.{same_Some}
 use Rattle.std.proofs.Math.Nat.{eq-or-lt_of_le}
+use Rattle.oe_book.specs.Laws.{KeepsRunning}
 use Rattle.oe_dims.specs.Names.{same_name}
 use Rattle.oe_dims.proofs.OrderLemmas.{same_name_refl}
 use Rattle.oe_jobs.specs.Changes.{at_first, is_job}
 use Rattle.oe_jobs.specs.Events.{job_named, moved_book, running_job}
 use Rattle.oe_jobs.specs.Machine as machine
 use Rattle.oe_jobs.specs.Machine.{is_running, moved, with_status}
-use Rattle.oe_jobs.specs.Plain.{PlainBook, PlainJob, PlainRan}
-use Rattle.oe_jobs.specs.Valid.{AreNumbered, IsBook}
-use Rattle.oe_jobs.specs.Verdicts.{last_next}
+use Rattle.oe_jobs.specs.Plain.{PlainBook, PlainCommand, PlainJob, PlainRan}
+use Rattle.oe_jobs.specs.Valid.{IsBook}
+use Rattle.oe_jobs.specs.Verdicts.{next as next_book}
 use Rattle.oe_jobs.specs.declared.job.Asset as assets
 use Rattle.oe_jobs.specs.declared.status.Status.TheVariants.{Running, Finished}
-use Rattle.oe_service.specs.Finishes.{AssetTicks, IsRoundCount, IsTick, JobsFinishInTime, no_asset, one_asset}
+use Rattle.oe_service.specs.Finishes.{AssetTicks, DoNotInterrupt, IsFinishedIn, IsRoundCount, IsRunning, JobsFinishInTime, is_tick, no_asset, one_asset}
 use Rattle.oe_service.specs.Runs.{ran_of}
-use Rattle.oe_service.specs.States.{Due, Event, command, no_command, tick, refusal, reopen, Setting, State, after, asset_of as asset_in, at_book, count_assets, done_after, due_of, finish, next, plan, round, store, ticked}
-use Rattle.oe_service.proofs.BookLemmas.{asset_of, finish_of, found_one, id_differs, running_found, runs_in}
+use Rattle.oe_service.specs.States.{Due, Event, command, no_command, tick, refusal, reopen, Setting, State, after, asset_of as asset_in, at_book, commanded, count_assets, due_of, finish, next, plan, round, store, ticked}
+use Rattle.oe_service.proofs.BookLemmas.{asset_of, finish_of, running_found, runs_in}
+use Rattle.oe_service.proofs.KeptLemmas.{commanded_some}
+use Rattle.oe_service.proofs.NamedLemmas.{changed_named, command_named, named_of}
 use Rattle.oe_service.proofs.NextLemmas.{due_running, finish_due, moved_is, plan_due, round_due, store_due, tick_is}
 
--- ---- jobs by their ids
-
-pub map_all : {X : Type 0} (P Q : X → Type 0) (xs : List X) → ((x : X) → P x → Q x) → AllByRecursion P xs → AllByRecursion Q xs
-map_all P Q [] f all = tt
-map_all P Q (x ∷ xs) f all = (f x all.0, map_all P Q xs f all.1)
-
--- each job is found by its id
-pub all_named : (low next : ℕ) (jobs : List PlainJob) → next ≤ last_next → AreNumbered low jobs next
-    → AllByRecursion (λ (job : PlainJob). find (is_job job.id) jobs ≡ Some job) jobs
-all_named low next [] small numbered = tt
-all_named low next (a ∷ jobs) small numbered = (
-  rw (same_name_refl a.id) refl,
-  map_all (λ (job : PlainJob). find (is_job job.id) jobs ≡ Some job) (λ (job : PlainJob). find (is_job job.id) (a ∷ jobs) ≡ Some job)
-      jobs
-      (λ job e. rw (id_differs (is_job job.id) low next a jobs job small numbered e) e)
-      (all_named (numbered.0 + 1) next jobs small numbered.4),
-)
-
-pub named_of : (test : PlainJob → Bool) (book : PlainBook) (job : PlainJob) → IsBook book → find test book.jobs ≡ Some job
-    → job_named job.id book ≡ Some job
-named_of test book job valid e =
-    found_one (λ (j : PlainJob). find (is_job j.id) book.jobs ≡ Some j) test book.jobs job
-    (all_named 1 book.next book.jobs valid.bounded valid.numbered) e
-
-pub changed_named : (id : List ℕ) (change : PlainJob → PlainJob) (jobs : List PlainJob) (job : PlainJob)
-    → find (is_job id) jobs ≡ Some job → same_name (change job).id id ≡ true
-    → find (is_job id) (at_first (is_job id) change jobs) ≡ Some (change job)
-changed_named id change [] job e same = absurd cc
-changed_named id change (a ∷ jobs) job e same =
-    elim (cases_Bool (is_job id a)) [
-      | inl t ↦
-          let is : a ≡ job = same_Some _ _ (rw t at e) in
-          let now : same_name (change a).id id ≡ true = ap (λ (j : PlainJob). same_name (change j).id id) is ∙ same in
-          rw t (rw now (ap (λ j. Some (change j)) is))
-      | inr f ↦ rw f (rw f (changed_named id change jobs job (rw f at e) same))
-    ]
+-- ---- the job that runs
 
 changed_runs : (change : PlainJob → PlainJob) (jobs : List PlainJob) (job : PlainJob) → runs_in jobs ≡ Some job
     → find (is_job job.id) jobs ≡ Some job → is_running (change job).status ≡ true
@@ -96,16 +65,15 @@ gains_runs book job now new is =
           ∙ ap Some line;
     }
 
+finish_named : (book : PlainBook) (job : PlainJob) (now : ℤ) → RunsIn book job
+    → job_named job.id (moved_book book job.id (machine.finish now)) ≡ Some (with_status Finished (machine.ends now job))
+finish_named book job now is =
+    let line = finish_of job.status (machine.has_assets job) now job (running_found book job is.runs) in
+    changed_named job.id (moved (machine.finish now)) book.jobs job is.named
+    (ap (λ (j : PlainJob). same_name j.id job.id) line ∙ same_name_refl job.id)
+    ∙ ap Some line
+
 -- ---- numbers of rounds
-
-zero_more : (n : ℕ) → 0 + n ≡ n
-zero_more n = omega arith
-
-none_left : (rounds count : ℕ) → 0 ≡ suc rounds + count → ⊥
-none_left rounds count long = omega (arith, long)
-
-one_less : (n rounds count : ℕ) → suc n ≡ suc rounds + count → n ≡ rounds + count
-one_less n rounds count long = omega (arith, long)
 
 all_done : (done all step : ℕ) → done ≤ all → all - done ≤ 0 * step → done ≡ all
 all_done done all step less none = let z : 0 * step ≡ 0 = omega arith in omega (arith, less, none, z)
@@ -146,77 +114,108 @@ round_less done step all rounds is = record {
 
 -- ---- numbers of ticks
 
-more_none : (k : ℕ) → k + 0 ≡ k
-more_none k = omega arith
+-- The ticks of so many assets, read: there are none, or one that plans the first, its rounds, one that stores it, and
+-- those of the others.
+record FirstAsset (setting : Setting) (ran : PlainRan) (k count left : ℕ) : Type 0 where
+  others : ℕ
+  rounds : ℕ
+  ticks : ℕ
+  count_is : count ≡ others + 1
+  left_is : left ≡ 2 + rounds + ticks
+  in_rounds : IsRoundCount (setting.chunks ran k) (2 * setting.workers) rounds
+  later : AssetTicks setting ran (k + 1) others ticks
 
-one_each : (k count : ℕ) → k + (count + 1) ≡ (k + 1) + count
-one_each k count = omega arith
+first_asset : (setting : Setting) (ran : PlainRan) (k count left : ℕ) → AssetTicks setting ran k count left
+    → ((count ≡ 0) × (left ≡ 0)) ⊎ FirstAsset setting ran k count left
+first_asset setting ran _ _ _ (no_asset {k}) = inl (refl, refl)
+first_asset setting ran _ _ _ (one_asset {k} {count} {rounds} {ticks} in_rounds later) = inr (record {
+  others = count;
+  rounds = rounds;
+  ticks = ticks;
+  count_is = refl;
+  left_is = refl;
+  in_rounds = in_rounds;
+  later = later;
+})
 
-one_by_one : (k count n : ℕ) → k + (count + 1) ≤ n → (k + 1) + count ≤ n
-one_by_one k count n few = omega (arith, few)
+one_none : (left : ℕ) → suc left ≡ 0 → ⊥
+one_none left long = omega (arith, long)
 
-none_two : (rounds left : ℕ) → 0 ≡ 2 + rounds + left → ⊥
-none_two rounds left long = omega (arith, long)
+none_two : (rounds ticks : ℕ) → 0 ≡ 2 + rounds + ticks → ⊥
+none_two rounds ticks long = omega (arith, long)
 
-none_one : (ticks : ℕ) → 0 ≡ 1 + ticks → ⊥
-none_one ticks long = omega (arith, long)
+none_one : (rounds ticks : ℕ) → 0 ≡ rounds + (1 + ticks) → ⊥
+none_one rounds ticks long = omega (arith, long)
 
-less_one : (n ticks : ℕ) → suc n ≡ 1 + ticks → n ≡ ticks
-less_one n ticks long = omega (arith, long)
+after_plan : (left rounds ticks : ℕ) → suc left ≡ 2 + rounds + ticks → left ≡ rounds + (1 + ticks)
+after_plan left rounds ticks long = omega (arith, long)
 
-after_plan : (n rounds left : ℕ) → suc n ≡ 2 + rounds + left → n ≡ rounds + (1 + left)
-after_plan n rounds left long = omega (arith, long)
+after_round : (left rounds ticks : ℕ) → suc left ≡ suc rounds + (1 + ticks) → left ≡ rounds + (1 + ticks)
+after_round left rounds ticks long = omega (arith, long)
 
-from_none : (n : ℕ) → 0 ≤ n
-from_none n = omega arith
+after_store : (left ticks : ℕ) → suc left ≡ 0 + (1 + ticks) → ticks ≡ left
+after_store left ticks long = omega (arith, long)
 
 from_all : (n : ℕ) → n ≡ n - 0
 from_all n = omega arith
 
-same_most : (n : ℕ) → n ≤ n
-same_most n = omega arith
+from_none : (n : ℕ) → 0 ≤ n
+from_none n = omega arith
 
-from_first : (n : ℕ) → 0 + n ≤ n
+same_most : (m n : ℕ) → m ≡ n → n ≤ m
+same_most m n same = omega (arith, same)
+
+misses : (k count others all : ℕ) → k + count ≡ all → count ≡ others + 1 → k < all
+misses k count others all total is = omega (arith, total, is)
+
+one_more : (k count others all : ℕ) → k + count ≡ all → count ≡ others + 1 → (k + 1) + others ≡ all
+one_more k count others all total is = omega (arith, total, is)
+
+none_more : (k count all : ℕ) → k + count ≡ all → count ≡ 0 → k ≡ all
+none_more k count all total is = omega (arith, total, is)
+
+none_came : (n : ℕ) → n + 0 ≡ n
+none_came n = omega arith
+
+from_first : (n : ℕ) → 0 + n ≡ n
 from_first n = omega arith
 
-from_zero : (n : ℕ) → 0 + n ≡ n
-from_zero n = omega arith
-
-is_missing : (k count assets n m : ℕ) → k + (count + 1) ≤ n → assets ≡ k → m ≡ n → assets < m
-is_missing k count assets n m few same size = omega (arith, few, same, size)
-
-at_last : (m n count : ℕ) → m ≡ n → count ≡ 0 + n → m ≤ count
-at_last m n count same is = omega (arith, same, is)
-
--- ---- ticks
-
-tick_of : (e : Event) → IsTick e → (now : ℤ) × (text : List ℕ) × (e ≡ tick now text)
-tick_of (command user asked now) is = absurd is
-tick_of no_command is = absurd is
-tick_of (tick now text) is = (now, text, refl)
-tick_of (refusal now reason) is = absurd is
-tick_of reopen is = absurd is
-
-after_both : (setting : Setting) (es more : List Event) (s : State)
-    → after setting (es ++ more) s ≡ after setting more (after setting es s)
-after_both setting [] more s = refl
-after_both setting (e ∷ es) more s = after_both setting es more (next setting e s)
-
-all_first : (es more : List Event) → AllByRecursion IsTick (es ++ more) → AllByRecursion IsTick es
-all_first [] more all = tt
-all_first (e ∷ es) more all = (all.0, all_first es more all.1)
-
-all_last : (es : List Event) (last : Event) → AllByRecursion IsTick (es ++ last ∷ []) → IsTick last
-all_last [] last all = all.0
-all_last (e ∷ es) last all = all_last es last all.1
+-- ---- ticks that are left
 
 module _ (setting : Setting) where
-  -- these events lead from a state where so many of them, which are ticks, lead from another one
-  record Leads (s : State) (es : List Event) (t : State) (count : ℕ) : Type 0 where
-    events : List Event
-    ticks : AllByRecursion IsTick events
-    count_is : length events ≡ count
-    same : after setting es s ≡ after setting events t
+  abbrev chunks : PlainJob → ℕ
+  chunks job = setting.chunks (ran_of job) (count_assets job)
+
+  abbrev ids : PlainJob → ℕ
+  ids job = length (setting.ids (ran_of job))
+
+  -- no run is under way, and so many ticks store all assets that are missing
+  record IsBetween (job : PlainJob) (left : ℕ) : Type 0 where
+    count : ℕ
+    total : count_assets job + count ≡ ids job
+    ticks_are : AssetTicks setting (ran_of job) (count_assets job) count left
+
+  -- so many chunks of the next asset are done, and so many ticks store it and all others that are missing
+  record IsUnderWay (job : PlainJob) (done left : ℕ) : Type 0 where
+    few : done ≤ chunks job
+    rounds : ℕ
+    rounds_are : IsRoundCount (chunks job - done) (2 * setting.workers) rounds
+    others : ℕ
+    total : (count_assets job + 1) + others ≡ ids job
+    ticks : ℕ
+    ticks_are : AssetTicks setting (ran_of job) (count_assets job + 1) others ticks
+    left_is : left ≡ rounds + (1 + ticks)
+
+  abbrev LeftOf : PlainJob → Option ℕ → ℕ → Type 0
+  LeftOf job None left = IsBetween job left
+  LeftOf job (Some done) left = IsUnderWay job done left
+
+  -- the job of an id runs, and so many ticks come before the one that finishes it
+  record Leaves (id : List ℕ) (s : State) (left : ℕ) : Type 0 where
+    job : PlainJob
+    is : RunsIn s.book job
+    same : job.id ≡ id
+    ticks : LeftOf job s.done left
 
   -- what a tick makes where this is due of the job that runs
   one_tick : (book : PlainBook) (job : PlainJob) (done : Option ℕ) (d : Due) → running_job book ≡ Some job
@@ -227,171 +226,253 @@ module _ (setting : Setting) where
       tick_is setting now text (record { book = book; done = done }) d
       (due_running setting (record { book = book; done = done }) job runs ∙ due_is)
 
-  -- ---- the rounds of an asset
+  module _ (id : List ℕ) (book : PlainBook) (job : PlainJob) (is : RunsIn book job) (same : job.id ≡ id) (now : ℤ)
+      (text : List ℕ) where
+    plan_leaves : (left : ℕ) → IsBetween job (suc left) → Leaves id (next setting (tick now text) (at_book book)) left
+    plan_leaves left between =
+        elim (first_asset setting (ran_of job) (count_assets job) between.count (suc left) between.ticks_are) [
+          | inl none ↦ absurd (one_none left none.1)
+          | inr first ↦
+              let missing : count_assets job < ids job =
+              misses (count_assets job) between.count first.others (ids job) between.total first.count_is in
+              let step = one_tick book job None (plan job (count_assets job)) is.runs (plan_due setting job missing) now text in
+              subst (λ s. Leaves id s left) (sym step) (record {
+                job = job;
+                is = is;
+                same = same;
+                ticks = record {
+                  few = from_none (chunks job);
+                  rounds = first.rounds;
+                  rounds_are = subst (λ n. IsRoundCount n (2 * setting.workers) first.rounds) (from_all (chunks job)) first.in_rounds;
+                  others = first.others;
+                  total = one_more (count_assets job) between.count first.others (ids job) between.total first.count_is;
+                  ticks = first.ticks;
+                  ticks_are = first.later;
+                  left_is = after_plan left first.rounds first.ticks first.left_is;
+                };
+              })
+        ]
 
-  module _ (book : PlainBook) (job : PlainJob) (runs : running_job book ≡ Some job) where
-    abbrev all : ℕ
-    all = setting.chunks (ran_of job) (count_assets job)
+    round_leaves : (done left rounds others ticks : ℕ) → done ≤ chunks job
+        → IsRoundCount (chunks job - done) (2 * setting.workers) (suc rounds)
+        → (count_assets job + 1) + others ≡ ids job → AssetTicks setting (ran_of job) (count_assets job + 1) others ticks
+        → suc left ≡ suc rounds + (1 + ticks)
+        → Leaves id (next setting (tick now text) (record { book = book; done = Some done })) left
+    round_leaves done left rounds others ticks few rounds_are total ticks_are long =
+        let some : done < chunks job = some_left done (chunks job) (2 * setting.workers) rounds few (rounds_are.least 0) in
+        let step = one_tick book job (Some done) (round job (count_assets job) done) is.runs (round_due setting job done some) now text in
+        subst (λ s. Leaves id s left) (sym step) (record {
+          job = job;
+          is = is;
+          same = same;
+          ticks = record {
+            few = less_after done (2 * setting.workers) (chunks job);
+            rounds = rounds;
+            rounds_are = round_less done (2 * setting.workers) (chunks job) rounds rounds_are;
+            others = others;
+            total = total;
+            ticks = ticks;
+            ticks_are = ticks_are;
+            left_is = after_round left rounds ticks long;
+          };
+        })
 
-    abbrev at : ℕ → State
-    at done = record { book = book; done = Some done }
+    store_leaves : (done left others ticks : ℕ) → done ≤ chunks job → chunks job - done ≤ 0 * (2 * setting.workers)
+        → (count_assets job + 1) + others ≡ ids job → AssetTicks setting (ran_of job) (count_assets job + 1) others ticks
+        → suc left ≡ 0 + (1 + ticks)
+        → Leaves id (next setting (tick now text) (record { book = book; done = Some done })) left
+    store_leaves done left others ticks few none total ticks_are long =
+        let all : chunks job ≤ done = same_most done (chunks job) (all_done done (chunks job) (2 * setting.workers) few none) in
+        let step = one_tick book job (Some done) (store job (count_assets job)) is.runs (store_due setting job done all) now text in
+        let new : assets.Asset = asset_in setting job (count_assets job) text in
+        let grown : PlainJob = with_status Running (machine.gains now new job) in
+        let more : count_assets grown ≡ count_assets job + 1 = length-append job.assets (new ∷ []) in
+        subst (λ s. Leaves id s left) (sym (step ∙ ap at_book (moved_is book job (machine.asset now new) is.runs))) (record {
+          job = grown;
+          is = gains_runs book job now new is;
+          same = same;
+          ticks = record {
+            count = others;
+            total = ap (λ k. k + others) more ∙ total;
+            ticks_are = subst (λ k. AssetTicks setting (ran_of job) k others left) (sym more)
+                (subst (λ t. AssetTicks setting (ran_of job) (count_assets job + 1) others t) (after_store left ticks long) ticks_are);
+          };
+        })
 
-    rounds_do : (rounds count done : ℕ) (es : List Event) → done ≤ all → IsRoundCount (all - done) (2 * setting.workers) rounds
-        → AllByRecursion IsTick es → length es ≡ rounds + count → Leads (at done) es (at all) count
-    rounds_do zero count done es less is ticks long = record {
-      events = es;
-      ticks = ticks;
-      count_is = long ∙ zero_more count;
-      same = ap (λ d. after setting es (at d)) (all_done done all (2 * setting.workers) less is.all);
+    under_way_leaves : (done left rounds others ticks : ℕ) → done ≤ chunks job
+        → IsRoundCount (chunks job - done) (2 * setting.workers) rounds
+        → (count_assets job + 1) + others ≡ ids job → AssetTicks setting (ran_of job) (count_assets job + 1) others ticks
+        → suc left ≡ rounds + (1 + ticks)
+        → Leaves id (next setting (tick now text) (record { book = book; done = Some done })) left
+    under_way_leaves done left zero others ticks few rounds_are total ticks_are long =
+        store_leaves done left others ticks few rounds_are.all total ticks_are long
+    under_way_leaves done left (suc rounds) others ticks few rounds_are total ticks_are long =
+        round_leaves done left rounds others ticks few rounds_are total ticks_are long
+
+    tick_leaves : (done : Option ℕ) (left : ℕ) → LeftOf job done (suc left)
+        → Leaves id (next setting (tick now text) (record { book = book; done = done })) left
+    tick_leaves None left between = plan_leaves left between
+    tick_leaves (Some done) left way =
+        under_way_leaves done left way.rounds way.others way.ticks way.few way.rounds_are way.total way.ticks_are way.left_is
+
+    -- the last tick
+    finishes : (done : Option ℕ) → LeftOf job done 0
+        → IsFinishedIn setting id (next setting (tick now text) (record { book = book; done = done })).book
+    finishes (Some done) way = absurd (none_one way.rounds way.ticks way.left_is)
+    finishes None between =
+        elim (first_asset setting (ran_of job) (count_assets job) between.count 0 between.ticks_are) [
+          | inl none ↦
+              let whole : count_assets job ≡ ids job =
+              none_more (count_assets job) between.count (ids job) between.total none.0 in
+              let step = one_tick book job None (finish job) is.runs
+              (finish_due setting job (same_most (count_assets job) (ids job) whole)) now text in
+              record {
+                job = with_status Finished (machine.ends now job);
+                named = ap (λ (s : State). job_named id s.book) (step ∙ ap at_book (moved_is book job (machine.finish now) is.runs))
+                    ∙ ap (λ i. job_named i (moved_book book job.id (machine.finish now))) (sym same)
+                    ∙ finish_named book job now is;
+                finished = refl;
+                whole = whole;
+              }
+          | inr first ↦ absurd (none_two first.rounds first.ticks first.left_is)
+        ]
+
+  -- ---- a command
+
+  -- the run goes on where the job of an id runs after the command
+  command_leaves_it : KeepsRunning → (id : List ℕ) (s : State) (left : ℕ) (user : List ℕ) (asked : PlainCommand) (now : ℤ)
+      → Leaves id s left → IsBook s.book → IsRunning id (next_book s.book user asked now)
+      → Leaves id (commanded (next_book s.book user asked now) s.done) left
+  command_leaves_it keeps id s left user asked now leaves valid runs =
+      let made : PlainBook = next_book s.book user asked now in
+      let stays : running_job made ≡ running_job s.book = elim (keeps s.book user asked now valid) [
+        | inl same ↦ same
+        | inr none ↦ let some : Some runs.job ≡ None = sym runs.runs ∙ none in absurd cc
+      ] in
+      let still : running_job made ≡ Some leaves.job = stays ∙ leaves.is.runs in
+      subst (λ t. Leaves id t left) (commanded_some made made s.done refl (ap is_some still)) (record {
+        job = leaves.job;
+        is = record {
+          runs = still;
+          named = command_named s.book valid user asked now (λ (j : PlainJob). is_running j.status) leaves.job still;
+        };
+        same = leaves.same;
+        ticks = leaves.ticks;
+      })
+
+  -- ---- all events
+
+  -- the number of ticks that come
+  count_more : (e : Event) (es : List Event) → count_by is_tick (e ∷ es) ≡ cond (is_tick e) 1 0 + count_by is_tick es
+  count_more e es = sum_by-cons (λ (x : Event). cond (is_tick x) 1 0) e es
+
+  no_tick : (e : Event) (es : List Event) (most : ℕ) → is_tick e ≡ false → count_by is_tick (e ∷ es) ≤ most
+      → count_by is_tick es ≤ most
+  no_tick e es most none few =
+      fewer 0 (count_by is_tick es) most (subst (λ n. n ≤ most) (count_more e es ∙ ap (λ b. cond b 1 0 + count_by is_tick es) none) few)
+    where
+      fewer : (some rest most : ℕ) → some + rest ≤ most → rest ≤ most
+      fewer some rest most few = omega (arith, few)
+
+  one_fewer : (e : Event) (es : List Event) (most : ℕ) → is_tick e ≡ true → count_by is_tick (e ∷ es) ≤ suc most
+      → count_by is_tick es ≤ most
+  one_fewer e es most some few =
+      fewer (count_by is_tick es) most
+      (subst (λ n. n ≤ suc most) (count_more e es ∙ ap (λ b. cond b 1 0 + count_by is_tick es) some) few)
+    where
+      fewer : (rest most : ℕ) → 1 + rest ≤ suc most → rest ≤ most
+      fewer rest most few = omega (arith, few)
+
+  too_many : (e : Event) (es : List Event) → is_tick e ≡ true → count_by is_tick (e ∷ es) ≤ 0 → ⊥
+  too_many e es some few =
+      never (count_by is_tick es)
+      (subst (λ n. n ≤ 0) (count_more e es ∙ ap (λ b. cond b 1 0 + count_by is_tick es) some) few)
+    where
+      never : (rest : ℕ) → 1 + rest ≤ 0 → ⊥
+      never rest few = omega (arith, few)
+
+  -- so many ticks are left after others that came
+  record HasLeft (id : List ℕ) (s : State) (left came : ℕ) : Type 0 where
+    rest : ℕ
+    sum : rest + came ≡ left
+    leaves : Leaves id s rest
+
+  module _ (id : List ℕ) (e : Event) (es : List Event) (t : State) (left : ℕ) where
+    -- an event that is no tick comes first
+    past_other : is_tick e ≡ false → HasLeft id t left (count_by is_tick es) → HasLeft id t left (count_by is_tick (e ∷ es))
+    past_other none has = record {
+      rest = has.rest;
+      sum = ap (λ n. has.rest + n) (count_more e es ∙ ap (λ b. cond b 1 0 + count_by is_tick es) none ∙ from_first (count_by is_tick es))
+          ∙ has.sum;
+      leaves = has.leaves;
     }
-    rounds_do (suc rounds) count done [] less is ticks long = absurd (none_left rounds count long)
-    rounds_do (suc rounds) count done (e ∷ es) less is ticks long =
-        let event = tick_of e ticks.0 in
-        let left : done < all = some_left done all (2 * setting.workers) rounds less (is.least 0) in
-        let step = one_tick book job (Some done) (round job (count_assets job) done) runs (round_due setting job done left) event.0
-        event.1 in
-        let rest = rounds_do rounds count (done_after setting job (count_assets job) done) es
-        (less_after done (2 * setting.workers) all)
-        (round_less done (2 * setting.workers) all rounds is) ticks.1 (one_less (length es) rounds count long) in
-        record {
-          events = rest.events;
-          ticks = rest.ticks;
-          count_is = rest.count_is;
-          same = ap (λ x. after setting es (next setting x (at done))) event.2 ∙ ap (after setting es) step ∙ rest.same;
-        }
 
-  -- ---- the assets of a job
-
-  -- these events lead from a state to one in which the job of an id runs, which has so many assets, and no run is under way
-  record MakesAssets (s : State) (es : List Event) (id : List ℕ) (ran : PlainRan) (count : ℕ) : Type 0 where
-    book : PlainBook
-    job : PlainJob
-    is : RunsIn book job
-    id_is : job.id ≡ id
-    ran_is : ran_of job ≡ ran
-    count_is : count_assets job ≡ count
-    same : after setting es s ≡ at_book book
-
-  abbrev ids : PlainRan → ℕ
-  ids ran = length (setting.ids ran)
-
-  module _ (ran : PlainRan) where
-    -- one asset is planned and made already; the others come later
-    rest_do : (k count ticks : ℕ)
-        → ((book : PlainBook) (job : PlainJob) → RunsIn book job → ran_of job ≡ ran → count_assets job ≡ k + 1 → (es : List Event)
-        → AllByRecursion IsTick es → length es ≡ ticks → MakesAssets (at_book book) es job.id ran ((k + 1) + count))
-        → (book : PlainBook) (job : PlainJob) → RunsIn book job → ran_of job ≡ ran → count_assets job ≡ k → (done : ℕ)
-        → setting.chunks (ran_of job) (count_assets job) ≤ done → (es : List Event) → AllByRecursion IsTick es
-        → length es ≡ 1 + ticks
-        → MakesAssets (record { book = book; done = Some done }) es job.id ran ((k + 1) + count)
-    rest_do k count ticks later book job is ran_is count_is done most [] all_ticks long = absurd (none_one ticks long)
-    rest_do k count ticks later book job is ran_is count_is done most (e ∷ es) all_ticks long =
-        let event = tick_of e all_ticks.0 in
-        let step = one_tick book job (Some done) (store job (count_assets job)) is.runs (store_due setting job done most) event.0
-        event.1 in
-        let new : assets.Asset = asset_in setting job (count_assets job) event.1 in
-        let grown : PlainJob = with_status Running (machine.gains event.0 new job) in
-        let more : count_assets grown ≡ k + 1 =
-        length-append job.assets (new ∷ []) ∙ ap (λ n. n + 1) count_is in
-        let rest = later (moved_book book job.id (machine.asset event.0 new)) grown (gains_runs book job event.0 new is) ran_is more
-        es all_ticks.1 (less_one (length es) ticks long) in
-        record {
-          book = rest.book;
-          job = rest.job;
-          is = rest.is;
-          id_is = rest.id_is;
-          ran_is = rest.ran_is;
-          count_is = rest.count_is;
-          same = ap (λ x. after setting es (next setting x (record { book = book; done = Some done }))) event.2
-              ∙ ap (after setting es) (step ∙ ap at_book (moved_is book job (machine.asset event.0 new) is.runs)) ∙ rest.same;
-        }
-
-    assets_do : (k count ticks : ℕ) → AssetTicks setting ran k count ticks → (book : PlainBook) (job : PlainJob) → RunsIn book job
-        → ran_of job ≡ ran → count_assets job ≡ k → k + count ≤ ids ran → (es : List Event) → AllByRecursion IsTick es
-        → length es ≡ ticks → MakesAssets (at_book book) es job.id ran (k + count)
-    assets_do _ _ _ (no_asset {k}) book job is ran_is count few [] all_ticks long = record {
-      book = book;
-      job = job;
-      is = is;
-      id_is = refl;
-      ran_is = ran_is;
-      count_is = count ∙ sym (more_none k);
-      same = refl;
+    -- a tick comes first
+    past_tick : is_tick e ≡ true → HasLeft id t left (count_by is_tick es)
+        → HasLeft id t (suc left) (count_by is_tick (e ∷ es))
+    past_tick some has = record {
+      rest = has.rest;
+      sum = ap (λ n. has.rest + n) (count_more e es ∙ ap (λ b. cond b 1 0 + count_by is_tick es) some)
+          ∙ one_further has.rest (count_by is_tick es) left has.sum;
+      leaves = has.leaves;
     }
-    assets_do _ _ _ (no_asset {k}) book job is ran_is count few (e ∷ es) all_ticks long = absurd (omega (arith, long))
-    assets_do _ _ _ (one_asset {k} {count} {rounds} {ticks} in_rounds others) book job is ran_is count_is few [] all_ticks long =
-        absurd (none_two rounds ticks long)
-    assets_do _ _ _ (one_asset {k} {count} {rounds} {ticks} in_rounds others) book job is ran_is count_is few (e ∷ es) all_ticks long =
-        let event = tick_of e all_ticks.0 in
-        let missing : count_assets job < ids (ran_of job) =
-        is_missing k count (count_assets job) (ids ran) (ids (ran_of job)) few count_is (ap ids ran_is) in
-        let step = one_tick book job None (plan job (count_assets job)) is.runs (plan_due setting job missing) event.0 event.1 in
-        let made = rounds_do book job is.runs rounds (1 + ticks) 0 es (from_none (setting.chunks (ran_of job) (count_assets job)))
-        (rounds_are k rounds job ran_is count_is in_rounds) all_ticks.1 (after_plan (length es) rounds ticks long) in
-        let rest = rest_do k count ticks
-        (λ b j runs same more. assets_do (k + 1) count ticks others b j runs same more (one_by_one k count (ids ran) few)) book job is
-        ran_is count_is
-        (setting.chunks (ran_of job) (count_assets job)) (same_most (setting.chunks (ran_of job) (count_assets job))) made.events made.ticks made.count_is in
-        record {
-          book = rest.book;
-          job = rest.job;
-          is = rest.is;
-          id_is = rest.id_is;
-          ran_is = rest.ran_is;
-          count_is = rest.count_is ∙ sym (one_each k count);
-          same = ap (λ x. after setting es (next setting x (at_book book))) event.2 ∙ ap (after setting es) step ∙ made.same
-              ∙ rest.same;
-        }
       where
-        rounds_are : (k rounds : ℕ) (job : PlainJob) → ran_of job ≡ ran → count_assets job ≡ k
-            → IsRoundCount (setting.chunks ran k) (2 * setting.workers) rounds
-            → IsRoundCount (setting.chunks (ran_of job) (count_assets job) - 0) (2 * setting.workers) rounds
-        rounds_are k rounds job ran_is count_is in_rounds =
-            subst (λ n. IsRoundCount n (2 * setting.workers) rounds)
-            (ap (λ r. setting.chunks r k) (sym ran_is) ∙ ap (setting.chunks (ran_of job)) (sym count_is)
-            ∙ from_all (setting.chunks (ran_of job) (count_assets job))) in_rounds
+        one_further : (rest came left : ℕ) → rest + came ≡ left → rest + (1 + came) ≡ suc left
+        one_further rest came left sum = omega (arith, sum)
 
-  -- ---- the end
+  events_leave : KeepsRunning → (id : List ℕ) (es : List Event) (s : State) (left : ℕ) → Leaves id s left
+      → DoNotInterrupt setting id es s → count_by is_tick es ≤ left → HasLeft id (after setting es s) left (count_by is_tick es)
+  events_leave keeps id [] s left leaves calm few = record { rest = left; sum = none_came left; leaves = leaves }
+  events_leave keeps id (command user asked now ∷ es) s left leaves calm few =
+      past_other id (command user asked now) es (after setting es (next setting (command user asked now) s)) left refl
+      (events_leave keeps id es (next setting (command user asked now) s) left
+      (command_leaves_it keeps id s left user asked now leaves calm.0.0 calm.0.1) calm.1
+      (no_tick (command user asked now) es left refl few))
+  events_leave keeps id (no_command ∷ es) s left leaves calm few =
+      past_other id no_command es (after setting es s) left refl
+      (events_leave keeps id es s left leaves calm.1 (no_tick no_command es left refl few))
+  events_leave keeps id (tick now text ∷ es) s zero leaves calm few = absurd (too_many (tick now text) es refl few)
+  events_leave keeps id (tick now text ∷ es) s (suc left) leaves calm few =
+      past_tick id (tick now text) es (after setting es (next setting (tick now text) s)) left refl
+      (events_leave keeps id es (next setting (tick now text) s) left
+      (tick_leaves id s.book leaves.job leaves.is leaves.same now text s.done left leaves.ticks) calm.1
+      (one_fewer (tick now text) es left refl few))
+  events_leave keeps id (refusal now reason ∷ es) s left leaves calm few = absurd calm.0
+  events_leave keeps id (reopen ∷ es) s left leaves calm few = absurd calm.0
 
-  finishes : (book : PlainBook) (job : PlainJob) → RunsIn book job → ids (ran_of job) ≤ count_assets job → (last : Event)
-      → IsTick last
-      → (done : PlainJob) × (job_named job.id (next setting last (at_book book)).book ≡ Some done) × (done.status ≡ Finished)
-      × (length done.assets ≡ count_assets job) × (ran_of done ≡ ran_of job)
-  finishes book job is whole last ticks =
-      let event = tick_of last ticks in
-      let step = one_tick book job None (finish job) is.runs (finish_due setting job whole) event.0 event.1 in
-      let line = finish_of job.status (machine.has_assets job) event.0 job (running_found book job is.runs) in (
-        with_status Finished (machine.ends event.0 job),
-        ap (λ x. job_named job.id (next setting x (at_book book)).book) event.2
-            ∙ ap (λ (s : State). job_named job.id s.book) step
-            ∙ ap (job_named job.id) (moved_is book job (machine.finish event.0) is.runs)
-            ∙ changed_named job.id (moved (machine.finish event.0)) book.jobs job is.named
-            (ap (λ (j : PlainJob). same_name j.id job.id) line ∙ same_name_refl job.id)
-            ∙ ap Some line,
-        refl,
-        refl,
-        refl,
-      )
+-- ---- a job that has started
 
-pub jobs_finish_in_time : JobsFinishInTime
-jobs_finish_in_time setting book job ticks es last valid runs none in_ticks all long =
-    let named = named_of (λ (j : PlainJob). is_running j.status) book job valid runs in
-    let made = assets_do setting (ran_of job) 0 (length (setting.ids (ran_of job))) ticks in_ticks book job
-    (record { runs = runs; named = named }) refl (ap length none) (from_first (length (setting.ids (ran_of job)))) es
-    (all_first es (last ∷ []) all) long in
-    let end = finishes setting made.book made.job made.is
-    (at_last (length (setting.ids (ran_of made.job))) (length (setting.ids (ran_of job))) (count_assets made.job)
-    (ap (λ r. length (setting.ids r)) made.ran_is) made.count_is) last (all_last es last all) in
-    record {
-      running = made.job;
-      runs = ap (λ (s : State). running_job s.book) made.same ∙ made.is.runs;
-      same = made.id_is;
-      job = end.0;
-      named = ap (λ (s : State). job_named job.id s.book) (after_both setting es (last ∷ []) (at_book book))
-          ∙ ap (λ s. job_named job.id (next setting last s).book) made.same
-          ∙ ap (λ id. job_named id (next setting last (at_book made.book)).book) (sym made.id_is)
-          ∙ end.1;
-      finished = end.2;
-      whole = end.3 ∙ made.count_is ∙ from_zero (length (setting.ids (ran_of job)))
-          ∙ ap (λ r. length (setting.ids r)) (sym (end.4 ∙ made.ran_is));
+pub jobs_finish_in_time : KeepsRunning → JobsFinishInTime
+jobs_finish_in_time keeps setting book job ticks es valid runs none in_ticks calm = record {
+  runs = λ few.
+      let leaves = (left_by few).leaves in
+      record { job = leaves.job; runs = leaves.is.runs; same = leaves.same };
+  finishes = λ exact now text.
+      let has = left_by (same_most ticks (count_by is_tick es) (sym exact)) in
+      let last : Leaves setting job.id (after setting es (at_book book)) 0 =
+      subst (Leaves setting job.id (after setting es (at_book book))) (none_left has.rest (count_by is_tick es) ticks has.sum exact) has.leaves in
+      finishes setting job.id (after setting es (at_book book)).book last.job last.is last.same now text
+      (after setting es (at_book book)).done last.ticks;
+}
+  where
+    all : ℕ
+    all = length (setting.ids (ran_of job))
+
+    start : Leaves setting job.id (at_book book) ticks
+    start = record {
+      job = job;
+      is = record { runs = runs; named = named_of (λ (j : PlainJob). is_running j.status) book job valid runs };
+      same = refl;
+      ticks = record {
+        count = all;
+        total = ap (λ n. n + all) (ap length none) ∙ from_first all;
+        ticks_are = subst (λ k. AssetTicks setting (ran_of job) k all ticks) (sym (ap length none)) in_ticks;
+      };
     }
+
+    left_by : count_by is_tick es ≤ ticks
+        → HasLeft setting job.id (after setting es (at_book book)) ticks (count_by is_tick es)
+    left_by few = events_leave setting keeps job.id es (at_book book) ticks start calm few
+
+    none_left : (rest came ticks : ℕ) → rest + came ≡ ticks → came ≡ ticks → rest ≡ 0
+    none_left rest came ticks sum exact = omega (arith, sum, exact)

@@ -21,9 +21,9 @@ use Rattle.oe_service.specs.Refusals.{code_of}
 use Rattle.oe_service.specs.Runs.{name_at, ran_of}
 use Rattle.oe_service.specs.States.{rest, start, Event, command, no_command, tick, refusal, reopen, Setting, State, after, asset_of as asset_in, at_book, commanded, count_assets, due, due_of, moved_running, next, reopened, ticked}
 use Rattle.oe_service.proofs.BookLemmas.{asset_of, asset_stays, fail_ends, fail_of, finish_ends, finish_of, first_queued, found_one, queued_found, reopen_of, reopened_free, running_found, start_of, start_runs, started}
-use Rattle.oe_service.proofs.FinishLemmas.{all_named, map_all, named_of}
+use Rattle.oe_service.proofs.NamedLemmas.{IsFoundIn, Resembles, all_named, map_all, named_of}
 use Rattle.oe_service.proofs.NextLemmas.{less_is, less_not, moved_is}
-use Rattle.oe_service.proofs.StatusLemmas.{IsFoundIn, Resembles, all_changed, command_all, reopen_all, run_all}
+use Rattle.oe_service.proofs.StatusLemmas.{all_changed, command_all, reopen_all, run_all}
 
 -- ---- statuses that are not finished
 

@@ -11,6 +11,7 @@ mod RunLemmas
 mod RoundLemmas
 mod DueLemmas
 mod LifeLemmas
+mod NamedLemmas
 mod FinishLemmas
 mod StatusLemmas
 mod FinishedLemmas

@@ -1,27 +1,23 @@
 -- What becomes of the jobs of a book, and along which statuses they move.
-use Rattle.std.proofs.Common.{◌≡◌, ◌⊎◌, ℕ, ℤ, Bool, true, false, not, List, [], ◌∷◌, Option, Some, None, refl, ap, sym, ◌∙◌, subst, inl, inr}
-use Rattle.std.specs.Prelude.{find, is_some, length, nat_le, nat_lt, count_by, if◌then◌else◌, ◌&&◌}
+use Rattle.std.proofs.Common.{◌≡◌, ◌⊎◌, ℕ, ℤ, Bool, true, false, List, [], ◌∷◌, Option, Some, None, refl, ap, sym, ◌∙◌, subst, inl, inr}
+use Rattle.std.specs.Prelude.{find, length, nat_lt, if◌then◌else◌}
 use Rattle.std.specs.List.{AllByRecursion}
 use Rattle.std.specs.Option.{option_map, option_map_or}
 use Rattle.std.proofs.lemmas.Bool.{cases_Bool}
 use Rattle.std.proofs.lemmas.Option.{same_Some}
-use Rattle.oe_graph.specs.Catalogue.{process_named}
 use Rattle.oe_jobs.specs.Changes.{at_first, changed, is_job, put_first, without_first}
 use Rattle.oe_jobs.specs.Events.{job_named, moved_book, next_queued, running_job}
 use Rattle.oe_jobs.specs.Machine as machine
 use Rattle.oe_jobs.specs.Machine.{Step, after, has_assets, has_effect, is_busy, is_queued, is_running, moved, never, stays, step_at, step_of, to, with_status}
-use Rattle.oe_jobs.specs.Plain.{PlainBook, PlainCommand, PlainJob, PlainRan, PlainVerdict, create, patch, delete, queue, cancel, store, forget, put_job, put_process, drop_process}
+use Rattle.oe_jobs.specs.Plain.{PlainBook, PlainCommand, PlainJob, PlainRan, put_job}
 use Rattle.oe_jobs.specs.Valid.{IsBook}
-use Rattle.oe_jobs.specs.Verdicts.{after_verdict, created, done, has_no_number, has_process, is_full, is_found, is_process_of, job_of, most_processes, next as next_book, patched, refused, to_run}
-use Rattle.oe_jobs.specs.declared.command.JobFault.TheVariants.{JobNotFound, PredefinedProcessExists, ProcessLimit, ProcessNotFound}
-use Rattle.oe_jobs.specs.declared.status.Status.{Status}
-use Rattle.oe_jobs.specs.declared.status.Status.TheVariants.{Created, Queued, Running, Canceled, Finished, Error}
+use Rattle.oe_jobs.specs.Verdicts.{next as next_book}
 use Rattle.oe_service.specs.Finishes.{CameFrom, IsCreatedIn, MovesTo, StatusesMoveAlong}
 use Rattle.oe_service.specs.Refusals.{code_of}
 use Rattle.oe_service.specs.Runs.{ran_of}
 use Rattle.oe_service.specs.States.{Due, rest, start, plan, round, store as store_due, finish, command, no_command, tick, refusal, reopen, Setting, State, asset_of as asset_in, count_assets, due_of, moved_running, reopened, ticked}
 use Rattle.oe_service.proofs.BookLemmas.{asset_of, fail_of, finish_of, first_queued, queued_found, reopen_of, running_found, start_of}
-use Rattle.oe_service.proofs.FinishLemmas.{all_named, map_all, named_of}
+use Rattle.oe_service.proofs.NamedLemmas.{IsFoundIn, Resembles, all_named, cancel_id, command_leaves, map_all, named_of, queue_id}
 
 -- one of two that a test chooses
 pub if_due : (P : Due → Type 0) (d other : Due) (b : Bool) → P d → P other → P (if b then d else other)
@@ -62,18 +58,6 @@ module _ (P : PlainJob → Type 0) where
 
 -- ---- a command
 
--- what a patch leaves of a job
-pub record Resembles (old new : PlainJob) : Type 0 where
-  pub id : new.id ≡ old.id
-  pub status : new.status ≡ old.status
-  pub turn : new.turn ≡ old.turn
-  pub ran : new.ran ≡ old.ran
-  pub assets : new.assets ≡ old.assets
-
--- a job of a book was found by some test
-abbrev pub IsFoundIn : PlainBook → PlainJob → Type 0
-IsFoundIn book job = (test : PlainJob → Bool) × (find test book.jobs ≡ Some job)
-
 -- Something holds of all jobs of a book. It holds of those after a command too, if it holds of a job that is created, and
 -- of one that is patched, queued or canceled.
 module _ (book : PlainBook) (P : PlainJob → Type 0) (all : AllByRecursion P book.jobs)
@@ -83,61 +67,17 @@ module _ (book : PlainBook) (P : PlainJob → Type 0) (all : AllByRecursion P bo
     → has_effect (step_at job (machine.queue now turn ran)) ≡ true → P (moved (machine.queue now turn ran) job))
     (canceled_ : (job : PlainJob) → IsFoundIn book job → (now : ℤ) → has_effect (step_at job (machine.cancel now)) ≡ true
     → P (moved (machine.cancel now) job)) where
-  abbrev Has : PlainVerdict → Type 0
-  Has verdict = AllByRecursion P (after_verdict book verdict).jobs
-
-  has_if : (b : Bool) (u v : PlainVerdict) → (b ≡ true → Has u) → (b ≡ false → Has v) → Has (if b then u else v)
-  has_if true u v f g = f refl
-  has_if false u v f g = g refl
-
-  of_found : (user id : List ℕ) (verdict : PlainJob → PlainVerdict)
-      → ((job : PlainJob) → IsFoundIn book job → Has (verdict job))
-      → Has (option_map_or verdict (job_of user id book) (refused JobNotFound))
-  of_found user id verdict each = by (job_of user id book) refl
-    where
-      by : (o : Option PlainJob) → job_of user id book ≡ o → Has (option_map_or verdict o (refused JobNotFound))
-      by None e = all
-      by (Some job) e = each job (is_found user id, e)
-
-  not_not : (b : Bool) → not b ≡ false → b ≡ true
-  not_not true e = refl
-  not_not false e = absurd cc
-
   pub command_all : (user : List ℕ) (asked : PlainCommand) (now : ℤ)
       → AllByRecursion P (next_book book user asked now).jobs
-  command_all user (create title description process level) now =
-      let new : PlainJob = created book user title description process level now in
-      has_if (is_full book user) _ _ (λ _. all)
-      (λ _. has_if (has_no_number book) _ _ (λ _. all)
-      (λ _. all_put P (is_job new.id) new book.jobs (created_ new (record { id = refl; created = refl })) all))
-  command_all user (patch id title description process level) now =
-      of_found user id _ (λ job found.
-      let new : PlainJob = patched title description process level now job in
-      has_if (is_busy job.status) _ _ (λ _. all)
-      (λ _. all_put P (is_job new.id) new book.jobs
-      (patched_ job new found (record { id = refl; status = refl; turn = refl; ran = refl; assets = refl })) all))
-  command_all user (delete id) now = of_found user id _ (λ job found. all_without P (is_job id) book.jobs all)
-  command_all user (queue id) now =
-      of_found user id _ (λ job found.
-      let event = machine.queue now book.next (to_run book job) in
-      let new : PlainJob = moved event job in
-      has_if (not (has_effect (step_at job event))) _ _ (λ _. all)
-      (λ effect. has_if (has_no_number book) _ _ (λ _. all)
-      (λ _. all_put P (is_job new.id) new book.jobs
-      (queued_ job found now book.next (to_run book job) (not_not (has_effect (step_at job event)) effect)) all)))
-  command_all user (cancel id) now =
-      of_found user id _ (λ job found.
-      let event = machine.cancel now in
-      let new : PlainJob = moved event job in
-      has_if (has_effect (step_at job event)) _ _
-      (λ effect. all_put P (is_job new.id) new book.jobs (canceled_ job found now effect) all) (λ _. all))
-  command_all user (store process) now =
-      let stored : PlainVerdict = done (put_process (record { user = user; process = process })) in
-      let full : Bool = not (has_process user process.id book) && nat_le most_processes (count_by (is_process_of user) book.processes) in
-      has_if (is_some (process_named process.id)) (refused PredefinedProcessExists) (if full then refused ProcessLimit else stored)
-      (λ _. all) (λ _. has_if full (refused ProcessLimit) stored (λ _. all) (λ _. all))
-  command_all user (forget id) now =
-      has_if (has_process user id book) (done (drop_process user id)) (refused ProcessNotFound) (λ _. all) (λ _. all)
+  command_all =
+      command_leaves book (AllByRecursion P) all (λ new fresh left. put new (created_ new fresh))
+      (λ job new found alike. put new (patched_ job new found alike))
+      (λ job found now turn ran effect. put (moved (machine.queue now turn ran) job) (queued_ job found now turn ran effect))
+      (λ job found now effect. put (moved (machine.cancel now) job) (canceled_ job found now effect))
+      (λ id. all_without P (is_job id) book.jobs all)
+    where
+      put : (new : PlainJob) → P new → AllByRecursion P (put_first (is_job new.id) new book.jobs)
+      put new is = all_put P (is_job new.id) new book.jobs is all
 
 -- ---- an opening
 
@@ -183,25 +123,6 @@ leads job event =
       | inl same ↦ inl same
       | inr line ↦ inr (event, line.0, line.1)
     ]
-
-queue_id : (s : Status) (some : Bool) (job : PlainJob) (now : ℤ) (turn : ℕ) (ran : PlainRan)
-    → (after (step_of s (machine.queue now turn ran) some) job).id ≡ job.id
-queue_id Created some job now turn ran = refl
-queue_id Queued some job now turn ran = refl
-queue_id Running some job now turn ran = refl
-queue_id Canceled some job now turn ran = refl
-queue_id Finished some job now turn ran = refl
-queue_id Error some job now turn ran = refl
-
-cancel_id : (s : Status) (some : Bool) (job : PlainJob) (now : ℤ)
-    → (after (step_of s (machine.cancel now) some) job).id ≡ job.id
-cancel_id Created some job now = refl
-cancel_id Queued some job now = refl
-cancel_id Running true job now = refl
-cancel_id Running false job now = refl
-cancel_id Canceled some job now = refl
-cancel_id Finished some job now = refl
-cancel_id Error some job now = refl
 
 -- ---- statuses
 

@@ -1,14 +1,15 @@
 -- Worked values: ticks by hand, over the status table of the openEO API's batch jobs.
 use Rattle.std.proofs.Common.{◌≡◌, ℕ, ℤ, ◌∷◌, [], ◌++◌, List, Some, None, codes, pos, refl}
-use Rattle.std.specs.Prelude.{replicate}
+use Rattle.std.specs.Prelude.{count_by, replicate}
 use Rattle.oe_jobs.specs.Machine.{course, failure}
-use Rattle.oe_jobs.specs.Plain.{PlainBook, PlainJob, PlainRan, cancel, delete}
+use Rattle.oe_jobs.specs.Plain.{PlainBook, PlainJob, PlainRan, cancel, delete, queue}
 use Rattle.oe_jobs.specs.declared.job.Asset.{Asset}
 use Rattle.oe_jobs.specs.declared.job.LogEntry.{LogEntry}
 use Rattle.oe_jobs.specs.declared.level.Level.TheVariants as levels
 use Rattle.oe_jobs.specs.declared.status.Status.{Status}
 use Rattle.oe_jobs.specs.declared.status.Status.TheVariants.{Queued, Running, Canceled, Finished, Error}
-use Rattle.oe_service.specs.States.{Event, command, tick, refusal, reopen, Setting, State, after, at_book}
+use Rattle.oe_service.specs.Finishes.{is_tick}
+use Rattle.oe_service.specs.States.{Event, command, no_command, tick, refusal, reopen, Setting, State, after, at_book}
 use Rattle.oe_service.specs.declared.refusal.RunRefusal.TheVariants.{NumberOverflow}
 
 -- the job j-1 of the user u, which was created at 1 and drew the turn 2 when it was queued
@@ -96,6 +97,18 @@ in_twelve : after two (ticks 12) queued
     ≡ at_book (book (job Finished (pos 9) (course (codes "started") ∷ course (codes "asset p.json")
     ∷ course (codes "asset q.json") ∷ course (codes "finished") ∷ []) (file (codes "p.json") ∷ file (codes "q.json") ∷ [])))
 in_twelve = refl
+
+-- requests that do not end the job come between them: one that is refused, a cancel by another user, who has no such
+-- job, and a queue, which a job that runs ignores
+in_twelve_still : after two (ticks 5 ++ no_command ∷ command (codes "v") (cancel (codes "j-1")) (pos 10) ∷ []
+    ++ ticks 3 ++ command (codes "u") (queue (codes "j-1")) (pos 11) ∷ [] ++ ticks 4) queued
+    ≡ at_book (book (job Finished (pos 9) (course (codes "started") ∷ course (codes "asset p.json")
+    ∷ course (codes "asset q.json") ∷ course (codes "finished") ∷ []) (file (codes "p.json") ∷ file (codes "q.json") ∷ [])))
+in_twelve_still = refl
+
+-- a request is no tick, nor is one that is refused
+two_ticks : count_by is_tick (at 3 ∷ no_command ∷ refusal (pos 4) NumberOverflow ∷ at 5 ∷ reopen ∷ []) ≡ 2
+two_ticks = refl
 
 -- canceled where one asset is stored: its run ends, and the asset stays
 abbrev canceled : State

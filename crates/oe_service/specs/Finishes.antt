@@ -1,5 +1,5 @@
 -- How long a job runs, along which statuses jobs move, and what finished jobs have.
-use Rattle.std.specs.Prelude.{◌≡◌, ◌⊎◌, ◌≤◌, ⊤, ℕ, ◌+◌, ◌*◌, List, [], ◌∷◌, ◌++◌, length, Some}
+use Rattle.std.specs.Prelude.{◌≡◌, ◌⊎◌, ◌≤◌, ⊤, Bool, true, false, ℕ, ℤ, ◌+◌, ◌*◌, List, [], ◌∷◌, length, count_by, Some}
 use Rattle.std.specs.List.{AllByRecursion}
 use Rattle.oe_jobs.specs.Events.{job_named, running_job}
 use Rattle.oe_jobs.specs.Machine.{Event as Step_event, step_at, to}
@@ -26,32 +26,58 @@ pub data AssetTicks (setting : Setting) (ran : PlainRan) : ℕ → ℕ → ℕ �
   one_asset : {k count rounds ticks : ℕ} → IsRoundCount (setting.chunks ran k) (2 * setting.workers) rounds
       → AssetTicks setting ran (k + 1) count ticks → AssetTicks setting ran k (count + 1) (2 + rounds + ticks)
 
--- no refusal, no command and no opening of the book
-abbrev pub IsTick : Event → Type 0
-IsTick (command user asked now) = ⊥
-IsTick no_command = ⊥
-IsTick (tick now text) = ⊤
-IsTick (refusal now reason) = ⊥
-IsTick reopen = ⊥
+-- a tick that is not refused
+abbrev pub is_tick : Event → Bool
+is_tick (command user asked now) = false
+is_tick no_command = false
+is_tick (tick now text) = true
+is_tick (refusal now reason) = false
+is_tick reopen = false
 
--- before the last of these events the job of an id still runs, and after it the job is finished with all its assets
-pub record IsFinishedBy (setting : Setting) (s : State) (id : List ℕ) (es : List Event) (last : Event) : Type 0 where
-  pub running : PlainJob
-  pub runs : running_job (after setting es s).book ≡ Some running
-  pub same : running.id ≡ id
+-- the job of an id runs
+pub record IsRunning (id : List ℕ) (book : PlainBook) : Type 0 where
   pub job : PlainJob
-  pub named : job_named id (after setting (es ++ last ∷ []) s).book ≡ Some job
+  pub runs : running_job book ≡ Some job
+  pub same : job.id ≡ id
+
+-- An event does not interrupt the run of the job of an id: it is no refusal of the run, no opening of the book, and no
+-- command that ends the job. A command comes to a valid book, as every call leaves it.
+abbrev pub DoesNotInterrupt : Setting → List ℕ → State → Event → Type 0
+DoesNotInterrupt setting id s (command user asked now) =
+    IsBook s.book × IsRunning id (next setting (command user asked now) s).book
+DoesNotInterrupt setting id s no_command = ⊤
+DoesNotInterrupt setting id s (tick now text) = ⊤
+DoesNotInterrupt setting id s (refusal now reason) = ⊥
+DoesNotInterrupt setting id s reopen = ⊥
+
+-- none of these events, one after the other, interrupts it
+abbrev pub DoNotInterrupt : Setting → List ℕ → List Event → State → Type 0
+DoNotInterrupt setting id [] s = ⊤
+DoNotInterrupt setting id (e ∷ es) s = DoesNotInterrupt setting id s e × DoNotInterrupt setting id es (next setting e s)
+
+-- the job of an id is finished, with all its assets
+pub record IsFinishedIn (setting : Setting) (id : List ℕ) (book : PlainBook) : Type 0 where
+  pub job : PlainJob
+  pub named : job_named id book ≡ Some job
   pub finished : job.status ≡ Finished
   pub whole : length job.assets ≡ length (setting.ids (ran_of job))
 
--- A job that has started is finished after exactly the ticks of its assets and one more.
+-- Of these events so many at most are ticks: the job of an id runs after them. They are exactly so many: the next tick
+-- finishes it.
+pub record FinishesAfter (setting : Setting) (s : State) (id : List ℕ) (ticks : ℕ) (es : List Event) : Type 0 where
+  pub runs : count_by is_tick es ≤ ticks → IsRunning id (after setting es s).book
+  pub finishes : count_by is_tick es ≡ ticks → (now : ℤ) (text : List ℕ)
+      → IsFinishedIn setting id (next setting (tick now text) (after setting es s)).book
+
+-- A job that has started is finished after exactly the ticks of its assets and one more, whatever else comes between
+-- them that does not interrupt its run.
 abbrev pub JobsFinishInTime : Type 0
 JobsFinishInTime =
-    (setting : Setting) (book : PlainBook) (job : PlainJob) (ticks : ℕ) (es : List Event) (last : Event)
+    (setting : Setting) (book : PlainBook) (job : PlainJob) (ticks : ℕ) (es : List Event)
     → IsBook book → running_job book ≡ Some job → job.assets ≡ []
     → AssetTicks setting (ran_of job) 0 (length (setting.ids (ran_of job))) ticks
-    → AllByRecursion IsTick (es ++ last ∷ []) → length es ≡ ticks
-    → IsFinishedBy setting (at_book book) job.id es last
+    → DoNotInterrupt setting job.id es (at_book book)
+    → FinishesAfter setting (at_book book) job.id ticks es
 
 -- ---- along which statuses jobs move
 

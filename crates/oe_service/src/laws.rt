@@ -40,13 +40,15 @@ pub fn statuses_move_along()
     ensures { StatusesMoveAlong }
 {}
 
-/// Does nothing. Its contract says that a job which has started is finished after exactly so many ticks, if none is
-/// refused and nothing else comes: for each asset one that plans it, its rounds of two chunks a worker, and one that
-/// stores it, and one more at the end.
-#[tactic(auto, using(crate::proofs::FinishLemmas::jobs_finish_in_time))]
+/// Does nothing. Its contract says that a job which has started is finished after exactly so many ticks, whatever requests
+/// come between them, if none of the ticks is refused, no command ends the job, and the book is not opened anew: for each
+/// asset one that plans it, its rounds of two chunks a worker, and one that stores it, and one more at the end. Until then
+/// the job runs.
 pub fn jobs_finish_in_time()
     ensures { JobsFinishInTime }
-{}
+{
+    keeps_running();
+}
 
 /// Does nothing. Its contract says that after an opening and any events each finished job was finished before, or has all
 /// its assets, named after their nodes and with the texts that were stored for them.
