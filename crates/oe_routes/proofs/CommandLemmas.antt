@@ -1,18 +1,20 @@
 -- What the steps of operations give in a row.
-use Rattle.std.proofs.Common.{◌≡◌, ℕ, List, Result, Ok, Err, IfOk, refl, sym, subst}
+use Rattle.std.proofs.Common.{◌≡◌, ℕ, ℤ, List, Option, Some, Result, Ok, Err, IfOk, refl, sym, ap, ◌∙◌, subst}
+use Rattle.std.specs.Option.{option_map_or}
 use Rattle.std.specs.Prelude.{IsErrAnd}
 use Rattle.serde_json.specs.Written.{compact_text}
 use Rattle.oe_dims.specs.declared.dims.DimsRow.{DimsRow}
 use Rattle.oe_http.specs.Laws.{json_reply}
 use Rattle.oe_http.specs.Plain.{PlainRequest}
 use Rattle.oe_http.specs.Replies.{PlainResponse}
-use Rattle.oe_jobs.specs.Plain.{PlainBook, PlainCommand, PlainJob, PlainVerdict, queue}
+use Rattle.oe_jobs.specs.Changes.{changed}
+use Rattle.oe_jobs.specs.Plain.{PlainBook, PlainChange, PlainCommand, PlainJob, PlainVerdict, queue}
 use Rattle.oe_jobs.specs.Verdicts.{decide}
 use Rattle.oe_jobs.specs.declared.level.Level.{Level}
 use Rattle.oe_replies.specs.Collections.{collection_data}
 use Rattle.oe_replies.specs.Jobs.{job_data}
 use Rattle.oe_replies.specs.Logs.{logs_data}
-use Rattle.oe_routes.specs.Actions.{answer}
+use Rattle.oe_routes.specs.Actions.{MakesChange, answer}
 use Rattle.oe_routes.specs.Answers.{action_of, commanded, may_queue, named_job, named_row, perform, reply_to, shown}
 use Rattle.oe_routes.specs.Found.{Found}
 use Rattle.oe_routes.specs.Paths.{id_in}
@@ -48,6 +50,17 @@ commanded_refused s user command v e same h =
     refuses_all e (reply_to s.base command (decide s.book user command s.moment).outcome)
     (λ response. Ok (action_of (decide s.book user command s.moment).change response))
     (subst (λ (w : PlainVerdict). Rejects e (reply_to s.base command w.outcome)) same h)
+
+-- what the book changes on a command is what the command makes
+pub made_by : (book : PlainBook) (user : List ℕ) (command : PlainCommand) (now : ℤ) (v : PlainVerdict) (made : PlainChange)
+    → v ≡ decide book user command now → v.change ≡ Some made → MakesChange book now made
+made_by book user command now v made same is =
+    let change : Some made ≡ (decide book user command now).change = sym is ∙ ap (λ (w : PlainVerdict). w.change) same in
+    record {
+      user = user;
+      asked = command;
+      made_is = ap (λ (o : Option PlainChange). option_map_or (changed book) o book) change;
+    }
 
 pub row_shown : (rows : List DimsRow) (id : List ℕ) (row : DimsRow) (body : List ℕ) (reply : PlainResponse)
     → named_row rows id ≡ Ok row → body ≡ compact_text (collection_data row) → reply ≡ json_reply 200 body

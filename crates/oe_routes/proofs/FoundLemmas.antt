@@ -24,7 +24,7 @@ use Rattle.oe_jobs.specs.Valid.{IsBook}
 use Rattle.oe_jobs.specs.Verdicts.{stored_of}
 use Rattle.oe_judge.specs.Judged.{StandsWithCollections}
 use Rattle.oe_routes.specs.Forms.{IsSent, faultless, graph_in, job_changes, new_job, object_in}
-use Rattle.oe_routes.specs.Found.{Found, IsFaultWhere, IsFound, IsJson, IsLeastOf, fault_where, process_fault, process_in}
+use Rattle.oe_routes.specs.Found.{Found, IsFaultWhere, IsJson, IsJudged, IsLeastOf, IsRead, fault_where, process_fault, process_in}
 use Rattle.oe_routes.specs.Rejections.{Rejected, Rejects, rejection_of_graph, ◌>>=◌}
 use Rattle.oe_routes.specs.declared.refusal.Rejection.{Rejection}
 use Rattle.oe_routes.proofs.CommandLemmas.{refuses_all}
@@ -43,26 +43,26 @@ one_json bytes None (Some d) h k = absurd (h d k)
 one_json bytes (Some d) None h k = absurd (k d h)
 one_json bytes (Some d) (Some e) h k = ap Some (same_value bytes d e h k)
 
-pub one_fault : (rows : List DimsRow) (f : Found) → IsFound rows f → (o : Option Data) (fault : Option Fault)
+pub one_fault : (f : Found) → IsRead f → (o : Option Data) (fault : Option Fault)
     → IsFaultWhere o fault → fault ≡ fault_where f.in_value o
-one_fault rows f is None fault h = h
-one_fault rows f is (Some d) fault h = one_least (StandsIn d) fault (f.in_value d) h (is.in_value d)
+one_fault f is None fault h = h
+one_fault f is (Some d) fault h = one_least (StandsIn d) fault (f.in_value d) h (is.in_value d)
 
 -- ---- bodies with a process
 
-pub job_is_sent : (rows : List DimsRow) (f : Found) → IsFound rows f → (body : List ℕ) (json : Option Data)
+pub job_is_sent : (f : Found) → IsRead f → (body : List ℕ) (json : Option Data)
     (fault : Option Fault) → IsJson body json → IsFaultWhere (process_in json) fault → new_job json fault ≡ job_sent f body
-job_is_sent rows f is body json fault read least =
+job_is_sent f is body json fault read least =
     let same : json ≡ f.json body = one_json body json (f.json body) read (is.json body) in
-    let found : fault ≡ process_fault f json = one_fault rows f is (process_in json) fault least in
+    let found : fault ≡ process_fault f json = one_fault f is (process_in json) fault least in
     ap (new_job json) found ∙ ap (λ (j : Option Data). new_job j (process_fault f j)) same
 
-pub changes_are_sent : (rows : List DimsRow) (f : Found) → IsFound rows f → (body : List ℕ) (json : Option Data)
+pub changes_are_sent : (f : Found) → IsRead f → (body : List ℕ) (json : Option Data)
     (fault : Option Fault) → IsJson body json → IsFaultWhere (process_in json) fault
     → job_changes json fault ≡ changes_sent f body
-changes_are_sent rows f is body json fault read least =
+changes_are_sent f is body json fault read least =
     let same : json ≡ f.json body = one_json body json (f.json body) read (is.json body) in
-    let found : fault ≡ process_fault f json = one_fault rows f is (process_in json) fault least in
+    let found : fault ≡ process_fault f json = one_fault f is (process_in json) fault least in
     ap (job_changes json) found ∙ ap (λ (j : Option Data). job_changes j (process_fault f j)) same
 
 -- a value that was read is no deeper than may be
@@ -103,7 +103,7 @@ pub later_some : (rows : List DimsRow) (made stored : List PlainStored) (g : Pla
 later_some rows made stored g fault same least =
     subst (λ (s : List PlainStored). IsLeastOf (StandsWithCollections rows s g) (Some fault)) same least
 
-pub judged_passes : BookStoredIsValid → (rows : List DimsRow) (f : Found) → IsFound rows f → (book : PlainBook) (user : List ℕ)
+pub judged_passes : BookStoredIsValid → (rows : List DimsRow) (f : Found) → IsJudged rows f → (book : PlainBook) (user : List ℕ)
     (made : List PlainStored) (g : PlainGraph) → IsBook book → IsValidGraph g → made ≡ stored_of user book
     → IsFaultless (StandsWithCollections rows made g) → faultless (f.judged (stored_of user book) g) ≡ Ok tt
 judged_passes law rows f is book user made g valid form same none =
@@ -111,7 +111,7 @@ judged_passes law rows f is book user made g valid form same none =
     (is.judged (stored_of user book) g (law book user valid) form)
     (later_none rows made (stored_of user book) g same none))
 
-pub judged_refused : BookStoredIsValid → (rows : List DimsRow) (f : Found) → IsFound rows f → (book : PlainBook) (user : List ℕ)
+pub judged_refused : BookStoredIsValid → (rows : List DimsRow) (f : Found) → IsJudged rows f → (book : PlainBook) (user : List ℕ)
     (made : List PlainStored) (g : PlainGraph) → IsBook book → IsValidGraph g → made ≡ stored_of user book
     → (refusal : graphs.Refusal) → IsFault (StandsWithCollections rows made g) refusal
     → Rejects (rejection_of_graph refusal) (faultless (f.judged (stored_of user book) g))
@@ -126,33 +126,33 @@ judged_refused law rows f is book user made g valid form same graph.OutOfMemory 
 pub graph_is : (d : Data) (g : PlainGraph) → IsGraphOf d g → g ≡ graph_in d
 graph_is d g is = is.built ∙ ap (λ o. graph_of (unwrap_or o no_members)) (sym is.is_main)
 
-pub value_passes : (rows : List DimsRow) (f : Found) → IsFound rows f → (d : Data) (g : PlainGraph) → IsGraphOf d g
+pub value_passes : (f : Found) → IsRead f → (d : Data) (g : PlainGraph) → IsGraphOf d g
     → IsFaultless (StandsIn d) → graph_where f d ≡ Ok g
-value_passes rows f is d g graph none =
+value_passes f is d g graph none =
     passes_on (StandsIn d) (f.in_value d) (λ sound. Ok (graph_in d)) (is.in_value d) none ∙ ap Ok (sym (graph_is d g graph))
 
-pub value_refused : (rows : List DimsRow) (f : Found) → IsFound rows f → (d : Data) (refusal : graphs.Refusal)
+pub value_refused : (f : Found) → IsRead f → (d : Data) (refusal : graphs.Refusal)
     → IsFault (StandsIn d) refusal → Rejects (rejection_of_graph refusal) (graph_where f d)
-value_refused rows f is d refusal fault =
+value_refused f is d refusal fault =
     hands_on (StandsIn d) (f.in_value d) (λ sound. Ok (graph_in d)) refusal (is.in_value d) fault
 
 -- the steps before it, over the value that was read
-pub graph_is_sent : (rows : List DimsRow) (f : Found) → IsFound rows f → (body : List ℕ) (json : Option Data)
+pub graph_is_sent : (f : Found) → IsRead f → (body : List ℕ) (json : Option Data)
     → IsJson body json → graph_sent f body ≡ graph_from f json
-graph_is_sent rows f is body json read =
+graph_is_sent f is body json read =
     ap (graph_from f) (one_json body (f.json body) json (is.json body) read)
 
-pub no_object_sent : (rows : List DimsRow) (f : Found) → IsFound rows f → (body : List ℕ) (json : Option Data) (e : Rejection)
+pub no_object_sent : (f : Found) → IsRead f → (body : List ℕ) (json : Option Data) (e : Rejection)
     → IsJson body json → Rejects e (object_in json) → Rejects e (graph_sent f body)
-no_object_sent rows f is body json e read h =
-    subst (Rejects e) (sym (graph_is_sent rows f is body json read))
+no_object_sent f is body json e read h =
+    subst (Rejects e) (sym (graph_is_sent f is body json read))
     (refuses_all e (object_in json) (λ sent. object_in (get (codes "process") sent) >>= λ process. graph_where f process) h)
 
-pub no_process_sent : (rows : List DimsRow) (f : Found) → IsFound rows f → (body : List ℕ) (json : Option Data) (sent : Data)
+pub no_process_sent : (f : Found) → IsRead f → (body : List ℕ) (json : Option Data) (sent : Data)
     (e : Rejection) → IsJson body json → object_in json ≡ Ok sent → Rejects e (object_in (get (codes "process") sent))
     → Rejects e (graph_sent f body)
-no_process_sent rows f is body json sent e read there h =
-    subst (Rejects e) (sym (graph_is_sent rows f is body json read))
+no_process_sent f is body json sent e read there h =
+    subst (Rejects e) (sym (graph_is_sent f is body json read))
     (rw there (refuses_all e (object_in (get (codes "process") sent)) (λ process. graph_where f process) h))
 
 -- ---- bytes that are validated
@@ -162,18 +162,18 @@ bytes_by : (found : Option Fault) (json : Option Data) (d : Data) (later : Plain
     → validated found (later (graph_in (unwrap_or json null))) ≡ Ok fault
 bytes_by found json d later g fault none is graph told = rw (none, is, sym graph, told) refl
 
-pub bytes_pass : BookStoredIsValid → (rows : List DimsRow) (f : Found) → IsFound rows f → (book : PlainBook) (user body : List ℕ)
+pub bytes_pass : BookStoredIsValid → (rows : List DimsRow) (f : Found) → IsRead f → IsJudged rows f → (book : PlainBook) (user body : List ℕ)
     (g : PlainGraph) (fault : Option Fault) → IsBook book → IsValidGraph g → Reads body g
     → IsLeastOf (StandsWithCollections rows (stored_of user book) g) fault
     → validated (f.in_bytes body) (f.judged (stored_of user book) (graph_in (unwrap_or (f.json body) null))) ≡ Ok fault
-bytes_pass law rows f is book user body g fault valid form reads least =
+bytes_pass law rows f read is book user body g fault valid form reads least =
     bytes_by (f.in_bytes body) (f.json body) reads.value (f.judged (stored_of user book)) g fault
-    (one_least (Stands body) (f.in_bytes body) None (is.in_bytes body) reads.valid)
-    (one_json body (f.json body) (Some reads.value) (is.json body) reads.is_read)
+    (one_least (Stands body) (f.in_bytes body) None (read.in_bytes body) reads.valid)
+    (one_json body (f.json body) (Some reads.value) (read.json body) reads.is_read)
     (graph_is reads.value g reads.is_graph)
     (one_least (StandsWithCollections rows (stored_of user book) g) (f.judged (stored_of user book) g) fault
     (is.judged (stored_of user book) g (law book user valid) form) least)
 
-pub bytes_refused : (rows : List DimsRow) (f : Found) → IsFound rows f → (body : List ℕ) (fault : Fault)
+pub bytes_refused : (f : Found) → IsRead f → (body : List ℕ) (fault : Fault)
     → IsLeast (Stands body) fault → f.in_bytes body ≡ Some fault
-bytes_refused rows f is body fault least = one_least (Stands body) (f.in_bytes body) (Some fault) (is.in_bytes body) least
+bytes_refused f is body fault least = one_least (Stands body) (f.in_bytes body) (Some fault) (is.in_bytes body) least

@@ -1,7 +1,9 @@
+mod AskedLemmas
 mod CommandLemmas
 mod FormLemmas
 mod FoundLemmas
 mod NamedLemmas
+mod PhraseLemmas
 mod QueryLemmas
 mod StoreLemmas
 mod TableLemmas

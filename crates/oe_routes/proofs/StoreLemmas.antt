@@ -22,11 +22,10 @@ use Rattle.oe_graph.specs.declared.fault.Fault.{Fault}
 use Rattle.oe_graph.specs.declared.fault.Refusal as graphs
 use Rattle.oe_jobs.specs.Valid.{IsStored, most_process}
 use Rattle.oe_routes.specs.Forms.{faultless, graph_in, object_in}
-use Rattle.oe_routes.specs.Found.{Found, IsFound, IsJson, IsLeastOf}
+use Rattle.oe_routes.specs.Found.{Found, IsJson, IsLeastOf, IsRead}
 use Rattle.oe_routes.specs.Rejections.{Rejects, rejection_of_graph, ◌>>=◌}
 use Rattle.oe_routes.specs.Tokens.{is_id}
 use Rattle.oe_routes.specs.declared.refusal.Rejection.{Rejection}
-use Rattle.oe_dims.specs.declared.dims.DimsRow.{DimsRow}
 use Rattle.oe_routes.specs.Sent.{process_from, process_sent, short, text_under, whole, with_id}
 use Rattle.oe_routes.proofs.FormLemmas.{object_is}
 use Rattle.oe_routes.proofs.CommandLemmas.{refuses_all}
@@ -194,7 +193,7 @@ not_whole id body json sent process fault e there least p h =
     not_whole_by id json sent fault e there (one_least (StandsStored body) fault None least p.valid) h
 
 -- the steps over what is found
-pub stored_is_sent : (rows : List DimsRow) (f : Found) → IsFound rows f → (id body : List ℕ) (json : Option Data)
+pub stored_is_sent : (f : Found) → IsRead f → (id body : List ℕ) (json : Option Data)
     → is_id id ≡ true → IsJson body json → process_from id json (f.in_stored body) ≡ process_sent f id body
-stored_is_sent rows f is id body json valid read =
+stored_is_sent f is id body json valid read =
     rw valid (ap (λ (j : Option Data). process_from id j (f.in_stored body)) (one_json body json (f.json body) read (is.json body)))

@@ -31,6 +31,7 @@ use Rattle.oe_replies.specs.Logs.{logs_data}
 use Rattle.oe_replies.specs.declared.code.ReplyCode.{ReplyCode}
 use Rattle.oe_replies.specs.declared.code.ReplyCode.TheVariants as code
 use Rattle.oe_routes.specs.Actions.{PlainAction, answer, commit, run_now, send_asset}
+use Rattle.oe_routes.specs.Asks.{asked_method}
 use Rattle.oe_routes.specs.Codes.{code_of_fault}
 use Rattle.oe_routes.specs.Forms.{faultless, graph_in}
 use Rattle.oe_routes.specs.Found.{Found}
@@ -39,7 +40,7 @@ use Rattle.oe_routes.specs.Queries.{logs_asked}
 use Rattle.oe_routes.specs.Rejections.{Rejected, reject, plainly, ◌>>=◌}
 use Rattle.oe_routes.specs.Scenes.{PlainScene}
 use Rattle.oe_routes.specs.Sent.{changes_sent, graph_sent, job_sent, process_sent, validated}
-use Rattle.oe_routes.specs.Table.{endpoint_of, find_method, find_path, routes}
+use Rattle.oe_routes.specs.Table.{endpoint_of, routes}
 use Rattle.oe_routes.specs.Users.{user_of}
 use Rattle.oe_routes.specs.declared.table.Operation.{Operation}
 use Rattle.oe_routes.specs.declared.table.Operation.TheVariants as ops
@@ -208,8 +209,7 @@ user_text user = unwrap_or user []
 
 abbrev pub done : PlainScene → Found → PlainRequest → Result PlainAction Rejected
 done s f r =
-    plainly (find_path r.path) >>= λ methods.
-    plainly (find_method methods r.method) >>= λ method.
+    plainly (asked_method r) >>= λ method.
     plainly (user_of s.tokens method.needs_user r.authorization) >>= λ user.
     perform s f (user_text user) r method.operation
 

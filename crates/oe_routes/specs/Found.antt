@@ -1,5 +1,5 @@
 -- What is found in bodies and graphs: the JSON values of bytes, and the least of the faults that stand in graphs.
-use Rattle.std.specs.Prelude.{◌≡◌, ℕ, List, codes, Option, Some, None}
+use Rattle.std.specs.Prelude.{◌≡◌, ℕ, Bool, true, List, codes, Option, Some, None}
 use Rattle.serde_json.specs.Data.{Data}
 use Rattle.serde_json.specs.Find.{get}
 use Rattle.oe_dims.specs.declared.dims.DimsRow.{DimsRow}
@@ -33,14 +33,26 @@ pub record Found : Type 0 where
   -- the least of the other faults of a graph that may call these stored processes
   pub judged : List PlainStored → PlainGraph → Option Fault
 
--- what is found over collections of these rows
-pub record IsFound (rows : List DimsRow) (f : Found) : Type 0 where
+-- what is found in bodies
+pub record IsRead (f : Found) : Type 0 where
   pub json : (bytes : List ℕ) → IsJson bytes (f.json bytes)
   pub in_value : (d : Data) → IsLeastOf (StandsIn d) (f.in_value d)
   pub in_bytes : (bytes : List ℕ) → IsLeastOf (Stands bytes) (f.in_bytes bytes)
   pub in_stored : (bytes : List ℕ) → IsLeastOf (StandsStored bytes) (f.in_stored bytes)
+
+-- what is judged over collections of these rows
+pub record IsJudged (rows : List DimsRow) (f : Found) : Type 0 where
   pub judged : (stored : List PlainStored) (g : PlainGraph) → AreValidStored stored → IsValidGraph g
       → IsLeastOf (StandsWithCollections rows stored g) (f.judged stored g)
+
+-- what is found for a request over collections of these rows: nothing is judged where it does not ask for the rows
+pub record IsFoundFor (rows : List DimsRow) (asks : Bool) (f : Found) : Type 0 where
+  pub read : IsRead f
+  pub judged : asks ≡ true → IsJudged rows f
+
+-- the same of a request that asks for the rows
+abbrev pub IsFound : List DimsRow → Found → Type 0
+IsFound rows f = IsFoundFor rows true f
 
 -- ---- the member `process` of a body
 

@@ -2,6 +2,7 @@ pub mod Codes
 pub mod Steps
 pub mod Rejections
 pub mod Table
+pub mod Asks
 pub mod Paths
 pub mod Tokens
 pub mod Users
@@ -13,3 +14,5 @@ pub mod Sent
 pub mod Scenes
 pub mod Actions
 pub mod Answers
+pub mod Performs
+pub mod Laws

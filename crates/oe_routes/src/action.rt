@@ -7,17 +7,18 @@ ghost use Rattle.oe_http.specs.Plain.{plain_request};
 ghost use Rattle.oe_http.specs.Replies.{plain_response};
 ghost use Rattle.oe_jobs.specs.Plain.{plain_book};
 ghost use Rattle.oe_jobs.specs.Valid.{IsBook};
-ghost use Rattle.oe_replies.specs.Answers.{refused_reply as refused};
-ghost use Rattle.oe_routes.specs.Actions.{MayBeDone, plain_action};
+ghost use Rattle.oe_replies.specs.Answers.{refused_reply as refused_reply_of};
+ghost use Rattle.oe_routes.specs.Actions.{HasPhrase, MayBeDone, plain_action};
 ghost use Rattle.oe_routes.specs.Answers as spec;
-ghost use Rattle.oe_routes.specs.Found.{Found, IsFound};
+ghost use Rattle.oe_routes.specs.Asks.{asks_for_rows};
+ghost use Rattle.oe_routes.specs.Found.{Found, IsFoundFor};
 ghost use Rattle.oe_routes.specs.Rejections.{Settles, of_fault};
 ghost use Rattle.oe_routes.specs.Scenes.{plain_scene, scene_of};
 
+use crate::asks::asked_method;
 use crate::perform::perform;
 use crate::refusal::Rejection;
 use crate::site::Site;
-use crate::table::{find_method, find_path};
 use crate::user::user_of;
 use oe_dims::{Dims, Text};
 use oe_graph::Fault;
@@ -53,7 +54,8 @@ pub(crate) struct Scene<'a> {
 /// 1970-01-01T00:00:00Z. The book stays as it is.
 ///
 /// A refused request is answered with the first code that stands: of its path, its method, its authorization, the form
-/// of its body or its query, the thing that it names, and the command. Refuses: out of memory.
+/// of its body or its query, the thing that it names, and the command. Only a request that asks for the rows
+/// ([`asks_for_rows`](crate::asks_for_rows)) is answered by those of `dims`. Refuses: out of memory.
 pub fn route(
     alloc: Global,
     request: &Request,
@@ -65,13 +67,16 @@ pub fn route(
     requires book { IsBook (plain_book book.now) }
     requires moment { IsInstant now }
 
-    // Whatever is found in its body and its graphs, the answer is that of the definition.
-    ensures answer { IfOk result (λ action. (f : Found) → IsFound (plain_rows dims.now) f
+    // Whatever is found in its body and, where it asks for the rows, in its graphs, the answer is the definition's.
+    ensures answer { IfOk result (λ action. (f : Found)
+        → IsFoundFor (plain_rows dims.now) (asks_for_rows (plain_request request.now)) f
         → plain_action (plain_book book.now) action ≡ spec.answer_of
         (scene_of site.now dims.now book.now now) f (plain_request request.now)) }
 
-    // A valid book stays valid, and an asset that is to be sent is there.
-    ensures valid { IfOk result (MayBeDone (plain_book book.now)) }
+    // A reply can be written, a change is that of a command, a valid book stays valid, a graph to be run was checked
+    // over these rows, for a request that asks for them, and an asset to be sent is there.
+    ensures valid { IfOk result (MayBeDone (scene_of site.now dims.now book.now now)
+        (asks_for_rows (plain_request request.now))) }
 {
     answer_of(
         alloc,
@@ -88,37 +93,49 @@ pub fn route(
 fn answer_of(alloc: Global, request: &Request, scene: Scene) -> Result<Action, OutOfMemory>
     requires book { IsBook (plain_book scene.book.now) }
     requires moment { IsInstant scene.moment }
-    ensures answer { IfOk result (λ action. (f : Found) → IsFound (plain_rows scene.entry.dims.now) f
+    ensures answer { IfOk result (λ action. (f : Found)
+        → IsFoundFor (plain_rows scene.entry.dims.now) (asks_for_rows (plain_request request.now)) f
         → plain_action (plain_book scene.entry.book.now) action
         ≡ spec.answer_of (plain_scene scene.entry) f (plain_request request.now)) }
-    ensures valid { IfOk result (MayBeDone (plain_book scene.entry.book.now)) }
+    ensures valid { IfOk result
+        (MayBeDone (plain_scene scene.entry) (asks_for_rows (plain_request request.now))) }
 {
     match done(alloc, request, scene) {
         Ok(action) => Ok(action),
-        Err(Rejection::Code(code)) => Ok(Action::Answer(refused_reply(alloc, code, "")?)),
+        Err(Rejection::Code(code)) => Ok(Action::Answer(refused(alloc, code, "")?)),
         Err(Rejection::Fault(fault)) => Ok(Action::Answer(fault_reply(alloc, &fault)?)),
         Err(Rejection::OutOfMemory) => Err(OutOfMemory),
     }
 }
 
 fn fault_reply(alloc: Global, fault: &Fault) -> Result<Response, OutOfMemory>
-    ensures { IfOk result (λ r. plain_response r
-        ≡ refused (of_fault fault.now).code (of_fault fault.now).node) }
+    ensures reply { IfOk result (λ r. plain_response r
+        ≡ refused_reply_of (of_fault fault.now).code (of_fault fault.now).node) }
+    ensures phrase { IfOk result HasPhrase }
 {
-    refused_reply(alloc, ReplyCode::Graph(fault.code), fault.node.as_str())
+    refused(alloc, ReplyCode::Graph(fault.code), fault.node.as_str())
+}
+
+/// The reply to a refused request.
+fn refused(alloc: Global, code: ReplyCode, detail: &str) -> Result<Response, OutOfMemory>
+    ensures reply { IfOk result (λ r. plain_response r ≡ refused_reply_of code detail.now) }
+    ensures phrase { IfOk result HasPhrase }
+{
+    refused_reply(alloc, code, detail)
 }
 
 /// What is done for a request, or why it is refused.
 fn done(alloc: Global, request: &Request, scene: Scene) -> Result<Action, Rejection>
     requires book { IsBook (plain_book scene.book.now) }
     requires moment { IsInstant scene.moment }
-    ensures answer { (f : Found) → IsFound (plain_rows scene.entry.dims.now) f
+    ensures answer { (f : Found)
+        → IsFoundFor (plain_rows scene.entry.dims.now) (asks_for_rows (plain_request request.now)) f
         → Settles (plain_action (plain_book scene.entry.book.now)) result
         (spec.done (plain_scene scene.entry) f (plain_request request.now)) }
-    ensures valid { IfOk result (MayBeDone (plain_book scene.entry.book.now)) }
+    ensures valid { IfOk result
+        (MayBeDone (plain_scene scene.entry) (asks_for_rows (plain_request request.now))) }
 {
-    let methods = find_path(alloc, request.path.as_str())?;
-    let method = find_method(methods, request.method.as_str())?;
+    let method = asked_method(alloc, request)?;
     let user = user_of(
         scene.site.tokens.entries(),
         method.2,

@@ -1,5 +1,5 @@
 // What the commands of users are answered.
-ghost use Rattle.std.specs.Prelude.{◌≡◌, IfOk};
+ghost use Rattle.std.specs.Prelude.{◌≡◌, Bool, IfOk, false};
 ghost use Rattle.oe_dims.specs.Instant.{IsInstant};
 ghost use Rattle.oe_http.specs.Plain.{plain_request};
 ghost use Rattle.oe_http.specs.Replies.{plain_response};
@@ -7,8 +7,8 @@ ghost use Rattle.oe_jobs.specs.Plain.{plain_book, plain_command};
 ghost use Rattle.oe_jobs.specs.Valid.{IsBook, IsCommand};
 ghost use Rattle.oe_routes.specs.Actions.{MayBeDone, plain_action};
 ghost use Rattle.oe_routes.specs.Answers as spec;
-ghost use Rattle.oe_routes.specs.Found.{Found, IsFound};
 ghost use Rattle.oe_routes.specs.Paths as path;
+ghost use Rattle.oe_routes.specs.Performs.{Performs};
 ghost use Rattle.oe_routes.specs.Rejections.{Settles};
 ghost use Rattle.oe_routes.specs.Scenes.{plain_scene};
 ghost use Rattle.oe_routes.specs.declared.table.Operation.TheVariants as ops;
@@ -48,7 +48,7 @@ pub(crate) fn command_action(
     requires moment { IsInstant scene.moment }
     ensures answer { Settles (plain_action (plain_book scene.entry.book.now)) result
         (spec.commanded (plain_scene scene.entry) user.now (plain_command command)) }
-    ensures valid { IfOk result (MayBeDone (plain_book scene.entry.book.now)) }
+    ensures valid { (asks : Bool) → IfOk result (MayBeDone (plain_scene scene.entry) asks) }
 {
     let Verdict { change, outcome } = decide(alloc, scene.book, user, &command, scene.moment)?;
     let response = reply_to(alloc, scene.site.base.as_str(), &command, &outcome)?;
@@ -92,10 +92,9 @@ pub(crate) fn create_action(
 ) -> Result<Action, Rejection>
     requires book { IsBook (plain_book scene.book.now) }
     requires moment { IsInstant scene.moment }
-    ensures answer { (f : Found) → IsFound (plain_scene scene.entry).rows f
-        → Settles (plain_action (plain_book scene.entry.book.now)) result
-        (spec.perform (plain_scene scene.entry) f user.now (plain_request request.now) ops.CreateJob) }
-    ensures valid { IfOk result (MayBeDone (plain_book scene.entry.book.now)) }
+    ensures answer { Performs (plain_scene scene.entry) user.now (plain_request request.now)
+        ops.CreateJob result }
+    ensures valid { IfOk result (MayBeDone (plain_scene scene.entry) false) }
 {
     let job = job_sent(alloc, &request.body)?;
     let command = Command::Create {
@@ -115,10 +114,9 @@ pub(crate) fn patch_action(
 ) -> Result<Action, Rejection>
     requires book { IsBook (plain_book scene.book.now) }
     requires moment { IsInstant scene.moment }
-    ensures answer { (f : Found) → IsFound (plain_scene scene.entry).rows f
-        → Settles (plain_action (plain_book scene.entry.book.now)) result
-        (spec.perform (plain_scene scene.entry) f user.now (plain_request request.now) ops.PatchJob) }
-    ensures valid { IfOk result (MayBeDone (plain_book scene.entry.book.now)) }
+    ensures answer { Performs (plain_scene scene.entry) user.now (plain_request request.now)
+        ops.PatchJob result }
+    ensures valid { IfOk result (MayBeDone (plain_scene scene.entry) false) }
 {
     let Changes { fields, process } = changes_sent(alloc, &request.body)?;
     let Fields {
@@ -144,11 +142,9 @@ pub(crate) fn store_action(
 ) -> Result<Action, Rejection>
     requires book { IsBook (plain_book scene.book.now) }
     requires moment { IsInstant scene.moment }
-    ensures answer { (f : Found) → IsFound (plain_scene scene.entry).rows f
-        → Settles (plain_action (plain_book scene.entry.book.now)) result
-        (spec.perform (plain_scene scene.entry) f user.now (plain_request request.now)
-        ops.StoreProcess) }
-    ensures valid { IfOk result (MayBeDone (plain_book scene.entry.book.now)) }
+    ensures answer { Performs (plain_scene scene.entry) user.now (plain_request request.now)
+        ops.StoreProcess result }
+    ensures valid { IfOk result (MayBeDone (plain_scene scene.entry) false) }
 {
     let process = process_sent(alloc, id_in(request.path.as_str()), &request.body)?;
     command_action(alloc, user, Command::Store { process }, scene)
@@ -162,9 +158,9 @@ pub(crate) fn delete_action(
 ) -> Result<Action, Rejection>
     requires book { IsBook (plain_book scene.book.now) }
     requires moment { IsInstant scene.moment }
-    ensures answer { (f : Found) → Settles (plain_action (plain_book scene.entry.book.now)) result
-        (spec.perform (plain_scene scene.entry) f user.now (plain_request request.now) ops.DeleteJob) }
-    ensures valid { IfOk result (MayBeDone (plain_book scene.entry.book.now)) }
+    ensures answer { Performs (plain_scene scene.entry) user.now (plain_request request.now)
+        ops.DeleteJob result }
+    ensures valid { IfOk result (MayBeDone (plain_scene scene.entry) false) }
 {
     let id = id_of(alloc, request)?;
     command_action(alloc, user, Command::Delete { id }, scene)
@@ -178,9 +174,9 @@ pub(crate) fn cancel_action(
 ) -> Result<Action, Rejection>
     requires book { IsBook (plain_book scene.book.now) }
     requires moment { IsInstant scene.moment }
-    ensures answer { (f : Found) → Settles (plain_action (plain_book scene.entry.book.now)) result
-        (spec.perform (plain_scene scene.entry) f user.now (plain_request request.now) ops.CancelJob) }
-    ensures valid { IfOk result (MayBeDone (plain_book scene.entry.book.now)) }
+    ensures answer { Performs (plain_scene scene.entry) user.now (plain_request request.now)
+        ops.CancelJob result }
+    ensures valid { IfOk result (MayBeDone (plain_scene scene.entry) false) }
 {
     let id = id_of(alloc, request)?;
     command_action(alloc, user, Command::Cancel { id }, scene)
@@ -194,10 +190,9 @@ pub(crate) fn forget_action(
 ) -> Result<Action, Rejection>
     requires book { IsBook (plain_book scene.book.now) }
     requires moment { IsInstant scene.moment }
-    ensures answer { (f : Found) → Settles (plain_action (plain_book scene.entry.book.now)) result
-        (spec.perform (plain_scene scene.entry) f user.now (plain_request request.now)
-        ops.ForgetProcess) }
-    ensures valid { IfOk result (MayBeDone (plain_book scene.entry.book.now)) }
+    ensures answer { Performs (plain_scene scene.entry) user.now (plain_request request.now)
+        ops.ForgetProcess result }
+    ensures valid { IfOk result (MayBeDone (plain_scene scene.entry) false) }
 {
     let id = id_of(alloc, request)?;
     command_action(alloc, user, Command::Forget { id }, scene)

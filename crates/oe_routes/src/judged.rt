@@ -1,5 +1,5 @@
 // Graphs that are judged with the stored processes of a user.
-ghost use Rattle.std.specs.Prelude.{◌≡◌, IfOk, Option, Some, unwrap_or};
+ghost use Rattle.std.specs.Prelude.{◌≡◌, IfOk, Option, Some, true, unwrap_or};
 ghost use Rattle.serde_json.specs.Data.{null};
 ghost use Rattle.oe_dims.specs.Instant.{IsInstant};
 ghost use Rattle.oe_dims.specs.Plain.{plain_rows};
@@ -11,10 +11,11 @@ ghost use Rattle.oe_jobs.specs.Plain.{plain_book, plain_job};
 ghost use Rattle.oe_jobs.specs.Valid.{IsBook, IsProcessText};
 ghost use Rattle.oe_jobs.specs.Verdicts.{stored_of};
 ghost use Rattle.oe_judge.specs.Judged.{StandsWithCollections, checked_over};
-ghost use Rattle.oe_routes.specs.Actions.{MayBeDone, answer, plain_action, run_now};
+ghost use Rattle.oe_routes.specs.Actions.{HasPhrase, MayBeDone, answer};
 ghost use Rattle.oe_routes.specs.Answers as spec;
 ghost use Rattle.oe_routes.specs.Forms.{graph_in};
-ghost use Rattle.oe_routes.specs.Found.{Found, IsFound, IsLeastOf};
+ghost use Rattle.oe_routes.specs.Found.{Found, IsFound, IsJudged, IsLeastOf};
+ghost use Rattle.oe_routes.specs.Performs.{Performs};
 ghost use Rattle.oe_routes.specs.Rejections.{Settles};
 ghost use Rattle.oe_routes.specs.Scenes.{plain_scene};
 ghost use Rattle.oe_routes.specs.Sent as sent;
@@ -26,6 +27,7 @@ use crate::named::named_job;
 use crate::path::id_in;
 use crate::refusal::Rejection;
 use crate::sent::graph_sent;
+use crate::shown::shown;
 use oe_book::{assets_of, stored_is_valid};
 use oe_dims::Text;
 use oe_graph::{Fault, Graph, Refusal as GraphRefusal, read_graph};
@@ -33,7 +35,7 @@ use oe_http::{Request, Response};
 use oe_jobs::{Command, Job};
 use oe_judge::judge;
 use oe_memory::OutOfMemory;
-use oe_replies::{ReplyCode, json_reply, validation_body};
+use oe_replies::{ReplyCode, validation_body};
 use oe_shape::Checked;
 use std::alloc::Global;
 
@@ -47,30 +49,32 @@ const MOST_ASSETS: usize = 4;
 fn judged(alloc: Global, graph: &Graph, user: &Text, scene: Scene) -> Result<Checked, Rejection>
     requires book { IsBook (plain_book scene.book.now) }
     requires graph { IsValidGraph (plain_graph graph.now) }
-    ensures sound { (f : Found) → IsFound (plain_rows scene.entry.dims.now) f
+    ensures sound { (f : Found) → IsJudged (plain_rows scene.entry.dims.now) f
         → Settles (λ c. tt) result
         (spec.sound (plain_scene scene.entry) f user.now (plain_graph graph.now)) }
     ensures checked { IfOk result (λ c. c ≡ checked_over (plain_rows scene.entry.dims.now)
         (stored_of user.now (plain_book scene.entry.book.now)) (plain_graph graph.now)) }
+    ensures rows { IfOk result (λ c. c.rows ≡ plain_rows scene.entry.dims.now) }
 {
     stored_is_valid();
     let stored = scene.book.stored_of(alloc, user)?;
     Ok(judge(alloc, graph, &stored, scene.dims)?)
 }
 
-/// The graph of a body, to be run at once.
-pub(crate) fn graph_to_run(
+/// Has the graph of a body run at once.
+pub(crate) fn run_action(
     alloc: Global,
     request: &Request,
     user: &Text,
     scene: Scene,
-) -> Result<Checked, Rejection>
+) -> Result<Action, Rejection>
     requires { IsBook (plain_book scene.book.now) }
-    ensures { (f : Found) → IsFound (plain_rows scene.entry.dims.now) f → Settles (λ c. run_now c) result
-        (spec.perform (plain_scene scene.entry) f user.now (plain_request request.now) ops.RunNow) }
+    ensures answer { Performs (plain_scene scene.entry) user.now (plain_request request.now)
+        ops.RunNow result }
+    ensures valid { IfOk result (MayBeDone (plain_scene scene.entry) true) }
 {
     let graph = graph_sent(alloc, &request.body)?;
-    judged(alloc, &graph, user, scene)
+    Ok(Action::RunNow(judged(alloc, &graph, user, scene)?))
 }
 
 /// What is told of a graph that is validated.
@@ -81,12 +85,14 @@ pub(crate) fn validation_reply(
     scene: Scene,
 ) -> Result<Response, Rejection>
     requires { IsBook (plain_book scene.book.now) }
-    ensures { (f : Found) → IsFound (plain_rows scene.entry.dims.now) f
+    ensures reply { (f : Found) → IsFound (plain_rows scene.entry.dims.now) f
         → Settles (λ r. answer (plain_response r)) result
-        (spec.perform (plain_scene scene.entry) f user.now (plain_request request.now) ops.Validate) }
+        (spec.perform (plain_scene scene.entry) f user.now (plain_request request.now)
+        ops.Validate) }
+    ensures phrase { IfOk result HasPhrase }
 {
     let fault = sent_fault(alloc, &request.body, user, scene)?;
-    Ok(json_reply(200, validation_body(alloc, &fault)?))
+    Ok(shown(validation_body(alloc, &fault)?))
 }
 
 /// The fault that is told of bytes that are validated.
@@ -158,10 +164,9 @@ pub(crate) fn queue_action(
 ) -> Result<Action, Rejection>
     requires book { IsBook (plain_book scene.book.now) }
     requires moment { IsInstant scene.moment }
-    ensures answer { (f : Found) → IsFound (plain_rows scene.entry.dims.now) f
-        → Settles (plain_action (plain_book scene.entry.book.now)) result
-        (spec.perform (plain_scene scene.entry) f user.now (plain_request request.now) ops.QueueJob) }
-    ensures valid { IfOk result (MayBeDone (plain_book scene.entry.book.now)) }
+    ensures answer { Performs (plain_scene scene.entry) user.now (plain_request request.now)
+        ops.QueueJob result }
+    ensures valid { IfOk result (MayBeDone (plain_scene scene.entry) true) }
 {
     let job = named_job(scene.book, user, id_in(request.path.as_str()))?;
     may_queue(alloc, job, user, scene)?;
@@ -173,7 +178,7 @@ pub(crate) fn queue_action(
 fn may_queue(alloc: Global, job: &Job, user: &Text, scene: Scene) -> Result<(), Rejection>
     requires book { IsBook (plain_book scene.book.now) }
     requires process { IsProcessText job.now.process }
-    ensures { (f : Found) → IsFound (plain_rows scene.entry.dims.now) f → Settles (λ u. u) result
+    ensures { (f : Found) → IsJudged (plain_rows scene.entry.dims.now) f → Settles (λ u. u) result
         (spec.may_queue (plain_scene scene.entry) f user.now (plain_job job.now)) }
 {
     if job.status.is_busy() {

@@ -7,11 +7,13 @@
 #![tactic(auto)]
 
 mod action;
+mod asks;
 mod code;
 mod command;
 mod fields;
 mod form;
 mod judged;
+mod laws;
 mod named;
 mod path;
 mod perform;
@@ -27,9 +29,11 @@ mod tokens;
 mod user;
 
 pub use action::{Action, route};
+pub use asks::asks_for_rows;
 pub use code::{code_of_fault, code_of_refusal};
 pub use fields::{Fields, fields_in, level_in, words_in};
 pub use form::{Changes, NewJob, job_changes, new_job, object_in, object_where, read_json};
+pub use laws::answers_without_rows;
 pub use path::{id_in, name_in};
 pub use query::logs_asked;
 pub use refusal::{Refusal, Rejection};

@@ -1,11 +1,12 @@
 // The results of a job, which its status allows.
-ghost use Rattle.std.specs.Prelude.{◌≡◌, IfOk};
+ghost use Rattle.std.specs.Prelude.{◌≡◌, IfOk, false};
 ghost use Rattle.oe_http.specs.Plain.{plain_request};
 ghost use Rattle.oe_http.specs.Replies.{plain_response};
-ghost use Rattle.oe_jobs.specs.Plain.{plain_book, plain_job};
-ghost use Rattle.oe_routes.specs.Actions.{MayBeDone, answer, plain_action};
+ghost use Rattle.oe_jobs.specs.Plain.{plain_job};
+ghost use Rattle.oe_routes.specs.Actions.{HasPhrase, MayBeDone, answer};
 ghost use Rattle.oe_routes.specs.Answers as spec;
 ghost use Rattle.oe_routes.specs.Found.{Found};
+ghost use Rattle.oe_routes.specs.Performs.{Performs};
 ghost use Rattle.oe_routes.specs.Rejections.{Settles};
 ghost use Rattle.oe_routes.specs.Scenes.{plain_scene};
 ghost use Rattle.oe_routes.specs.declared.table.Operation.TheVariants as ops;
@@ -14,11 +15,12 @@ use crate::action::{Action, Scene};
 use crate::named::{index_of_asset, index_of_job, named_job};
 use crate::path::{id_in, name_in};
 use crate::refusal::Rejection;
+use crate::shown::shown;
 use oe_dims::Text;
 use oe_http::{Request, Response};
 use oe_jobs::{Job, LogEntry, Status};
 use oe_memory::OutOfMemory;
-use oe_replies::{ReplyCode, failed_reply, json_reply, results_body};
+use oe_replies::{ReplyCode, failed_reply, results_body};
 use std::alloc::Global;
 
 /// The assets of the job that a request names.
@@ -28,9 +30,10 @@ pub(crate) fn results_reply(
     user: &Text,
     scene: Scene,
 ) -> Result<Response, Rejection>
-    ensures { (f : Found) → Settles (λ r. answer (plain_response r)) result
+    ensures reply { (f : Found) → Settles (λ r. answer (plain_response r)) result
         (spec.perform (plain_scene scene.entry) f user.now (plain_request request.now)
         ops.ShowResults) }
+    ensures phrase { IfOk result HasPhrase }
 {
     let id = id_in(request.path.as_str());
     let job = named_job(scene.book, user, id)?;
@@ -38,7 +41,7 @@ pub(crate) fn results_reply(
         return Ok(failure(alloc, job)?);
     }
     let base = scene.site.base.as_str();
-    Ok(json_reply(200, results_body(alloc, base, id, &job.assets)?))
+    Ok(shown(results_body(alloc, base, id, &job.assets)?))
 }
 
 /// The asset that a request names.
@@ -49,9 +52,9 @@ pub(crate) fn asset_action(
     user: &Text,
     scene: Scene,
 ) -> Result<Action, Rejection>
-    ensures answer { (f : Found) → Settles (plain_action (plain_book scene.entry.book.now)) result
-        (spec.perform (plain_scene scene.entry) f user.now (plain_request request.now) ops.SendAsset) }
-    ensures valid { IfOk result (MayBeDone (plain_book scene.entry.book.now)) }
+    ensures answer { Performs (plain_scene scene.entry) user.now (plain_request request.now)
+        ops.SendAsset result }
+    ensures valid { IfOk result (MayBeDone (plain_scene scene.entry) false) }
 {
     let id = id_in(request.path.as_str());
     let job = named_job(scene.book, user, id)?;
@@ -79,8 +82,9 @@ fn has_results(status: Status) -> Result<bool, Rejection>
 
 /// What a failed job is answered with in place of its results.
 fn failure(alloc: Global, job: &Job) -> Result<Response, OutOfMemory>
-    ensures { IfOk result
+    ensures reply { IfOk result
         (λ r. answer (plain_response r) ≡ spec.failed (plain_job job.now)) }
+    ensures phrase { IfOk result HasPhrase }
 {
     failed_reply(alloc, error_code(&job.logs))
 }

@@ -1,14 +1,13 @@
 // What the bodies of requests bring as a job or as a graph to be run at once.
-ghost use Rattle.std.specs.Prelude.{◌≡◌, IfOk, List, true};
+ghost use Rattle.std.specs.Prelude.{◌≡◌, IfOk, true};
 ghost use Rattle.std.specs.Option.{option_map};
 ghost use Rattle.serde_json.specs.View.{view};
-ghost use Rattle.oe_dims.specs.declared.dims.DimsRow.{DimsRow};
 ghost use Rattle.oe_graph.specs.AsRead.{is_as_read};
 ghost use Rattle.oe_graph.specs.Form.{StandsIn};
 ghost use Rattle.oe_graph.specs.Plain.{plain_graph};
 ghost use Rattle.oe_graph.specs.Valid.{IsValidGraph};
 ghost use Rattle.oe_routes.specs.Forms.{AreChanges, IsNewJob};
-ghost use Rattle.oe_routes.specs.Found.{Found, IsFaultWhere, IsFound, IsLeastOf, process_in};
+ghost use Rattle.oe_routes.specs.Found.{Found, IsFaultWhere, IsLeastOf, IsRead, process_in};
 ghost use Rattle.oe_routes.specs.Rejections.{Settles};
 ghost use Rattle.oe_routes.specs.Sent as spec;
 
@@ -24,7 +23,7 @@ use std::alloc::Global;
 /// Refuses: as [`new_job`]; out of memory.
 #[tactic(auto, using(crate::proofs::FoundLemmas::job_is_sent, crate::proofs::FoundLemmas::is_sent))]
 pub(crate) fn job_sent(alloc: Global, body: &[u8]) -> Result<NewJob, Rejection>
-    ensures answer { (rows : List DimsRow) (f : Found) → IsFound rows f
+    ensures answer { (f : Found) → IsRead f
         → Settles (λ job. job) result (spec.job_sent f body.now) }
     ensures valid { IfOk result IsNewJob }
 {
@@ -38,7 +37,7 @@ pub(crate) fn job_sent(alloc: Global, body: &[u8]) -> Result<NewJob, Rejection>
 /// Refuses: as [`job_changes`]; out of memory.
 #[tactic(auto, using(crate::proofs::FoundLemmas::changes_are_sent, crate::proofs::FoundLemmas::is_sent))]
 pub(crate) fn changes_sent(alloc: Global, body: &[u8]) -> Result<Changes, Rejection>
-    ensures answer { (rows : List DimsRow) (f : Found) → IsFound rows f
+    ensures answer { (f : Found) → IsRead f
         → Settles (λ changes. changes) result (spec.changes_sent f body.now) }
     ensures valid { IfOk result AreChanges }
 {
@@ -78,7 +77,7 @@ fn form_fault(alloc: Global, value: &Value) -> Result<Option<Fault>, OutOfMemory
 /// memory.
 #[tactic(auto, using(crate::proofs::FoundLemmas::graph_is_sent, crate::proofs::FormLemmas::process_as_read))]
 pub(crate) fn graph_sent(alloc: Global, body: &[u8]) -> Result<Graph, Rejection>
-    ensures answer { (rows : List DimsRow) (f : Found) → IsFound rows f
+    ensures answer { (f : Found) → IsRead f
         → Settles plain_graph result (spec.graph_sent f body.now) }
     ensures valid { IfOk result (λ graph. IsValidGraph (plain_graph graph)) }
 {
@@ -91,7 +90,7 @@ pub(crate) fn graph_sent(alloc: Global, body: &[u8]) -> Result<Graph, Rejection>
 /// The graph that a value is.
 #[tactic(auto, using(crate::proofs::FoundLemmas::value_passes, crate::proofs::FoundLemmas::value_refused, crate::proofs::FormLemmas::printable_is_valid))]
 fn graph_of(alloc: Global, process: &Value) -> Result<Graph, Rejection>
-    ensures answer { (rows : List DimsRow) (f : Found) → IsFound rows f
+    ensures answer { (f : Found) → IsRead f
         → Settles plain_graph result (spec.graph_where f (view process.now)) }
     ensures valid { IfOk result (λ graph. is_as_read (view process.now) ≡ true
         → IsValidGraph (plain_graph graph)) }

@@ -1,17 +1,16 @@
 // A process that is sent to be stored.
-ghost use Rattle.std.specs.Prelude.{◌≡◌, ◌≤◌, IfOk, IfSome, List, Option, Some, false, length};
+ghost use Rattle.std.specs.Prelude.{◌≡◌, ◌≤◌, IfOk, IfSome, Option, Some, false, length};
 ghost use Rattle.std.specs.Option.{option_map};
 ghost use Rattle.serde_json.specs.Data.{depth, object};
 ghost use Rattle.serde_json.specs.Read.{max_depth};
 ghost use Rattle.serde_json.specs.View.{members_view, view};
 ghost use Rattle.serde_json.specs.Written.{compact_text, has_float};
-ghost use Rattle.oe_dims.specs.declared.dims.DimsRow.{DimsRow};
 ghost use Rattle.oe_graph.specs.Form.{IsReading};
 ghost use Rattle.oe_graph.specs.Parameters.{StandsStored};
 ghost use Rattle.oe_graph.specs.Plain.{plain_stored};
 ghost use Rattle.oe_graph.specs.declared.fault.Fault.{Fault};
 ghost use Rattle.oe_jobs.specs.Valid.{IsStored, most_process};
-ghost use Rattle.oe_routes.specs.Found.{Found, IsFound, IsJson, IsLeastOf};
+ghost use Rattle.oe_routes.specs.Found.{Found, IsJson, IsLeastOf, IsRead};
 ghost use Rattle.oe_routes.specs.Rejections.{Settles};
 ghost use Rattle.oe_routes.specs.Sent as spec;
 
@@ -36,7 +35,7 @@ const MOST_PROCESS: usize = 65536;
 /// object; the least fault of the body as a stored process; `NumberUnsupported` where a number of it is not whole;
 /// `ProcessTooLong` where the text is over 65536 bytes: the first that stands; out of memory.
 pub(crate) fn process_sent(alloc: Global, id: &str, body: &[u8]) -> Result<StoredProcess, Rejection>
-    ensures answer { (rows : List DimsRow) (f : Found) → IsFound rows f
+    ensures answer { (f : Found) → IsRead f
         → Settles plain_stored result (spec.process_sent f id.now body.now) }
     ensures valid { IfOk result (λ process. IsStored (plain_stored process)) }
 {

@@ -1,4 +1,4 @@
-use Rattle.std.proofs.Common.{◌≡◌, ℕ, List, Ok, ap, ◌∙◌, subst}
+use Rattle.std.proofs.Common.{◌≡◌, ℕ, List, Ok, true, refl, ap, ◌∙◌, subst}
 use Rattle.oe_http.specs.Plain.{plain_request}
 use Rattle.oe_jobs.specs.Plain.{plain_book, plain_job}
 use Rattle.oe_routes.specs.Actions.{plain_action}
@@ -27,4 +27,7 @@ returns-in_err-may_queue-clause-answer c = λ f is.
     (queue_refused s f c.args.user.now r job e
     (subst (λ (i : List ℕ). spec.named_job book c.args.user.now i ≡ Ok job) (c.id_in.ensures ∙ ap id_in c.as_str.ensures)
     c.in_ok-job.ensures)
-    (c.in_err-may_queue.ensures f is))
+    (c.in_err-may_queue.ensures f (is.judged refl)))
+
+pub returns-clause-valid : goal.returns-clause-valid
+returns-clause-valid c = c.command_action.ensures.valid true

@@ -1,4 +1,4 @@
-use Rattle.std.proofs.Common.{Option, sym, subst}
+use Rattle.std.proofs.Common.{Option, refl, sym, subst}
 use Rattle.serde_json.specs.Data.{null}
 use Rattle.std.specs.Prelude.{unwrap_or}
 use Rattle.oe_dims.specs.Plain.{plain_rows}
@@ -16,7 +16,7 @@ use Rattle.oe_routes.proofs.judged.sent_fault.Goals as goal
 
 pub returns-in_ok-later_fault-in-Ok : goal.returns-in_ok-later_fault-in-Ok
 returns-in_ok-later_fault-in-Ok c = λ f is.
-    bytes_pass c.stored_is_valid.ensures.book (plain_rows c.args.scene.dims.now) f is (plain_book c.args.scene.book.now)
+    bytes_pass c.stored_is_valid.ensures.book (plain_rows c.args.scene.dims.now) f is.read (is.judged refl) (plain_book c.args.scene.book.now)
     c.args.user.now c.args.body.now (plain_graph c.in-Ok.graph) c.in_ok-later_fault-in-Ok.field-0 c.requires
     c.in-Ok.ensures.valid c.in-Ok.ensures.graph c.in_ok-later_fault-in-Ok.ensures
 
@@ -26,6 +26,6 @@ returns-in-Err-Fault c = λ f is.
     (graph_in (unwrap_or (f.json c.args.body.now) null)) in
     let told = rw c.in-Err-Fault.field-0-is at (c.form_fault.ensures later) in
     subst (λ (o : Option Fault). Settles (λ (x : Option Fault). x) c.form_fault.result (spec.validated o later))
-    (sym (bytes_refused (plain_rows c.args.scene.dims.now) f is c.args.body.now c.in-Err-Fault.fault
+    (sym (bytes_refused f is.read c.args.body.now c.in-Err-Fault.fault
     (subst (IsFault (Stands c.args.body.now)) c.in-Err-Fault.field-0-is c.in-Err-Fault.ensures.refused)))
     told

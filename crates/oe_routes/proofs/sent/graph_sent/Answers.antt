@@ -16,21 +16,21 @@ use Rattle.oe_routes.proofs.FoundLemmas.{no_object_sent, no_process_sent}
 use Rattle.oe_routes.proofs.sent.graph_sent.Goals as goal
 
 pub returns-in_err-sent-clause-answer : goal.returns-in_err-sent-clause-answer
-returns-in_err-sent-clause-answer c = λ rows f is.
+returns-in_err-sent-clause-answer c = λ f is.
     let body = c.args.body.now in
     let same = same_view c.as_ref.result c.in_ok-json.json c.as_ref.ensures.value in
     handed_on plain_graph c.from_residual-in_err-sent.result c.in_err-sent.field-0.0 (graph_sent f body)
     c.from_residual-in_err-sent.ensures.1
-    (no_object_sent rows f is body (option_map (λ (v : Bor Value). view v.now) c.as_ref.result) c.in_err-sent.field-0.0
+    (no_object_sent f is body (option_map (λ (v : Bor Value). view v.now) c.as_ref.result) c.in_err-sent.field-0.0
     (subst (IsJson body) same c.in_ok-json.ensures) c.in_err-sent.ensures)
 
 pub returns-in_err-process-clause-answer : goal.returns-in_err-process-clause-answer
-returns-in_err-process-clause-answer c = λ rows f is.
+returns-in_err-process-clause-answer c = λ f is.
     let body = c.args.body.now in
     let same = same_view c.as_ref.result c.in_ok-json.json c.as_ref.ensures.value in
     handed_on plain_graph c.from_residual-in_err-process.result c.in_err-process.field-0.0 (graph_sent f body)
     c.from_residual-in_err-process.ensures.1
-    (no_process_sent rows f is body (option_map (λ (v : Bor Value). view v.now) c.as_ref.result) (view c.in_ok-sent.sent.now)
+    (no_process_sent f is body (option_map (λ (v : Bor Value). view v.now) c.as_ref.result) (view c.in_ok-sent.sent.now)
     c.in_err-process.field-0.0 (subst (IsJson body) same c.in_ok-json.ensures) c.in_ok-sent.ensures
     (subst (λ o. Rejects c.in_err-process.field-0.0 (object_in o)) c.get.ensures c.in_err-process.ensures))
 

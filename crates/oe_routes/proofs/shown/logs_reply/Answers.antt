@@ -15,8 +15,8 @@ use Rattle.oe_http.specs.Plain.{plain_request}
 use Rattle.oe_routes.proofs.CommandLemmas.{handed_on, logs_refused, logs_shown}
 use Rattle.oe_routes.proofs.shown.logs_reply.Goals as goal
 
-pub returns-in_err-job : goal.returns-in_err-job
-returns-in_err-job c = λ f.
+pub returns-in_err-job-clause-reply : goal.returns-in_err-job-clause-reply
+returns-in_err-job-clause-reply c = λ f.
     let book = plain_book c.args.scene.book.now in
     let id = id_in c.args.request.now.path in
     let e = c.in_err-job.field-0.0 in
@@ -29,8 +29,8 @@ returns-in_err-job c = λ f.
     (subst (λ (i : List ℕ). Rejects e (spec.named_job book c.args.user.now i)) (c.id_in.ensures ∙ ap id_in c.as_str-2.ensures)
     c.in_err-job.ensures))
 
-pub returns : goal.returns
-returns c = λ f.
+pub returns-clause-reply : goal.returns-clause-reply
+returns-clause-reply c = λ f.
     let book = plain_book c.args.scene.book.now in
     let id = id_in c.args.request.now.path in
     let job = plain_job c.in_ok-job.job.now in
@@ -39,6 +39,6 @@ returns c = λ f.
     let named : spec.named_job book c.args.user.now id ≡ Ok job =
     subst (λ (i : List ℕ). spec.named_job book c.args.user.now i ≡ Ok job) (c.id_in.ensures ∙ ap id_in c.as_str-2.ensures) c.in_ok-job.ensures in
     logs_shown c.args.request.now.query c.in_ok-asked.asked book c.args.user.now id job c.in_ok-logs_body.field-0.items
-    (plain_response c.json_reply.result) asked named
+    (plain_response c.shown.result) asked named
     (c.in_ok-logs_body.ensures
-    ∙ ap (λ (l : List LogEntry). compact_text (logs_data l c.in_ok-asked.asked.0 c.in_ok-asked.asked.1)) c.deref.ensures.value) c.json_reply.ensures
+    ∙ ap (λ (l : List LogEntry). compact_text (logs_data l c.in_ok-asked.asked.0 c.in_ok-asked.asked.1)) c.deref.ensures.value) c.shown.ensures.reply
