@@ -8,14 +8,18 @@ use Rattle.oe_http.specs.Laws.{json_reply}
 use Rattle.oe_http.specs.Plain.{PlainRequest}
 use Rattle.oe_http.specs.Replies.{PlainResponse}
 use Rattle.oe_jobs.specs.Changes.{changed}
-use Rattle.oe_jobs.specs.Plain.{PlainBook, PlainChange, PlainCommand, PlainJob, PlainVerdict, queue}
+use Rattle.oe_jobs.specs.Plain.{PlainBook, PlainChange, PlainCommand, PlainJob, PlainVerdict, plain_command, queue}
 use Rattle.oe_jobs.specs.Verdicts.{decide}
+use Rattle.oe_graph.specs.declared.stored.StoredProcess.{StoredProcess}
+use Rattle.oe_jobs.specs.declared.command.Command.{Command}
+use Rattle.oe_jobs.specs.declared.command.Command.TheVariants as commands
 use Rattle.oe_jobs.specs.declared.level.Level.{Level}
+use Rattle.oe_replies.specs.Answers.{empty_reply}
 use Rattle.oe_replies.specs.Collections.{collection_data}
 use Rattle.oe_replies.specs.Jobs.{job_data}
 use Rattle.oe_replies.specs.Logs.{logs_data}
 use Rattle.oe_routes.specs.Actions.{MakesChange, answer}
-use Rattle.oe_routes.specs.Answers.{action_of, commanded, may_queue, named_job, named_row, perform, reply_to, shown}
+use Rattle.oe_routes.specs.Answers.{action_of, commanded, done_reply, may_queue, named_job, named_row, perform, reply_to, shown}
 use Rattle.oe_routes.specs.Found.{Found}
 use Rattle.oe_routes.specs.Paths.{id_in}
 use Rattle.oe_routes.specs.declared.table.Operation.TheVariants as ops
@@ -61,6 +65,17 @@ made_by book user command now v made same is =
       asked = command;
       made_is = ap (λ (o : Option PlainChange). option_map_or (changed book) o book) change;
     }
+
+-- what is done but for a process that is stored is answered without a body
+pub done_empty : (command : Command) → ((process : StoredProcess) → command ≡ commands.Store process → ⊥)
+    → done_reply (plain_command command) ≡ empty_reply 204
+done_empty (commands.Create title description process level) other = refl
+done_empty (commands.Patch id title description process level) other = refl
+done_empty (commands.Delete id) other = refl
+done_empty (commands.Queue id) other = refl
+done_empty (commands.Cancel id) other = refl
+done_empty (commands.Store process) other = absurd (other process refl)
+done_empty (commands.Forget id) other = refl
 
 pub row_shown : (rows : List DimsRow) (id : List ℕ) (row : DimsRow) (body : List ℕ) (reply : PlainResponse)
     → named_row rows id ≡ Ok row → body ≡ compact_text (collection_data row) → reply ≡ json_reply 200 body

@@ -1,5 +1,5 @@
 -- What a valid book takes of the bodies of requests.
-use Rattle.std.proofs.Common.{◌≡◌, ℕ, ◌≤◌, List, codes, Bool, true, false, Option, Some, None, Ordering, Less, Equal, Greater, nat_cmp, Ok, refl, sym, ap, ◌∙◌, subst, arith, Bor}
+use Rattle.std.proofs.Common.{◌≡◌, ℕ, ◌≤◌, List, codes, Bool, true, false, Option, Some, None, Ordering, Less, Equal, Greater, nat_cmp, Result, Ok, refl, sym, ap, ◌∙◌, subst, arith, Bor}
 use Rattle.std.specs.Prelude.{IfSome, is_some, unwrap_or}
 use Rattle.std.specs.Cmp.Lexicographic.{slice_cmp}
 use Rattle.std.specs.Ordering.{match_ordering}
@@ -20,6 +20,7 @@ use Rattle.oe_graph.proofs.ValidLemmas.{IsPrintable-valid}
 use Rattle.oe_jobs.specs.Valid.{AreWords}
 use Rattle.oe_routes.specs.Forms.{IsProcess, IsSent, faultless, object_in, object_where}
 use Rattle.oe_routes.specs.Found.{IsFaultWhere, IsJson, process_in}
+use Rattle.oe_routes.specs.Rejections.{Rejected, ◌>>=◌}
 
 -- ---- a member is no deeper than its object
 
@@ -81,6 +82,11 @@ process_is json fault body process sent is there none =
 by_where : (d e : Data) (yes : Bool) → is_some (as_object d) ≡ yes → object_where (Some d) ≡ Ok (Some e) → Some d ≡ Some e
 by_where d e true is h = let taken = rw is at h in cc
 by_where d e false is h = let refused = rw is at h in absurd cc
+
+pub where_by : (o : Option Data) (d e : Data) → o ≡ Some d → object_in (Some d) ≡ Ok e → object_where o ≡ Ok (Some e)
+where_by o d e is h =
+    subst (λ (x : Option Data). object_where x ≡ Ok (Some e)) (sym is)
+    (ap (λ (x : Result Data Rejected). x >>= λ found. Ok (Some found)) h)
 
 where_is : (o : Option Data) (d : Data) → object_where o ≡ Ok (Some d) → o ≡ Some d
 where_is None d h = absurd cc
