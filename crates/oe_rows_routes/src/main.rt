@@ -5,6 +5,7 @@
 //! |---|---|
 //! | `user USER TOKEN` | adds a user, without an answer |
 //! | `ask METHOD PATH`, `ask METHOD PATH VALUE` | looks up the route of a path, its method, and the user of an authorization; answers the status and the code of the first refusal, or the user (`-` where none is needed), the id and the name of an asset |
+//! | `rows METHOD PATH` | answers `yes` where a request of this method and path asks for the rows of the collections: it lists or shows them, or has a graph judged; else `no` |
 //! | `words`, `words JSON`, `long NUMBER` | reads a title: no member, this one, or a text of so many bytes; answers `none`, `null` or the number of its bytes |
 //! | `level`, `level JSON` | reads a log level: no member, or this one |
 //! | `tokens JSON` | reads a file of tokens, given as a JSON text; answers its users and tokens, or the number of the first bad line |
@@ -27,7 +28,7 @@ use fault::Fault;
 use members::{level, long, words};
 use oe_dims::Text;
 use queries::logs;
-use routes::{answer_route, capabilities};
+use routes::{answer_route, answer_rows, capabilities};
 use std::alloc::Global;
 use std::io::{Read, Write};
 use std::process::ExitCode;
@@ -83,6 +84,7 @@ fn answer_line(
 ) -> Result<(), Fault> {
     match word {
         "ask" => answer_route(alloc, rest, users, answers),
+        "rows" => answer_rows(alloc, rest, answers),
         "words" => words(alloc, rest, answers),
         "long" => long(alloc, rest, answers),
         "level" => level(alloc, rest, answers),

@@ -1,10 +1,14 @@
 // Routes and users.
 use crate::fault::Fault;
 use crate::first_word;
+use http::Method;
 use itoa::Buffer;
 use oe_dims::Text;
+use oe_http::Request;
 use oe_replies::capabilities_body;
-use oe_routes::{Refusal, endpoints, find_method, find_path, id_in, name_in, user_of};
+use oe_routes::{
+    Refusal, asks_for_rows, endpoints, find_method, find_path, id_in, name_in, user_of,
+};
 use std::alloc::Global;
 use std::str;
 
@@ -59,6 +63,25 @@ pub(crate) fn push_refusal(refusal: Refusal, answers: &mut String) -> Result<(),
         }
         Refusal::OutOfMemory => Err(Fault::OutOfMemory),
     }
+}
+
+/// Appends whether a request of a method and a path asks for the rows of the collections.
+pub(crate) fn answer_rows(alloc: Global, line: &str, answers: &mut String) -> Result<(), Fault> {
+    let (method, path) = first_word(line);
+    let method = match Method::from_bytes(alloc, method.as_bytes()) {
+        Ok(method) => method,
+        Err(_) => return Err(Fault::Line),
+    };
+    let request = Request {
+        method,
+        path: Text::of(alloc, path)?,
+        query: Text::of(alloc, "")?,
+        authorization: None,
+        body: Vec::new(alloc),
+    };
+    let asks = asks_for_rows(alloc, &request)?;
+    answers.push_str(if asks { "yes" } else { "no" })?;
+    Ok(())
 }
 
 /// Appends the capabilities of the one table.
