@@ -1,0 +1,16 @@
+use Rattle.std.proofs.Common.{◌^◌, ◌<◌, arith}
+use Rattle.oe_serve.proofs.Words.{spells_none, spells_it, same_number}
+use Rattle.oe_serve.proofs.command.read_number.Goals as goal
+
+pub returns-else-is_number-clause-none : goal.returns-else-is_number-clause-none
+returns-else-is_number-clause-none c = λ number word.
+    let small : c.args.high < 2 ^ 32 = omega arith in
+    let same = spells_it c.args.word.now c.as_str.result.now c.in-Ok.number small c.as_str.ensures c.in-Ok.ensures.value.0 word in
+    let is = c.is_number.ensures.1 (same_number same word) in
+    let isnt = c.if-is_number.false in
+    cc
+
+pub returns-in-Err-clause-none : goal.returns-in-Err-clause-none
+returns-in-Err-clause-none c = λ number word.
+    let small : c.args.high < 2 ^ 32 = omega arith in
+    spells_none _ c.args.word.now c.as_str.result.now c.in-Err.field-0 small c.as_str.ensures c.in-Err.ensures.value.0 word

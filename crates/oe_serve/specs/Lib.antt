@@ -1,0 +1,12 @@
+pub mod Links
+pub mod Words
+pub mod Rows
+pub mod Results
+pub mod Evaluations
+pub mod Answers
+pub mod Serves
+pub mod Laws
+pub mod Turns
+pub mod Steps
+pub mod Server
+pub mod Endings

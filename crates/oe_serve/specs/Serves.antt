@@ -1,0 +1,159 @@
+-- How one connection is served.
+use Rattle.std.specs.Prelude.{◌≡◌, ◌≢◌, ℕ, ◌+◌, ℤ, Bool, true, false, List, IfSome, IsSome}
+use Rattle.oe_engine.specs.Collections.{AreRead}
+use Rattle.oe_engine.specs.Laws.{GivesCollections}
+use Rattle.oe_engine.specs.Runs.{RunOf}
+use Rattle.http.specs.StatusCode.{reason_phrase}
+use Rattle.oe_jobs.specs.Changes.{changed}
+use Rattle.oe_jobs.specs.Plain.{PlainBook, plain_book, plain_change}
+use Rattle.oe_jobs.specs.Valid.{IsBook}
+use Rattle.oe_outside.specs.Faults.{NeverFalls}
+use Rattle.oe_outside.specs.Input.{TakesAtMost}
+use Rattle.oe_http.specs.Front.{most_head}
+use Rattle.oe_http.specs.Requests.{most_body}
+use Rattle.oe_routes.specs.Actions.{PlainAction, text_at}
+use Rattle.oe_routes.specs.declared.action.Action.{Action}
+use Rattle.oe_routes.specs.declared.action.Action.TheVariants as actions
+use Rattle.oe_routes.specs.Scenes.{PlainScene}
+use Rattle.oe_routes.specs.Tokens.{Entry}
+use Rattle.oe_routes.specs.declared.site.Site.{Site}
+use Rattle.oe_service.specs.Calls.{Goes, IsDecided, IsKept}
+use Rattle.oe_service.specs.Causes.{IsVisible, Outside}
+use Rattle.oe_service.specs.GoesOn.{GoesOn, HasSizesOf, IsService, state_of}
+use Rattle.oe_service.specs.States.{Event, State, no_command, setting_of}
+use Rattle.oe_service.specs.declared.service.Service.{Service}
+use Rattle.oe_shape.specs.Checked.{CheckedGraph}
+use Rattle.oe_sources.specs.Catalogue.{Row}
+use Rattle.oe_sources.specs.CatalogueDims.{AreDimsOf, dims_of}
+use Rattle.oe_window.specs.declared.grid.ChunkSize.{ChunkSize}
+use Rattle.oe_serve.specs.Answers.{Answer, ChangesNothing, IsAnswer, IsAnswerTo, IsEventOf, SendsAnswer, is_event}
+use Rattle.oe_serve.specs.Links.{Came, IsCame, IsSilent, LinkOf, broken, request, unread}
+use Rattle.oe_serve.specs.declared.served.Served.{Served}
+use Rattle.oe_serve.specs.declared.served.Served.TheVariants.{Answered}
+
+-- what a server goes by that stays as it is: the base of its addresses, its users with their tokens, the sides of its
+-- chunks and its workers
+pub record ServerOf : Type 0 where
+  pub base : List ℕ
+  pub tokens : List Entry
+  pub size : ChunkSize
+  pub workers : ℕ
+
+abbrev pub server_of : Site → ChunkSize → ℕ → ServerOf
+server_of site size workers = record {
+  base = site.base;
+  tokens = site.tokens;
+  size = size;
+  workers = workers;
+}
+
+-- what a request is about at a moment, over the collections and the book as they are
+abbrev pub scene_at : ServerOf → Outside → PlainBook → ℤ → PlainScene
+scene_at server before book now = record {
+  base = server.base;
+  tokens = server.tokens;
+  rows = dims_of before.rows;
+  book = book;
+  moment = now;
+}
+
+-- a request was read from a connection, or was to be: nothing is written, and no more is taken than a head and a body
+-- may have
+pub record ReadsRequest (link link_after : LinkOf) : Type 0 where
+  pub taken : TakesAtMost link.left (most_head + most_body) link_after.left
+  pub written : link_after.written ≡ link.written
+  pub count : NeverFalls link.faults link_after.faults
+
+module _ (server : ServerOf) (now : ℤ) (s s_after : State) (before after : Outside) (link link_after : LinkOf)
+    (has_failed : Bool) where
+  -- What came was read, and then it is answered.
+  pub record IsAnswered (came : Came) (e : Event) (comes : Bool) (result : Served) : Type 0 where
+    pub between : LinkOf
+    pub reads : ReadsRequest link between
+    pub answer : Answer
+    pub is_answer : IsAnswer server.size server.workers s.book before after has_failed
+        (scene_at server before s.book now) came answer
+    pub sends : SendsAnswer before after answer between link_after result
+    pub event_is : IsEventOf s.book now answer e
+    pub comes_is : comes ≡ is_event answer
+
+  -- nothing can be answered over a connection that failed
+  pub record IsUnanswered (e : Event) (comes : Bool) (result : Served) : Type 0 where
+    pub reads : ReadsRequest link link_after
+    pub silent : IsSilent link link_after result
+    pub event_is : e ≡ no_command
+    pub comes_is : comes ≡ false
+
+  abbrev pub Ends : Came → Event → Bool → Served → Type 0
+  Ends (request r) e comes result = IsAnswered (request r) e comes result
+  Ends (unread refusal) e comes result = IsAnswered (unread refusal) e comes result
+  Ends broken e comes result = IsUnanswered e comes result
+
+  -- A connection is served at a moment, as this event, or as none where it does not come about. At most one commit is
+  -- begun, and it makes the book of the event. So where no fault counter rose, and the bytes are visible, the whole
+  -- reply stands on the connection that the definitions give, or that of a result's damaged position, or of out of
+  -- memory.
+  pub record Serves (e : Event) (comes : Bool) (result : Served) : Type 0 where
+    pub came : Came
+    pub came_is : IsCame link.left came
+    pub ends : Ends came e comes result
+    pub goes : Goes (setting_of (dims_of before.rows) server.size server.workers) e comes s s_after before.kept
+        after.kept
+    pub kept : IsKept after.kept s_after.book
+    -- where no change was to be made no commit is begun
+    pub idle : e ≡ no_command → after.kept ≡ before.kept
+    -- what is answered with any other status than these has come about, so that the book that it makes is kept
+    pub acknowledged : (status : ℕ) → result ≡ Answered status → status ≢ 500 → status ≢ 503 → comes ≡ true
+    pub link_count : NeverFalls link.faults link_after.faults
+    pub spool_count : NeverFalls before.spool_faults after.spool_faults
+    pub keeper_count : NeverFalls before.keeper_faults after.keeper_faults
+
+-- What a call leaves of a service, whatever it answers: its book is kept, and its run goes on where its job does. Of
+-- the outside only reads are made and records are written, and what is visible stays visible.
+pub record KeepsService (s s_after : Service) (before after : Outside) : Type 0 where
+  pub service : IsService s_after
+  pub sizes : HasSizesOf s s_after
+  pub is_kept : IsKept after.kept (plain_book s_after.book)
+  pub run : IfSome s_after.run (λ (r : RunOf). s_after.run ≡ s.run)
+  pub going : GoesOn s_after.run after.rows after.spool
+  pub read : AreRead before.rows after.rows
+  pub visible : IsVisible before.spool → IsVisible after.spool
+  pub spool_count : NeverFalls before.spool_faults after.spool_faults
+  pub keeper_count : NeverFalls before.keeper_faults after.keeper_faults
+
+-- A graph is planned over these collections as it was checked over them.
+pub record IsRunnable (rows : List Row) (c : CheckedGraph) : Type 0 where
+  pub rows_are : c.rows ≡ dims_of rows
+  pub found : AreDimsOf rows c.rows
+  pub given : GivesCollections rows
+
+-- what is to be done can be done: replies have a phrase, a change is that of a command and keeps the book valid, and an
+-- asset is there
+abbrev pub MayAct : PlainBook → List Row → Action → Type 0
+MayAct book rows (actions.Answer response) = IsSome (reason_phrase response.status)
+MayAct book rows (actions.Commit made response) =
+    IsSome (reason_phrase response.status) × IsBook (changed book (plain_change made))
+    × IsDecided book (changed book (plain_change made))
+MayAct book rows (actions.RunNow checked) = IsRunnable rows checked
+MayAct book rows (actions.SendAsset job asset) = IsSome (text_at book job asset)
+
+-- A service does what is asked for and answers it, as the event of the answer, or as none.
+pub record Acts (action : PlainAction) (s s_after : Service) (before after : Outside)
+    (link link_after : LinkOf) (has_failed : Bool) (result : Served) : Type 0 where
+  pub answer : Answer
+  pub is_answer : IsAnswerTo s.size s.workers (plain_book s.book) before after has_failed action answer
+  pub sends : SendsAnswer before after answer link link_after result
+  pub goes : (now : ℤ) (e : Event) → IsEventOf (plain_book s.book) now answer e
+      → Goes (setting_of (dims_of before.rows) s.size s.workers) e (is_event answer) (state_of s) (state_of s_after)
+      before.kept after.kept
+  pub idle : ChangesNothing answer → after.kept ≡ before.kept
+  pub keeps : KeepsService s s_after before after
+
+-- The same of a service over a connection, at a moment.
+pub record ServesService (server : ServerOf) (now : ℤ) (s s_after : Service) (before after : Outside)
+    (link link_after : LinkOf) (has_failed : Bool) (result : Served) : Type 0 where
+  pub event : Event
+  pub comes : Bool
+  pub serves : Serves server now (state_of s) (state_of s_after) before after link link_after has_failed event comes
+      result
+  pub keeps : KeepsService s s_after before after

@@ -1,0 +1,145 @@
+// The run of a graph that is answered at once.
+ghost use Rattle.std.specs.Prelude.{◌≡◌, ◌≤◌, ◌^◌, ℕ, IfErr, IfOk, IsErrOf, None, length};
+ghost use Rattle.oe_dims.specs.Dimensions.{cell_count};
+ghost use Rattle.oe_engine.specs.Going.{IsGoing};
+ghost use Rattle.oe_engine.specs.Runs.{HasRunRecords, ShowsDone, chunk_total, result_cube, result_shape};
+ghost use Rattle.oe_outside.specs.Faults.{NeverFalls};
+ghost use Rattle.oe_plan.specs.Plans.{IsPlan};
+ghost use Rattle.oe_plan.specs.Ranges.{IsWithinRanges};
+ghost use Rattle.oe_render.specs.Text.{cube_text};
+ghost use Rattle.oe_shape.specs.Graphs.{Collections};
+ghost use Rattle.oe_shape.specs.Laws.{AreCollectionsOf};
+ghost use Rattle.oe_sources.specs.CatalogueRows.{rows_of};
+ghost use Rattle.oe_serve.specs.Evaluations as spec;
+ghost use Rattle.oe_serve.specs.Results.{IsTooLarge};
+
+use crate::refusal::ResultRefusal;
+use oe_engine::{Progress, Run, RunFail, Workspace};
+use oe_outside::{CountSink, Gate, Pending, Store};
+use oe_plan::{Plan, PlanFail};
+use oe_render::RenderFail;
+use oe_shape::Checked;
+use oe_sources::Catalogue;
+use oe_window::ChunkSize;
+use std::alloc::Global;
+
+/// A run of a graph before its first round, in chunks of a size with so many workers, whose records are to stand in a
+/// spool from a byte on; and the bytes that its text goes through. From here on nothing takes memory.
+///
+/// Refuses: `TooLarge` exactly where it would hold more cells than are allowed; out of memory.
+pub(crate) fn begin(
+    alloc: Global,
+    checked: Checked,
+    sizes: (ChunkSize, u32),
+    base: u64,
+) -> Result<(Run, Pending), PlanFail>
+    requires ranges { IsWithinRanges sizes.0 sizes.1 }
+    requires base { base ≤ 2 ^ 62 }
+    ensures begun { IfOk result (λ r. spec.IsBegun checked sizes.0 sizes.1 base r.0) }
+    ensures too_large { (cells : ℕ) → IsErrOf result (PlanFail.TooLarge cells)
+        → IsTooLarge checked sizes.0 sizes.1 cells }
+{
+    let plan = Plan::new(alloc, checked, sizes.0, sizes.1)?;
+    let workspace = Workspace::new(alloc, &plan)?;
+    let pending = Pending::new(alloc)?;
+    Ok((Run::start(plan, workspace, base), pending))
+}
+
+/// All rounds of a run, and how many bytes the text of its result has.
+///
+/// Refuses: as a round does; `NumberOverflow` exactly where all rounds were made and a cell of the result is no number
+/// in range; as reading the records back does.
+pub(crate) fn complete<P: Store, G: Gate>(
+    run: &mut Run,
+    pending: &mut Pending,
+    catalogue: &mut Catalogue,
+    spool: &mut P,
+    gate: &G,
+) -> Result<u64, ResultRefusal>
+    requires first { spec.IsFirst run.old }
+    requires going { IsGoing run.old (rows_of seen catalogue.old) (P.bytes spool.old) }
+    ensures { spec.Completes run.old run.new (rows_of seen catalogue.old)
+        (rows_of seen catalogue.new) (P.bytes spool.old) (P.bytes spool.new)
+        (P.faults spool.old) (P.faults spool.new) result }
+{
+    match evaluate(run, catalogue, spool, gate) {
+        Ok(()) => count_text(run, pending, spool),
+        Err(fail) => Err(ResultRefusal::of_run(fail)),
+    }
+}
+
+/// All rounds of a run, and whether no cell of its result is out of the range of numbers.
+///
+/// Refuses: as a round does; `Overflow` exactly where all rounds were made and such a cell was found, with the first
+/// one.
+fn evaluate<P: Store, G: Gate>(
+    run: &mut Run,
+    catalogue: &mut Catalogue,
+    spool: &mut P,
+    gate: &G,
+) -> Result<(), RunFail>
+    requires first { spec.IsFirst run.old }
+    requires going { IsGoing run.old (rows_of seen catalogue.old) (P.bytes spool.old) }
+    ensures { spec.Evaluates run.old run.new (rows_of seen catalogue.old)
+        (rows_of seen catalogue.new) (P.bytes spool.old) (P.bytes spool.new)
+        (P.faults spool.old) (P.faults spool.new) result }
+{
+    match go_through(run, catalogue, spool, gate) {
+        Ok(()) => run.finish(),
+        Err(fail) => Err(fail),
+    }
+}
+
+/// All rounds of a run.
+fn go_through<P: Store, G: Gate>(
+    run: &mut Run,
+    catalogue: &mut Catalogue,
+    spool: &mut P,
+    gate: &G,
+) -> Result<(), RunFail>
+    requires first { spec.IsFirst run.old }
+    requires going { IsGoing run.old (rows_of seen catalogue.old) (P.bytes spool.old) }
+    ensures through { spec.GoesThrough run.old run.new (rows_of seen catalogue.old)
+        (rows_of seen catalogue.new) (P.bytes spool.old) (P.bytes spool.new)
+        (P.faults spool.old) (P.faults spool.new) result }
+    ensures no_overflow { (number : ℕ) → ¬ IsErrOf result (RunFail.Overflow number) }
+{
+    let chunks = run.chunks();
+    for _ in 0..chunks {
+        match run.round(catalogue, spool, gate) {
+            Ok(Progress::Complete) => return Ok(()),
+            Ok(Progress::More) => {}
+            Err(fail) => return Err(fail),
+        }
+    }
+    Ok(())
+}
+
+/// How many bytes the text of a run has all of whose chunks are done.
+fn count_text<P: Store>(
+    run: &mut Run,
+    pending: &mut Pending,
+    spool: &mut P,
+) -> Result<u64, ResultRefusal>
+    requires planned { IsPlan run.old.plan }
+    requires complete { run.old.done ≡ chunk_total run.old.plan }
+    requires numbers { run.old.over ≡ None }
+    requires records { HasRunRecords run.old (P.bytes spool.old) }
+    ensures counted { IfOk result (λ count. (collections : Collections)
+        → AreCollectionsOf run.old.plan.graph collections
+        → ShowsDone run.old (P.bytes spool.old) (result_cube collections run.old.plan)
+        → count ≡ length (cube_text (result_cube collections run.old.plan))) }
+    ensures refused { IfErr result (spec.TextRefused (P.bytes spool.old)
+        (cell_count (result_shape run.old.plan)) (P.faults spool.old) (P.faults spool.new)) }
+    ensures run { run.new ≡ run.old }
+    ensures same { P.bytes spool.new ≡ P.bytes spool.old }
+    ensures count { NeverFalls (P.faults spool.old) (P.faults spool.new) }
+{
+    let mut count = CountSink::new();
+    match run.render(spool, &mut count, pending) {
+        Ok(()) => Ok(count.count()),
+        Err(RenderFail::SpoolFailed) => Err(ResultRefusal::SpoolFault),
+        Err(RenderFail::SpoolDamaged(number)) => Err(ResultRefusal::SpoolDamaged(number)),
+        Err(RenderFail::SinkFailed) => unreachable!(),
+    }
+}

@@ -1,0 +1,255 @@
+// Turns of a server.
+ghost use Rattle.std.specs.Prelude.{◌≡◌};
+ghost use Rattle.oe_dims.specs.Instant.{IsInstant};
+ghost use Rattle.oe_jobs.specs.Plain.{plain_book};
+ghost use Rattle.oe_plan.specs.Ranges.{IsWithinRanges};
+ghost use Rattle.oe_service.specs.Calls.{IsKept};
+ghost use Rattle.oe_service.specs.Causes.{outside};
+ghost use Rattle.oe_service.specs.GoesOn.{GoesOn, IsService, state_of};
+ghost use Rattle.oe_service.specs.States.{setting_of};
+ghost use Rattle.oe_sources.specs.CatalogueDims.{dims_of};
+ghost use Rattle.oe_sources.specs.CatalogueRows.{rows_of};
+ghost use Rattle.oe_serve.specs.Endings as endings;
+ghost use Rattle.oe_serve.specs.Links.{link_of};
+ghost use Rattle.oe_serve.specs.Serves.{server_of};
+ghost use Rattle.oe_serve.specs.Server.{IsKeeperFault, MakesTurns, ServerEnds};
+ghost use Rattle.oe_serve.specs.Steps.{MeetsOne, TicksOnce, TurnsOnce};
+ghost use Rattle.oe_serve.specs.Turns.{door_of, situation};
+
+use crate::command::ServeCommand;
+use crate::connections::serve_one;
+use crate::setup::Setup;
+use oe_jobs::Keeper;
+use oe_outside::{Clock, Door, Gate, Next, Store};
+use oe_service::{OpenBookFail, Service, Ticked, open_book, tick};
+use oe_sources::Catalogue;
+
+/// Why a server ended before its turns were done.
+#[derive(Clone, Copy, Debug, PartialEq, Eq)]
+pub enum ServeFail {
+    /// The keeper failed at the opening of the book or in a tick.
+    KeeperFault,
+    /// The door failed.
+    LinkFault,
+    /// An allocation was refused at the opening of the book or in a tick.
+    OutOfMemory,
+}
+
+impl ServeFail {
+    /// The exit status of a server that ends so: 9, 10 or 11.
+    pub fn status(self) -> u8
+        ensures { result ≡ endings.status_of self }
+    {
+        match self {
+            ServeFail::KeeperFault => 10,
+            ServeFail::LinkFault => 11,
+            ServeFail::OutOfMemory => 9,
+        }
+    }
+
+    /// The line that says so on the error output: its code, and a line feed.
+    pub fn line(self) -> &'static str
+        ensures { result.now ≡ endings.line_of self }
+    {
+        match self {
+            ServeFail::KeeperFault => "openeo: KeeperFault\n",
+            ServeFail::LinkFault => "openeo: LinkFault\n",
+            ServeFail::OutOfMemory => "openeo: OutOfMemory\n",
+        }
+    }
+}
+
+impl From<OpenBookFail> for ServeFail {
+    ghost use Rattle.std.specs.Prelude.{◌≡◌};
+    ghost use Rattle.oe_serve.specs.Server.{of_opening};
+
+    ghost from_gives = { λ fail e. e ≡ of_opening fail };
+
+    fn from(fail: OpenBookFail) -> ServeFail {
+        match fail {
+            OpenBookFail::KeeperFailed => ServeFail::KeeperFault,
+            OpenBookFail::OutOfMemory => ServeFail::OutOfMemory,
+        }
+    }
+}
+
+/// Opens the book that the keeper has, and takes turns: a turn asks the door for the next connection, serves it and
+/// gives it back, and then does one tick. It ends after so many turns, or where the door is closed.
+///
+/// Refuses: `KeeperFault` only where the keeper's fault counter rose in its last call, at the opening of the book or in
+/// a tick; `LinkFault` only where the door's fault counter rose; out of memory at the opening or in a tick. What
+/// becomes of a connection ends that connection alone.
+pub fn serve<P: Store, K: Keeper, D: Door, C: Clock, G: Gate>(
+    setup: &Setup<'_, G>,
+    command: ServeCommand,
+    catalogue: &mut Catalogue,
+    spool: &mut P,
+    keeper: &mut K,
+    door: &mut D,
+    clock: &mut C,
+) -> Result<(), ServeFail>
+    requires { IsWithinRanges command.size command.workers }
+    ensures ends { let seen_door = door_of D.visible D.faults D.dial_faults in
+        ServerEnds (link_of D.Conn.left D.Conn.written D.Conn.faults)
+        (server_of setup.now.site.now command.size command.workers) command.turns
+        (outside (rows_of seen catalogue.old) (P.bytes spool.old) (P.faults spool.old)
+        (K.kept keeper.old) (K.faults keeper.old))
+        (outside (rows_of seen catalogue.new) (P.bytes spool.new) (P.faults spool.new)
+        (K.kept keeper.new) (K.faults keeper.new))
+        (seen_door door.old) (seen_door door.new) (C.moment clock.old) (K.has_failed keeper.new)
+        result }
+    ensures keeper { IsKeeperFault
+        (server_of setup.now.site.now command.size command.workers)
+        (outside (rows_of seen catalogue.old) (P.bytes spool.old) (P.faults spool.old)
+        (K.kept keeper.old) (K.faults keeper.old))
+        (outside (rows_of seen catalogue.new) (P.bytes spool.new) (P.faults spool.new)
+        (K.kept keeper.new) (K.faults keeper.new)) (K.has_failed keeper.new) result }
+{
+    match open_book(setup.alloc, keeper, command.size, command.workers) {
+        Ok(mut service) => take_turns(
+            setup,
+            command.turns,
+            &mut service,
+            catalogue,
+            spool,
+            keeper,
+            door,
+            clock,
+        ),
+        Err(fail) => Err(ServeFail::from(fail)),
+    }
+}
+
+/// Takes so many turns, or fewer where the door is closed.
+fn take_turns<P: Store, K: Keeper, D: Door, C: Clock, G: Gate>(
+    setup: &Setup<'_, G>,
+    turns: u32,
+    service: &mut Service,
+    catalogue: &mut Catalogue,
+    spool: &mut P,
+    keeper: &mut K,
+    door: &mut D,
+    clock: &mut C,
+) -> Result<(), ServeFail>
+    requires service { IsService service.old }
+    requires kept { IsKept (K.kept keeper.old) (plain_book service.old.book) }
+    requires going { GoesOn service.old.run (rows_of seen catalogue.old) (P.bytes spool.old) }
+    ensures { let seen_door = door_of D.visible D.faults D.dial_faults in
+        MakesTurns (link_of D.Conn.left D.Conn.written D.Conn.faults)
+        (server_of setup.now.site.now service.old.size service.old.workers)
+        (setting_of (dims_of (rows_of seen catalogue.old)) service.old.size service.old.workers)
+        turns (C.moment clock.old)
+        (situation (state_of service.old)
+        (outside (rows_of seen catalogue.old) (P.bytes spool.old) (P.faults spool.old)
+        (K.kept keeper.old) (K.faults keeper.old)) (K.has_failed keeper.old))
+        (situation (state_of service.new)
+        (outside (rows_of seen catalogue.new) (P.bytes spool.new) (P.faults spool.new)
+        (K.kept keeper.new) (K.faults keeper.new)) (K.has_failed keeper.new))
+        (seen_door door.old) (seen_door door.new) result }
+{
+    for _ in 0..turns {
+        match turn(setup, service, catalogue, spool, keeper, door, clock) {
+            Ok(true) => {}
+            Ok(false) => return Ok(()),
+            Err(fail) => return Err(fail),
+        }
+    }
+    Ok(())
+}
+
+/// One turn. Answers whether the door is asked again.
+fn turn<P: Store, K: Keeper, D: Door, C: Clock, G: Gate>(
+    setup: &Setup<'_, G>,
+    service: &mut Service,
+    catalogue: &mut Catalogue,
+    spool: &mut P,
+    keeper: &mut K,
+    door: &mut D,
+    clock: &mut C,
+) -> Result<bool, ServeFail>
+    requires service { IsService service.old }
+    requires kept { IsKept (K.kept keeper.old) (plain_book service.old.book) }
+    requires going { GoesOn service.old.run (rows_of seen catalogue.old) (P.bytes spool.old) }
+    ensures turns { let seen_door = door_of D.visible D.faults D.dial_faults in
+        TurnsOnce (link_of D.Conn.left D.Conn.written D.Conn.faults)
+        (server_of setup.now.site.now service.old.size service.old.workers) (C.moment clock.old)
+        service.old service.new
+        (outside (rows_of seen catalogue.old) (P.bytes spool.old) (P.faults spool.old)
+        (K.kept keeper.old) (K.faults keeper.old))
+        (outside (rows_of seen catalogue.new) (P.bytes spool.new) (P.faults spool.new)
+        (K.kept keeper.new) (K.faults keeper.new))
+        (K.has_failed keeper.old) (K.has_failed keeper.new)
+        (seen_door door.old) (seen_door door.new) result }
+    ensures clock { C.moment clock.new ≡ C.moment clock.old }
+{
+    match door.next(service.is_busy()) {
+        Next::Conn(conn) => {
+            let now = clock.now_seconds();
+            meet(setup, service, conn, catalogue, spool, keeper, door, now);
+            end_turn(setup, service, catalogue, spool, keeper, now)
+        }
+        Next::Nobody => {
+            let now = clock.now_seconds();
+            end_turn(setup, service, catalogue, spool, keeper, now)
+        }
+        Next::Closed => Ok(false),
+        Next::Failed => Err(ServeFail::LinkFault),
+    }
+}
+
+/// Serves a connection and gives it back.
+fn meet<P: Store, K: Keeper, D: Door, G: Gate>(
+    setup: &Setup<'_, G>,
+    service: &mut Service,
+    mut conn: D::Conn,
+    catalogue: &mut Catalogue,
+    spool: &mut P,
+    keeper: &mut K,
+    door: &mut D,
+    now: i64,
+)
+    requires moment { IsInstant now }
+    requires service { IsService service.old }
+    requires kept { IsKept (K.kept keeper.old) (plain_book service.old.book) }
+    requires going { GoesOn service.old.run (rows_of seen catalogue.old) (P.bytes spool.old) }
+    ensures { let seen_door = door_of D.visible D.faults D.dial_faults in
+        MeetsOne (link_of D.Conn.left D.Conn.written D.Conn.faults)
+        (server_of setup.now.site.now service.old.size service.old.workers) now conn
+        service.old service.new
+        (outside (rows_of seen catalogue.old) (P.bytes spool.old) (P.faults spool.old)
+        (K.kept keeper.old) (K.faults keeper.old))
+        (outside (rows_of seen catalogue.new) (P.bytes spool.new) (P.faults spool.new)
+        (K.kept keeper.new) (K.faults keeper.new))
+        (seen_door door.old) (seen_door door.new) (K.has_failed keeper.new) }
+{
+    serve_one(setup, service, &mut conn, catalogue, spool, keeper, now);
+    door.done(conn);
+}
+
+/// The tick of a turn. Answers whether the door is asked again.
+fn end_turn<P: Store, K: Keeper, G: Gate>(
+    setup: &Setup<'_, G>,
+    service: &mut Service,
+    catalogue: &mut Catalogue,
+    spool: &mut P,
+    keeper: &mut K,
+    now: i64,
+) -> Result<bool, ServeFail>
+    requires moment { IsInstant now }
+    requires service { IsService service.old }
+    requires kept { IsKept (K.kept keeper.old) (plain_book service.old.book) }
+    requires going { GoesOn service.old.run (rows_of seen catalogue.old) (P.bytes spool.old) }
+    ensures { TicksOnce
+        (outside (rows_of seen catalogue.old) (P.bytes spool.old) (P.faults spool.old)
+        (K.kept keeper.old) (K.faults keeper.old))
+        (outside (rows_of seen catalogue.new) (P.bytes spool.new) (P.faults spool.new)
+        (K.kept keeper.new) (K.faults keeper.new))
+        now service.old service.new (K.has_failed keeper.new) result }
+{
+    let alloc = setup.alloc;
+    match tick(alloc, service, catalogue, spool, keeper, now, setup.gate) {
+        Ticked::Idle | Ticked::Moved => Ok(true),
+        Ticked::KeeperFailed => Err(ServeFail::KeeperFault),
+        Ticked::OutOfMemory => Err(ServeFail::OutOfMemory),
+    }
+}
