@@ -15,6 +15,8 @@ Usage:
   openeo pack ID                   read a result text and write it as a cube file
   openeo repack ID                 write the cube file of a collection, as short as it can be
   openeo describe [ID]             write which collections are mounted, or the dimensions and labels of one
+  openeo serve PORT CX CY CT W TURNS
+                                   answer the openEO API by HTTP at 127.0.0.1:PORT, and run its batch jobs
   openeo client HOST PORT TOKEN VERB [ARG]
                                    make one call of an openEO back end and write what it answers
   openeo --help                    print this text; after a command, the text about that command
@@ -43,7 +45,8 @@ Exit status, and the line on standard error:
   7   SpoolFault: the file of the run's cells could not be read or written
   8   WriteFault: standard output could not be written
   9   OutOfMemory: an allocation was refused
-  11  LinkFault: no connection came, or it broke, or the back end took too long
+  10  KeeperFault: the database of serve could not be read or written
+  11  LinkFault: no connection came, or it broke, or the back end took too long; serve could not have its port
   12  PeerInvalid: what the back end answered is no response that client reads
   13  Refused STATUS: the back end refused the call; its own words are on the next line
   14  Setup NAME: this file could not be opened, made or mounted; bytes that do not print are \\x and two digits
@@ -112,6 +115,28 @@ Writes the mounted collections as one line of JSON, as openEO's GET /collections
 their extents. With an id it writes that collection as GET /collections/ID has it, with its dimensions: the names of its
 bands, the first and the last label of t, y and x, and the reference system. No collection is read.
 Exit status: 0, 1 Usage, 2 CollectionNotFound, 8 WriteFault, 9 OutOfMemory, 14 Setup.
+";
+
+const SERVE: &str = "\
+openeo serve PORT CX CY CT W TURNS
+
+Answers the openEO API by HTTP at http://127.0.0.1:PORT/, one request a connection, and runs the batch jobs of its users
+between them. PORT is from 1 to 65535. CX, CY, CT and W are those of run; all results are made with them. TURNS is from
+0 to 4294967295: a turn takes the next connection, where one has come or no job is to be run, answers it, and then does
+one step of a job; after so many turns the server ends.
+
+What it works on lies in the working directory:
+
+  collections/*.cube  the collections
+  tokens.txt          the users: lines of a name, one blank and a token, 8 at most. Without this file there are none. A
+                      request of theirs has the field 'Authorization: Bearer basic//TOKEN'
+  openeo.db           jobs, their results, and stored processes. It is made where it is missing; one server has it
+  openeo.spool        the cells of the runs under way, without a name once it is open
+
+Each change is in the database before it is answered. So a server may be ended at any moment, by a signal too: started
+again, it has all jobs that were answered, and begins the one that ran once more. Nothing is encrypted: docs/operate.md
+puts a web server in front.
+Exit status: 0, 1 Usage, 9 OutOfMemory, 10 KeeperFault, 11 LinkFault, 14 Setup.
 ";
 
 const CLIENT: &str = "\
@@ -184,6 +209,7 @@ fn help_of(verb: &str) -> Option<&'static str>
         "pack" => Some(PACK),
         "repack" => Some(REPACK),
         "describe" => Some(DESCRIBE),
+        "serve" => Some(SERVE),
         "client" => Some(CLIENT),
         _ => None,
     }

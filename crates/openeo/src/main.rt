@@ -1,22 +1,24 @@
 //! The program `openeo`: an openEO back end over exact datacubes.
 //!
 //! `main` makes a text of each word and prints a text about the program where they ask for one. Else it sets up what a
-//! command works on, the cube files of the folder `collections` and a file for the cells of a run, and calls `oe_dial`
-//! where the words are those of a client, and else `oe_top`, whose answer is the exit status. The boxed collections are
-//! made in `main` itself; all else runs over traits, so that it can be made to fail. The bytes that pass the adapters of
-//! `oe_adapters` and `oe_sockets` are hidden, so over them the causes by fault counters hold; what the calls write is
-//! their own contract.
+//! command works on, the cube files of the folder `collections`, the users of `tokens.txt` and a file for the cells of
+//! runs, and calls `oe_serve` where the words are those of a server, `oe_dial` where they are those of a client, and
+//! else `oe_top`, whose answer is the exit status. Only a server opens the database. The boxed collections are made in
+//! `main` itself; all else runs over traits, so that it can be made to fail. The bytes that pass the adapters and the
+//! database are hidden, so over them the causes by fault counters hold; what the calls write is their own contract.
 #![tactic(auto)]
 
 mod client;
 mod help;
 mod program;
+mod server;
 
 use client::client_words;
 use oe_adapters::{Fault, Reader, Writer, mount_outcome, open_collection, open_spool, words_of};
 use oe_outside::NoGate;
 use oe_sources::Catalogue;
 use program::{end, set_up};
+use server::{read_tokens, serve_words};
 use std::env;
 use std::process::ExitCode;
 
@@ -42,6 +44,13 @@ fn main(rt: HostRuntime) -> ExitCode {
         if let Err(fault) = outcome {
             return ExitCode::from(end(&fault, &mut err));
         }
+    }
+    let tokens = match read_tokens(alloc, &rt) {
+        Ok(tokens) => tokens,
+        Err(fault) => return ExitCode::from(end(&fault, &mut err)),
+    };
+    if let Some(status) = serve_words(alloc, &rt, &start.words, tokens, &mut catalogue, &mut err) {
+        return ExitCode::from(status);
     }
     let mut input = Reader::new(rt.stdin());
     let mut spool = match open_spool(alloc, &rt) {

@@ -1,0 +1,127 @@
+// The command `serve`: what it stands on, and how it ends.
+ghost use Rattle.std.specs.Prelude.{◌≡◌, IfNone};
+ghost use Rattle.oe_plan.specs.Ranges.{IsWithinRanges};
+ghost use Rattle.oe_serve.specs.Endings.{status_of};
+ghost use Rattle.oe_serve.specs.Words.{SpellsServe};
+ghost use Rattle.oe_serve.specs.declared.command.ServeCommand.{ServeCommand as Command};
+
+use crate::program::end;
+use itoa::Buffer;
+use oe_adapters::{Fault, open_spool};
+use oe_database::SqliteKeeper;
+use oe_dims::Text;
+use oe_memory::OutOfMemory;
+use oe_outside::{NoGate, Sink};
+use oe_routes::{Site, Tokens, TokensFail};
+use oe_serve::{ServeCommand, ServeFail, Setup, read_serve, serve};
+use oe_sockets::{Patience, SystemClock, TcpDoor};
+use oe_sources::Catalogue;
+use sqlite::{Connection, Error, ErrorCode, File, FileStore};
+use std::alloc::Global;
+use std::fs;
+use std::io::ErrorKind;
+
+/// The users of the file `tokens.txt`, none where there is no such file.
+///
+/// Refuses: the set-up fault of the file where it could not be read or is not valid; out of memory.
+pub fn read_tokens(alloc: Global, rt: &HostRuntime) -> Result<Tokens, Fault> {
+    let bytes = match fs::read(rt, "tokens.txt") {
+        Ok(bytes) => bytes,
+        Err(error) => match error.kind() {
+            ErrorKind::NotFound => Vec::new(alloc),
+            _ => return Err(Fault::of_error(alloc, &error, b"tokens.txt")),
+        },
+    };
+    match Tokens::read(alloc, &bytes) {
+        Ok(tokens) => Ok(tokens),
+        Err(TokensFail::Invalid(_)) => Err(Fault::setup(alloc, b"tokens.txt")),
+        Err(TokensFail::OutOfMemory) => Err(Fault::OutOfMemory),
+    }
+}
+
+/// Serves as the words say, over the file `openeo.db`, and answers its exit status. `None` only where they spell no
+/// command `serve`: then no file was opened.
+pub fn serve_words<E: Sink>(
+    alloc: Global,
+    rt: &HostRuntime,
+    words: &[Text],
+    tokens: Tokens,
+    catalogue: &mut Catalogue,
+    err: &mut E,
+) -> Option<u8>
+    ensures { IfNone result ((command : Command) → ¬ SpellsServe words.now command) }
+{
+    let command = read_serve(words)?;
+    let status = match served(alloc, rt, command, tokens, catalogue) {
+        Ok(Ok(())) => 0,
+        Ok(Err(fail)) => say(fail, err),
+        Err(fault) => end(&fault, err),
+    };
+    Some(status)
+}
+
+/// Says why the server ended, and answers its exit status.
+fn say<E: Sink>(fail: ServeFail, err: &mut E) -> u8
+    ensures { result ≡ status_of fail }
+{
+    // Where the line can't be written, the status alone tells.
+    let _ = err.write(fail.line().as_bytes());
+    fail.status()
+}
+
+/// Opens the database and the file for the cells of runs, and serves.
+///
+/// Refuses: the set-up fault of the file that could not be opened or made; out of memory.
+fn served(
+    alloc: Global,
+    rt: &HostRuntime,
+    command: ServeCommand,
+    tokens: Tokens,
+    catalogue: &mut Catalogue,
+) -> Result<Result<(), ServeFail>, Fault>
+    requires { IsWithinRanges command.size command.workers }
+{
+    let mut keeper = open_database(alloc, rt)?;
+    let mut spool = open_spool(alloc, rt)?;
+    let site = site_at(alloc, command.port, tokens)?;
+    let mut door = TcpDoor::new(alloc, *rt, command.port, Patience::of_server())?;
+    let mut clock = SystemClock::new(*rt);
+    let setup = Setup {
+        alloc,
+        site: &site,
+        gate: &NoGate,
+    };
+    Ok(serve(
+        &setup,
+        command,
+        catalogue,
+        &mut spool,
+        &mut keeper,
+        &mut door,
+        &mut clock,
+    ))
+}
+
+/// The keeper over the file `openeo.db`, which is made where there is none.
+///
+/// Refuses: the set-up fault of the file where it could not be opened; out of memory.
+fn open_database(alloc: Global, rt: &HostRuntime) -> Result<SqliteKeeper<FileStore<File>>, Fault> {
+    match Connection::open(rt, "openeo.db") {
+        Ok(conn) => Ok(SqliteKeeper::new(alloc, conn)),
+        Err(Error::SqliteFailure(ErrorCode::OutOfMemory)) => Err(Fault::OutOfMemory),
+        Err(_) => Err(Fault::setup(alloc, b"openeo.db")),
+    }
+}
+
+/// The site at a port of this machine. Refuses: out of memory.
+fn site_at(alloc: Global, port: u16, tokens: Tokens) -> Result<Site, OutOfMemory> {
+    let mut base = String::new(alloc);
+    base.push_str("http://127.0.0.1:")?;
+    let mut digits = Buffer::new();
+    base.push_str(digits.format(port))?;
+    base.push('/')?;
+    Ok(Site {
+        base: Text::of(alloc, base.as_str())?,
+        tokens,
+    })
+}
