@@ -15,7 +15,7 @@ STANDING = $(if $(NEWER),,$(PROGRAM))
 
 help:
 	@echo 'make run       runs the program on examples/graphs/greenest.json and prints the text of the result, and a table'
-	@echo 'make examples  runs all graphs of examples/graphs against their texts; the proved program at its edges and as a client'
+	@echo 'make examples  runs all graphs of examples/graphs against their texts; the proved program at its edges, as client and server'
 	@echo 'make program   proves and builds the program, by as many processes as there are processors'
 	@echo 'make bench     runs the proved program on a year of 12 dates, 4 bands and 1000 x 1000 pixels (needs python3)'
 	@echo 'make test      the gate: every proof, edits that must be refused, every test, the program by two compilers'
@@ -33,6 +33,8 @@ examples:
 	@examples/check $(STANDING)
 	@[ -z '$(STANDING)' ] || examples/edges $(STANDING)
 	@[ -z '$(STANDING)' ] || ! command -v $(PYTHON) > /dev/null || $(PYTHON) examples/client-check $(STANDING)
+	@[ -z '$(STANDING)' ] || ! command -v curl > /dev/null || examples/service/session $(STANDING)
+	@[ -z '$(STANDING)' ] || ! command -v $(PYTHON) > /dev/null || $(PYTHON) -B examples/service/session.py $(STANDING)
 
 # Proves the crates below the program, lowest first and each by several processes, over what earlier checks kept, and
 # then builds it. Side by side, by one process each, they would wait for the longest chain, which is half of the work.
