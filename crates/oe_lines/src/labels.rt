@@ -1,6 +1,6 @@
 // Labels, names and shapes.
 use crate::words::{number_of, parts_of, words_of};
-use crate::{Fault, push_number};
+use crate::{Answers, Fault, push_number};
 use oe_dims::{Shape, ShapeFault, Text};
 use std::alloc::Global;
 
@@ -110,10 +110,7 @@ fn push_numbered(alloc: Global, item: &str, names: &mut Vec<Text>) -> Result<(),
 
 /// A word with a number behind it.
 fn name_of(alloc: Global, word: &str, number: u32) -> Result<Text, Fault> {
-    let mut name = Vec::new(alloc);
-    push_number(word, number, &mut name)?;
-    match str::from_utf8(&name) {
-        Ok(name) => Ok(Text::of(alloc, name)?),
-        Err(_) => Err(Fault::Line),
-    }
+    let mut name = Answers::new(alloc);
+    push_number(word, number, &mut name);
+    name.into_text(alloc)
 }

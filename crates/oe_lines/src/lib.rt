@@ -9,6 +9,7 @@
 //! |---|---|
 //! | numbers | `-` for none, or numbers with commas between them |
 //! | bytes | `-` for none, or two hexadecimal digits for each |
+//! | escaped bytes | parts with bars between them, of which one as `N*BYTES` has its bytes N times; a byte stands as it is, `\r` and `\n` for those of a line end, and `\HH` for any one in two hexadecimal digits |
 //! | labels | `-` for no such dimension, `=` for one without labels, or items with commas between them: a number, or `A..B` for those from A on and before B, upwards or downwards |
 //! | names | likewise; an item is a name, `A..B` for as many names that differ and stand in no order, or `b*N` for `b0` to the name before `bN` |
 //! | a shape | the five words `EPSG T BANDS Y X`: the code of its reference system, labels, names, labels and labels |
@@ -18,6 +19,7 @@
 #![tactic(auto)]
 
 mod answers;
+mod bytes;
 mod cells;
 mod fault;
 mod labels;
@@ -25,8 +27,10 @@ mod windows;
 mod words;
 
 pub use answers::{
-    end_line, push, push_all, push_cell, push_cells, push_digits, push_flag, push_number, push_word,
+    Answers, end_line, last_other, push, push_all, push_cell, push_cells, push_digits, push_flag,
+    push_number, push_word,
 };
+pub use bytes::{escaped_bytes, escaped_text, push_quoted};
 pub use cells::{cell_of, cells_of, cells_of_kind, frac_of, fraction_of};
 pub use fault::Fault;
 pub use labels::{labels_of, names_of, shape_of, valid_shape_of};

@@ -3,7 +3,7 @@ ghost use Rattle.std.specs.Prelude.{IfOk};
 ghost use Rattle.oe_window.specs.Chunks.{IsSide};
 
 use crate::words::{number_of, pair_of, words_of};
-use crate::{Fault, push_number};
+use crate::{Answers, Fault, push_number};
 use oe_window::{Span, Window};
 
 /// The window that the words `T BANDS Y X` spell.
@@ -23,16 +23,16 @@ fn span_of(word: &str) -> Result<Span, Fault> {
 }
 
 /// Appends a window behind a mark.
-pub fn push_window(mark: &str, window: &Window, answers: &mut Vec<u8>) -> Result<(), Fault> {
-    push_span(mark, window.t, answers)?;
-    push_span(" ", window.bands, answers)?;
-    push_span(" ", window.y, answers)?;
-    push_span(" ", window.x, answers)
+pub fn push_window(mark: &str, window: &Window, answers: &mut Answers) {
+    push_span(mark, window.t, answers);
+    push_span(" ", window.bands, answers);
+    push_span(" ", window.y, answers);
+    push_span(" ", window.x, answers);
 }
 
-fn push_span(mark: &str, span: Span, answers: &mut Vec<u8>) -> Result<(), Fault> {
-    push_number(mark, span.from, answers)?;
-    push_number("..", span.to, answers)
+fn push_span(mark: &str, span: Span, answers: &mut Answers) {
+    push_number(mark, span.from, answers);
+    push_number("..", span.to, answers);
 }
 
 /// A side of chunks. Refuses: one that is not from 1 to 4096.

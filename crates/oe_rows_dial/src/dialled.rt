@@ -3,11 +3,13 @@ ghost use Rattle.std.specs.Prelude.{◌≡◌, ℕ, All, IfOk, List};
 ghost use Rattle.oe_dial.specs.Words.{SpellsCall, plain_call};
 ghost use Rattle.oe_outside.specs.ScriptDoors.{IsSound};
 
-use crate::bytes::{push_bytes, spell_part, text_of};
 use crate::setting::Setting;
 use oe_dial::{ClientCall, client, read_call};
 use oe_dims::Text;
-use oe_lines::{Fault, end_line, number_of, numbers_of, push, push_number};
+use oe_lines::{
+    Answers, Fault, end_line, escaped_bytes, escaped_text, number_of, numbers_of, push,
+    push_number, push_quoted,
+};
 use oe_outside::{MemoryLink, MemorySink, MemorySource, ScriptDoor, Source};
 use std::alloc::Global;
 
@@ -22,12 +24,15 @@ pub(crate) fn answer_client(
     alloc: Global,
     setting: Setting<'_>,
     line: &str,
-    answers: &mut Vec<u8>,
+    answers: &mut Answers,
 ) -> Result<(), Fault> {
     let words = words_of(alloc, line)?;
     match read_call(&words) {
         Some(call) => answer_call(alloc, setting, &call, answers),
-        None => push("Usage\n", answers),
+        None => {
+            push("Usage\n", answers);
+            Ok(())
+        }
     }
 }
 
@@ -35,7 +40,7 @@ fn answer_call(
     alloc: Global,
     setting: Setting<'_>,
     call: &ClientCall<'_>,
-    answers: &mut Vec<u8>,
+    answers: &mut Answers,
 ) -> Result<(), Fault>
     requires spelled { (words : List (List ℕ)) × SpellsCall words (plain_call call.now) }
 {
@@ -50,14 +55,15 @@ fn make_call(
     call: &ClientCall<'_>,
     input: &mut MemorySource,
     door: &mut ScriptDoor,
-    answers: &mut Vec<u8>,
+    answers: &mut Answers,
 ) -> Result<(), Fault>
     requires spelled { (words : List (List ℕ)) × SpellsCall words (plain_call call.now) }
 {
     let mut out = sink_of(alloc, setting.fails.out)?;
     let mut err = sink_of(alloc, setting.fails.err)?;
     let status = client(alloc, call, input, &mut out, &mut err, door);
-    spell_ending(status, input, &out, &err, door, answers)
+    spell_ending(status, input, &out, &err, door, answers);
+    Ok(())
 }
 
 /// Appends a status, and what became of all that the command was lent.
@@ -67,48 +73,41 @@ fn spell_ending(
     out: &MemorySink,
     err: &MemorySink,
     door: &ScriptDoor,
-    answers: &mut Vec<u8>,
-) -> Result<(), Fault> {
-    push_number("", status, answers)?;
-    spell_sent(door, answers)?;
-    spell_part(" out ", out.bytes(), answers)?;
-    spell_part(" err ", err.bytes(), answers)?;
-    spell_left(input, answers)?;
-    spell_count(" dial_faults ", door.dial_faults(), answers)?;
-    spell_count(" link_faults ", door.link_faults(), answers)?;
-    end_line(answers)
-}
-
-/// Appends what was sent to the connections that were given back.
-fn spell_sent(door: &ScriptDoor, answers: &mut Vec<u8>) -> Result<(), Fault> {
+    answers: &mut Answers,
+) {
+    push_number("", status, answers);
     for link in door.given_back() {
-        spell_part(" sent ", link.written(), answers)?;
+        push_quoted(" sent ", link.written(), answers);
     }
-    Ok(())
+    push_quoted(" out ", out.bytes(), answers);
+    push_quoted(" err ", err.bytes(), answers);
+    spell_left(input, answers);
+    spell_count(" dial_faults ", door.dial_faults(), answers);
+    spell_count(" link_faults ", door.link_faults(), answers);
+    end_line(answers);
 }
 
 /// Appends the first bytes of the input that were left, where there are any.
-fn spell_left(input: &mut MemorySource, answers: &mut Vec<u8>) -> Result<(), Fault> {
+fn spell_left(input: &mut MemorySource, answers: &mut Answers) {
     let mut first = [0; 16];
     match input.read(&mut first) {
-        Ok(count) if count > 0 => spell_part(" left ", &first[..count], answers),
-        _ => Ok(()),
+        Ok(count) if count > 0 => push_quoted(" left ", &first[..count], answers),
+        _ => {}
     }
 }
 
 /// Appends a counter that is not 0.
-fn spell_count(mark: &str, count: u64, answers: &mut Vec<u8>) -> Result<(), Fault> {
-    if count == 0 {
-        return Ok(());
+fn spell_count(mark: &str, count: u64, answers: &mut Answers) {
+    if count != 0 {
+        push_number(mark, count, answers);
     }
-    push_number(mark, count, answers)
 }
 
 /// The words, with blanks between them.
 fn words_of(alloc: Global, line: &str) -> Result<Vec<Text>, Fault> {
     let mut words = Vec::new(alloc);
     for word in line.split(' ') {
-        words.push(text_of(alloc, word)?)?;
+        words.push(escaped_text(alloc, word)?)?;
     }
     Ok(words)
 }
@@ -119,8 +118,7 @@ fn sink_of(alloc: Global, fails: &str) -> Result<MemorySink, Fault> {
 }
 
 fn input_of(alloc: Global, setting: Setting<'_>) -> Result<MemorySource, Fault> {
-    let mut bytes = Vec::new(alloc);
-    push_bytes(alloc, setting.input.text, &mut bytes)?;
+    let bytes = escaped_bytes(alloc, setting.input.text)?;
     Ok(MemorySource::new(bytes, numbers_of(alloc, setting.fails.input)?)?)
 }
 
@@ -146,8 +144,7 @@ fn peers_of(alloc: Global, setting: Setting<'_>) -> Result<Vec<MemoryLink>, Faul
 fn peer_of(alloc: Global, setting: Setting<'_>) -> Result<MemoryLink, Fault>
     ensures { IfOk result (λ peer. peer.faults ≡ 0) }
 {
-    let mut bytes = Vec::new(alloc);
-    push_bytes(alloc, setting.peer.text, &mut bytes)?;
+    let bytes = escaped_bytes(alloc, setting.peer.text)?;
     let piece: usize = number_of(setting.piece.text)?;
     let calls = numbers_of(alloc, setting.fails.link)?;
     Ok(MemoryLink::new(alloc, bytes, piece.max(1), SENT_ROOM, calls)?)

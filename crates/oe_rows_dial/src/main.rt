@@ -22,12 +22,11 @@
 //! `|N*B|`.
 #![tactic(auto)]
 
-mod bytes;
 mod dialled;
 mod setting;
 
 use dialled::answer_client;
-use oe_lines::{Fault, first_word};
+use oe_lines::{Answers, first_word};
 use setting::{Setting, fails_of, spelling};
 use std::alloc::Global;
 use std::io::{Read, Write};
@@ -39,18 +38,19 @@ fn main(rt: HostRuntime) -> ExitCode {
     if rt.stdin().read_to_string(&mut text).is_err() {
         return ExitCode::from(5);
     }
-    let mut answers = Vec::new(alloc);
-    if let Err(fault) = answer_lines(alloc, &text, &mut answers) {
+    let mut answers = Answers::new(alloc);
+    answer_lines(alloc, &text, &mut answers);
+    if let Some(fault) = answers.fault() {
         return ExitCode::from(fault.status());
     }
-    match rt.stdout().write_all(answers.as_slice()) {
+    match rt.stdout().write_all(answers.bytes()) {
         Ok(()) => ExitCode::from(0),
         Err(_) => ExitCode::from(8),
     }
 }
 
 /// Appends the answers to all lines.
-fn answer_lines(alloc: Global, text: &str, answers: &mut Vec<u8>) -> Result<(), Fault> {
+fn answer_lines(alloc: Global, text: &str, answers: &mut Answers) {
     let mut peer = spelling("");
     let mut input = spelling("");
     let mut piece = spelling("65536");
@@ -63,18 +63,16 @@ fn answer_lines(alloc: Global, text: &str, answers: &mut Vec<u8>) -> Result<(), 
             "input" => input = spelling(rest),
             "piece" => piece = spelling(rest),
             "fails" => fails = fails_of(rest),
-            _ => answer_client(
-                alloc,
-                Setting {
+            _ => {
+                let setting = Setting {
                     peer,
                     input,
                     piece,
                     fails,
-                },
-                line,
-                answers,
-            )?,
+                };
+                let outcome = answer_client(alloc, setting, line, answers);
+                answers.settle(outcome);
+            }
         }
     }
-    Ok(())
 }

@@ -12,7 +12,7 @@ use oe_engine::{
     Progress, Run, RunFail, Workspace, collections_are_mounted, over_is_of_the_result,
     reads_change_nothing,
 };
-use oe_lines::{Fault, first_word, push_digits};
+use oe_lines::{Answers, Fault, first_word, push_digits};
 use oe_outside::{MemorySink, MemoryStore, Pending};
 use oe_plan::Plan;
 use oe_render::RenderFail;
@@ -63,7 +63,7 @@ pub(crate) fn attempt(
     graph: &str,
     failing: Failing<'_>,
     gate: &CountGate,
-    left: &mut Vec<u8>,
+    left: &mut Answers,
 ) -> Result<Counts, Fault>
     requires { IsWithinRanges sizes.0 sizes.1 }
 {
@@ -87,7 +87,7 @@ fn carry_out(
     graph: &str,
     failing: Failing<'_>,
     gate: &CountGate,
-    left: &mut Vec<u8>,
+    left: &mut Answers,
 ) -> Result<Counts, Fault>
     requires { IsWithinRanges sizes.0 sizes.1 }
 {
@@ -120,7 +120,7 @@ fn evaluate(
     spool: &mut MemoryStore,
     failing: &[u64],
     gate: &CountGate,
-    left: &mut Vec<u8>,
+    left: &mut Answers,
 ) -> Result<Counts, Fault>
     requires mounted { HasCollections run.old.plan.graph (rows_of seen catalogue.old) }
     requires none_done { run.old.done ≡ 0 }
@@ -132,7 +132,10 @@ fn evaluate(
         return Err(Fault::Line);
     }
     let unwritten = push_text(alloc, run, spool, failing, left)?;
-    push_digits(alloc, " ", spool.bytes(), left)?;
+    push_digits(alloc, " ", spool.bytes(), left);
+    if let Some(fault) = left.fault() {
+        return Err(fault);
+    }
     Ok(Counts {
         chunks,
         evaluations,
@@ -214,7 +217,7 @@ fn push_text(
     run: &mut Run,
     spool: &mut MemoryStore,
     failing: &[u64],
-    left: &mut Vec<u8>,
+    left: &mut Answers,
 ) -> Result<u64, Fault>
     requires complete { run.old.done ≡ chunk_total run.old.plan }
     requires numbers { run.old.over ≡ None }
@@ -235,7 +238,7 @@ fn push_written(
     run: &mut Run,
     spool: &mut MemoryStore,
     failing: &[u64],
-    left: &mut Vec<u8>,
+    left: &mut Answers,
 ) -> Result<bool, Fault>
     requires complete { run.old.done ≡ chunk_total run.old.plan }
     requires numbers { run.old.over ≡ None }
@@ -246,7 +249,7 @@ fn push_written(
     let mut out = MemorySink::new(alloc, ROOM, failing.to_vec(alloc)?)?;
     let written = write_text(alloc, run, spool, &mut out)?;
     if written {
-        left.extend_from_slice(out.bytes())?;
+        left.extend(out.bytes());
     }
     Ok(written)
 }

@@ -4,7 +4,9 @@ use crate::cubes::{named_cube, named_file};
 use crate::gate::CountGate;
 use crate::runs::none_failing;
 use oe_dims::Text;
-use oe_lines::{Fault, end_line, first_word, number_of, parts_of, push, push_digits, push_number};
+use oe_lines::{
+    Answers, Fault, end_line, first_word, number_of, parts_of, push, push_digits, push_number,
+};
 use oe_outside::{MemorySink, MemorySource, MemoryStore};
 use oe_sources::{Catalogue, CubeSource, MountFail};
 use oe_top::openeo;
@@ -46,7 +48,7 @@ pub(crate) enum Answer {
 }
 
 /// Appends the answers to lines about calls.
-pub(crate) fn answer_calls(alloc: Global, text: &str, answers: &mut Vec<u8>) -> Result<(), Fault> {
+pub(crate) fn answer_calls(alloc: Global, text: &str, answers: &mut Answers) -> Result<(), Fault> {
     let mut lines = Vec::new(alloc);
     for line in text.lines() {
         if line == "catalogue" {
@@ -60,11 +62,11 @@ pub(crate) fn answer_calls(alloc: Global, text: &str, answers: &mut Vec<u8>) -> 
 }
 
 /// Appends the answers to lines that begin with an empty catalogue.
-fn spell_answers(alloc: Global, lines: &[&str], answers: &mut Vec<u8>) -> Result<(), Fault> {
+fn spell_answers(alloc: Global, lines: &[&str], answers: &mut Answers) -> Result<(), Fault> {
     for answer in &answers_of(alloc, lines, none_failing())? {
         match answer {
-            Answer::Word(word) => push(word, answers)?,
-            Answer::Call(called) => spell_called(alloc, called, answers)?,
+            Answer::Word(word) => push(word, answers),
+            Answer::Call(called) => spell_called(alloc, called, answers),
         }
     }
     Ok(())
@@ -212,48 +214,38 @@ pub(crate) fn padded_bytes(alloc: Global, text: &str, size: usize) -> Result<Vec
 }
 
 /// Spells a status and what stands on the output and on the error output, behind the answers so far.
-fn spell_called(alloc: Global, called: &Called, answers: &mut Vec<u8>) -> Result<(), Fault> {
-    spell_ending(alloc, called, answers)?;
-    end_line(answers)
+fn spell_called(alloc: Global, called: &Called, answers: &mut Answers) {
+    spell_ending(alloc, called, answers);
+    end_line(answers);
 }
 
 /// Spells the same, without the end of the line.
-pub(crate) fn spell_ending(
-    alloc: Global,
-    called: &Called,
-    answers: &mut Vec<u8>,
-) -> Result<(), Fault> {
-    push_number("", called.status, answers)?;
-    spell(alloc, " ", called.out.bytes(), answers)?;
-    spell(alloc, " | ", called.err.bytes(), answers)
+pub(crate) fn spell_ending(alloc: Global, called: &Called, answers: &mut Answers) {
+    push_number("", called.status, answers);
+    spell(alloc, " ", called.out.bytes(), answers);
+    spell(alloc, " | ", called.err.bytes(), answers);
 }
 
 /// Spells bytes behind a mark, and nothing where there are none.
-pub(crate) fn spell(
-    alloc: Global,
-    mark: &str,
-    bytes: &[u8],
-    answers: &mut Vec<u8>,
-) -> Result<(), Fault> {
+pub(crate) fn spell(alloc: Global, mark: &str, bytes: &[u8], answers: &mut Answers) {
     if bytes.is_empty() {
-        return Ok(());
+        return;
     }
     if bytes.iter().all(|byte| is_printable(*byte)) {
-        push(mark, answers)?;
+        push(mark, answers);
         return spell_printable(bytes, answers);
     }
-    push_digits(alloc, mark, bytes, answers)
+    push_digits(alloc, mark, bytes, answers);
 }
 
-fn spell_printable(bytes: &[u8], answers: &mut Vec<u8>) -> Result<(), Fault> {
+fn spell_printable(bytes: &[u8], answers: &mut Answers) {
     for byte in bytes {
         if *byte == b'\n' {
-            answers.extend_from_slice(b"\\n")?;
+            answers.extend(b"\\n");
         } else {
-            answers.push(*byte)?;
+            answers.extend(&[*byte]);
         }
     }
-    Ok(())
 }
 
 /// A letter, digit or mark of ASCII, a blank or a line feed.

@@ -2,7 +2,7 @@
 use crate::attempt::Failing;
 use crate::calls::{Answer, Called, answers_of, spell, spell_ending};
 use crate::runs::{MOST_CALLS, Object, failing_of, none_failing, spell_entries};
-use oe_lines::{Fault, end_line, first_word, number_of, push, push_number};
+use oe_lines::{Answers, Fault, end_line, first_word, last_other, number_of, push, push_number};
 use std::alloc::Global;
 
 /// Spells what a call leaves in which nothing fails and, behind a semicolon, what each call leaves in which one call of
@@ -11,15 +11,16 @@ pub(crate) fn spell_failures<'a>(
     alloc: Global,
     cubes: &[&'a str],
     line: &'a str,
-    answers: &mut Vec<u8>,
+    answers: &mut Answers,
 ) -> Result<(), Fault> {
     let (object, line) = first_word(line);
     let object = object_of(object)?;
     let whole = call_over(alloc, cubes, line, none_failing())?;
-    spell_ending(alloc, &whole, answers)?;
-    push(" ;", answers)?;
+    spell_ending(alloc, &whole, answers);
+    push(" ;", answers);
     spell_each(alloc, cubes, line, object, &whole, answers)?;
-    end_line(answers)
+    end_line(answers);
+    Ok(())
 }
 
 /// Spells the status of a call in which nothing fails, and how often it entered the gate for each of so many chunks.
@@ -27,14 +28,15 @@ pub(crate) fn spell_entered<'a>(
     alloc: Global,
     cubes: &[&'a str],
     line: &'a str,
-    answers: &mut Vec<u8>,
+    answers: &mut Answers,
 ) -> Result<(), Fault> {
     let (chunks, line) = first_word(line);
     let chunks = number_of(chunks)?;
     let called = call_over(alloc, cubes, line, none_failing())?;
-    push_number("", called.status, answers)?;
-    spell_entries(&called.gate, chunks, answers)?;
-    end_line(answers)
+    push_number("", called.status, answers);
+    spell_entries(&called.gate, chunks, answers);
+    end_line(answers);
+    Ok(())
 }
 
 /// What the call of a line leaves over the collections of these lines, while these calls of each object fail.
@@ -69,32 +71,23 @@ fn spell_each<'a>(
     line: &'a str,
     object: Object,
     whole: &Called,
-    answers: &mut Vec<u8>,
+    answers: &mut Answers,
 ) -> Result<(), Fault> {
-    let mut before = answers.len();
+    let mut before = answers.bytes().len();
     for number in 0..MOST_CALLS {
         let calls = [number];
         let one = call_over(alloc, cubes, line, failing_of(object, &calls))?;
         if one.status == 0 {
-            return spell_end(&one, whole, answers);
+            spell_end(&one, whole, answers);
+            return Ok(());
         }
-        let from = answers.len();
-        push_number(" ", one.status, answers)?;
-        spell(alloc, " ", one.err.bytes(), answers)?;
-        push(part_word(&one, whole, is_read_first(object, line)), answers)?;
+        let from = answers.bytes().len();
+        push_number(" ", one.status, answers);
+        spell(alloc, " ", one.err.bytes(), answers);
+        push(part_word(&one, whole, is_read_first(object, line)), answers);
         before = last_other(before, from, answers);
     }
     Err(Fault::Line)
-}
-
-/// Where the last answer begins, once the answer from `from` on is taken away where it is the one from `before` on.
-fn last_other(before: usize, from: usize, answers: &mut Vec<u8>) -> usize {
-    if answers.get(before..from) == answers.get(from..) {
-        answers.truncate(from);
-        before
-    } else {
-        from
-    }
 }
 
 /// Whether all calls of the object come before the first write of the output.
@@ -106,11 +99,9 @@ fn is_read_first(object: Object, line: &str) -> bool {
     }
 }
 
-fn spell_end(one: &Called, whole: &Called, answers: &mut Vec<u8>) -> Result<(), Fault> {
-    if one.out.bytes() == whole.out.bytes() && one.err.bytes().is_empty() {
-        Ok(())
-    } else {
-        push(" another output", answers)
+fn spell_end(one: &Called, whole: &Called, answers: &mut Answers) {
+    if one.out.bytes() != whole.out.bytes() || !one.err.bytes().is_empty() {
+        push(" another output", answers);
     }
 }
 

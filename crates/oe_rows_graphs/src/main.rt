@@ -121,7 +121,7 @@ mod windows;
 
 use calls::answer_calls;
 use graphs::answer_graphs;
-use oe_lines::Fault;
+use oe_lines::{Answers, Fault};
 use plans::answer_plans;
 use runs::answer_runs;
 use sources::answer_sources;
@@ -135,24 +135,24 @@ fn main(rt: HostRuntime) -> ExitCode {
     if rt.stdin().read_to_string(&mut text).is_err() {
         return ExitCode::from(5);
     }
-    let answers = match answers_to(&rt, rt.alloc(), &text) {
-        Ok(answers) => answers,
-        Err(fault) => return ExitCode::from(fault.status()),
-    };
-    match rt.stdout().write_all(answers.as_slice()) {
+    let mut answers = Answers::new(rt.alloc());
+    answer_parts(&rt, rt.alloc(), &text, &mut answers);
+    if let Some(fault) = answers.fault() {
+        return ExitCode::from(fault.status());
+    }
+    match rt.stdout().write_all(answers.bytes()) {
         Ok(()) => ExitCode::from(0),
         Err(_) => ExitCode::from(8),
     }
 }
 
-/// The answers to all parts.
-fn answers_to(rt: &impl Threads, alloc: Global, text: &str) -> Result<Vec<u8>, Fault> {
-    let mut answers = Vec::new(alloc);
+/// Appends the answers to all parts.
+fn answer_parts(rt: &impl Threads, alloc: Global, text: &str, answers: &mut Answers) {
     for part in text.split("== ") {
         let (name, lines) = part.split_once('\n').unwrap_or((part, ""));
-        answer_part(rt, alloc, name, lines, &mut answers)?;
+        let outcome = answer_part(rt, alloc, name, lines, answers);
+        answers.settle(outcome);
     }
-    Ok(answers)
 }
 
 /// Appends the answers to the lines of a part, of which the first has no name and no lines.
@@ -161,7 +161,7 @@ fn answer_part(
     alloc: Global,
     name: &str,
     lines: &str,
-    answers: &mut Vec<u8>,
+    answers: &mut Answers,
 ) -> Result<(), Fault> {
     match name {
         "" => Ok(()),

@@ -2,7 +2,7 @@
 use oe_cell::Frac;
 use oe_dims::{Kind, Shape};
 use oe_kernel::{Border, Kernel};
-use oe_lines::{Fault, end_line, parts_of, push, push_window, valid_shape_of, window_of};
+use oe_lines::{Answers, Fault, end_line, parts_of, push, push_window, valid_shape_of, window_of};
 use oe_ops::{need_beside, need_labels, need_pixels};
 use oe_window::{Window, holds, whole};
 use std::alloc::Global;
@@ -13,7 +13,7 @@ pub(crate) fn answer_need(
     alloc: Global,
     word: &str,
     line: &str,
-    answers: &mut Vec<u8>,
+    answers: &mut Answers,
 ) -> Result<(), Fault> {
     let (window, shapes) = parts_of(line, " | ")?;
     let of = window_of(window)?;
@@ -22,10 +22,11 @@ pub(crate) fn answer_need(
         _ => needed_pixels(alloc, border_of(word)?, shapes, &of)?,
     };
     match need {
-        Some(window) => push_window("", &window, answers)?,
-        None => push("none", answers)?,
+        Some(window) => push_window("", &window, answers),
+        None => push("none", answers),
     }
-    end_line(answers)
+    end_line(answers);
+    Ok(())
 }
 
 /// What it needs of an argument by its labels, or with all bands.

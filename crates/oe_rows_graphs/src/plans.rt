@@ -8,7 +8,8 @@ use crate::resolved::spell_resolved;
 use crate::windows::spell_windows;
 use oe_dims::{CellKind, Dims, DimsRow, Shape, Text};
 use oe_lines::{
-    Fault, end_line, first_word, names_of, number_of, parts_of, push_number, push_window, words_of,
+    Answers, Fault, end_line, first_word, names_of, number_of, parts_of, push_number, push_window,
+    words_of,
 };
 use oe_plan::{Plan, PlanFail, figures};
 use oe_shape::Checked;
@@ -28,7 +29,7 @@ pub(crate) fn answer_plans(
     rt: &impl Threads,
     alloc: Global,
     text: &str,
-    answers: &mut Vec<u8>,
+    answers: &mut Answers,
 ) -> Result<(), Fault> {
     let mut dims = Dims {
         rows: Vec::new(alloc),
@@ -83,7 +84,7 @@ fn answer_to(
     verb: &str,
     line: &str,
     dims: &Dims,
-    answers: &mut Vec<u8>,
+    answers: &mut Answers,
 ) -> Result<(), Fault> {
     let (words, graph) = parts_of(line, " < ")?;
     match verb {
@@ -94,71 +95,67 @@ fn answer_to(
     let checked = checked_of(alloc, graph, dims)?;
     match verb {
         "figures" => spell_figures(alloc, checked, sizes_of(words)?, answers)?,
-        "plan" => spell_planned(alloc, checked, sizes_of(words)?, answers)?,
+        "plan" => spell_planned(alloc, checked, sizes_of(words)?, answers),
         "windows" => spell_windows(rt, alloc, checked, words, answers)?,
         _ => return Err(Fault::Line),
     }
-    end_line(answers)
+    end_line(answers);
+    Ok(())
 }
 
 fn spell_figures(
     alloc: Global,
     checked: Checked,
     sizes: Sizes,
-    answers: &mut Vec<u8>,
+    answers: &mut Answers,
 ) -> Result<(), Fault>
     requires { IsWithinRanges sizes.0 sizes.1 }
 {
     let found = figures(alloc, &checked, sizes.0, sizes.1)?;
-    push_number("bound ", found.bound, answers)?;
-    push_number(" chunks ", found.chunks, answers)
+    push_number("bound ", found.bound, answers);
+    push_number(" chunks ", found.chunks, answers);
+    Ok(())
 }
 
-fn spell_planned(
-    alloc: Global,
-    checked: Checked,
-    sizes: Sizes,
-    answers: &mut Vec<u8>,
-) -> Result<(), Fault>
+fn spell_planned(alloc: Global, checked: Checked, sizes: Sizes, answers: &mut Answers)
     requires { IsWithinRanges sizes.0 sizes.1 }
 {
     match Plan::new(alloc, checked, sizes.0, sizes.1) {
         Ok(plan) => spell_plan(&plan, answers),
         Err(PlanFail::TooLarge(cells)) => push_number("too large ", cells, answers),
-        Err(PlanFail::OutOfMemory) => Err(Fault::OutOfMemory),
+        Err(PlanFail::OutOfMemory) => answers.note(Fault::OutOfMemory),
     }
 }
 
-fn spell_plan(plan: &Plan, answers: &mut Vec<u8>) -> Result<(), Fault> {
+fn spell_plan(plan: &Plan, answers: &mut Answers) {
     let count = plan.chunks();
-    push_number("chunks ", count, answers)?;
-    push_number(" largest ", plan.largest(), answers)?;
-    push_number(" scratch ", plan.scratch(), answers)?;
-    push_number(" workers ", plan.workers(), answers)?;
-    push_number(" width ", plan.width(), answers)?;
+    push_number("chunks ", count, answers);
+    push_number(" largest ", plan.largest(), answers);
+    push_number(" scratch ", plan.scratch(), answers);
+    push_number(" workers ", plan.workers(), answers);
+    push_number(" width ", plan.width(), answers);
     if count > 0 {
-        push_window(" | ", &plan.chunk(count - 1), answers)?;
+        push_window(" | ", &plan.chunk(count - 1), answers);
     }
-    for step in 0..u32::try_from(plan.steps().len()).or(Err(Fault::Line))? {
-        spell_step(plan, step, answers)?;
+    for step in 0..u32::try_from(plan.steps().len()).unwrap_or(0) {
+        spell_step(plan, step, answers);
     }
-    Ok(())
 }
 
 /// Spells the node of a step, each of its arguments with the step that it is, and how many of the steps before it have
 /// its slot.
-fn spell_step(plan: &Plan, step: u32, answers: &mut Vec<u8>) -> Result<(), Fault> {
+fn spell_step(plan: &Plan, step: u32, answers: &mut Answers) {
     if step as usize >= plan.steps().len() {
-        return Err(Fault::Line);
+        return answers.note(Fault::Line);
     }
-    push_number(" | node ", plan.node(step), answers)?;
+    push_number(" | node ", plan.node(step), answers);
     for number in 0..MOST_ARGUMENTS {
         if let Some(taken) = plan.argument(step, number) {
-            push_number(" takes ", number, answers)?;
-            push_number("=", taken, answers)?;
+            push_number(" takes ", number, answers);
+            push_number("=", taken, answers);
         }
     }
-    push_number(" shares ", shares(plan, step), answers)
+    push_number(" shares ", shares(plan, step), answers);
 }
 
 /// How many of the steps before one have its slot.

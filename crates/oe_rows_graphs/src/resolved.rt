@@ -4,7 +4,7 @@ ghost use Rattle.oe_graph.specs.Plain.{plain_stored};
 ghost use Rattle.oe_graph.specs.Valid.{AreValidStored, IsValidStored};
 
 use oe_graph::{Refusal, StoredProcess, print_graph, read_graph, read_stored};
-use oe_lines::{Fault, end_line, push, push_all, words_of};
+use oe_lines::{Answers, Fault, end_line, push, words_of};
 use oe_resolve::resolve;
 use std::alloc::Global;
 
@@ -17,28 +17,29 @@ pub(crate) fn spell_resolved(
     alloc: Global,
     words: &str,
     graph: &str,
-    answers: &mut Vec<u8>,
+    answers: &mut Answers,
 ) -> Result<(), Fault> {
     let stored = stored_of(alloc, words)?;
     let Ok(graph) = read_graph(alloc, graph.as_bytes()) else {
         return Err(Fault::Line);
     };
     match resolve(alloc, &graph, stored.as_slice()) {
-        Ok(resolved) => push_all(&[print_graph(alloc, &resolved)?.as_str(), "\n"], answers),
+        Ok(resolved) => push(print_graph(alloc, &resolved)?.as_str(), answers),
         Err(refusal) => spell_refusal(&refusal, answers),
     }
+    end_line(answers);
+    Ok(())
 }
 
-/// Spells the code of a fault and its node, and ends the line.
-pub(crate) fn spell_refusal(refusal: &Refusal, answers: &mut Vec<u8>) -> Result<(), Fault> {
+/// Spells the code of a fault and its node.
+pub(crate) fn spell_refusal(refusal: &Refusal, answers: &mut Answers) {
     match refusal {
         Refusal::Fault(fault) => {
-            push(fault.code.as_str(), answers)?;
-            push(" ", answers)?;
-            push(fault.node.as_str(), answers)?;
-            end_line(answers)
+            push(fault.code.as_str(), answers);
+            push(" ", answers);
+            push(fault.node.as_str(), answers);
         }
-        Refusal::OutOfMemory => Err(Fault::OutOfMemory),
+        Refusal::OutOfMemory => answers.note(Fault::OutOfMemory),
     }
 }
 

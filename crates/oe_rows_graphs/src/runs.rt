@@ -5,7 +5,7 @@ use crate::attempt::{Counts, Failing, attempt};
 use crate::checked::{Sizes, sizes_of};
 use crate::failures::{spell_entered, spell_failures};
 use crate::gate::CountGate;
-use oe_lines::{Fault, end_line, first_word, parts_of, push, push_number};
+use oe_lines::{Answers, Fault, end_line, first_word, parts_of, push, push_number};
 use std::alloc::Global;
 
 /// No call of an object has this number.
@@ -21,7 +21,7 @@ pub(crate) enum Object {
 }
 
 /// Appends the answers to lines about runs.
-pub(crate) fn answer_runs(alloc: Global, text: &str, answers: &mut Vec<u8>) -> Result<(), Fault> {
+pub(crate) fn answer_runs(alloc: Global, text: &str, answers: &mut Answers) -> Result<(), Fault> {
     let mut cubes = Vec::new(alloc);
     for line in text.lines() {
         let (word, rest) = first_word(line);
@@ -41,7 +41,7 @@ fn answer_run<'a>(
     word: &str,
     rest: &'a str,
     cubes: &[&'a str],
-    answers: &mut Vec<u8>,
+    answers: &mut Answers,
 ) -> Result<(), Fault> {
     match word {
         "fails" => spell_failures(alloc, cubes, rest, answers),
@@ -56,7 +56,7 @@ fn answer_graph(
     word: &str,
     rest: &str,
     cubes: &[&str],
-    answers: &mut Vec<u8>,
+    answers: &mut Answers,
 ) -> Result<(), Fault> {
     let (words, graph) = parts_of(rest, " < ")?;
     let sizes = sizes_of(words)?;
@@ -74,34 +74,30 @@ fn spell_run(
     cubes: &[&str],
     sizes: Sizes,
     graph: &str,
-    answers: &mut Vec<u8>,
+    answers: &mut Answers,
 ) -> Result<(), Fault>
     requires { IsWithinRanges sizes.0 sizes.1 }
 {
     let gate = CountGate::new(alloc)?;
-    let mut left = Vec::new(alloc);
+    let mut left = Answers::new(alloc);
     let counts = attempt(alloc, cubes, sizes, graph, none_failing(), &gate, &mut left)?;
-    push_number("", counts.chunks, answers)?;
-    push_number(" ", counts.evaluations, answers)?;
-    spell_entries(&gate, counts.chunks, answers)?;
-    push(" ", answers)?;
-    answers.extend_from_slice(&left)?;
-    end_line(answers)
+    push_number("", counts.chunks, answers);
+    push_number(" ", counts.evaluations, answers);
+    spell_entries(&gate, counts.chunks, answers);
+    push(" ", answers);
+    answers.extend(left.bytes());
+    end_line(answers);
+    Ok(())
 }
 
 /// Spells behind a blank how often a gate was entered for each of so many chunks, with commas between the numbers.
-pub(crate) fn spell_entries(
-    gate: &CountGate,
-    chunks: u64,
-    answers: &mut Vec<u8>,
-) -> Result<(), Fault> {
+pub(crate) fn spell_entries(gate: &CountGate, chunks: u64, answers: &mut Answers) {
     for chunk in 0..chunks {
         let Some(count) = gate.entered(chunk) else {
-            return Err(Fault::Line);
+            return answers.note(Fault::Line);
         };
-        push_number(if chunk == 0 { " " } else { "," }, count, answers)?;
+        push_number(if chunk == 0 { " " } else { "," }, count, answers);
     }
-    Ok(())
 }
 
 /// Spells of each object, for each of its calls in turn, the number of evaluations of the run in which that call failed.
@@ -110,11 +106,11 @@ fn spell_resumed(
     cubes: &[&str],
     sizes: Sizes,
     graph: &str,
-    answers: &mut Vec<u8>,
+    answers: &mut Answers,
 ) -> Result<(), Fault>
     requires { IsWithinRanges sizes.0 sizes.1 }
 {
-    let mut whole = Vec::new(alloc);
+    let mut whole = Answers::new(alloc);
     let gate = CountGate::new(alloc)?;
     attempt(
         alloc,
@@ -126,9 +122,10 @@ fn spell_resumed(
         &mut whole,
     )?;
     for object in [Object::Collections, Object::Spool, Object::Output] {
-        spell_calls(alloc, cubes, sizes, graph, object, &whole, answers)?;
+        spell_calls(alloc, cubes, sizes, graph, object, whole.bytes(), answers)?;
     }
-    end_line(answers)
+    end_line(answers);
+    Ok(())
 }
 
 /// Spells the same of one object. `whole` is what a run leaves in which no call fails.
@@ -139,21 +136,21 @@ fn spell_calls(
     graph: &str,
     object: Object,
     whole: &[u8],
-    answers: &mut Vec<u8>,
+    answers: &mut Answers,
 ) -> Result<(), Fault>
     requires { IsWithinRanges sizes.0 sizes.1 }
 {
-    push(object_word(object), answers)?;
+    push(object_word(object), answers);
     for number in 0..MOST_CALLS {
         let calls = [number];
         let failing = failing_of(object, &calls);
         let gate = CountGate::new(alloc)?;
-        let mut left = Vec::new(alloc);
+        let mut left = Answers::new(alloc);
         let counts = attempt(alloc, cubes, sizes, graph, failing, &gate, &mut left)?;
         if counts.refusals == 0 {
             break;
         }
-        spell_resumption(counts, &left, whole, answers)?;
+        spell_resumption(counts, left.bytes(), whole, answers);
     }
     Ok(())
 }
@@ -168,17 +165,11 @@ fn object_word(object: Object) -> &'static str {
 }
 
 /// Spells the number of evaluations, and `?` where a run left others records or another text.
-fn spell_resumption(
-    counts: Counts,
-    left: &[u8],
-    whole: &[u8],
-    answers: &mut Vec<u8>,
-) -> Result<(), Fault> {
-    push_number(" ", counts.evaluations, answers)?;
+fn spell_resumption(counts: Counts, left: &[u8], whole: &[u8], answers: &mut Answers) {
+    push_number(" ", counts.evaluations, answers);
     if left != whole {
-        answers.push(b'?')?;
+        answers.extend(&[b'?']);
     }
-    Ok(())
 }
 
 pub(crate) fn none_failing<'a>() -> Failing<'a> {

@@ -7,8 +7,8 @@ use crate::cubes::source_of;
 use oe_cell::Cell;
 use oe_dims::{Shape, Text, is_name};
 use oe_lines::{
-    Fault, end_line, first_word, numbers_of, parts_of, push, push_all, push_cell, push_digits,
-    push_number,
+    Answers, Fault, end_line, first_word, numbers_of, parts_of, push, push_all, push_cell,
+    push_digits, push_number,
 };
 use oe_outside::MemorySink;
 use oe_sources::{Catalogue, CubeSource, MountFail, RepackFail, SourceFail, repack};
@@ -29,7 +29,7 @@ const ID: &str = "Z";
 pub(crate) fn answer_sources(
     alloc: Global,
     text: &str,
-    answers: &mut Vec<u8>,
+    answers: &mut Answers,
 ) -> Result<(), Fault> {
     let mut catalogue = Catalogue::new(alloc);
     for line in text.lines() {
@@ -40,13 +40,13 @@ pub(crate) fn answer_sources(
             "demo" => catalogue = Catalogue::generated(alloc, 0, 2)?,
             "mount" => {
                 let (id, cube) = source_of(alloc, rest)?;
-                spell_mounted(catalogue.mount(id, Box::new(alloc, cube)?), answers)?;
+                spell_mounted(catalogue.mount(id, Box::new(alloc, cube)?), answers);
             }
             "replace" => {
                 let (id, cube) = source_of(alloc, rest)?;
-                spell_replaced(catalogue.replace(id, Box::new(alloc, cube)?), answers)?;
+                spell_replaced(catalogue.replace(id, Box::new(alloc, cube)?), answers);
             }
-            "detach" => spell_detached(catalogue.detach(rest), answers)?,
+            "detach" => spell_detached(catalogue.detach(rest), answers),
             _ => answer_to(alloc, verb, rest, &mut catalogue, answers)?,
         }
     }
@@ -58,7 +58,7 @@ fn answer_to(
     verb: &str,
     rest: &str,
     catalogue: &mut Catalogue,
-    answers: &mut Vec<u8>,
+    answers: &mut Answers,
 ) -> Result<(), Fault> {
     match verb {
         "read" => read(alloc, rest, catalogue, answers),
@@ -73,12 +73,13 @@ fn read(
     alloc: Global,
     id: &str,
     catalogue: &mut Catalogue,
-    answers: &mut Vec<u8>,
+    answers: &mut Answers,
 ) -> Result<(), Fault> {
     let Some(place) = catalogue.place(id) else {
-        return push("none\n", answers);
+        push("none\n", answers);
+        return Ok(());
     };
-    push_number("", place, answers)?;
+    push_number("", place, answers);
     read_row(alloc, place, catalogue, answers)
 }
 
@@ -86,14 +87,15 @@ fn read_row(
     alloc: Global,
     place: u32,
     catalogue: &mut Catalogue,
-    answers: &mut Vec<u8>,
+    answers: &mut Answers,
 ) -> Result<(), Fault>
     requires { place < length (rows_of seen catalogue.old) }
 {
     let mut cells = room_for(alloc, catalogue.shape(place))?;
     let window = whole(catalogue.shape(place));
     let answer = catalogue.read(place, &window, &mut cells);
-    spell_read(answer, &cells, answers)
+    spell_read(answer, &cells, answers);
+    Ok(())
 }
 
 /// Room for the cells of a shape.
@@ -108,13 +110,14 @@ fn room_for(alloc: Global, shape: &Shape) -> Result<Vec<Cell>, Fault>
 }
 
 /// The ids of the rows for graphs.
-fn list(catalogue: &Catalogue, answers: &mut Vec<u8>) -> Result<(), Fault> {
+fn list(catalogue: &Catalogue, answers: &mut Answers) -> Result<(), Fault> {
     let dims = catalogue.dims()?;
-    push("ids", answers)?;
+    push("ids", answers);
     for row in &dims.rows {
-        push_all(&[" ", row.id.as_str()], answers)?;
+        push_all(&[" ", row.id.as_str()], answers);
     }
-    end_line(answers)
+    end_line(answers);
+    Ok(())
 }
 
 /// The end of a file that is written while these writes fail, and its bytes in hexadecimal digits.
@@ -122,7 +125,7 @@ fn write_file(
     alloc: Global,
     line: &str,
     catalogue: &mut Catalogue,
-    answers: &mut Vec<u8>,
+    answers: &mut Answers,
 ) -> Result<(), Fault> {
     let (calls, id) = parts_of(line, " ")?;
     let Some(place) = catalogue.place(id) else {
@@ -130,8 +133,9 @@ fn write_file(
     };
     let mut out = MemorySink::new(alloc, ROOM, numbers_of(alloc, calls)?)?;
     let word = write_row(alloc, place, catalogue, &mut out)?;
-    push_digits(alloc, word, out.bytes(), answers)?;
-    end_line(answers)
+    push_digits(alloc, word, out.bytes(), answers);
+    end_line(answers);
+    Ok(())
 }
 
 fn write_row(
@@ -160,21 +164,18 @@ fn word_of(answer: Result<(), RepackFail>) -> Result<&'static str, Fault> {
 }
 
 /// What a mount answered, with the box of a refusal.
-fn spell_mounted(answer: Result<(), MountFail>, answers: &mut Vec<u8>) -> Result<(), Fault> {
+fn spell_mounted(answer: Result<(), MountFail>, answers: &mut Answers) {
     match answer {
         Ok(()) => push("mounted\n", answers),
         Err(MountFail::IdInvalid(cube)) => spell_box("invalid", cube, answers),
         Err(MountFail::IdTaken(cube)) => spell_box("taken", cube, answers),
         Err(MountFail::Full(cube)) => spell_box("full", cube, answers),
-        Err(MountFail::OutOfMemory(_)) => Err(Fault::OutOfMemory),
+        Err(MountFail::OutOfMemory(_)) => answers.note(Fault::OutOfMemory),
     }
 }
 
 /// The old box of an id, or the given one where none was replaced.
-fn spell_replaced(
-    answer: Result<Box<dyn CubeSource>, Box<dyn CubeSource>>,
-    answers: &mut Vec<u8>,
-) -> Result<(), Fault> {
+fn spell_replaced(answer: Result<Box<dyn CubeSource>, Box<dyn CubeSource>>, answers: &mut Answers) {
     match answer {
         Ok(cube) => spell_box("replaced", cube, answers),
         Err(cube) => spell_box("none", cube, answers),
@@ -182,7 +183,7 @@ fn spell_replaced(
 }
 
 /// The box of an id that was taken out, if there was one.
-fn spell_detached(answer: Option<Box<dyn CubeSource>>, answers: &mut Vec<u8>) -> Result<(), Fault> {
+fn spell_detached(answer: Option<Box<dyn CubeSource>>, answers: &mut Answers) {
     match answer {
         Some(cube) => spell_box("detached", cube, answers),
         None => push("none\n", answers),
@@ -190,38 +191,30 @@ fn spell_detached(answer: Option<Box<dyn CubeSource>>, answers: &mut Vec<u8>) ->
 }
 
 /// A word, and the one cell of a box.
-fn spell_box(
-    word: &str,
-    mut cube: Box<dyn CubeSource>,
-    answers: &mut Vec<u8>,
-) -> Result<(), Fault> {
-    push(word, answers)?;
+fn spell_box(word: &str, mut cube: Box<dyn CubeSource>, answers: &mut Answers) {
+    push(word, answers);
     let shape = cube.shape();
     if shape.cells() != 1 {
-        return Err(Fault::Line);
+        return answers.note(Fault::Line);
     }
     let window = whole(shape);
     let mut cells = [Cell::Over; 1];
     let answer = cube.read(&window, &mut cells);
-    spell_read(answer, &cells, answers)
+    spell_read(answer, &cells, answers);
 }
 
 /// The cells of a read, or that it failed.
-fn spell_read(
-    answer: Result<(), SourceFail>,
-    cells: &[Cell],
-    answers: &mut Vec<u8>,
-) -> Result<(), Fault> {
+fn spell_read(answer: Result<(), SourceFail>, cells: &[Cell], answers: &mut Answers) {
     match answer {
         Ok(()) => spell_cells(cells, answers),
         Err(SourceFail::Failed) => push(" failed\n", answers),
-        Err(SourceFail::Damaged(_)) => Err(Fault::Line),
+        Err(SourceFail::Damaged(_)) => answers.note(Fault::Line),
     }
 }
 
-fn spell_cells(cells: &[Cell], answers: &mut Vec<u8>) -> Result<(), Fault> {
+fn spell_cells(cells: &[Cell], answers: &mut Answers) {
     for cell in cells {
-        push_cell(*cell, answers)?;
+        push_cell(*cell, answers);
     }
-    end_line(answers)
+    end_line(answers);
 }

@@ -1,5 +1,5 @@
 // The answers to lines about the windows of steps.
-use oe_lines::{Fault, push_number, push_window, window_of};
+use oe_lines::{Answers, Fault, push_number, push_window, window_of};
 use oe_order::order;
 use oe_plan::windows_of;
 use oe_shape::Checked;
@@ -13,11 +13,11 @@ pub(crate) fn spell_windows(
     alloc: Global,
     checked: Checked,
     words: &str,
-    answers: &mut Vec<u8>,
+    answers: &mut Answers,
 ) -> Result<(), Fault> {
     let windows = windows_for(rt, alloc, &checked, &window_of(words)?, answers)?;
     for window in &windows {
-        push_window(" | ", window, answers)?;
+        push_window(" | ", window, answers);
     }
     Ok(())
 }
@@ -28,14 +28,14 @@ fn windows_for(
     alloc: Global,
     checked: &Checked,
     chunk: &Window,
-    answers: &mut Vec<u8>,
+    answers: &mut Answers,
 ) -> Result<Vec<Window>, Fault> {
     // There are fewer than 2^32 nodes, since their number is a u32.
     let _count = checked.nodes();
     let steps = order(alloc, checked.links(), checked.result())?;
     let (count, width) = thread::join(rt, || steps.steps().len(), || steps.width());
-    push_number("steps ", count, answers)?;
-    push_number(" width ", width, answers)?;
+    push_number("steps ", count, answers);
+    push_number(" width ", width, answers);
     if chunk.is_empty() || !holds(&whole(checked.shape(checked.result())), chunk) {
         return Err(Fault::Line);
     }

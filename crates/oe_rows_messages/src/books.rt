@@ -9,20 +9,20 @@ use crate::valid::{add_entry, add_owned, answer_valid, set};
 use oe_dims::Text;
 use oe_jobs::{Book, Change, Job, Verdict, decide, reopen};
 use oe_keeper::{job_text, read_job};
-use oe_lines::{Fault, end_line, first_word, number_of, push, push_all};
+use oe_lines::{Answers, Fault, end_line, first_word, number_of, push, push_all};
 use std::alloc::Global;
 
 /// When commands are given.
 const ASKED: i64 = 50;
 
 /// Appends the answers to lines about jobs.
-pub(crate) fn answer_jobs(alloc: Global, text: &str, answers: &mut Vec<u8>) -> Result<(), Fault> {
+pub(crate) fn answer_jobs(alloc: Global, text: &str, answers: &mut Answers) {
     let mut book = empty_book(alloc, 1);
     for line in text.lines() {
         let (word, rest) = first_word(line);
-        answer_line(alloc, word, rest, &mut book, answers)?;
+        let outcome = answer_line(alloc, word, rest, &mut book, answers);
+        answers.settle(outcome);
     }
-    Ok(())
 }
 
 /// Appends the answer of a line that begins with this word.
@@ -31,7 +31,7 @@ fn answer_line(
     word: &str,
     rest: &str,
     book: &mut Book,
-    answers: &mut Vec<u8>,
+    answers: &mut Answers,
 ) -> Result<(), Fault> {
     match word {
         "#" => Ok(()),
@@ -40,17 +40,53 @@ fn answer_line(
         "restore" => add_entry(alloc, rest, &mut book.jobs),
         "owned" => add_owned(alloc, rest, &mut book.processes),
         "set" => set(alloc, rest, book),
+        _ => answer_question(alloc, word, rest, book, answers),
+    }
+}
+
+/// Appends the answer of a line that asks what is, by its word.
+fn answer_question(
+    alloc: Global,
+    word: &str,
+    rest: &str,
+    book: &mut Book,
+    answers: &mut Answers,
+) -> Result<(), Fault> {
+    match word {
         "valid" => answer_valid(alloc, book, answers),
-        "event" => answer_change(change_of(alloc, rest, book)?, book, answers),
-        "reopen" => answer_change(reopen(alloc, book)?, book, answers),
         "keeper" => keep_both(alloc, rest, answers),
         "entry" => read_entry(alloc, rest, answers),
-        "running" => answer_job(book.running(), answers),
-        "next" => answer_job(book.next_queued(), answers),
-        "busy" => answer_busy(book, answers),
         "place" => answer_place(alloc, rest, book, answers),
         "assets" => answer_assets(alloc, rest, answers),
+        _ => answer_change_of(alloc, word, rest, book, answers),
+    }
+}
+
+/// Appends the answer of a line that changes the book, by its word.
+fn answer_change_of(
+    alloc: Global,
+    word: &str,
+    rest: &str,
+    book: &mut Book,
+    answers: &mut Answers,
+) -> Result<(), Fault> {
+    match word {
+        "event" => answer_change(change_of(alloc, rest, book)?, book, answers),
+        "reopen" => answer_change(reopen(alloc, book)?, book, answers),
+        "running" | "next" | "busy" => {
+            answer_state(word, book, answers);
+            Ok(())
+        }
         _ => ask(alloc, word, rest, book, answers),
+    }
+}
+
+/// Appends what the book says of its jobs, by the word of a line.
+fn answer_state(word: &str, book: &Book, answers: &mut Answers) {
+    match word {
+        "running" => answer_job(book.running(), answers),
+        "next" => answer_job(book.next_queued(), answers),
+        _ => answer_busy(book, answers),
     }
 }
 
@@ -74,10 +110,12 @@ fn ask(
     user: &str,
     line: &str,
     book: &mut Book,
-    answers: &mut Vec<u8>,
+    answers: &mut Answers,
 ) -> Result<(), Fault> {
     let verdict = verdict_on(alloc, user, line, book)?;
-    answer_verdict(verdict, book, answers)
+    push_all(&[outcome_word(&verdict.outcome), " "], answers);
+    let Verdict { change, outcome: _ } = verdict;
+    answer_change(change, book, answers)
 }
 
 fn verdict_on(alloc: Global, user: &str, line: &str, book: &Book) -> Result<Verdict, Fault> {
@@ -86,21 +124,16 @@ fn verdict_on(alloc: Global, user: &str, line: &str, book: &Book) -> Result<Verd
     Ok(decide(alloc, book, &user, &command, ASKED)?)
 }
 
-fn answer_verdict(verdict: Verdict, book: &mut Book, answers: &mut Vec<u8>) -> Result<(), Fault> {
-    push_all(&[outcome_word(&verdict.outcome), " "], answers)?;
-    let Verdict { change, outcome: _ } = verdict;
-    answer_change(change, book, answers)
-}
-
 /// Makes a change, and appends which it was and the book after it.
 fn answer_change(
     change: Option<Change>,
     book: &mut Book,
-    answers: &mut Vec<u8>,
+    answers: &mut Answers,
 ) -> Result<(), Fault> {
-    push(change_word(&change), answers)?;
+    push(change_word(&change), answers);
     install(change, book)?;
-    spell_book(book, answers)
+    spell_book(book, answers);
+    Ok(())
 }
 
 fn install(change: Option<Change>, book: &mut Book) -> Result<(), Fault> {
@@ -116,18 +149,22 @@ fn install(change: Option<Change>, book: &mut Book) -> Result<(), Fault> {
 
 /// Reads a text as the entry of the job j-3. Appends that job and, behind a bar, the entry that is written of it, or
 /// `none` where the text is no entry.
-fn read_entry(alloc: Global, text: &str, answers: &mut Vec<u8>) -> Result<(), Fault> {
+fn read_entry(alloc: Global, text: &str, answers: &mut Answers) -> Result<(), Fault> {
     let id = Text::of(alloc, "j-3")?;
     match read_job(alloc, &id, text.as_bytes())? {
         Some(job) => spell_entry(alloc, &job, answers),
-        None => push("none\n", answers),
+        None => {
+            push("none\n", answers);
+            Ok(())
+        }
     }
 }
 
-fn spell_entry(alloc: Global, job: &Job, answers: &mut Vec<u8>) -> Result<(), Fault> {
-    spell_job(job, answers)?;
+fn spell_entry(alloc: Global, job: &Job, answers: &mut Answers) -> Result<(), Fault> {
+    spell_job(job, answers);
     let entry = job_text(alloc, job)?;
-    push(" | ", answers)?;
-    push(entry.as_str(), answers)?;
-    end_line(answers)
+    push(" | ", answers);
+    push(entry.as_str(), answers);
+    end_line(answers);
+    Ok(())
 }

@@ -1,13 +1,13 @@
 // Calls of a client.
-use crate::bytes::{push_bytes, spell_part};
 use crate::links::{Links, peer_link, spell_end};
 use crate::streams::sink_of;
-use crate::writing::{push_body, set_text};
+use crate::writing::{body_in, text_in};
 use oe_client::{
     ClientCommand, ClientFail, client_call, client_command, find_verb, is_argument_of,
 };
 use oe_dims::Text;
-use oe_lines::{Fault, first_word, push, push_number};
+use oe_lines::{Answers, Fault, escaped_bytes, first_word, push, push_number, push_quoted};
+use oe_outside::{MemoryLink, MemorySink};
 use std::alloc::Global;
 
 /// The host that requests are written to.
@@ -35,12 +35,15 @@ pub(crate) fn answer_call(
     alloc: Global,
     links: Links<'_>,
     rest: &str,
-    answers: &mut Vec<u8>,
+    answers: &mut Answers,
 ) -> Result<(), Fault> {
     let call = call_of(rest);
-    match command_of(alloc, call)? {
+    match command_of(alloc, call, answers)? {
         Some(command) => make_call(alloc, links, call, &command, answers),
-        None => push("no call\n", answers),
+        None => {
+            push("no call\n", answers);
+            Ok(())
+        }
     }
 }
 
@@ -61,19 +64,20 @@ fn call_of(rest: &str) -> Call<'_> {
 }
 
 /// The request of the call, `None` where no verb has the word, or the argument does not stand behind it.
-fn command_of(alloc: Global, call: Call<'_>) -> Result<Option<ClientCommand>, Fault> {
+fn command_of(
+    alloc: Global,
+    call: Call<'_>,
+    answers: &mut Answers,
+) -> Result<Option<ClientCommand>, Fault> {
     let Some(verb) = find_verb(call.verb) else {
         return Ok(None);
     };
-    let mut argument = None;
-    set_text(alloc, call.argument, &mut argument)?;
+    let argument = text_in(alloc, call.argument, answers);
     if !is_argument_of(verb.3, argument.as_ref()) {
         return Ok(None);
     }
-    let mut token = None;
-    set_text(alloc, call.token, &mut token)?;
-    let mut input = Vec::new(alloc);
-    push_body(alloc, call.input, &mut input)?;
+    let token = text_in(alloc, call.token, answers);
+    let input = body_in(alloc, call.input, answers);
     let host = Text::of(alloc, HOST)?;
     let command = client_command(alloc, verb, argument.as_ref(), token.as_ref(), host, input)?;
     Ok(Some(command))
@@ -84,29 +88,40 @@ fn make_call(
     links: Links<'_>,
     call: Call<'_>,
     command: &ClientCommand,
-    answers: &mut Vec<u8>,
+    answers: &mut Answers,
 ) -> Result<(), Fault> {
-    let mut response = Vec::new(alloc);
-    push_bytes(alloc, call.response, &mut response)?;
+    let response = escaped_bytes(alloc, call.response)?;
     let mut link = peer_link(alloc, response, links)?;
     let mut out = sink_of(alloc, ROOM, call.failing)?;
-    let outcome = client_call(alloc, command, &mut link, &mut out);
-    spell_part("sent ", link.written(), answers)?;
-    spell_outcome(&outcome, answers)?;
-    spell_part(" out ", out.bytes(), answers)?;
-    spell_end(&link, answers)
+    carry_out(alloc, command, &mut link, &mut out, answers);
+    Ok(())
 }
 
-fn spell_outcome(outcome: &Result<(), ClientFail>, answers: &mut Vec<u8>) -> Result<(), Fault> {
+/// Makes a call, and appends what was sent, the answer, and what the output holds.
+fn carry_out(
+    alloc: Global,
+    command: &ClientCommand,
+    link: &mut MemoryLink,
+    out: &mut MemorySink,
+    answers: &mut Answers,
+) {
+    let outcome = client_call(alloc, command, link, out);
+    push_quoted("sent ", link.written(), answers);
+    spell_outcome(&outcome, answers);
+    push_quoted(" out ", out.bytes(), answers);
+    spell_end(link, answers);
+}
+
+fn spell_outcome(outcome: &Result<(), ClientFail>, answers: &mut Answers) {
     match outcome {
         Ok(()) => push(" done", answers),
         Err(ClientFail::LinkFailed) => push(" LinkFailed", answers),
         Err(ClientFail::PeerInvalid) => push(" PeerInvalid", answers),
         Err(ClientFail::Refused { status, body }) => {
-            push_number(" Refused ", *status, answers)?;
-            spell_part(" ", body, answers)
+            push_number(" Refused ", *status, answers);
+            push_quoted(" ", body, answers);
         }
         Err(ClientFail::SinkFailed) => push(" SinkFailed", answers),
-        Err(ClientFail::OutOfMemory) => Err(Fault::OutOfMemory),
+        Err(ClientFail::OutOfMemory) => answers.note(Fault::OutOfMemory),
     }
 }

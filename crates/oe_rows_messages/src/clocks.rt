@@ -1,6 +1,6 @@
 // Clocks that stand still, and gates that do nothing.
 use crate::objects::WORDS;
-use oe_lines::{Fault, end_line, number_of, push_number};
+use oe_lines::{Answers, Fault, end_line, number_of, push_number};
 use oe_outside::{Clock, FixedClock, Gate, NoGate};
 
 /// The first and the last moment that a clock gives.
@@ -9,14 +9,15 @@ const FIRST: i64 = -62135596800;
 const LAST: i64 = 253402300799;
 
 /// Asks a clock twice.
-pub(crate) fn answer_clock(words: &[&str; WORDS], answers: &mut Vec<u8>) -> Result<(), Fault> {
+pub(crate) fn answer_clock(words: &[&str; WORDS], answers: &mut Answers) -> Result<(), Fault> {
     let seconds = number_of(words[1])?;
     if seconds < FIRST || seconds > LAST {
         return Err(Fault::Line);
     }
     let mut clock = FixedClock::new(seconds);
-    spell_moment(passes(&mut clock, &NoGate), answers)?;
-    spell_moment(passes(&mut clock, &NoGate), answers)
+    spell_moment(passes(&mut clock, &NoGate), answers);
+    spell_moment(passes(&mut clock, &NoGate), answers);
+    Ok(())
 }
 
 /// The moment that a clock gives, and a gate that is entered, through the bounds.
@@ -25,7 +26,7 @@ fn passes<C: Clock, G: Gate>(clock: &mut C, gate: &G) -> i64 {
     clock.now_seconds()
 }
 
-fn spell_moment(seconds: i64, answers: &mut Vec<u8>) -> Result<(), Fault> {
-    push_number("", seconds, answers)?;
-    end_line(answers)
+fn spell_moment(seconds: i64, answers: &mut Answers) {
+    push_number("", seconds, answers);
+    end_line(answers);
 }

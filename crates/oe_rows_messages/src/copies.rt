@@ -5,7 +5,7 @@ ghost use Rattle.oe_outside.specs.Visible.{Gave, Appends};
 
 use crate::objects::{WORDS, count_of, end_faults, spell_bytes};
 use crate::streams::{sink_of, source_of};
-use oe_lines::{Fault, number_of, push, push_number};
+use oe_lines::{Answers, Fault, number_of, push, push_number};
 use oe_outside::{CountSink, MemorySink, MemorySource, Sink, Source};
 use std::alloc::Global;
 
@@ -53,32 +53,31 @@ fn spell_copy<S: Source, K: Sink>(
     sink: &mut K,
     room: usize,
     rounds: u64,
-    answers: &mut Vec<u8>,
-) -> Result<(), Fault> {
+    answers: &mut Answers,
+) {
     let mut buffer = [b'-'; 8];
-    let word = match copy(source, sink, &mut buffer[..room.max(1).min(8)], rounds) {
+    let outcome = copy(source, sink, &mut buffer[..room.max(1).min(8)], rounds);
+    push(copy_word(outcome), answers);
+}
+
+fn copy_word(outcome: Result<bool, Stopped>) -> &'static str {
+    match outcome {
         Ok(true) => "end |",
         Ok(false) => "more |",
         Err(Stopped::Source) => "Source |",
         Err(Stopped::Sink) => "Sink |",
-    };
-    push(word, answers)
+    }
 }
 
 pub(crate) fn answer_copy(
     alloc: Global,
     words: &[&str; WORDS],
-    answers: &mut Vec<u8>,
+    answers: &mut Answers,
 ) -> Result<(), Fault> {
     let mut source = source_of(alloc, words[1], words[2])?;
     let mut sink = sink_of(alloc, words[3], words[4])?;
-    copy_times(
-        &mut source,
-        &mut sink,
-        count_of(words[5])?,
-        words[6],
-        answers,
-    )
+    let room = count_of(words[5])?;
+    copy_times(&mut source, &mut sink, room, words[6], answers)
 }
 
 fn copy_times(
@@ -86,13 +85,13 @@ fn copy_times(
     sink: &mut MemorySink,
     room: usize,
     rounds: &str,
-    answers: &mut Vec<u8>,
+    answers: &mut Answers,
 ) -> Result<(), Fault> {
     for most in rounds.split(',') {
-        spell_copy(source, sink, room, number_of(most)?, answers)?;
-        spell_bytes(sink.bytes(), answers)?;
-        push_number(" ", source.faults(), answers)?;
-        end_faults(sink.faults(), answers)?;
+        spell_copy(source, sink, room, number_of(most)?, answers);
+        spell_bytes(sink.bytes(), answers);
+        push_number(" ", source.faults(), answers);
+        end_faults(sink.faults(), answers);
     }
     Ok(())
 }
@@ -100,7 +99,7 @@ fn copy_times(
 pub(crate) fn answer_count(
     alloc: Global,
     words: &[&str; WORDS],
-    answers: &mut Vec<u8>,
+    answers: &mut Answers,
 ) -> Result<(), Fault> {
     let mut source = source_of(alloc, words[1], "-")?;
     count_times(&mut source, count_of(words[2])?, words[3], answers)
@@ -110,12 +109,12 @@ fn count_times(
     source: &mut MemorySource,
     room: usize,
     rounds: &str,
-    answers: &mut Vec<u8>,
+    answers: &mut Answers,
 ) -> Result<(), Fault> {
     let mut sink = CountSink::new();
     for most in rounds.split(',') {
-        spell_copy(source, &mut sink, room, number_of(most)?, answers)?;
-        end_faults(sink.count(), answers)?;
+        spell_copy(source, &mut sink, room, number_of(most)?, answers);
+        end_faults(sink.count(), answers);
     }
     Ok(())
 }

@@ -3,64 +3,74 @@ ghost use Rattle.std.specs.Prelude.{◌<◌, ◌↔◌, length, IsTrue, IfOk, On
 ghost use Rattle.oe_outside.specs.Faults.{HasCause};
 ghost use Rattle.oe_outside.specs.Visible.{Appends, AppendsPrefix};
 
-use crate::objects::{WORDS, end_faults, spell_bytes};
-use crate::streams::{long_piece, sink_call};
-use oe_lines::{Fault, push, push_number, words_of};
-use oe_outside::{BoundedSink, CountSink, Failed, Pending, Sink};
+use crate::objects::{Object, WORDS, answer_calls, end_faults, spell_bytes};
+use crate::streams::{Buffered, long_piece, sink_call};
+use oe_lines::{Answers, Fault, end_line, push, push_number};
+use oe_outside::{BoundedSink, CountSink, Failed, Sink};
 use std::alloc::Global;
 
 /// The calls of a sink that only counts.
 pub(crate) fn answer_counter(
     alloc: Global,
     calls: &str,
-    answers: &mut Vec<u8>,
+    answers: &mut Answers,
 ) -> Result<(), Fault> {
-    let mut sink = CountSink::new();
-    let mut pending = Pending::new(alloc)?;
-    for call in calls.split("; ") {
-        sink_call(alloc, &mut sink, &mut pending, &words_of(call), answers)?;
-        push(" |", answers)?;
-        end_faults(sink.count(), answers)?;
-    }
+    let mut sink = Buffered::new(alloc, CountSink::new())?;
+    answer_calls(alloc, &mut sink, calls, answers);
     Ok(())
+}
+
+impl Object for Buffered<CountSink> {
+    fn call(&mut self, alloc: Global, call: &str, answers: &mut Answers) -> Result<(), Fault> {
+        sink_call(alloc, &mut self.out, &mut self.pending, call, answers)?;
+        push(" |", answers);
+        end_faults(self.out.count(), answers);
+        Ok(())
+    }
 }
 
 /// The calls of a sink with room for a text, and then its bytes.
 pub(crate) fn answer_bounded(
     alloc: Global,
     calls: &str,
-    answers: &mut Vec<u8>,
+    answers: &mut Answers,
 ) -> Result<(), Fault> {
-    let mut sink = BoundedSink::new(alloc)?;
-    let mut pending = Pending::new(alloc)?;
-    for call in calls.split("; ") {
-        sink_call(alloc, &mut sink, &mut pending, &words_of(call), answers)?;
-        let word = if sink.is_full() {
-            " | full\n"
-        } else {
-            " | open\n"
-        };
-        push(word, answers)?;
+    let mut sink = Buffered::new(alloc, BoundedSink::new(alloc)?)?;
+    answer_calls(alloc, &mut sink, calls, answers);
+    let Buffered { out, pending: _ } = sink;
+    let bytes = out.into_bytes();
+    push_number("bytes ", bytes.len(), answers);
+    spell_bytes(&bytes, answers);
+    end_line(answers);
+    Ok(())
+}
+
+impl Object for Buffered<BoundedSink> {
+    fn call(&mut self, alloc: Global, call: &str, answers: &mut Answers) -> Result<(), Fault> {
+        sink_call(alloc, &mut self.out, &mut self.pending, call, answers)?;
+        push(full_word(&self.out), answers);
+        Ok(())
     }
-    let bytes = sink.into_bytes();
-    push_number("bytes ", bytes.len(), answers)?;
-    spell_bytes(&bytes, answers)?;
-    push("\n", answers)
+}
+
+fn full_word(sink: &BoundedSink) -> &'static str {
+    if sink.is_full() {
+        " | full\n"
+    } else {
+        " | open\n"
+    }
 }
 
 /// Whether a text of so many bytes is too long.
 pub(crate) fn answer_over(
     alloc: Global,
     words: &[&str; WORDS],
-    answers: &mut Vec<u8>,
+    answers: &mut Answers,
 ) -> Result<(), Fault> {
     let text = long_piece(alloc, words[1])?;
-    let word = if is_over(alloc, &text)? {
-        "over\n"
-    } else {
-        "within\n"
-    };
-    push(word, answers)
+    let over = is_over(alloc, &text)?;
+    push(if over { "over\n" } else { "within\n" }, answers);
+    Ok(())
 }
 
 /// Whether the text has more than 1048576 bytes, as a writer finds that knows sinks alone.

@@ -2,9 +2,9 @@
 ghost use Rattle.std.specs.Prelude.{All, IfOk};
 ghost use Rattle.oe_outside.specs.ScriptDoors.{IsSound};
 
-use crate::objects::{WORDS, spell_bytes};
-use crate::streams::link_of;
-use oe_lines::{Fault, end_line, numbers_of, push, push_number, words_of};
+use crate::links::link_of;
+use crate::objects::{Object, WORDS, answer_calls, spell_bytes};
+use oe_lines::{Answers, Fault, end_line, first_word, numbers_of, push, push_number};
 use oe_outside::{Door, Failed, Link, MemoryLink, Next, ScriptDoor};
 use std::alloc::Global;
 
@@ -16,19 +16,29 @@ pub(crate) fn answer_door(
     alloc: Global,
     words: &[&str; WORDS],
     calls: &str,
-    answers: &mut Vec<u8>,
+    answers: &mut Answers,
 ) -> Result<(), Fault> {
-    let mut door = door_of(alloc, words)?;
-    let mut held = Some(link_of(alloc, "-", 1, ROOM, "-")?);
-    for call in calls.split("; ") {
-        let words = words_of(call);
-        push(
-            take_step(&mut door, &mut held, words[0], words[1].as_bytes())?,
-            answers,
-        )?;
-        spell_door(&door, answers)?;
-    }
+    let door = door_of(alloc, words)?;
+    let held = Some(link_of(alloc, Vec::new(alloc), 1, ROOM, "-")?);
+    answer_calls(alloc, &mut Entry { door, held }, calls, answers);
     Ok(())
+}
+
+/// A door, and the connection in hand.
+#[derive(Drop)]
+struct Entry {
+    door: ScriptDoor,
+    held: Option<MemoryLink>,
+}
+
+impl Object for Entry {
+    fn call(&mut self, _alloc: Global, call: &str, answers: &mut Answers) -> Result<(), Fault> {
+        let (step, mark) = first_word(call);
+        let word = take_step(&mut self.door, &mut self.held, step, mark.as_bytes())?;
+        push(word, answers);
+        spell_door(&self.door, answers);
+        Ok(())
+    }
 }
 
 fn door_of(alloc: Global, words: &[&str; WORDS]) -> Result<ScriptDoor, Fault> {
@@ -47,7 +57,7 @@ fn links_of(alloc: Global, calls: &str) -> Result<Vec<MemoryLink>, Fault>
         return Ok(links);
     }
     for call in calls.split(',') {
-        links.push(link_of(alloc, "-", 1, ROOM, call)?)?;
+        links.push(link_of(alloc, Vec::new(alloc), 1, ROOM, call)?)?;
     }
     Ok(links)
 }
@@ -98,13 +108,13 @@ fn keep<C: Link + Drop>(found: Next<C>, held: &mut Option<C>, mark: &[u8]) -> &'
 }
 
 /// Ends a line with the faults of a door, and what was written to the connections that were given back.
-fn spell_door(door: &ScriptDoor, answers: &mut Vec<u8>) -> Result<(), Fault> {
-    push(" |", answers)?;
-    push_number(" ", door.faults(), answers)?;
-    push_number(" ", door.dial_faults(), answers)?;
-    push_number(" ", door.link_faults(), answers)?;
+fn spell_door(door: &ScriptDoor, answers: &mut Answers) {
+    push(" |", answers);
+    push_number(" ", door.faults(), answers);
+    push_number(" ", door.dial_faults(), answers);
+    push_number(" ", door.link_faults(), answers);
     for link in door.given_back() {
-        spell_bytes(link.written(), answers)?;
+        spell_bytes(link.written(), answers);
     }
-    end_line(answers)
+    end_line(answers);
 }

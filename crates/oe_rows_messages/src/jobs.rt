@@ -9,11 +9,17 @@ use std::alloc::Global;
 /// and an entry `old` in its logs.
 pub(crate) fn add_job(alloc: Global, line: &str, jobs: &mut Vec<Job>) -> Result<(), Fault> {
     let [id, user, status, level, count, ..] = words_of(line);
-    let mut job = job_of(alloc, id, user, status_of(status)?, level_of(level)?)?;
-    add_old(alloc, &mut job.logs)?;
-    add_assets(alloc, number_of(count)?, &mut job.assets)?;
+    let (status, level) = (status_of(status)?, level_of(level)?);
+    let mut job = job_of(alloc, id, user, status, level)?;
+    fill_job(alloc, number_of(count)?, &mut job)?;
     jobs.push(job)?;
     Ok(())
+}
+
+/// Adds an entry `old` to the logs of a job, and so many assets.
+fn fill_job(alloc: Global, count: u64, job: &mut Job) -> Result<(), Fault> {
+    add_old(alloc, &mut job.logs)?;
+    add_assets(alloc, count, &mut job.assets)
 }
 
 /// A job without logs and assets.

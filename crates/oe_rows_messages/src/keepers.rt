@@ -8,7 +8,9 @@ use crate::commands::stored_of;
 use oe_dims::Text;
 use oe_jobs::{Book, Change, Command, Keeper, KeeperFail, Verdict, decide};
 use oe_keeper::MemoryKeeper;
-use oe_lines::{Fault, end_line, first_word, number_of, numbers_of, push, push_all, push_number};
+use oe_lines::{
+    Answers, Fault, end_line, first_word, number_of, numbers_of, push, push_all, push_number,
+};
 use std::alloc::Global;
 
 /// When the processes are stored.
@@ -19,13 +21,14 @@ const KEPT: i64 = 50;
 ///
 /// The line has the numbers of the calls that fail, with commas between them, or `-` for none; then the call in which
 /// the keeper stops with `kept` or `lost`, or `-` for none.
-pub(crate) fn keep_both(alloc: Global, line: &str, answers: &mut Vec<u8>) -> Result<(), Fault> {
+pub(crate) fn keep_both(alloc: Global, line: &str, answers: &mut Answers) -> Result<(), Fault> {
     let (failing, stop) = first_word(line);
     let stop = stop_of(stop)?;
     let failing = numbers_of(alloc, failing)?;
     let mut keeper = MemoryKeeper::new(empty_book(alloc), failing, stop);
     answer_calls(alloc, &mut keeper, answers)?;
-    spell_stored(&keeper.stopped(), answers)
+    spell_stored(&keeper.stopped(), answers);
+    Ok(())
 }
 
 fn stop_of(line: &str) -> Result<Option<(u64, bool)>, Fault> {
@@ -52,13 +55,14 @@ fn empty_book(alloc: Global) -> Book
 fn answer_calls(
     alloc: Global,
     keeper: &mut MemoryKeeper,
-    answers: &mut Vec<u8>,
+    answers: &mut Answers,
 ) -> Result<(), Fault> {
     let first = keep(alloc, keeper, "a")?;
     let second = keep(alloc, keeper, "b")?;
-    push_all(&[first, ", ", second, ", ", load_word(keeper)], answers)?;
-    push_number(", ", keeper.faults(), answers)?;
-    push(" failed, left", answers)
+    push_all(&[first, ", ", second, ", ", load_word(keeper)], answers);
+    push_number(", ", keeper.faults(), answers);
+    push(" failed, left", answers);
+    Ok(())
 }
 
 fn load_word(keeper: &mut MemoryKeeper) -> &'static str {
@@ -122,9 +126,9 @@ fn fail_word(fail: KeeperFail, failed: &'static str) -> &'static str {
 }
 
 /// Appends the ids of the stored processes of a book.
-fn spell_stored(book: &Book, answers: &mut Vec<u8>) -> Result<(), Fault> {
+fn spell_stored(book: &Book, answers: &mut Answers) {
     for owned in &book.processes {
-        push_all(&[" ", owned.process.id.as_str()], answers)?;
+        push_all(&[" ", owned.process.id.as_str()], answers);
     }
-    end_line(answers)
+    end_line(answers);
 }

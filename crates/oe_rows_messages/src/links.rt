@@ -1,5 +1,7 @@
 // Links in memory, as a line describes them.
-use oe_lines::{Fault, end_line, first_word, number_of, numbers_of, push_number};
+ghost use Rattle.std.specs.Prelude.{◌≡◌, IfOk};
+
+use oe_lines::{Answers, Fault, end_line, first_word, number_of, numbers_of, push_number};
 use oe_outside::MemoryLink;
 use std::alloc::Global;
 
@@ -20,6 +22,21 @@ pub(crate) fn links_of(words: &str) -> Links<'_> {
     Links { pieces, calls }
 }
 
+/// A link that gives these bytes, at most so many in a read, and has room for as many as the capacity. No call of it has
+/// failed, and those of these numbers will.
+pub(crate) fn link_of(
+    alloc: Global,
+    bytes: Vec<u8>,
+    piece: usize,
+    capacity: usize,
+    calls: &str,
+) -> Result<MemoryLink, Fault>
+    ensures { IfOk result (λ link. link.faults ≡ 0) }
+{
+    let failing = numbers_of(alloc, calls)?;
+    Ok(MemoryLink::new(alloc, bytes, piece.max(1), capacity, failing)?)
+}
+
 /// A link that gives these bytes.
 pub(crate) fn incoming_link(
     alloc: Global,
@@ -27,17 +44,12 @@ pub(crate) fn incoming_link(
     piece: &str,
     calls: &str,
 ) -> Result<MemoryLink, Fault> {
-    let piece = number_of(piece)?;
-    if piece == 0 {
-        return Err(Fault::Line);
-    }
-    let bytes = bytes.to_vec(alloc)?;
-    Ok(MemoryLink::new(alloc, bytes, piece, 0, numbers_of(alloc, calls)?)?)
+    link_of(alloc, bytes.to_vec(alloc)?, number_of(piece)?, 0, calls)
 }
 
 /// A link that has room for what is written to it.
 pub(crate) fn outgoing_link(alloc: Global, calls: &str) -> Result<MemoryLink, Fault> {
-    Ok(MemoryLink::new(alloc, Vec::new(alloc), 1, ROOM, numbers_of(alloc, calls)?)?)
+    link_of(alloc, Vec::new(alloc), 1, ROOM, calls)
 }
 
 /// A link that gives these bytes, in pieces of the first size, and has room for what is written to it.
@@ -46,17 +58,13 @@ pub(crate) fn peer_link(
     bytes: Vec<u8>,
     links: Links<'_>,
 ) -> Result<MemoryLink, Fault> {
-    let piece = number_of(links.pieces)?;
-    if piece == 0 {
-        return Err(Fault::Line);
-    }
-    Ok(MemoryLink::new(alloc, bytes, piece, ROOM, numbers_of(alloc, links.calls)?)?)
+    link_of(alloc, bytes, number_of(links.pieces)?, ROOM, links.calls)
 }
 
 /// Appends how many calls of a link failed, if any did, and the end of the line.
-pub(crate) fn spell_end(link: &MemoryLink, answer: &mut Vec<u8>) -> Result<(), Fault> {
+pub(crate) fn spell_end(link: &MemoryLink, answers: &mut Answers) {
     if link.faults() != 0 {
-        push_number(" faults ", link.faults(), answer)?;
+        push_number(" faults ", link.faults(), answers);
     }
-    end_line(answer)
+    end_line(answers);
 }

@@ -94,7 +94,6 @@
 
 mod asked;
 mod books;
-mod bytes;
 mod client;
 mod clocks;
 mod commands;
@@ -117,7 +116,7 @@ mod writing;
 use books::answer_jobs;
 use messages::answer_messages;
 use objects::answer_objects;
-use oe_lines::Fault;
+use oe_lines::{Answers, Fault};
 use std::alloc::Global;
 use std::io::{Read, Write};
 use std::process::ExitCode;
@@ -128,32 +127,32 @@ fn main(rt: HostRuntime) -> ExitCode {
     if rt.stdin().read_to_string(&mut text).is_err() {
         return ExitCode::from(5);
     }
-    let mut answers = Vec::new(alloc);
-    if let Err(fault) = answer_parts(alloc, &text, &mut answers) {
+    let mut answers = Answers::new(alloc);
+    answer_parts(alloc, &text, &mut answers);
+    if let Some(fault) = answers.fault() {
         return ExitCode::from(fault.status());
     }
-    match rt.stdout().write_all(answers.as_slice()) {
+    match rt.stdout().write_all(answers.bytes()) {
         Ok(()) => ExitCode::from(0),
         Err(_) => ExitCode::from(8),
     }
 }
 
 /// Appends the answers to all parts.
-fn answer_parts(alloc: Global, text: &str, answers: &mut Vec<u8>) -> Result<(), Fault> {
+fn answer_parts(alloc: Global, text: &str, answers: &mut Answers) {
     for part in text.split("== ") {
         let (name, lines) = part.split_once('\n').unwrap_or((part, ""));
-        answer_part(alloc, name, lines, answers)?;
+        answer_part(alloc, name, lines, answers);
     }
-    Ok(())
 }
 
 /// Appends the answers to the lines of a part, of which the first has no name and no lines.
-fn answer_part(alloc: Global, name: &str, lines: &str, answers: &mut Vec<u8>) -> Result<(), Fault> {
+fn answer_part(alloc: Global, name: &str, lines: &str, answers: &mut Answers) {
     match name {
-        "" => Ok(()),
+        "" => {}
         "messages" => answer_messages(alloc, lines, answers),
         "jobs" => answer_jobs(alloc, lines, answers),
         "objects" => answer_objects(alloc, lines, answers),
-        _ => Err(Fault::Line),
+        _ => answers.note(Fault::Line),
     }
 }

@@ -3,28 +3,24 @@ use crate::client::answer_call;
 use crate::links::{Links, links_of};
 use crate::reading::{Message, answer_read, answer_texts};
 use crate::writing::answer_written;
-use oe_lines::{Fault, first_word};
+use oe_lines::{Answers, Fault, first_word};
 use std::alloc::Global;
 
 /// Appends the answers to lines about messages.
-pub(crate) fn answer_messages(
-    alloc: Global,
-    text: &str,
-    answers: &mut Vec<u8>,
-) -> Result<(), Fault> {
+pub(crate) fn answer_messages(alloc: Global, text: &str, answers: &mut Answers) {
     let mut links = Links {
         pieces: "1",
         calls: "-",
     };
     for line in text.lines() {
         let (word, rest) = first_word(line);
-        match word {
-            "#" => {}
-            "links" => links = links_of(rest),
-            _ => answer_line(alloc, links, word, rest, answers)?,
+        if word == "links" {
+            links = links_of(rest);
+        } else {
+            let outcome = answer_line(alloc, links, word, rest, answers);
+            answers.settle(outcome);
         }
     }
-    Ok(())
 }
 
 /// Appends the answer of a line.
@@ -33,9 +29,10 @@ fn answer_line(
     links: Links<'_>,
     word: &str,
     rest: &str,
-    answers: &mut Vec<u8>,
+    answers: &mut Answers,
 ) -> Result<(), Fault> {
     match word {
+        "#" => Ok(()),
         "texts" => answer_texts(alloc, answers),
         "request" => answer_read(alloc, links, Message::Request, rest, answers),
         "response" => answer_read(alloc, links, Message::Response, rest, answers),

@@ -7,7 +7,7 @@ use crate::counted::{answer_bounded, answer_counter, answer_over};
 use crate::doors::answer_door;
 use crate::stores::answer_store;
 use crate::streams::{answer_link, answer_sink, answer_source};
-use oe_lines::{Fault, end_line, number_of, push, push_number, words_of};
+use oe_lines::{Answers, Fault, end_line, number_of, push, push_number, words_of};
 use oe_outside::{Failed, ReadRefusal};
 use std::alloc::Global;
 use std::fmt::Display;
@@ -18,39 +18,66 @@ const MOST: usize = 16;
 /// How many words an object or a call has at most.
 pub(crate) const WORDS: usize = 8;
 
-/// Appends the answers to lines about objects.
-pub(crate) fn answer_objects(
+/// An object in memory, whose calls stand in a line.
+pub(crate) trait Object {
+    /// Makes the call, and appends what it answered and what the object has then.
+    fn call(&mut self, alloc: Global, call: &str, answers: &mut Answers) -> Result<(), Fault>;
+}
+
+/// Makes the calls on an object that stand behind semicolons, and appends their answers.
+pub(crate) fn answer_calls<O: Object>(
     alloc: Global,
-    text: &str,
-    answers: &mut Vec<u8>,
-) -> Result<(), Fault> {
+    object: &mut O,
+    calls: &str,
+    answers: &mut Answers,
+) {
+    for call in calls.split("; ") {
+        let outcome = object.call(alloc, call, answers);
+        answers.settle(outcome);
+    }
+}
+
+/// Appends the answers to lines about objects.
+pub(crate) fn answer_objects(alloc: Global, text: &str, answers: &mut Answers) {
     for line in text.lines() {
         let (object, calls) = line.split_once("; ").unwrap_or((line, ""));
-        answer_line(alloc, &words_of(object), calls, answers)?;
+        let outcome = answer_line(alloc, &words_of(object), calls, answers);
+        answers.settle(outcome);
     }
-    Ok(())
 }
 
 fn answer_line(
     alloc: Global,
     words: &[&str; WORDS],
     calls: &str,
-    answers: &mut Vec<u8>,
+    answers: &mut Answers,
 ) -> Result<(), Fault> {
     match words[0] {
         "#" => Ok(()),
         "copy" => answer_copy(alloc, words, answers),
         "count" => answer_count(alloc, words, answers),
+        "over" => answer_over(alloc, words, answers),
+        "clock" => answer_clock(words, answers),
+        "texts" => print_texts(alloc, answers),
+        _ => answer_object(alloc, words, calls, answers),
+    }
+}
+
+/// Appends the answers to the calls of an object.
+fn answer_object(
+    alloc: Global,
+    words: &[&str; WORDS],
+    calls: &str,
+    answers: &mut Answers,
+) -> Result<(), Fault> {
+    match words[0] {
         "source" => answer_source(alloc, words, calls, answers),
         "sink" => answer_sink(alloc, words, calls, answers),
         "counter" => answer_counter(alloc, calls, answers),
         "bounded" => answer_bounded(alloc, calls, answers),
-        "over" => answer_over(alloc, words, answers),
         "link" => answer_link(alloc, words, calls, answers),
         "store" => answer_store(alloc, words, calls, answers),
         "door" => answer_door(alloc, words, calls, answers),
-        "clock" => answer_clock(words, answers),
-        "texts" => print_texts(alloc, answers),
         _ => Err(Fault::Line),
     }
 }
@@ -71,7 +98,7 @@ pub(crate) fn plain_bytes(word: &str) -> &[u8] {
 }
 
 /// Prints the text of the fault, and those of a refusal to read.
-fn print_texts(alloc: Global, answers: &mut Vec<u8>) -> Result<(), Fault> {
+fn print_texts(alloc: Global, answers: &mut Answers) -> Result<(), Fault> {
     print_text(alloc, &Failed, answers)?;
     print_text(alloc, &ReadRefusal::Failed, answers)?;
     print_text(alloc, &ReadRefusal::OutOfMemory, answers)
@@ -81,68 +108,53 @@ fn print_texts(alloc: Global, answers: &mut Vec<u8>) -> Result<(), Fault> {
 pub(crate) fn print_text<T: Display>(
     alloc: Global,
     value: &T,
-    answers: &mut Vec<u8>,
+    answers: &mut Answers,
 ) -> Result<(), Fault> {
-    push(value.to_string(alloc)?.as_str(), answers)?;
-    end_line(answers)
-}
-
-/// Spells the first of the bytes behind a blank.
-pub(crate) fn spell_bytes(bytes: &[u8], answers: &mut Vec<u8>) -> Result<(), Fault> {
-    answers.extend_from_slice(b" \"")?;
-    for byte in &bytes[..bytes.len().min(MOST)] {
-        answers.push(if *byte == 0 { b'.' } else { *byte })?;
-    }
-    answers.push(b'"')?;
+    push(value.to_string(alloc)?.as_str(), answers);
+    end_line(answers);
     Ok(())
 }
 
+/// Spells the first of the bytes behind a blank.
+pub(crate) fn spell_bytes(bytes: &[u8], answers: &mut Answers) {
+    push(" \"", answers);
+    for byte in &bytes[..bytes.len().min(MOST)] {
+        answers.extend(&[if *byte == 0 { b'.' } else { *byte }]);
+    }
+    push("\"", answers);
+}
+
 /// Spells whether a call that answers no value failed.
-pub(crate) fn spell_outcome(
-    outcome: Result<(), Failed>,
-    answers: &mut Vec<u8>,
-) -> Result<(), Fault> {
-    push(if outcome.is_ok() { "ok" } else { "Failed" }, answers)
+pub(crate) fn spell_outcome(outcome: Result<(), Failed>, answers: &mut Answers) {
+    push(if outcome.is_ok() { "ok" } else { "Failed" }, answers);
 }
 
 /// Spells how many bytes were counted.
-pub(crate) fn spell_count(
-    outcome: Result<u64, Failed>,
-    answers: &mut Vec<u8>,
-) -> Result<(), Fault> {
+pub(crate) fn spell_count(outcome: Result<u64, Failed>, answers: &mut Answers) {
     match outcome {
-        Ok(count) => {
-            push("ok", answers)?;
-            push_number(" ", count, answers)
-        }
+        Ok(count) => push_number("ok ", count, answers),
         Err(Failed) => push("Failed", answers),
     }
 }
 
 /// Spells what a read answered, and its buffer.
-pub(crate) fn spell_read(
-    outcome: Result<usize, Failed>,
-    buffer: &[u8],
-    answers: &mut Vec<u8>,
-) -> Result<(), Fault> {
-    let outcome = match outcome {
-        Ok(count) => Ok(count as u64),
-        Err(failed) => Err(failed),
-    };
-    spell_count(outcome, answers)?;
-    spell_bytes(buffer, answers)
+pub(crate) fn spell_read(outcome: Result<usize, Failed>, buffer: &[u8], answers: &mut Answers) {
+    match outcome {
+        Ok(count) => push_number("ok ", count, answers),
+        Err(Failed) => push("Failed", answers),
+    }
+    spell_bytes(buffer, answers);
 }
 
 /// Ends a line with the bytes of an object and how many of its calls have failed.
-pub(crate) fn spell_held(bytes: &[u8], faults: u64, answers: &mut Vec<u8>) -> Result<(), Fault> {
-    push(" |", answers)?;
-    push_number(" ", bytes.len(), answers)?;
-    spell_bytes(bytes, answers)?;
-    end_faults(faults, answers)
+pub(crate) fn spell_held(bytes: &[u8], faults: u64, answers: &mut Answers) {
+    push_number(" | ", bytes.len(), answers);
+    spell_bytes(bytes, answers);
+    end_faults(faults, answers);
 }
 
 /// Ends a line with how many calls have failed.
-pub(crate) fn end_faults(faults: u64, answers: &mut Vec<u8>) -> Result<(), Fault> {
-    push_number(" ", faults, answers)?;
-    end_line(answers)
+pub(crate) fn end_faults(faults: u64, answers: &mut Answers) {
+    push_number(" ", faults, answers);
+    end_line(answers);
 }

@@ -1,10 +1,9 @@
 // What is read of messages.
-use crate::bytes::{push_bytes, spell_part};
 use crate::links::{Links, incoming_link, spell_end};
 use crate::objects::print_text;
 use oe_dims::Text;
 use oe_http::{Request, RequestRefusal, Response, ResponseRefusal, read_request, read_response};
-use oe_lines::{Fault, push, push_number};
+use oe_lines::{Answers, Fault, escaped_bytes, last_other, push, push_number, push_quoted};
 use oe_outside::MemoryLink;
 use std::alloc::Global;
 
@@ -21,27 +20,16 @@ pub(crate) fn answer_read(
     links: Links<'_>,
     message: Message,
     spelled: &str,
-    answers: &mut Vec<u8>,
+    answers: &mut Answers,
 ) -> Result<(), Fault> {
-    let mut bytes = Vec::new(alloc);
-    push_bytes(alloc, spelled, &mut bytes)?;
-    let mut before = answers.len();
+    let bytes = escaped_bytes(alloc, spelled)?;
+    let mut before = answers.bytes().len();
     for piece in links.pieces.split(',') {
-        let from = answers.len();
+        let from = answers.bytes().len();
         read_from_link(alloc, &bytes, piece, links.calls, message, answers)?;
         before = last_other(before, from, answers);
     }
     Ok(())
-}
-
-/// Where the last answer begins, once the answer from `from` on is taken away where it is the one from `before` on.
-fn last_other(before: usize, from: usize, answers: &mut Vec<u8>) -> usize {
-    if answers.get(before..from) == answers.get(from..) {
-        answers.truncate(from);
-        before
-    } else {
-        from
-    }
 }
 
 /// Reads a message from a link that gives these bytes, and appends a line of the answer.
@@ -51,61 +39,51 @@ fn read_from_link(
     piece: &str,
     calls: &str,
     message: Message,
-    answers: &mut Vec<u8>,
+    answers: &mut Answers,
 ) -> Result<(), Fault> {
     let mut link = incoming_link(alloc, bytes, piece, calls)?;
     match message {
-        Message::Request => spell_read_request(alloc, &mut link, answers)?,
-        Message::Response => spell_read_response(alloc, &mut link, answers)?,
+        Message::Request => spell_read_request(alloc, &mut link, answers),
+        Message::Response => spell_read_response(alloc, &mut link, answers),
     }
-    spell_end(&link, answers)
+    spell_end(&link, answers);
+    Ok(())
 }
 
-fn spell_read_request(
-    alloc: Global,
-    link: &mut MemoryLink,
-    answer: &mut Vec<u8>,
-) -> Result<(), Fault> {
+fn spell_read_request(alloc: Global, link: &mut MemoryLink, answers: &mut Answers) {
     match read_request(alloc, link) {
-        Ok(request) => spell_request(&request, answer),
-        Err(refusal) => push(request_refusal(refusal), answer),
+        Ok(request) => spell_request(&request, answers),
+        Err(refusal) => push(request_refusal(refusal), answers),
     }
 }
 
-fn spell_read_response(
-    alloc: Global,
-    link: &mut MemoryLink,
-    answer: &mut Vec<u8>,
-) -> Result<(), Fault> {
+fn spell_read_response(alloc: Global, link: &mut MemoryLink, answers: &mut Answers) {
     match read_response(alloc, link) {
-        Ok(response) => spell_response(&response, answer),
-        Err(refusal) => push(response_refusal(refusal), answer),
+        Ok(response) => spell_response(&response, answers),
+        Err(refusal) => push(response_refusal(refusal), answers),
     }
 }
 
-fn spell_request(request: &Request, answer: &mut Vec<u8>) -> Result<(), Fault> {
-    push(request.method.as_str(), answer)?;
-    spell_part(" path ", request.path.as_str().as_bytes(), answer)?;
-    spell_part(" query ", request.query.as_str().as_bytes(), answer)?;
-    spell_text(" authorization ", &request.authorization, answer)?;
-    spell_part(" body ", &request.body, answer)
+fn spell_request(request: &Request, answers: &mut Answers) {
+    push(request.method.as_str(), answers);
+    push_quoted(" path ", request.path.as_str().as_bytes(), answers);
+    push_quoted(" query ", request.query.as_str().as_bytes(), answers);
+    spell_text(" authorization ", &request.authorization, answers);
+    push_quoted(" body ", &request.body, answers);
 }
 
-fn spell_response(response: &Response, answer: &mut Vec<u8>) -> Result<(), Fault> {
-    push_number("", response.status, answer)?;
-    if response.json {
-        push(" json", answer)?;
-    }
-    spell_text(" location ", &response.location, answer)?;
-    spell_text(" identifier ", &response.identifier, answer)?;
-    spell_part(" body ", &response.body, answer)
+fn spell_response(response: &Response, answers: &mut Answers) {
+    push_number("", response.status, answers);
+    push(if response.json { " json" } else { "" }, answers);
+    spell_text(" location ", &response.location, answers);
+    spell_text(" identifier ", &response.identifier, answers);
+    push_quoted(" body ", &response.body, answers);
 }
 
 /// Appends a name and a text, where there is one.
-fn spell_text(name: &str, text: &Option<Text>, answer: &mut Vec<u8>) -> Result<(), Fault> {
-    match text {
-        None => Ok(()),
-        Some(text) => spell_part(name, text.as_str().as_bytes(), answer),
+fn spell_text(name: &str, text: &Option<Text>, answers: &mut Answers) {
+    if let Some(text) = text {
+        push_quoted(name, text.as_str().as_bytes(), answers);
     }
 }
 
@@ -132,12 +110,12 @@ fn response_refusal(refusal: ResponseRefusal) -> &'static str {
 }
 
 /// Appends the text of each refusal of a request, then of each refusal of a response, one a line.
-pub(crate) fn answer_texts(alloc: Global, answers: &mut Vec<u8>) -> Result<(), Fault> {
+pub(crate) fn answer_texts(alloc: Global, answers: &mut Answers) -> Result<(), Fault> {
     request_texts(alloc, answers)?;
     response_texts(alloc, answers)
 }
 
-fn request_texts(alloc: Global, answers: &mut Vec<u8>) -> Result<(), Fault> {
+fn request_texts(alloc: Global, answers: &mut Answers) -> Result<(), Fault> {
     for refusal in [
         RequestRefusal::Malformed,
         RequestRefusal::HeadTooLong,
@@ -152,7 +130,7 @@ fn request_texts(alloc: Global, answers: &mut Vec<u8>) -> Result<(), Fault> {
     Ok(())
 }
 
-fn response_texts(alloc: Global, answers: &mut Vec<u8>) -> Result<(), Fault> {
+fn response_texts(alloc: Global, answers: &mut Answers) -> Result<(), Fault> {
     for refusal in [
         ResponseRefusal::Malformed,
         ResponseRefusal::TooLong,

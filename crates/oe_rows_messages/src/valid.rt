@@ -3,9 +3,9 @@ use crate::jobs::asset_of;
 use oe_book::is_book;
 use oe_dims::Text;
 use oe_graph::{Graph, ParameterRow, Refusal, StoredProcess, read_stored};
-use oe_jobs::{Book, Job, Owned};
+use oe_jobs::{Asset, Book, Job, Owned};
 use oe_keeper::read_job;
-use oe_lines::{Fault, first_word, number_of, push};
+use oe_lines::{Answers, Fault, first_word, number_of, push};
 use std::alloc::Global;
 
 /// What a text argument that makes a process long stands between.
@@ -14,15 +14,10 @@ const BEFORE_LONG: &str = r#"{"process_graph":{"a":{"arguments":{"x":""#;
 const AFTER_LONG: &str = r#""},"process_id":"p","result":true}}}"#;
 
 /// Appends whether the book is valid.
-pub(crate) fn answer_valid(alloc: Global, book: &Book, answers: &mut Vec<u8>) -> Result<(), Fault> {
-    push(
-        if is_book(alloc, book)? {
-            "yes\n"
-        } else {
-            "no\n"
-        },
-        answers,
-    )
+pub(crate) fn answer_valid(alloc: Global, book: &Book, answers: &mut Answers) -> Result<(), Fault> {
+    let valid = is_book(alloc, book)?;
+    push(if valid { "yes\n" } else { "no\n" }, answers);
+    Ok(())
 }
 
 /// Adds the job of an id and of the entry behind it.
@@ -124,10 +119,18 @@ fn set_job(alloc: Global, what: &str, value: &str, job: &mut Job) -> Result<(), 
     match what {
         "created" => job.created = number_of(value)?,
         "updated" => job.updated = number_of(value)?,
-        "title" => job.title = Some(text_of(alloc, "", number_of(value)?, "")?),
-        "description" => job.description = Some(text_of(alloc, "", number_of(value)?, "")?),
-        "process" => job.process = long_process(alloc, number_of(value)?)?,
-        "asset" => add_asset(alloc, number_of(value)?, job)?,
+        _ => return set_long(alloc, what, number_of(value)?, job),
+    }
+    Ok(())
+}
+
+/// Sets one of the texts of a job to one of so many bytes.
+fn set_long(alloc: Global, what: &str, length: usize, job: &mut Job) -> Result<(), Fault> {
+    match what {
+        "title" => job.title = Some(text_of(alloc, "", length, "")?),
+        "description" => job.description = Some(text_of(alloc, "", length, "")?),
+        "process" => job.process = long_process(alloc, length)?,
+        "asset" => return add_asset(alloc, length, &mut job.assets),
         _ => return Err(Fault::Line),
     }
     Ok(())
@@ -146,18 +149,19 @@ fn long_process(alloc: Global, length: usize) -> Result<Text, Fault> {
 
 /// So many `x` between two texts.
 fn text_of(alloc: Global, before: &str, count: usize, after: &str) -> Result<Text, Fault> {
-    let mut text = String::from_str(alloc, before)?;
+    let mut text = Answers::new(alloc);
+    push(before, &mut text);
     for _index in 0..count {
-        text.push('x')?;
+        push("x", &mut text);
     }
-    text.push_str(after)?;
-    Ok(Text::of(alloc, text.as_str())?)
+    push(after, &mut text);
+    text.into_text(alloc)
 }
 
-/// Gives the job an asset of so many bytes.
-fn add_asset(alloc: Global, length: usize, job: &mut Job) -> Result<(), Fault> {
+/// Adds an asset of so many bytes.
+fn add_asset(alloc: Global, length: usize, assets: &mut Vec<Asset>) -> Result<(), Fault> {
     let mut asset = asset_of(alloc, "a.json")?;
     asset.text = text_of(alloc, "", length, "")?;
-    job.assets.push(asset)?;
+    assets.push(asset)?;
     Ok(())
 }

@@ -2,12 +2,13 @@
 ghost use Rattle.std.specs.Prelude.{IsSome, IsTrue};
 ghost use Rattle.http.specs.StatusCode.{reason_phrase};
 
-use crate::bytes::{push_bytes, spell_part, text_of};
 use crate::links::{Links, outgoing_link, spell_end};
 use http::{Method, StatusCode};
 use oe_dims::Text;
 use oe_http::{Request, Response, write_head, write_request, write_response};
-use oe_lines::{Fault, number_of, parts_of};
+use oe_lines::{
+    Answers, Fault, escaped_bytes, escaped_text, number_of, parts_of, push_quoted, words_of,
+};
 use oe_outside::{Failed, MemoryLink};
 use std::alloc::Global;
 
@@ -17,26 +18,26 @@ pub(crate) fn answer_written(
     links: Links<'_>,
     word: &str,
     rest: &str,
-    answers: &mut Vec<u8>,
+    answers: &mut Answers,
 ) -> Result<(), Fault> {
     let mut link = outgoing_link(alloc, links.calls)?;
-    write_line(alloc, word, rest, &mut link, answers)
-}
-
-fn write_line(
-    alloc: Global,
-    word: &str,
-    rest: &str,
-    link: &mut MemoryLink,
-    answers: &mut Vec<u8>,
-) -> Result<(), Fault> {
     let outcome = match word {
-        "reply" => write_reply(alloc, rest, link)?,
-        "head" => write_reply_head(rest, link)?,
-        "written" => write_to_host(alloc, rest, link)?,
+        "reply" => write_reply(alloc, rest, &mut link, answers)?,
+        "head" => write_reply_head(rest, &mut link)?,
+        "written" => write_to_host(alloc, rest, &mut link, answers)?,
         _ => return Err(Fault::Line),
     };
-    spell_written(link, outcome, answers)
+    push_quoted(written_word(outcome), link.written(), answers);
+    spell_end(&link, answers);
+    Ok(())
+}
+
+fn written_word(outcome: Result<(), Failed>) -> &'static str {
+    if outcome.is_ok() {
+        "written "
+    } else {
+        "Failed "
+    }
 }
 
 /// Writes a reply.
@@ -44,8 +45,9 @@ fn write_reply(
     alloc: Global,
     rest: &str,
     link: &mut MemoryLink,
+    answers: &mut Answers,
 ) -> Result<Result<(), Failed>, Fault> {
-    let response = response_of(alloc, rest)?;
+    let response = response_of(alloc, rest, answers)?;
     if has_phrase(response.status) {
         Ok(write_response(link, &response))
     } else {
@@ -56,9 +58,9 @@ fn write_reply(
 /// Writes the head of a reply.
 fn write_reply_head(rest: &str, link: &mut MemoryLink) -> Result<Result<(), Failed>, Fault> {
     let (status, length) = parts_of(rest, " ")?;
-    let status = number_of(status)?;
+    let (status, length) = (number_of(status)?, number_of(length)?);
     if has_phrase(status) {
-        Ok(write_head(link, status, number_of(length)?))
+        Ok(write_head(link, status, length))
     } else {
         Err(Fault::Line)
     }
@@ -69,9 +71,10 @@ fn write_to_host(
     alloc: Global,
     rest: &str,
     link: &mut MemoryLink,
+    answers: &mut Answers,
 ) -> Result<Result<(), Failed>, Fault> {
     let (host, rest) = parts_of(rest, " ")?;
-    let request = request_of(alloc, rest)?;
+    let request = request_of(alloc, rest, answers)?;
     Ok(write_request(link, &request, host))
 }
 
@@ -86,31 +89,16 @@ fn has_phrase(status: u16) -> bool
 }
 
 /// The reply that `STATUS TYPE LOCATION IDENTIFIER BODY` spell.
-fn response_of(alloc: Global, rest: &str) -> Result<Response, Fault> {
-    let (status, rest) = parts_of(rest, " ")?;
-    let (kind, rest) = parts_of(rest, " ")?;
-    let mut response = bare_response(alloc, number_of(status)?, is_json(kind)?);
-    fill_response(alloc, rest, &mut response)?;
-    Ok(response)
-}
-
-/// Fills a reply with what `LOCATION IDENTIFIER BODY` spell.
-fn fill_response(alloc: Global, rest: &str, response: &mut Response) -> Result<(), Fault> {
-    let (location, rest) = parts_of(rest, " ")?;
-    let (identifier, body) = parts_of(rest, " ")?;
-    set_text(alloc, location, &mut response.location)?;
-    set_text(alloc, identifier, &mut response.identifier)?;
-    push_body(alloc, body, &mut response.body)
-}
-
-fn bare_response(alloc: Global, status: u16, json: bool) -> Response {
-    Response {
+fn response_of(alloc: Global, rest: &str, answers: &mut Answers) -> Result<Response, Fault> {
+    let [status, kind, location, identifier, body, ..] = words_of(rest);
+    let (status, json) = (number_of(status)?, is_json(kind)?);
+    Ok(Response {
         status,
-        location: None,
-        identifier: None,
+        location: text_in(alloc, location, answers),
+        identifier: text_in(alloc, identifier, answers),
         json,
-        body: Vec::new(alloc),
-    }
+        body: body_in(alloc, body, answers),
+    })
 }
 
 fn is_json(word: &str) -> Result<bool, Fault> {
@@ -122,63 +110,48 @@ fn is_json(word: &str) -> Result<bool, Fault> {
 }
 
 /// The request that `METHOD PATH QUERY AUTHORIZATION BODY` spell.
-fn request_of(alloc: Global, rest: &str) -> Result<Request, Fault> {
-    let (method, rest) = parts_of(rest, " ")?;
-    let (path, rest) = parts_of(rest, " ")?;
-    let (query, rest) = parts_of(rest, " ")?;
-    let mut request = bare_request(alloc, method, path, query)?;
-    fill_request(alloc, rest, &mut request)?;
-    Ok(request)
+fn request_of(alloc: Global, rest: &str, answers: &mut Answers) -> Result<Request, Fault> {
+    let [method, path, query, authorization, body, ..] = words_of(rest);
+    let path = escaped_text(alloc, path)?;
+    let query = escaped_text(alloc, if query == "-" { "" } else { query })?;
+    let method = method_of(alloc, method)?;
+    Ok(Request {
+        method,
+        path,
+        query,
+        authorization: text_in(alloc, authorization, answers),
+        body: body_in(alloc, body, answers),
+    })
 }
 
-/// Fills a request with what `AUTHORIZATION BODY` spell.
-fn fill_request(alloc: Global, rest: &str, request: &mut Request) -> Result<(), Fault> {
-    let (authorization, body) = parts_of(rest, " ")?;
-    set_text(alloc, authorization, &mut request.authorization)?;
-    push_body(alloc, body, &mut request.body)
-}
-
-fn bare_request(alloc: Global, method: &str, path: &str, query: &str) -> Result<Request, Fault> {
-    let query = if query == "-" { "" } else { query };
-    let path = text_of(alloc, path)?;
-    let query = text_of(alloc, query)?;
-    match Method::from_bytes(alloc, method.as_bytes()) {
-        Ok(method) => Ok(Request {
-            method,
-            path,
-            query,
-            authorization: None,
-            body: Vec::new(alloc),
-        }),
+fn method_of(alloc: Global, word: &str) -> Result<Method, Fault> {
+    match Method::from_bytes(alloc, word.as_bytes()) {
+        Ok(method) => Ok(method),
         Err(_) => Err(Fault::Line),
     }
 }
 
-pub(crate) fn set_text(alloc: Global, word: &str, text: &mut Option<Text>) -> Result<(), Fault> {
-    if word != "-" {
-        *text = Some(text_of(alloc, word)?);
+/// The text of a word, or none for `-`. A word that spells none is noted.
+pub(crate) fn text_in(alloc: Global, word: &str, answers: &mut Answers) -> Option<Text> {
+    if word == "-" {
+        return None;
     }
-    Ok(())
+    match escaped_text(alloc, word) {
+        Ok(text) => Some(text),
+        Err(fault) => {
+            answers.note(fault);
+            None
+        }
+    }
 }
 
-pub(crate) fn push_body(alloc: Global, word: &str, body: &mut Vec<u8>) -> Result<(), Fault> {
-    match word {
-        "-" => Ok(()),
-        _ => push_bytes(alloc, word, body),
+/// The bytes of a word, or none for `-`. A word that spells none is noted.
+pub(crate) fn body_in(alloc: Global, word: &str, answers: &mut Answers) -> Vec<u8> {
+    match escaped_bytes(alloc, if word == "-" { "" } else { word }) {
+        Ok(bytes) => bytes,
+        Err(fault) => {
+            answers.note(fault);
+            Vec::new(alloc)
+        }
     }
-}
-
-/// Appends a line of what was written to a link.
-fn spell_written(
-    link: &MemoryLink,
-    outcome: Result<(), Failed>,
-    answers: &mut Vec<u8>,
-) -> Result<(), Fault> {
-    let word = if outcome.is_ok() {
-        "written "
-    } else {
-        "Failed "
-    };
-    spell_part(word, link.written(), answers)?;
-    spell_end(link, answers)
 }

@@ -2,8 +2,8 @@
 use oe_cell::{Cell, Frac};
 use oe_kernel::{Border, Kernel, KernelFault, border_index};
 use oe_lines::{
-    Fault, cells_of, first_word, frac_of, number_of, pair_of, parts_of, push_cell, push_number,
-    push_word,
+    Answers, Fault, cells_of, first_word, frac_of, number_of, pair_of, parts_of, push_cell,
+    push_number, push_word,
 };
 use std::alloc::Global;
 
@@ -37,38 +37,37 @@ pub(crate) fn border_of(word: &str) -> Result<Border, Fault> {
 }
 
 /// The sizes, the radii and the values of a kernel, or its fault.
-pub(crate) fn kernel(alloc: Global, word: &str, answer: &mut Vec<u8>) -> Result<(), Fault> {
+pub(crate) fn kernel(alloc: Global, word: &str, answer: &mut Answers) -> Result<(), Fault> {
     match kernel_of(alloc, word)? {
         Ok(kernel) => push_kernel(&kernel, answer),
         Err(KernelFault::LengthDiffers) => push_word("LengthDiffers", answer),
         Err(KernelFault::Uneven) => push_word("Uneven", answer),
         Err(KernelFault::TooLarge) => push_word("TooLarge", answer),
     }
-}
-
-fn push_kernel(kernel: &Kernel, answer: &mut Vec<u8>) -> Result<(), Fault> {
-    push_number("", kernel.width(), answer)?;
-    push_number(" ", kernel.height(), answer)?;
-    push_number(" ", kernel.radius_x(), answer)?;
-    push_number(" ", kernel.radius_y(), answer)?;
-    for row in 0..kernel.height() {
-        push_values(kernel, row, answer)?;
-    }
     Ok(())
 }
 
-fn push_values(kernel: &Kernel, row: u32, answer: &mut Vec<u8>) -> Result<(), Fault> {
+fn push_kernel(kernel: &Kernel, answer: &mut Answers) {
+    push_number("", kernel.width(), answer);
+    push_number(" ", kernel.height(), answer);
+    push_number(" ", kernel.radius_x(), answer);
+    push_number(" ", kernel.radius_y(), answer);
+    for row in 0..kernel.height() {
+        push_values(kernel, row, answer);
+    }
+}
+
+fn push_values(kernel: &Kernel, row: u32, answer: &mut Answers) {
     if row >= kernel.height() {
-        return Err(Fault::Line);
+        return answer.note(Fault::Line);
     }
     for column in 0..kernel.width() {
-        push_cell(Cell::Number(kernel.value(row, column)), answer)?;
+        push_cell(Cell::Number(kernel.value(row, column)), answer);
     }
-    Ok(())
 }
 
 /// The position on a side that a border puts in place of one.
-pub(crate) fn index(words: &str, answer: &mut Vec<u8>) -> Result<(), Fault> {
+pub(crate) fn index(words: &str, answer: &mut Answers) -> Result<(), Fault> {
     let (border, rest) = first_word(words);
     let (at, side) = parts_of(rest, " ")?;
     let border = border_of(border)?;
@@ -80,10 +79,11 @@ pub(crate) fn index(words: &str, answer: &mut Vec<u8>) -> Result<(), Fault> {
         Some(index) => push_number("", index, answer),
         None => push_word("none", answer),
     }
+    Ok(())
 }
 
 /// What a kernel needs of the columns and of the rows of a side for some of its positions.
-pub(crate) fn need(alloc: Global, words: &str, answer: &mut Vec<u8>) -> Result<(), Fault> {
+pub(crate) fn need(alloc: Global, words: &str, answer: &mut Answers) -> Result<(), Fault> {
     let (kernel, rest) = first_word(words);
     let (border, rest) = first_word(rest);
     let (side, positions) = first_word(rest);
@@ -91,8 +91,9 @@ pub(crate) fn need(alloc: Global, words: &str, answer: &mut Vec<u8>) -> Result<(
     let (from, to) = pair_of(positions, "..")?;
     match kernel_of(alloc, kernel)? {
         Ok(kernel) => push_need(&kernel, &border, side, from, to, answer),
-        Err(_) => Err(Fault::Line),
+        Err(_) => return Err(Fault::Line),
     }
+    Ok(())
 }
 
 fn push_need(
@@ -101,16 +102,16 @@ fn push_need(
     side: u32,
     from: u32,
     to: u32,
-    answer: &mut Vec<u8>,
-) -> Result<(), Fault> {
+    answer: &mut Answers,
+) {
     if to <= from || side < to || 65536 < side {
-        return Err(Fault::Line);
+        return answer.note(Fault::Line);
     }
-    push_pair("", kernel.need_x(*border, side, from, to), answer)?;
-    push_pair(" ", kernel.need_y(*border, side, from, to), answer)
+    push_pair("", kernel.need_x(*border, side, from, to), answer);
+    push_pair(" ", kernel.need_y(*border, side, from, to), answer);
 }
 
-fn push_pair(mark: &str, pair: (u32, u32), answer: &mut Vec<u8>) -> Result<(), Fault> {
-    push_number(mark, pair.0, answer)?;
-    push_number(" ", pair.1, answer)
+fn push_pair(mark: &str, pair: (u32, u32), answer: &mut Answers) {
+    push_number(mark, pair.0, answer);
+    push_number(" ", pair.1, answer);
 }

@@ -68,7 +68,7 @@ mod windows;
 mod written;
 
 use oe_dims::Shape;
-use oe_lines::{Fault, bytes_of, end_line, first_word, valid_shape_of};
+use oe_lines::{Answers, Fault, bytes_of, end_line, first_word, valid_shape_of};
 use rendering::{Lent, text_of_size};
 use std::alloc::Global;
 use std::io::{Read, Write};
@@ -80,18 +80,20 @@ fn main(rt: HostRuntime) -> ExitCode {
     if rt.stdin().read_to_string(&mut text).is_err() {
         return ExitCode::from(5);
     }
-    let mut answers = Vec::new(alloc);
-    if let Err(fault) = answer_lines(alloc, &text, &mut answers) {
+    let mut answers = Answers::new(alloc);
+    let outcome = answer_lines(alloc, &text, &mut answers);
+    answers.settle(outcome);
+    if let Some(fault) = answers.fault() {
         return ExitCode::from(fault.status());
     }
-    match rt.stdout().write_all(answers.as_slice()) {
+    match rt.stdout().write_all(answers.bytes()) {
         Ok(()) => ExitCode::from(0),
         Err(_) => ExitCode::from(8),
     }
 }
 
 /// Appends the answers to all lines, of which the first ones refer to no shape.
-fn answer_lines(alloc: Global, text: &str, answers: &mut Vec<u8>) -> Result<(), Fault> {
+fn answer_lines(alloc: Global, text: &str, answers: &mut Answers) -> Result<(), Fault> {
     let mut lent = Lent::new(alloc)?;
     let mut shapes = Vec::new(alloc);
     for line in text.lines() {
@@ -112,7 +114,7 @@ fn answer_line(
     rest: &str,
     shapes: &mut Vec<Shape>,
     lent: &mut Lent,
-    answers: &mut Vec<u8>,
+    answers: &mut Answers,
 ) -> Result<(), Fault> {
     match verb {
         "shape" => shapes::shape(alloc, rest, shapes, answers)?,
@@ -125,7 +127,8 @@ fn answer_line(
             None => answer_to(alloc, verb, rest, answers)?,
         },
     }
-    end_line(answers)
+    end_line(answers);
+    Ok(())
 }
 
 /// Appends what a shape answers to a line that begins with this verb.
@@ -135,39 +138,55 @@ fn answer_of(
     rest: &str,
     shape: &Shape,
     lent: &mut Lent,
-    answers: &mut Vec<u8>,
+    answers: &mut Answers,
 ) -> Result<(), Fault> {
     match verb {
         "render" => rendering::render_row(alloc, rest, shape, lent, answers),
+        "write" => written::write_row(alloc, rest, shape, answers),
+        "chunks" => written::chunks_row(alloc, rest, shape, answers),
+        _ => answer_window(alloc, verb, rest, shape, answers),
+    }
+}
+
+/// Appends what the windows of a shape answer.
+fn answer_window(
+    alloc: Global,
+    verb: &str,
+    rest: &str,
+    shape: &Shape,
+    answers: &mut Answers,
+) -> Result<(), Fault> {
+    match verb {
+        "chunk" => windows::chunk(rest, shape, answers),
+        "runs" => windows::list_runs(rest, shape, answers),
+        "cells" => windows::cells(alloc, rest, shape, answers),
+        "parts" => windows::parts(rest, shape, answers),
+        _ => answer_labels(alloc, verb, rest, shape, answers),
+    }
+}
+
+/// Appends what the labels of a shape answer.
+fn answer_labels(
+    alloc: Global,
+    verb: &str,
+    rest: &str,
+    shape: &Shape,
+    answers: &mut Answers,
+) -> Result<(), Fault> {
+    match verb {
         "label" => shapes::label(rest, shape, answers),
         "range" => shapes::range(rest, shape, answers),
         "band" => shapes::band(alloc, rest, shape, answers),
         "counts" => shapes::counts(shape, answers),
         "cube" => shapes::cube(alloc, rest, shape, answers),
         "row" => shapes::row(alloc, rest, shape, answers),
-        "chunk" => windows::chunk(rest, shape, answers),
-        "runs" => windows::list_runs(rest, shape, answers),
-        "cells" => windows::cells(alloc, rest, shape, answers),
-        "parts" => windows::parts(rest, shape, answers),
-        "write" => written::write_row(alloc, rest, shape, answers),
-        "chunks" => written::chunks_row(alloc, rest, shape, answers),
         _ => answer_to(alloc, verb, rest, answers),
     }
 }
 
 /// Appends the answer to a line that refers to no shape.
-fn answer_to(alloc: Global, verb: &str, rest: &str, answers: &mut Vec<u8>) -> Result<(), Fault> {
+fn answer_to(alloc: Global, verb: &str, rest: &str, answers: &mut Answers) -> Result<(), Fault> {
     match verb {
-        "record" => records::write_one(alloc, rest, answers),
-        "records" => records::write_three(alloc, rest, answers),
-        "of_record" => records::read_one(rest, answers),
-        "of_records" => records::read_three(alloc, rest, answers),
-        "list" => reducers::list(alloc, rest, answers),
-        "columns" => reducers::columns(alloc, rest, answers),
-        "kernel" => kernels::kernel(alloc, rest, answers),
-        "index" => kernels::index(rest, answers),
-        "need" => kernels::need(alloc, rest, answers),
-        "convolution" => planes::convolution(alloc, rest, answers),
         "bands" => shapes::bands(alloc, rest, answers),
         "texts" => shapes::texts(alloc, rest, answers),
         "instant" => shapes::instant(rest, answers),
@@ -175,6 +194,35 @@ fn answer_to(alloc: Global, verb: &str, rest: &str, answers: &mut Vec<u8>) -> Re
         "two" => windows::two(rest, answers),
         "order" => orders::order(alloc, rest, answers),
         "lesser" => written::lesser_row(rest, answers),
+        _ => answer_cells(alloc, verb, rest, answers),
+    }
+}
+
+/// Appends the answer to a line about cells.
+fn answer_cells(alloc: Global, verb: &str, rest: &str, answers: &mut Answers) -> Result<(), Fault> {
+    match verb {
+        "list" => reducers::list(alloc, rest, answers),
+        "columns" => reducers::columns(alloc, rest, answers),
+        "kernel" => kernels::kernel(alloc, rest, answers),
+        "index" => kernels::index(rest, answers),
+        "need" => kernels::need(alloc, rest, answers),
+        "convolution" => planes::convolution(alloc, rest, answers),
+        _ => answer_records(alloc, verb, rest, answers),
+    }
+}
+
+/// Appends the answer to a line about records, or to one about operations.
+fn answer_records(
+    alloc: Global,
+    verb: &str,
+    rest: &str,
+    answers: &mut Answers,
+) -> Result<(), Fault> {
+    match verb {
+        "record" => records::write_one(alloc, rest, answers),
+        "records" => records::write_three(alloc, rest, answers),
+        "of_record" => records::read_one(rest, answers),
+        "of_records" => records::read_three(alloc, rest, answers),
         _ => operations::answer_to(verb, rest, answers),
     }
 }

@@ -4,13 +4,13 @@ use oe_cell::{
     lte, modulo, multiply, neq, not, or, sgn, subtract, whole_cell, xor,
 };
 use oe_lines::{
-    Fault, cell_of, first_word, frac_of, fraction_of, number_of, parts_of, push_cell, push_cells,
-    push_flag, push_word,
+    Answers, Fault, cell_of, first_word, frac_of, fraction_of, number_of, parts_of, push_cell,
+    push_cells, push_flag, push_word,
 };
 use std::cmp::Ordering;
 
 /// Appends the answer to a line that begins with this verb.
-pub(crate) fn answer_to(verb: &str, rest: &str, answer: &mut Vec<u8>) -> Result<(), Fault> {
+pub(crate) fn answer_to(verb: &str, rest: &str, answer: &mut Answers) -> Result<(), Fault> {
     match verb {
         "kinds" => kinds(rest, answer),
         "arithmetic" => arithmetic(rest, answer),
@@ -30,15 +30,16 @@ fn two_cells(words: &str) -> Result<[Cell; 2], Fault> {
     Ok([cell_of(one)?, cell_of(two)?])
 }
 
-fn kinds(word: &str, answer: &mut Vec<u8>) -> Result<(), Fault> {
+fn kinds(word: &str, answer: &mut Answers) -> Result<(), Fault> {
     let cell = cell_of(word)?;
-    push_flag(cell.is_empty(), answer)?;
-    push_flag(cell.is_number(), answer)?;
-    push_flag(cell.is_over(), answer)?;
-    push_cell(cell, answer)
+    push_flag(cell.is_empty(), answer);
+    push_flag(cell.is_number(), answer);
+    push_flag(cell.is_over(), answer);
+    push_cell(cell, answer);
+    Ok(())
 }
 
-fn arithmetic(words: &str, answer: &mut Vec<u8>) -> Result<(), Fault> {
+fn arithmetic(words: &str, answer: &mut Answers) -> Result<(), Fault> {
     let [x, y] = &two_cells(words)?;
     push_cells(
         &[
@@ -49,18 +50,20 @@ fn arithmetic(words: &str, answer: &mut Vec<u8>) -> Result<(), Fault> {
             modulo(*x, *y),
         ],
         answer,
-    )
+    );
+    Ok(())
 }
 
-fn rounding(word: &str, answer: &mut Vec<u8>) -> Result<(), Fault> {
+fn rounding(word: &str, answer: &mut Answers) -> Result<(), Fault> {
     let x = &cell_of(word)?;
     push_cells(
         &[floor(*x), ceil(*x), int(*x), absolute(*x), sgn(*x)],
         answer,
-    )
+    );
+    Ok(())
 }
 
-fn comparison(words: &str, answer: &mut Vec<u8>) -> Result<(), Fault> {
+fn comparison(words: &str, answer: &mut Answers) -> Result<(), Fault> {
     let [x, y] = &two_cells(words)?;
     push_cells(
         &[
@@ -72,42 +75,48 @@ fn comparison(words: &str, answer: &mut Vec<u8>) -> Result<(), Fault> {
             lte(*x, *y),
         ],
         answer,
-    )
+    );
+    Ok(())
 }
 
-fn logic(words: &str, answer: &mut Vec<u8>) -> Result<(), Fault> {
+fn logic(words: &str, answer: &mut Answers) -> Result<(), Fault> {
     let [x, y] = &two_cells(words)?;
-    push_cells(&[and(*x, *y), or(*x, *y), xor(*x, *y), not(*x)], answer)
+    push_cells(&[and(*x, *y), or(*x, *y), xor(*x, *y), not(*x)], answer);
+    Ok(())
 }
 
-fn choice(words: &str, answer: &mut Vec<u8>) -> Result<(), Fault> {
+fn choice(words: &str, answer: &mut Answers) -> Result<(), Fault> {
     let (value, rest) = first_word(words);
     let [accept, reject] = &two_cells(rest)?;
-    push_cell(choose(cell_of(value)?, *accept, *reject), answer)
+    push_cell(choose(cell_of(value)?, *accept, *reject), answer);
+    Ok(())
 }
 
 /// How two numbers stand to one another.
-fn order(words: &str, answer: &mut Vec<u8>) -> Result<(), Fault> {
+fn order(words: &str, answer: &mut Answers) -> Result<(), Fault> {
     let (x, y) = parts_of(words, " ")?;
     match compare(frac_of(x)?, frac_of(y)?) {
         Ordering::Less => push_word("less", answer),
         Ordering::Equal => push_word("equal", answer),
         Ordering::Greater => push_word("greater", answer),
     }
+    Ok(())
 }
 
-fn fraction(word: &str, answer: &mut Vec<u8>) -> Result<(), Fault> {
+fn fraction(word: &str, answer: &mut Answers) -> Result<(), Fault> {
     match fraction_of(word)? {
         Some(number) => push_cell(Cell::Number(number), answer),
         None => push_word("none", answer),
     }
+    Ok(())
 }
 
 /// A whole number as a number and as a cell.
-fn whole(word: &str, answer: &mut Vec<u8>) -> Result<(), Fault> {
+fn whole(word: &str, answer: &mut Answers) -> Result<(), Fault> {
     let num = number_of(word)?;
     if num == i64::MIN {
         return Err(Fault::Line);
     }
-    push_cells(&[Cell::Number(Frac::whole(num)), whole_cell(num)], answer)
+    push_cells(&[Cell::Number(Frac::whole(num)), whole_cell(num)], answer);
+    Ok(())
 }

@@ -1,12 +1,12 @@
 // The order of a run.
 use crate::windows::push_list;
-use oe_lines::{Fault, first_word, number_of, numbers_of, push, push_number};
+use oe_lines::{Answers, Fault, first_word, number_of, numbers_of, push, push_number};
 use oe_order::{Links, NodeOrder, is_ranked, leads_back, order as order_of};
 use std::alloc::Global;
 
 /// Appends the order of the nodes that a result needs, how many slots it takes, and the step of each node. The ranks
 /// show that there is no cycle: they fall along each reference.
-pub(crate) fn order(alloc: Global, line: &str, answers: &mut Vec<u8>) -> Result<(), Fault> {
+pub(crate) fn order(alloc: Global, line: &str, answers: &mut Answers) -> Result<(), Fault> {
     let (last, rest) = first_word(line);
     let (nodes, ranks) = first_word(rest);
     let last = number_of(last)?;
@@ -19,13 +19,14 @@ fn answer_order(
     nodes: &[Links],
     ranks: &str,
     last: u32,
-    answers: &mut Vec<u8>,
+    answers: &mut Answers,
 ) -> Result<(), Fault> {
     let ranks = numbers_of(alloc, ranks)?;
     match order_ranked(alloc, nodes, ranks.as_slice(), last)? {
-        Some(found) => spell(&found, nodes.len(), answers),
+        Some(found) => return spell(&found, nodes.len(), answers),
         None => push("refused", answers),
     }
+    Ok(())
 }
 
 /// The order of a graph whose ranks show that it has no cycle.
@@ -44,18 +45,18 @@ fn order_ranked(
     Ok(Some(order_of(alloc, nodes, last)?))
 }
 
-fn spell(found: &NodeOrder, count: usize, answers: &mut Vec<u8>) -> Result<(), Fault> {
-    push_list(found.steps(), answers)?;
-    push_number(" ", found.width(), answers)?;
-    push_number(" ", found.slots(), answers)?;
-    push(" |", answers)?;
+fn spell(found: &NodeOrder, count: usize, answers: &mut Answers) -> Result<(), Fault> {
+    push_list(found.steps(), answers);
+    push_number(" ", found.width(), answers);
+    push_number(" ", found.slots(), answers);
+    push(" |", answers);
     for node in 0..u32::try_from(count).or(Err(Fault::Line))? {
-        push_step(found.step_of(node), answers)?;
+        push_step(found.step_of(node), answers);
     }
     Ok(())
 }
 
-fn push_step(step: Option<u32>, answers: &mut Vec<u8>) -> Result<(), Fault> {
+fn push_step(step: Option<u32>, answers: &mut Answers) {
     match step {
         Some(step) => push_number(" ", step, answers),
         None => push(" none", answers),

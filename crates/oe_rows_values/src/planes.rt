@@ -5,7 +5,9 @@ ghost use Rattle.oe_kernel.specs.Convolution.{CoversWindow, IsPlane, IsPositionI
 use crate::kernels::{border_of, kernel_of};
 use oe_cell::{Cell, Frac};
 use oe_kernel::{Border, Kernel, Plane, convolve_at, convolve_block, convolve_row};
-use oe_lines::{Fault, cells_of, first_word, frac_of, pair_of, parts_of, push_cells, push_word};
+use oe_lines::{
+    Answers, Fault, cells_of, first_word, frac_of, pair_of, parts_of, push_cells, push_word,
+};
 use std::alloc::Global;
 
 /// The longest side of a plane.
@@ -37,7 +39,7 @@ fn spans_of(word: &str) -> Result<[u32; 4], Fault> {
 }
 
 /// The cells of a part of a plane, by each of the three calls.
-pub(crate) fn convolution(alloc: Global, words: &str, answer: &mut Vec<u8>) -> Result<(), Fault> {
+pub(crate) fn convolution(alloc: Global, words: &str, answer: &mut Answers) -> Result<(), Fault> {
     let (kernel, rest) = first_word(words);
     match kernel_of(alloc, kernel)? {
         Ok(kernel) => weigh(alloc, kernel, rest, answer),
@@ -45,7 +47,7 @@ pub(crate) fn convolution(alloc: Global, words: &str, answer: &mut Vec<u8>) -> R
     }
 }
 
-fn weigh(alloc: Global, kernel: Kernel, words: &str, answer: &mut Vec<u8>) -> Result<(), Fault> {
+fn weigh(alloc: Global, kernel: Kernel, words: &str, answer: &mut Answers) -> Result<(), Fault> {
     let (border, rest) = first_word(words);
     let (factor, rest) = first_word(rest);
     let (border, factor, replace) = (border_of(border)?, frac_of(factor)?, Frac::whole(5));
@@ -62,7 +64,7 @@ fn weigh_plane(
     alloc: Global,
     weights: &Weights,
     words: &str,
-    answer: &mut Vec<u8>,
+    answer: &mut Answers,
 ) -> Result<(), Fault> {
     let (sides, rest) = first_word(words);
     let (held, rest) = first_word(rest);
@@ -93,19 +95,20 @@ fn push_part(
     to_x: u32,
     from_y: u32,
     to_y: u32,
-    answer: &mut Vec<u8>,
+    answer: &mut Answers,
 ) -> Result<(), Fault> {
     push_cells(
         &by_cell(alloc, weights, plane, from_x, to_x, from_y, to_y)?,
         answer,
-    )?;
-    push_word("|", answer)?;
+    );
+    push_word("|", answer);
     push_rows(alloc, weights, plane, from_x, to_x, from_y, to_y, answer)?;
-    push_word("|", answer)?;
+    push_word("|", answer);
     push_cells(
         &at_once(alloc, weights, plane, from_x, to_x, from_y, to_y)?,
         answer,
-    )
+    );
+    Ok(())
 }
 
 /// Whether the plane holds the columns that the kernel needs for some.
@@ -179,7 +182,7 @@ fn push_rows(
     to_x: u32,
     from_y: u32,
     to_y: u32,
-    answer: &mut Vec<u8>,
+    answer: &mut Answers,
 ) -> Result<(), Fault> {
     let (kernel, border) = (&weights.kernel, &weights.border);
     if !plane.is_valid()
@@ -200,7 +203,7 @@ fn push_rows(
             y,
             &mut row,
         );
-        push_cells(&row, answer)?;
+        push_cells(&row, answer);
     }
     Ok(())
 }

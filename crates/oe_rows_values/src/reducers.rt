@@ -4,7 +4,9 @@ ghost use Rattle.oe_fold.specs.declared.reducer.Reducer.{Reducer};
 
 use oe_cell::Cell;
 use oe_fold::{Pass, Reducer, fold, fold_columns};
-use oe_lines::{Fault, cells_of, first_word, number_of, pair_of, parts_of, push_cell, push_cells};
+use oe_lines::{
+    Answers, Fault, cells_of, first_word, number_of, pair_of, parts_of, push_cell, push_cells,
+};
 use std::alloc::Global;
 
 fn reducer_of(word: &str) -> Result<Reducer, Fault> {
@@ -35,7 +37,7 @@ fn ignore_of(word: &str) -> Result<bool, Fault> {
 }
 
 /// The reduction of a list, of the middle one of three columns, and cell by cell.
-pub(crate) fn list(alloc: Global, words: &str, answer: &mut Vec<u8>) -> Result<(), Fault> {
+pub(crate) fn list(alloc: Global, words: &str, answer: &mut Answers) -> Result<(), Fault> {
     let (reducer, rest) = first_word(words);
     let (ignore, cells) = first_word(rest);
     let reducer = reducer_of(reducer)?;
@@ -48,14 +50,15 @@ fn push_three(
     reducer: Reducer,
     ignore: bool,
     cells: &[Cell],
-    answer: &mut Vec<u8>,
+    answer: &mut Answers,
 ) -> Result<(), Fault> {
     push_list(alloc, reducer, ignore, cells, answer)?;
     push_column(alloc, reducer, ignore, cells, answer)?;
     match reducer {
-        Reducer::Median => Ok(()),
+        Reducer::Median => {}
         _ => push_cell(cell_by_cell(reducer, ignore, cells), answer),
     }
+    Ok(())
 }
 
 fn push_list(
@@ -63,12 +66,13 @@ fn push_list(
     reducer: Reducer,
     ignore: bool,
     cells: &[Cell],
-    answer: &mut Vec<u8>,
+    answer: &mut Answers,
 ) -> Result<(), Fault> {
     // It holds none of the cells, and one more than they are.
     let mut scratch = vec![in alloc; Cell::Empty; cells.len()]?;
     scratch.push(Cell::Empty)?;
-    push_cell(fold(reducer, ignore, cells, &mut scratch), answer)
+    push_cell(fold(reducer, ignore, cells, &mut scratch), answer);
+    Ok(())
 }
 
 /// Appends the reduction of a column between two of false.
@@ -77,7 +81,7 @@ fn push_column(
     reducer: Reducer,
     ignore: bool,
     cells: &[Cell],
-    answer: &mut Vec<u8>,
+    answer: &mut Answers,
 ) -> Result<(), Fault> {
     let mut rows = Vec::new(alloc);
     for cell in cells {
@@ -94,7 +98,8 @@ fn push_column(
         &mut out,
         &mut scratch,
     )?;
-    push_cell(out[1], answer)
+    push_cell(out[1], answer);
+    Ok(())
 }
 
 fn cell_by_cell(reducer: Reducer, ignore: bool, cells: &[Cell]) -> Cell
@@ -128,7 +133,7 @@ fn reduce_columns(
 }
 
 /// The reductions of columns.
-pub(crate) fn columns(alloc: Global, words: &str, answer: &mut Vec<u8>) -> Result<(), Fault> {
+pub(crate) fn columns(alloc: Global, words: &str, answer: &mut Answers) -> Result<(), Fault> {
     let (reducer, rest) = first_word(words);
     let (ignore, rest) = first_word(rest);
     let (sizes, cells) = first_word(rest);
@@ -151,7 +156,7 @@ fn push_columns(
     ignore: bool,
     cells: &[Cell],
     sizes: &str,
-    answer: &mut Vec<u8>,
+    answer: &mut Answers,
 ) -> Result<(), Fault> {
     let (stride, rest) = parts_of(sizes, ",")?;
     let (count, columns) = pair_of(rest, ",")?;
@@ -167,5 +172,6 @@ fn push_columns(
         &mut out,
         &mut scratch,
     )?;
-    push_cells(&out, answer)
+    push_cells(&out, answer);
+    Ok(())
 }

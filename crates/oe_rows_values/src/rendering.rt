@@ -2,7 +2,7 @@
 use crate::store::{HiddenStore, hidden_store, push_bytes, record_bytes, stored_bytes};
 use oe_cell::Cell;
 use oe_dims::{CellKind, Shape};
-use oe_lines::{Fault, number_of, numbers_of, parts_of, push, push_number, words_of};
+use oe_lines::{Answers, Fault, number_of, numbers_of, parts_of, push, push_number, words_of};
 use oe_outside::{MemorySink, Pending};
 use oe_render::{CubeText, CubeTextFail, RenderFail, read_cube_text, render};
 use std::alloc::Global;
@@ -38,13 +38,14 @@ pub(crate) fn read_text(
     alloc: Global,
     bytes: &[u8],
     lent: &mut Lent,
-    answers: &mut Vec<u8>,
+    answers: &mut Answers,
 ) -> Result<(), Fault> {
     match read_cube_text(alloc, bytes) {
-        Ok(cube) => answer_cube(alloc, &cube, lent, answers),
+        Ok(cube) => return answer_cube(alloc, &cube, lent, answers),
         Err(CubeTextFail::Invalid) => push("invalid", answers),
-        Err(CubeTextFail::OutOfMemory) => Err(Fault::OutOfMemory),
+        Err(CubeTextFail::OutOfMemory) => answers.note(Fault::OutOfMemory),
     }
+    Ok(())
 }
 
 /// Answers the kind of the cells, and the cube as it is rendered from their records.
@@ -52,9 +53,9 @@ fn answer_cube(
     alloc: Global,
     cube: &CubeText,
     lent: &mut Lent,
-    answers: &mut Vec<u8>,
+    answers: &mut Answers,
 ) -> Result<(), Fault> {
-    push(kind_word(cube.kind), answers)?;
+    push(kind_word(cube.kind), answers);
     let bytes = record_bytes(alloc, 0, &cube.cells)?;
     let mut store = hidden_store(bytes, Vec::new(alloc))?;
     let out = MemorySink::new(alloc, OUT_ROOM, Vec::new(alloc))?;
@@ -67,7 +68,8 @@ fn answer_cube(
         out,
         lent,
         answers,
-    )
+    );
+    Ok(())
 }
 
 fn kind_word(kind: CellKind) -> &'static str {
@@ -83,7 +85,7 @@ pub(crate) fn render_row(
     line: &str,
     shape: &Shape,
     lent: &mut Lent,
-    answers: &mut Vec<u8>,
+    answers: &mut Answers,
 ) -> Result<(), Fault> {
     let [base, read, write, room, cells, digits, ..] = words_of(line);
     let base = number_of(base)?;
@@ -99,7 +101,8 @@ pub(crate) fn render_row(
         out,
         lent,
         answers,
-    )
+    );
+    Ok(())
 }
 
 /// Renders what a store has from a base on, through so many cells, and answers the outcome.
@@ -111,10 +114,10 @@ fn render_store(
     room: usize,
     mut out: MemorySink,
     lent: &mut Lent,
-    answers: &mut Vec<u8>,
-) -> Result<(), Fault> {
+    answers: &mut Answers,
+) {
     if room == 0 || room > lent.cells.len() {
-        return Err(Fault::Line);
+        return answers.note(Fault::Line);
     }
     let outcome = render(
         shape,
@@ -124,11 +127,11 @@ fn render_store(
         &mut lent.cells[..room],
         &mut lent.pending,
     );
-    spell_outcome(outcome, answers)?;
-    push_bytes(alloc, out.bytes(), true, answers)
+    spell_outcome(outcome, answers);
+    push_bytes(alloc, out.bytes(), true, answers);
 }
 
-fn spell_outcome(outcome: Result<(), RenderFail>, answers: &mut Vec<u8>) -> Result<(), Fault> {
+fn spell_outcome(outcome: Result<(), RenderFail>, answers: &mut Answers) {
     match outcome {
         Ok(()) => push("written", answers),
         Err(RenderFail::SpoolFailed) => push("SpoolFailed", answers),

@@ -3,7 +3,7 @@ ghost use Rattle.std.specs.Prelude.{None};
 
 use md5::{Digest, Md5};
 use oe_cell::{Cell, write_records};
-use oe_lines::{Fault, bytes_of, cells_of, push, push_digits, push_number};
+use oe_lines::{Answers, Fault, bytes_of, cells_of, push, push_digits, push_number};
 use oe_outside::{Failed, MemoryStore, Store};
 use std::alloc::Global;
 
@@ -79,21 +79,16 @@ pub(crate) fn record_bytes(alloc: Global, base: u16, cells: &[Cell]) -> Result<V
 }
 
 /// Appends bytes behind a blank, as a text or in hexadecimal digits; of many their number and their digest.
-pub(crate) fn push_bytes(
-    alloc: Global,
-    bytes: &[u8],
-    text: bool,
-    answers: &mut Vec<u8>,
-) -> Result<(), Fault> {
+pub(crate) fn push_bytes(alloc: Global, bytes: &[u8], text: bool, answers: &mut Answers) {
     if bytes.len() > MOST_SPELLED {
         let digest = Md5::digest(bytes);
-        push_number(" ", bytes.len(), answers)?;
+        push_number(" ", bytes.len(), answers);
         return push_digits(alloc, " ", &digest[..], answers);
     }
     if text {
-        push(" ", answers)?;
-        answers.extend_from_slice(bytes)?;
-        return Ok(());
+        push(" ", answers);
+        answers.extend(bytes);
+        return;
     }
-    push_digits(alloc, " ", bytes, answers)
+    push_digits(alloc, " ", bytes, answers);
 }

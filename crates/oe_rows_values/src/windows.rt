@@ -7,8 +7,8 @@ use crate::shapes::flag_word;
 use itoa::Integer;
 use oe_dims::Shape;
 use oe_lines::{
-    Fault, number_of, parts_of, push, push_all, push_number, push_window, side_of, window_of,
-    words_of,
+    Answers, Fault, number_of, parts_of, push, push_all, push_number, push_window, side_of,
+    window_of, words_of,
 };
 use oe_window::{ChunkSize, Grid, Window, copy_window, holds, hull, meet, runs, size, whole};
 use std::alloc::Global;
@@ -29,16 +29,17 @@ fn sides_of(t: &str, y: &str, x: &str) -> Result<ChunkSize, Fault>
 }
 
 /// Appends how many chunks the shape has, and the one of a number.
-pub(crate) fn chunk(line: &str, shape: &Shape, answers: &mut Vec<u8>) -> Result<(), Fault> {
+pub(crate) fn chunk(line: &str, shape: &Shape, answers: &mut Answers) -> Result<(), Fault> {
     let [t, y, x, number, ..] = words_of(line);
     answer_chunk(
         chunk_of(shape, sides_of(t, y, x)?, number_of(number)?),
         answers,
-    )
+    );
+    Ok(())
 }
 
-fn answer_chunk(found: (u64, Option<Window>), answers: &mut Vec<u8>) -> Result<(), Fault> {
-    push_number("", found.0, answers)?;
+fn answer_chunk(found: (u64, Option<Window>), answers: &mut Answers) {
+    push_number("", found.0, answers);
     match found.1 {
         Some(window) => push_window(" ", &window, answers),
         None => push(" none", answers),
@@ -64,21 +65,21 @@ fn chunk_of(shape: &Shape, size: ChunkSize, number: u64) -> (u64, Option<Window>
 }
 
 /// Appends the runs of a window: the first number of each and how many follow one another.
-pub(crate) fn list_runs(line: &str, shape: &Shape, answers: &mut Vec<u8>) -> Result<(), Fault> {
+pub(crate) fn list_runs(line: &str, shape: &Shape, answers: &mut Answers) -> Result<(), Fault> {
     let window = window_of(line)?;
-    answer_runs(shape, &window, answers)
+    answer_runs(shape, &window, answers);
+    Ok(())
 }
 
-fn answer_runs(shape: &Shape, window: &Window, answers: &mut Vec<u8>) -> Result<(), Fault> {
+fn answer_runs(shape: &Shape, window: &Window, answers: &mut Answers) {
     if !holds(&whole(shape), window) {
         return push("outside", answers);
     }
     for (first, length) in runs(window, shape) {
-        push_number("", first, answers)?;
-        push_number("+", length, answers)?;
-        push(" ", answers)?;
+        push_number("", first, answers);
+        push_number("+", length, answers);
+        push(" ", answers);
     }
-    Ok(())
 }
 
 /// Appends the numbers of the positions of a window, copied out of a cube whose cells are their own numbers.
@@ -86,13 +87,14 @@ pub(crate) fn cells(
     alloc: Global,
     line: &str,
     shape: &Shape,
-    answers: &mut Vec<u8>,
+    answers: &mut Answers,
 ) -> Result<(), Fault> {
     let window = window_of(line)?;
     match counts(shape, &window) {
-        Some(found) => answer_cells(alloc, found[0], shape, &window, answers),
+        Some(found) => return answer_cells(alloc, found[0], shape, &window, answers),
         None => push("outside", answers),
     }
+    Ok(())
 }
 
 fn answer_cells(
@@ -100,11 +102,12 @@ fn answer_cells(
     count: u64,
     shape: &Shape,
     window: &Window,
-    answers: &mut Vec<u8>,
+    answers: &mut Answers,
 ) -> Result<(), Fault> {
     let mut into = numbers(alloc, count)?;
     copy_cells(alloc, shape, window, into.as_mut_slice())?;
-    push_list(into.as_slice(), answers)
+    push_list(into.as_slice(), answers);
+    Ok(())
 }
 
 fn copy_cells(
@@ -154,7 +157,7 @@ fn lies_within(shape: &Shape, window: &Window) -> bool
 }
 
 /// Appends how many positions, planes and rows a window has, and the plane and the row of two numbers.
-pub(crate) fn parts(line: &str, shape: &Shape, answers: &mut Vec<u8>) -> Result<(), Fault> {
+pub(crate) fn parts(line: &str, shape: &Shape, answers: &mut Answers) -> Result<(), Fault> {
     let window = window_of(line)?;
     let [_, _, _, _, plane, row, ..] = words_of(line);
     let plane = plane_at(shape, &window, number_of(plane)?);
@@ -163,20 +166,21 @@ pub(crate) fn parts(line: &str, shape: &Shape, answers: &mut Vec<u8>) -> Result<
         Some(found) => answer_parts(found, plane, row, answers),
         None => push("outside", answers),
     }
+    Ok(())
 }
 
 fn answer_parts(
     counts: [u64; 3],
     plane: Option<Window>,
     row: Option<Window>,
-    answers: &mut Vec<u8>,
-) -> Result<(), Fault> {
-    push_number("", counts[0], answers)?;
-    push_number(" ", counts[1], answers)?;
-    push_number(" ", counts[2], answers)?;
+    answers: &mut Answers,
+) {
+    push_number("", counts[0], answers);
+    push_number(" ", counts[1], answers);
+    push_number(" ", counts[2], answers);
     match (plane, row) {
         (Some(plane), Some(row)) => {
-            push_window(" | ", &plane, answers)?;
+            push_window(" | ", &plane, answers);
             push_window(" | ", &row, answers)
         }
         _ => push(" none", answers),
@@ -216,16 +220,17 @@ fn row_at(shape: &Shape, window: &Window, number: u64) -> Option<Window> {
 }
 
 /// Appends the hull and the meet of two windows, and whether the first holds the second and the second the first.
-pub(crate) fn two(line: &str, answers: &mut Vec<u8>) -> Result<(), Fault> {
+pub(crate) fn two(line: &str, answers: &mut Answers) -> Result<(), Fault> {
     let (one, two) = parts_of(line, " | ")?;
     let (one, two) = (window_of(one)?, window_of(two)?);
-    push_window("", &hull(&one, &two), answers)?;
-    push_meet(&meet(&one, &two), answers)?;
+    push_window("", &hull(&one, &two), answers);
+    push_meet(&meet(&one, &two), answers);
     let (first, second) = (holds(&one, &two), holds(&two, &one));
-    push_all(&[" | ", flag_word(first), " ", flag_word(second)], answers)
+    push_all(&[" | ", flag_word(first), " ", flag_word(second)], answers);
+    Ok(())
 }
 
-fn push_meet(window: &Window, answers: &mut Vec<u8>) -> Result<(), Fault> {
+fn push_meet(window: &Window, answers: &mut Answers) {
     if window.is_empty() {
         push(" | nothing", answers)
     } else {
@@ -234,11 +239,11 @@ fn push_meet(window: &Window, answers: &mut Vec<u8>) -> Result<(), Fault> {
 }
 
 /// Appends numbers in brackets, with commas between them.
-pub(crate) fn push_list<N: Integer>(numbers: &[N], answers: &mut Vec<u8>) -> Result<(), Fault> {
+pub(crate) fn push_list<N: Integer>(numbers: &[N], answers: &mut Answers) {
     let mut before = "[";
     for number in numbers {
-        push_number(before, *number, answers)?;
+        push_number(before, *number, answers);
         before = ", ";
     }
-    push(if numbers.is_empty() { "[]" } else { "]" }, answers)
+    push(if numbers.is_empty() { "[]" } else { "]" }, answers);
 }

@@ -5,8 +5,8 @@ use crate::store::{plain_store, push_bytes};
 use oe_cell::Cell;
 use oe_dims::Shape;
 use oe_lines::{
-    Fault, cells_of, number_of, numbers_of, parts_of, push, push_number, side_of, window_of,
-    words_of,
+    Answers, Fault, cells_of, number_of, numbers_of, parts_of, push, push_number, side_of,
+    window_of, words_of,
 };
 use oe_outside::MemoryStore;
 use oe_spool::{least_over, lesser, write_window};
@@ -21,7 +21,7 @@ pub(crate) fn write_row(
     alloc: Global,
     line: &str,
     shape: &Shape,
-    answers: &mut Vec<u8>,
+    answers: &mut Answers,
 ) -> Result<(), Fault> {
     let [base, room, call, cells, ..] = words_of(line);
     let (_, window) = parts_of(line, " | ")?;
@@ -29,8 +29,9 @@ pub(crate) fn write_row(
     let cells = cells_of(alloc, cells)?;
     let mut store = plain_store(alloc, number_of(room)?, numbers_of(alloc, call)?)?;
     let (done, over) = write_cells(&mut store, number_of(base)?, shape, &window, &cells)?;
-    push(if done { "written" } else { "failed" }, answers)?;
-    spell_store(alloc, &store, over, answers)
+    push(if done { "written" } else { "failed" }, answers);
+    spell_store(alloc, &store, over, answers);
+    Ok(())
 }
 
 /// Writes cells to a window that lies in the shape and has so many positions. Answers whether they were written, and
@@ -54,15 +55,10 @@ fn write_cells(
 }
 
 /// Spells how many calls of a store failed, the least number of a cell that is `Over`, and the bytes of the store.
-fn spell_store(
-    alloc: Global,
-    store: &MemoryStore,
-    over: Option<u64>,
-    answers: &mut Vec<u8>,
-) -> Result<(), Fault> {
-    push_number(" ", store.faults(), answers)?;
-    push_found(over, answers)?;
-    push_bytes(alloc, store.bytes(), false, answers)
+fn spell_store(alloc: Global, store: &MemoryStore, over: Option<u64>, answers: &mut Answers) {
+    push_number(" ", store.faults(), answers);
+    push_found(over, answers);
+    push_bytes(alloc, store.bytes(), false, answers);
 }
 
 /// Writes the cells of a line chunk by chunk.
@@ -70,7 +66,7 @@ pub(crate) fn chunks_row(
     alloc: Global,
     line: &str,
     shape: &Shape,
-    answers: &mut Vec<u8>,
+    answers: &mut Answers,
 ) -> Result<(), Fault> {
     let [base, room, t, y, x, cells, ..] = words_of(line);
     let sides = ChunkSize {
@@ -81,8 +77,9 @@ pub(crate) fn chunks_row(
     let cells = cells_of(alloc, cells)?;
     let mut store = plain_store(alloc, number_of(room)?, Vec::new(alloc))?;
     let over = write_chunks(alloc, &mut store, number_of(base)?, shape, sides, &cells)?;
-    push("written", answers)?;
-    spell_store(alloc, &store, over, answers)
+    push("written", answers);
+    spell_store(alloc, &store, over, answers);
+    Ok(())
 }
 
 /// Writes all cells of a shape in chunks of these sides. Answers the least number of one that is `Over`.
@@ -132,14 +129,15 @@ fn cells_on(
 }
 
 /// Answers the lesser of two numbers, of which either may be missing.
-pub(crate) fn lesser_row(line: &str, answers: &mut Vec<u8>) -> Result<(), Fault> {
+pub(crate) fn lesser_row(line: &str, answers: &mut Answers) -> Result<(), Fault> {
     let [a, b, ..] = words_of(line);
-    push("lesser", answers)?;
-    push_found(lesser(found_of(a)?, found_of(b)?), answers)
+    push("lesser", answers);
+    push_found(lesser(found_of(a)?, found_of(b)?), answers);
+    Ok(())
 }
 
 /// Appends a number or `none`.
-fn push_found(found: Option<u64>, answers: &mut Vec<u8>) -> Result<(), Fault> {
+fn push_found(found: Option<u64>, answers: &mut Answers) {
     match found {
         Some(number) => push_number(" ", number, answers),
         None => push(" none", answers),
