@@ -1,0 +1,136 @@
+// One script: what its lines set, and the answers of its lives.
+use crate::cubes::{cube_of, file_of};
+use crate::life::live;
+use oe_dims::Text;
+use oe_jobs::Book;
+use oe_keeper::MemoryKeeper;
+use oe_lines::{Answers, Fault, first_word, number_of, numbers_of};
+use oe_routes::{Site, Tokens};
+use oe_sources::{Catalogue, MountFail};
+use std::alloc::Global;
+
+/// What the lines so far have set: the moment, which calls of the next life fail, the call in which its keeper stops and
+/// whether it keeps what that call commits, and the lines of its connections; and a keeper of the book that the last life
+/// left.
+#[derive(Drop)]
+pub(crate) struct Known {
+    pub(crate) site: Site,
+    pub(crate) now: i64,
+    pub(crate) room: usize,
+    pub(crate) spool_calls: Vec<u64>,
+    pub(crate) keeper_calls: Vec<u64>,
+    pub(crate) stop: Option<(u64, bool)>,
+    pub(crate) door_calls: Vec<u64>,
+    pub(crate) links: String,
+    pub(crate) keeper: MemoryKeeper,
+}
+
+/// Appends the answers of the lines of a script.
+pub(crate) fn answer_script(
+    alloc: Global,
+    lines: &[&str],
+    answers: &mut Answers,
+) -> Result<(), Fault> {
+    // The boxes of collections stay in this function, which drops them.
+    let mut catalogue = Catalogue::new(alloc);
+    for line in lines {
+        let (verb, rest) = first_word(line);
+        let (id, rest) = first_word(rest);
+        if verb == "cube" {
+            mounted(catalogue.mount(id, Box::new(alloc, cube_of(alloc, rest)?)?))?;
+        }
+        if verb == "file" {
+            mounted(catalogue.mount(id, Box::new(alloc, file_of(alloc, rest)?)?))?;
+        }
+    }
+    answer_lines(alloc, &mut catalogue, lines, answers)
+}
+
+/// Appends the answers of the lines of a script over a catalogue.
+fn answer_lines(
+    alloc: Global,
+    catalogue: &mut Catalogue,
+    lines: &[&str],
+    answers: &mut Answers,
+) -> Result<(), Fault> {
+    let mut known = nothing(alloc)?;
+    for line in lines {
+        let (verb, rest) = first_word(line);
+        if verb == "serve" {
+            live(alloc, rest, &mut known, catalogue, answers)?;
+        } else {
+            set(alloc, line, &mut known)?;
+        }
+    }
+    Ok(())
+}
+
+fn mounted(outcome: Result<(), MountFail>) -> Result<(), Fault> {
+    match outcome {
+        Ok(()) => Ok(()),
+        Err(_) => Err(Fault::Line),
+    }
+}
+
+/// The moment 0, an empty book, and no call fails.
+fn nothing(alloc: Global) -> Result<Known, Fault> {
+    Ok(Known {
+        site: site(alloc)?,
+        now: 0,
+        room: 65536,
+        spool_calls: Vec::new(alloc),
+        keeper_calls: Vec::new(alloc),
+        stop: None,
+        door_calls: Vec::new(alloc),
+        links: String::new(alloc),
+        keeper: MemoryKeeper::new(Book::empty(alloc), Vec::new(alloc), None),
+    })
+}
+
+fn site(alloc: Global) -> Result<Site, Fault> {
+    match Tokens::read(alloc, b"u abc\nv xyz\n") {
+        Ok(tokens) => Ok(Site {
+            base: Text::of(alloc, "http://127.0.0.1:12345/")?,
+            tokens,
+        }),
+        Err(_) => Err(Fault::OutOfMemory),
+    }
+}
+
+/// Sets what a line says.
+fn set(alloc: Global, line: &str, known: &mut Known) -> Result<(), Fault> {
+    let (verb, rest) = first_word(line);
+    let (first, behind) = first_word(rest);
+    match verb {
+        "cube" | "file" => {}
+        "now" => known.now = number_of(first)?,
+        "spool" => {
+            known.room = number_of(first)?;
+            known.spool_calls = numbers_of(alloc, behind)?;
+        }
+        "keeper" => {
+            known.keeper_calls = numbers_of(alloc, first)?;
+            known.stop = stop_of(behind)?;
+        }
+        "door" => known.door_calls = numbers_of(alloc, first)?,
+        _ => push_line(line, &mut known.links)?,
+    }
+    Ok(())
+}
+
+fn push_line(line: &str, lines: &mut String) -> Result<(), Fault> {
+    lines.push_str(line)?;
+    lines.push('\n')?;
+    Ok(())
+}
+
+/// The call of a keeper in which it stops, and whether it keeps what that call commits.
+fn stop_of(line: &str) -> Result<Option<(u64, bool)>, Fault> {
+    let (call, flag) = first_word(line);
+    match flag {
+        "" => Ok(None),
+        "kept" => Ok(Some((number_of(call)?, true))),
+        "lost" => Ok(Some((number_of(call)?, false))),
+        _ => Err(Fault::Line),
+    }
+}

@@ -1,0 +1,154 @@
+// One life of a server, over objects in memory.
+ghost use Rattle.std.specs.Prelude.{◌≤◌, IfOk};
+ghost use Rattle.oe_plan.specs.Ranges.{IsWithinRanges};
+
+use crate::known::Known;
+use crate::links::door_of;
+use crate::spell::{ending_word, spell_faults, spell_jobs, spell_links};
+use oe_jobs::Book;
+use oe_keeper::MemoryKeeper;
+use oe_lines::{Answers, Fault, end_line, number_of, push, words_of};
+use oe_outside::{FixedClock, MemoryStore, NoGate, ScriptDoor};
+use oe_routes::Site;
+use oe_serve::{ServeCommand, ServeFail, Setup, serve};
+use oe_sources::Catalogue;
+use oe_window::ChunkSize;
+use std::alloc::Global;
+use std::mem;
+
+/// The first and the last moment that a clock gives.
+const FIRST: i64 = -62135596800;
+
+const LAST: i64 = 253402300799;
+
+/// What is outside of a life.
+#[derive(Drop)]
+struct Objects {
+    keeper: MemoryKeeper,
+    spool: MemoryStore,
+    door: ScriptDoor,
+    clock: FixedClock,
+}
+
+/// A life of the words `CX CY CT W TURNS`. Appends what was written to each connection, how the life ended, and the jobs
+/// that are kept.
+pub(crate) fn live(
+    alloc: Global,
+    line: &str,
+    known: &mut Known,
+    catalogue: &mut Catalogue,
+    answers: &mut Answers,
+) -> Result<(), Fault> {
+    let command = command_of(line)?;
+    let mut objects = objects_of(alloc, known)?;
+    let ended = serve_over(alloc, &known.site, command, &mut objects, catalogue);
+    end_life(alloc, ended, objects, known, answers);
+    Ok(())
+}
+
+/// The objects of the next life. Its book and the lines of its connections are taken.
+fn objects_of(alloc: Global, known: &mut Known) -> Result<Objects, Fault> {
+    let door = door_of(alloc, known.links.as_str(), &known.door_calls)?;
+    known.links.clear();
+    Ok(Objects {
+        keeper: next_keeper(alloc, known)?,
+        spool: spool_of(alloc, known)?,
+        door,
+        clock: clock_at(known.now)?,
+    })
+}
+
+fn next_keeper(alloc: Global, known: &mut Known) -> Result<MemoryKeeper, Fault> {
+    let calls = known.keeper_calls.to_vec(alloc)?;
+    let none = MemoryKeeper::new(Book::empty(alloc), Vec::new(alloc), None);
+    let last = mem::replace(&mut known.keeper, none);
+    Ok(MemoryKeeper::new(last.stopped(), calls, known.stop))
+}
+
+fn spool_of(alloc: Global, known: &Known) -> Result<MemoryStore, Fault> {
+    let calls = known.spool_calls.to_vec(alloc)?;
+    Ok(MemoryStore::new(Vec::new(alloc), known.room, calls)?)
+}
+
+fn clock_at(now: i64) -> Result<FixedClock, Fault> {
+    if now < FIRST || now > LAST {
+        return Err(Fault::Line);
+    }
+    Ok(FixedClock::new(now))
+}
+
+/// Serves, and answers how that ended.
+fn serve_over(
+    alloc: Global,
+    site: &Site,
+    command: ServeCommand,
+    objects: &mut Objects,
+    catalogue: &mut Catalogue,
+) -> Result<(), ServeFail>
+    requires { IsWithinRanges command.size command.workers }
+{
+    let setup = Setup {
+        alloc,
+        site,
+        gate: &NoGate,
+    };
+    serve(
+        &setup,
+        command,
+        catalogue,
+        &mut objects.spool,
+        &mut objects.keeper,
+        &mut objects.door,
+        &mut objects.clock,
+    )
+}
+
+/// Appends the answers of a life that ended, and keeps its book.
+fn end_life(
+    alloc: Global,
+    ended: Result<(), ServeFail>,
+    objects: Objects,
+    known: &mut Known,
+    answers: &mut Answers,
+) {
+    let Objects { keeper, door, .. } = objects;
+    spell_links(door.given_back(), answers);
+    push(ending_word(ended), answers);
+    spell_faults(" door faults ", door.faults(), answers);
+    spell_faults(" link faults ", door.link_faults(), answers);
+    spell_faults(" keeper faults ", keeper.faults(), answers);
+    let book = keeper.stopped();
+    spell_jobs(&book, answers);
+    known.keeper = MemoryKeeper::new(book, Vec::new(alloc), None);
+    end_line(answers);
+}
+
+/// The command of the words `CX CY CT W TURNS`.
+fn command_of(line: &str) -> Result<ServeCommand, Fault>
+    ensures { IfOk result (λ command. IsWithinRanges command.size command.workers) }
+{
+    let [x, y, t, workers, turns, ..] = words_of(line);
+    Ok(ServeCommand {
+        port: 12345,
+        size: ChunkSize {
+            x: within(x, 4096)?,
+            y: within(y, 4096)?,
+            t: within(t, 4096)?,
+        },
+        workers: within(workers, 64)?,
+        turns: number_of(turns)?,
+    })
+}
+
+/// The number of a word from 1 up to another.
+fn within(word: &str, most: u32) -> Result<u32, Fault>
+    ensures least { IfOk result (λ number. 1 ≤ number) }
+    ensures most { IfOk result (λ number. number ≤ most) }
+{
+    let number = number_of(word)?;
+    if 1 <= number && number <= most {
+        Ok(number)
+    } else {
+        Err(Fault::Line)
+    }
+}
