@@ -1,0 +1,80 @@
+// Requests, and what they are answered.
+use crate::known::{Known, make};
+use crate::requested::request_of;
+use oe_book::is_book;
+use oe_dims::Text;
+use oe_http::{Request, Response};
+use oe_jobs::{Book, Job, is_instant};
+use oe_lines::{Answers, Fault, end_line, push, push_number};
+use oe_routes::{Action, route};
+use std::alloc::Global;
+
+/// Appends what a request is answered: `METHOD TARGET [AUTHORIZATION,BODY,COUNT]`.
+pub(crate) fn ask(alloc: Global, line: &str, known: &mut Known, answers: &mut Answers) {
+    match asked_action(alloc, line, known) {
+        Ok(action) => carry_out(action, known, answers),
+        Err(fault) => answers.note(fault),
+    }
+    end_line(answers);
+}
+
+fn asked_action(alloc: Global, line: &str, known: &Known) -> Result<Action, Fault> {
+    let request = request_of(alloc, line)?;
+    action_of(alloc, &request, known)
+}
+
+/// What is to be done for a request. Refuses: a book that is not valid, and a moment that is none.
+fn action_of(alloc: Global, request: &Request, known: &Known) -> Result<Action, Fault> {
+    if !is_instant(known.now) || !is_book(alloc, &known.book)? {
+        return Err(Fault::Line);
+    }
+    let (book, dims, site) = (&known.book, &known.dims, &known.site);
+    Ok(route(alloc, request, book, dims, site, known.now)?)
+}
+
+/// Appends what is to be done, and makes its change.
+fn carry_out(action: Action, known: &mut Known, answers: &mut Answers) {
+    match action {
+        Action::Answer(response) => push_response(&response, answers),
+        Action::Commit { change, response } => {
+            push("changed ", answers);
+            push_response(&response, answers);
+            let made = make(known, change);
+            answers.settle(made);
+        }
+        Action::RunNow(_) => push("run", answers),
+        Action::SendAsset { job, asset } => push_asset(&known.book, job, asset, answers),
+    }
+}
+
+/// Appends the text of an asset of a job.
+fn push_asset(book: &Book, job: usize, asset: usize, answers: &mut Answers) {
+    push("200 - - ", answers);
+    match book.jobs.get(job) {
+        Some(job) => push_text_of(job, asset, answers),
+        None => answers.note(Fault::Line),
+    }
+}
+
+fn push_text_of(job: &Job, asset: usize, answers: &mut Answers) {
+    match job.assets.get(asset) {
+        Some(asset) => push(asset.text.as_str(), answers),
+        None => answers.note(Fault::Line),
+    }
+}
+
+fn push_response(response: &Response, answers: &mut Answers) {
+    push_number("", response.status, answers);
+    push(" ", answers);
+    push_field(&response.location, answers);
+    push_field(&response.identifier, answers);
+    answers.extend(&response.body);
+}
+
+fn push_field(field: &Option<Text>, answers: &mut Answers) {
+    match field {
+        Some(text) => push(text.as_str(), answers),
+        None => push("-", answers),
+    }
+    push(" ", answers);
+}
