@@ -135,7 +135,7 @@ What it works on lies in the working directory:
 
 Each change is in the database before it is answered. So a server may be ended at any moment, by a signal too: started
 again, it has all jobs that were answered, and begins the one that ran once more. Nothing is encrypted: docs/operate.md
-puts a web server in front.
+puts a web server in front. Where standard error is a terminal, or OPENEO_LOG=1 is set, each request is told there.
 Exit status: 0, 1 Usage, 9 OutOfMemory, 10 KeeperFault, 11 LinkFault, 14 Setup.
 ";
 

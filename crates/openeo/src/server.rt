@@ -7,19 +7,19 @@ ghost use Rattle.oe_serve.specs.declared.command.ServeCommand.{ServeCommand as C
 
 use crate::program::end;
 use itoa::Buffer;
-use oe_adapters::{Fault, open_spool};
+use oe_adapters::{Fault, Writer, open_spool};
 use oe_database::SqliteKeeper;
 use oe_dims::Text;
 use oe_memory::OutOfMemory;
 use oe_outside::{NoGate, Sink};
 use oe_routes::{Site, Tokens, TokensFail};
 use oe_serve::{ServeCommand, ServeFail, Setup, read_serve, serve};
-use oe_sockets::{Patience, SystemClock, TcpDoor};
+use oe_sockets::{LogDoor, Patience, SystemClock, TcpDoor};
 use oe_sources::Catalogue;
 use sqlite::{Connection, Error, ErrorCode, File, FileStore};
 use std::alloc::Global;
-use std::fs;
-use std::io::ErrorKind;
+use std::io::{ErrorKind, IsTerminal, Stderr};
+use std::{env, fs};
 
 /// The users of the file `tokens.txt`, none where there is no such file.
 ///
@@ -84,7 +84,8 @@ fn served(
     let mut keeper = open_database(alloc, rt)?;
     let mut spool = open_spool(alloc, rt)?;
     let site = site_at(alloc, command.port, tokens)?;
-    let mut door = TcpDoor::new(alloc, *rt, command.port, Patience::of_server())?;
+    let door = TcpDoor::new(alloc, *rt, command.port, Patience::of_server())?;
+    let mut door = LogDoor::new(door, *rt, log_of(rt));
     let mut clock = SystemClock::new(*rt);
     let setup = Setup {
         alloc,
@@ -100,6 +101,20 @@ fn served(
         &mut door,
         &mut clock,
     ))
+}
+
+/// Standard error, where a line for each request is wanted: where it is a terminal, or `OPENEO_LOG` is 1.
+fn log_of(rt: &HostRuntime) -> Option<Writer<Stderr>> {
+    let err = rt.stderr();
+    let is_wanted = match env::var(rt, "OPENEO_LOG") {
+        Ok(value) => value.as_str() == "1",
+        Err(_) => err.is_terminal(),
+    };
+    if is_wanted {
+        Some(Writer::new(err))
+    } else {
+        None
+    }
 }
 
 /// The keeper over the file `openeo.db`, which is made where there is none.
