@@ -10,8 +10,8 @@ ghost use Rattle.oe_book.specs.Jobs.{HasFitting, HasProcesses, HasState, HasText
 
 use crate::process::is_process_text;
 use crate::stored::is_ran;
-use oe_dims::Text;
-use oe_jobs::{Asset, Job, Level, LogEntry, Ran, Status, is_instant};
+use oe_dims::{Text, is_instant};
+use oe_jobs::{Asset, Job, Level, LogEntry, Ran, Status};
 use oe_memory::OutOfMemory;
 use std::alloc::Global;
 

@@ -1,5 +1,5 @@
-// How an instant is spelled.
-ghost use Rattle.std.specs.Prelude.{◌≡◌, ◌↔◌, ℤ, ◌+◌, ◌/◌, ◌%◌, ◌<◌, ◌≤◌, ◌≤ℤ◌, ◌+ℤ◌, pos, length, Ok, IfOk, IfSome};
+// Which seconds are instants, and how an instant is spelled.
+ghost use Rattle.std.specs.Prelude.{◌≡◌, ◌↔◌, ℤ, ◌+◌, ◌/◌, ◌%◌, ◌<◌, ◌≤◌, ◌≤ℤ◌, ◌+ℤ◌, pos, length, Ok, IfOk, IfSome, IsTrue};
 ghost use Rattle.std.specs.Bool.{OnTrue};
 ghost use Rattle.jiff_core.specs.Calendar.{IsEpochDay};
 ghost use Rattle.oe_dims.specs.Calendar.{civil_date};
@@ -9,7 +9,10 @@ ghost use Rattle.oe_dims.specs.Dimensions.{first_instant, last_instant};
 use jiff_core::civil::Date;
 
 /// The first second of the year 1.
-const FIRST_INSTANT: i64 = -62135596800;
+pub(crate) const FIRST_INSTANT: i64 = -62135596800;
+
+/// The last second of the year 9999.
+pub(crate) const LAST_INSTANT: i64 = 253402300799;
 
 /// The days from 0001-01-01 to 1970-01-01.
 const DAYS_BEFORE_1970: i64 = 719162;
@@ -24,6 +27,13 @@ pub enum InstantFault {
     Spelling,
     /// The year is 0000, or the calendar has no such date or the clock no such time.
     NoSuchDay,
+}
+
+/// Whether a number of seconds since 1970-01-01T00:00:00Z lies in the years 1 to 9999.
+pub fn is_instant(seconds: i64) -> bool
+    ensures { IsTrue result ↔ IsInstant seconds }
+{
+    seconds >= FIRST_INSTANT && seconds <= LAST_INSTANT
 }
 
 /// The digit for the tens of a number below 100.

@@ -21,7 +21,7 @@ mod text;
 
 pub use bands::BandIndex;
 pub use dims::{Dims, DimsRow};
-pub use instant::{InstantFault, print_instant, read_instant};
+pub use instant::{InstantFault, is_instant, print_instant, read_instant};
 pub use kind::{CellKind, Kind, Labels};
 pub use name::is_name;
 pub use shape::{Shape, ShapeFault};

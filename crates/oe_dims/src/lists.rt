@@ -8,6 +8,7 @@ ghost use Rattle.oe_dims.specs.Indices.{same_number, index_where, count_before, 
 ghost use Rattle.oe_dims.specs.Lists.{items_of, dimensions_of, HaveSameLabels};
 
 use crate::distinct::all_differ;
+use crate::instant::{FIRST_INSTANT, LAST_INSTANT};
 use crate::order::{all_between, all_names, falls, index_of_name, rises};
 use crate::search::{index_in_falling, index_in_rising, run_in_falling, run_in_rising};
 use crate::{Kind, ShapeFault, Text};
@@ -15,12 +16,6 @@ use oe_memory::OutOfMemory;
 
 /// The dimensions in their order.
 const ALL_KINDS: [Kind; 4] = [Kind::Time, Kind::Bands, Kind::Y, Kind::X];
-
-/// The first second of the year 1.
-const FIRST_INSTANT: i64 = -62135596800;
-
-/// The last second of the year 9999.
-const LAST_INSTANT: i64 = 253402300799;
 
 /// How far a coordinate may be from 0.
 const FARTHEST_COORDINATE: i64 = 1000000000;

@@ -11,8 +11,8 @@ ghost use Rattle.oe_keeper.specs.Entry as spec;
 ghost use Rattle.oe_keeper.specs.Reading as reading;
 ghost use Rattle.oe_keeper.specs.Reading.{HasInstant, HasTurn, IsLevel};
 
-use oe_dims::Text;
-use oe_jobs::{Level, Status, is_instant, read_number};
+use oe_dims::{Text, is_instant};
+use oe_jobs::{Level, Status, read_number};
 use oe_memory::OutOfMemory;
 use serde_json::Value;
 use std::alloc::Global;

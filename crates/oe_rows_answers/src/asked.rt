@@ -2,9 +2,9 @@
 use crate::known::{Known, make};
 use crate::requested::request_of;
 use oe_book::is_book;
-use oe_dims::Text;
+use oe_dims::{Text, is_instant};
 use oe_http::{Request, Response};
-use oe_jobs::{Book, Job, is_instant};
+use oe_jobs::{Book, Job};
 use oe_lines::{Answers, Fault, end_line, push, push_number};
 use oe_routes::{Action, route};
 use std::alloc::Global;
