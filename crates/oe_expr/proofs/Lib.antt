@@ -19,4 +19,5 @@ pub mod LabelLemmas
 pub mod PlaceLemmas
 pub mod MarkLemmas
 pub mod LoopLemmas
+pub mod UnfoldLemmas
 mod Worked

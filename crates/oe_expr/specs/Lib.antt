@@ -22,3 +22,4 @@ pub mod Strips
 pub mod Places
 pub mod Walked
 pub mod Placed
+pub mod Laws

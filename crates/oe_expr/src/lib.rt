@@ -14,6 +14,7 @@ mod fold;
 mod judge;
 mod kinds;
 mod labels;
+mod laws;
 mod operation;
 mod operators;
 mod program;
@@ -26,5 +27,6 @@ mod walk;
 
 pub use evaluate::{SCRATCH, eval};
 pub use expr::{Expr, build};
+pub use laws::values_unfold;
 pub use row::{EnvRow, eval_row};
 pub use scope::{Env, ListPart, Scope};
