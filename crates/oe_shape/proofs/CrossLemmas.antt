@@ -20,6 +20,13 @@ text_send = search (crosses, sendable) depth 30
 shape_send : IsSend shape.the_row
 shape_send = search (crosses, sendable, text_send) depth 30
 
+-- a shape that nodes share is handed on where it may be shared
+text_sync : IsSync text.the_row
+text_sync = search (crosses, sendable) depth 30
+
+shape_sync : IsSync shape.the_row
+shape_sync = search (crosses, sendable, text_sync) depth 30
+
 kernel_send : IsSend kernel.the_row
 kernel_send = search (crosses, sendable) depth 30
 
@@ -32,7 +39,7 @@ operation_send = search (crosses, sendable, text_send, kernel_send, expr_send) d
 node_send : IsSend node.the_row
 node_send = declared_send node.the_type (
   operation_send,
-  (search (crosses, sendable, text_send) depth 30, (search (crosses, sendable, shape_send) depth 30, (search sendable depth 30, tt))),
+  (search (crosses, sendable, text_send) depth 30, (search (crosses, sendable, shape_send, shape_sync) depth 30, (search sendable depth 30, tt))),
 )
 
 state_send : IsSend state.the_row
@@ -46,12 +53,6 @@ checked_send = search (crosses, sendable, text_send, links_send, state_send) dep
 
 -- ---- shared
 
-text_sync : IsSync text.the_row
-text_sync = search (crosses, sendable) depth 30
-
-shape_sync : IsSync shape.the_row
-shape_sync = search (crosses, sendable, text_sync) depth 30
-
 kernel_sync : IsSync kernel.the_row
 kernel_sync = search (crosses, sendable) depth 30
 
@@ -64,7 +65,7 @@ operation_sync = search (crosses, sendable, text_sync, kernel_sync, expr_sync) d
 node_sync : IsSync node.the_row
 node_sync = declared_sync node.the_type (
   operation_sync,
-  (search (crosses, sendable, text_sync) depth 30, (search (crosses, sendable, shape_sync) depth 30, (search sendable depth 30, tt))),
+  (search (crosses, sendable, text_sync) depth 30, (search (crosses, sendable, shape_send, shape_sync) depth 30, (search sendable depth 30, tt))),
 )
 
 state_sync : IsSync state.the_row

@@ -2,6 +2,7 @@
 -- the kind of the cubes that the request works on.
 use Rattle.std.proofs.Common.{◌≡◌, ℕ, Bool, true, false, not, List, [], ◌∷◌, map, slice_get, Option, Some, None, is_none, option_map, refl, sym, ap, ◌∙◌, subst, true≢false, if◌then◌else◌}
 use Rattle.std.specs.Prelude.{IfSome}
+use Rattle.std.specs.Arc.{arc_value}
 use Rattle.std.specs.Option.{option_and_then, option_map_or}
 use Rattle.oe_cell.specs.declared.cell.Cell.{Cell}
 use Rattle.oe_cell.specs.declared.cell.Cell.TheVariants.{Empty, Flag, Number, Over}
@@ -271,7 +272,7 @@ module _ (rows : List DimsRow) (at : List ℕ → Outline) (n : PlainNode) (r : 
       pub too_many : found ≡ None → IsLeast (StandsHere rows at n) (record { code = CubeTooLarge; node = n.id })
       too_many none = wrong_size rows at n r p.asks p.none_holds faultless (sym kinds ∙ same) (sym size ∙ ap is_none none)
 
-      pub judged_sound : IsBuildable r → HasValidLabels r → IsShape one.shape → (kept : CheckedNode) → found ≡ Some kept.shape
+      pub judged_sound : IsBuildable r → HasValidLabels r → IsShape one.shape → (kept : CheckedNode) → found ≡ Some (arc_value kept.shape)
           → operation ≡ plain_operation kept.operation → ((others : List CellKind) → kept.kind ≡ operation_kind operation (one.kind ∷ others))
           → kept.collection ≡ loaded_by r → IsJudgedSound rows at n kept
       judged_sound buildable labels valid kept some operation_is kind_is collection_is = record {
@@ -284,8 +285,8 @@ module _ (rows : List DimsRow) (at : List ℕ → Outline) (n : PlainNode) (r : 
       }
         where
           limits : (is_within_limits (shape_of operation (map (λ (o : Outline). o.shape) cubes)) ≡ true)
-              × (kept.shape ≡ shape_of operation (map (λ (o : Outline). o.shape) cubes))
-          limits = small (shape_of operation (map (λ (o : Outline). o.shape) cubes)) kept.shape (sym some ∙ result)
+              × (arc_value kept.shape ≡ shape_of operation (map (λ (o : Outline). o.shape) cubes))
+          limits = small (shape_of operation (map (λ (o : Outline). o.shape) cubes)) (arc_value kept.shape) (sym some ∙ result)
 
           sound_kinds : IsSoundOn operation cubes
           sound_kinds =
@@ -321,7 +322,7 @@ module _ (rows : List DimsRow) (at : List ℕ → Outline) (n : PlainNode) (r : 
               ap (λ o. option_map_or (request_outline rows at) o no_outline) p.asks
               ∙ (ap (λ o. option_map_or (λ (x : Operation). outline_of x cubes) o no_outline) is_operation
               ∙ (ap (λ (d : Dimensions). record { shape = d; kind = operation_kind operation (map (λ (o : Outline). o.kind) cubes) }) (sym limits.1)
-              ∙ ap (λ (k : CellKind). record { shape = kept.shape; kind = k }) kind_there))
+              ∙ ap (λ (k : CellKind). record { shape = arc_value kept.shape; kind = k }) kind_there))
 
   -- ---- there is an operation, since a dimension of another name is not available
 

@@ -1,5 +1,6 @@
 -- What is kept of the nodes of a checked graph, by their indices.
 use Rattle.std.proofs.Common.{◌≡◌, ℕ, suc, ◌<◌, true, List, length, slice_get, get_or, Some, refl, sym, ap, subst, ◌∙◌}
+use Rattle.std.specs.Arc.{arc_value}
 use Rattle.std.specs.List.{slice_index_or}
 use Rattle.std.specs.Option.{option_and_then}
 use Rattle.std.proofs.lemmas.Option.{slice_get-get_or}
@@ -26,7 +27,7 @@ id_count (node id process_id namespace arguments rest) = ap suc (id_count rest)
 
 -- this is kept of a node
 pub record IsKeptOf (c : CheckedGraph) (index : ℕ) (kept : CheckedNode) : Type 0 where
-  pub shape_is : kept.shape ≡ (outline_of_node c index).shape
+  pub shape_is : arc_value kept.shape ≡ (outline_of_node c index).shape
   pub kind_is : kept.kind ≡ (outline_of_node c index).kind
   pub operation_is : operation_of_node c index ≡ Some (plain_operation kept.operation)
   pub collection_is : kept.collection ≡ collection_of_node c index

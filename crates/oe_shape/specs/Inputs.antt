@@ -11,7 +11,7 @@ use Rattle.oe_shape.specs.Stands.{cubes_of}
 use Rattle.oe_shape.specs.Walked.{outline_kept}
 use Rattle.oe_shape.specs.declared.checked.State.{State}
 use Rattle.oe_shape.specs.declared.checked.State.TheVariants.{Sound}
-use Rattle.oe_shape.specs.declared.judge_inputs.Input.{Input}
+use Rattle.oe_shape.specs.declared.input.Input.{Input}
 
 -- ---- outlines
 

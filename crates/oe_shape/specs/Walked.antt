@@ -1,5 +1,6 @@
 -- How far the walk over the nodes of a graph has come.
 use Rattle.std.specs.Prelude.{◌≡◌, ◌≢◌, ℕ, ⊤, Bool, true, false, List, [], ◌∷◌, Option, Some, None, Contains, slice_get, slice_index_or, option_and_then}
+use Rattle.std.specs.Arc.{arc_value}
 use Rattle.oe_dims.specs.declared.dims.DimsRow.{DimsRow}
 use Rattle.oe_graph.specs.Faults.{IsLeast, is_before}
 use Rattle.oe_graph.specs.References.{each_node, references_named, Chain}
@@ -44,7 +45,7 @@ is_unseen Faulty = false
 is_unseen (Sound kept) = false
 
 abbrev pub outline_kept : CheckedNode → Outline
-outline_kept kept = record { shape = kept.shape; kind = kept.kind }
+outline_kept kept = record { shape = arc_value kept.shape; kind = kept.kind }
 
 -- ---- what is known of several nodes
 

@@ -11,6 +11,7 @@ use oe_graph::Graph;
 use oe_order::Links;
 use std::marker::Model;
 use std::snapshot::Snapshot;
+use std::sync::Arc;
 
 /// What is kept of a node without a fault at or below it.
 #[derive(Drop)]
@@ -18,7 +19,8 @@ pub(crate) struct CheckedNode {
     pub operation: Operation,
     /// The collection that it loads.
     pub collection: Option<Text>,
-    pub shape: Shape,
+    /// One for all nodes whose cubes have equal shapes.
+    pub shape: Arc<Shape>,
     pub kind: CellKind,
 }
 
@@ -75,6 +77,7 @@ impl Checked {
     ghost use Rattle.oe_dims.specs.Plain.{plain_rows};
     ghost use Rattle.oe_graph.specs.Plain.{plain_graph};
     ghost use Rattle.std.specs.Prelude.{◌≡◌, ◌<◌, Some, length, option_map};
+    ghost use Rattle.std.specs.Arc.{arc_value};
     ghost use Rattle.oe_graph.specs.Printed.{node_count};
     ghost use Rattle.oe_order.specs.Graph.{graph_of, RefersWithin, IsAcyclic};
     ghost use Rattle.oe_shape.specs.Checked.{AreFaultless, IsKept, outline_of_node, operation_of_node, collection_of_node};
@@ -149,7 +152,7 @@ impl Checked {
     /// What is kept of a node.
     fn node(&self, node: u32) -> &CheckedNode
         requires { node < node_count self.now.nodes }
-        ensures shape { result.now.shape ≡ (outline_of_node self.now node).shape }
+        ensures shape { arc_value result.now.shape ≡ (outline_of_node self.now node).shape }
         ensures kind { result.now.kind ≡ (outline_of_node self.now node).kind }
         ensures operation { operation_of_node self.now node
             ≡ Some (plain_operation result.now.operation) }

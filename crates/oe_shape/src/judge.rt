@@ -1,8 +1,9 @@
 // The fault of one node, or what it is without one.
 ghost use Rattle.std.specs.Prelude.{◌≡◌, List, ◌∷◌, ℕ, Option, Some, IfOk, IfSome};
 ghost use Rattle.std.specs.Prelude.{IsTrue, ◌↔◌, is_none, length};
+ghost use Rattle.std.specs.Arc.{arc_value};
 ghost use Rattle.std.specs.Option.{option_map};
-ghost use Rattle.oe_dims.specs.Dimensions.{Dimensions, IsShape};
+ghost use Rattle.oe_dims.specs.Dimensions.{Dimensions};
 ghost use Rattle.oe_dims.specs.Plain.{plain_rows};
 ghost use Rattle.oe_dims.specs.declared.dims.DimsRow.{DimsRow};
 ghost use Rattle.oe_expr.specs.Callback.{IsFaultlessCallback};
@@ -21,18 +22,21 @@ ghost use Rattle.oe_shape.specs.Walked.{AreKnown, IsVerdict, AreResolved, IsNode
 ghost use Rattle.oe_shape.specs.declared.walk.Verdict.TheVariants as verdicts;
 
 use crate::checked::{CheckedNode, State};
-use crate::judge_inputs::{Input, inputs_of};
+use crate::input::Input;
+use crate::judge_inputs::inputs_of;
 use crate::operation::Operation;
 use crate::operation_request::operation_for;
 use crate::request::{Request, read_request};
 use crate::rows_early::early_fault;
 use crate::rows_kinds::{kind_given, takes_other_kinds};
-use crate::shape_result::result_shape;
+use crate::shape_parts::recall_rules;
+use crate::shape_shared::shape_shared;
 use crate::walk::Verdict;
 use oe_dims::{Dims, Shape, Text};
 use oe_graph::{Code, Fault, Node, Refusal, is_before};
 use oe_memory::OutOfMemory;
 use std::alloc::Global;
+use std::sync::Arc;
 
 /// The least fault at a node or in its callback, or what is kept of it, where the nodes that it refers to are sound.
 pub(crate) fn judge_node(
@@ -59,7 +63,7 @@ pub(crate) fn judge_node(
         Some(code) => stands(code, node),
         // so many could not be counted in the scope of a callback
         None if !has_few_intervals(&request) => Err(OutOfMemory),
-        None => judge_request(alloc, node, &request, one, two),
+        None => judge_request(alloc, node, states, &request, one, two),
     }
 }
 
@@ -88,6 +92,7 @@ fn stands(code: Code, node: &Node) -> Result<Verdict, OutOfMemory>
 fn judge_request(
     alloc: Global,
     node: &Node,
+    states: &[State],
     request: &Request<'_>,
     one: Input<'_>,
     two: Input<'_>,
@@ -100,7 +105,7 @@ fn judge_request(
         (outline_in two.entry)
         → IsVerdict rows at (plain_node node.now) verdict) }
 {
-    let shape = result_shape(alloc, request, one.shape, two.shape)?;
+    let shape = shape_shared(alloc, states, request, one, two)?;
     match operation_for(alloc, request, one.shape, one.kind, node.id.as_str()) {
         Ok(Some(operation)) => judge_operation(alloc, node, request, operation, shape, one, two),
         // the name of the dimension is one of the four, or it would have been refused before
@@ -139,14 +144,14 @@ fn judge_operation(
     node: &Node,
     request: &Request<'_>,
     operation: Operation,
-    shape: Option<Shape>,
+    shape: Option<Arc<Shape>>,
     one: Input<'_>,
     two: Input<'_>,
 ) -> Result<Verdict, OutOfMemory>
     requires buildable { IsBuildable (plain_cube_request request.now) }
     requires labels { HasValidLabels (plain_cube_request request.now) }
     requires shape { IsResultShape (plain_cube_request request.now)
-        one.shape.now two.shape.now shape }
+        one.shape.now two.shape.now (option_map arc_value shape) }
     requires operation { (others : List Outline) → Some (plain_operation operation)
         ≡ operations.operation_of (plain_cube_request request.now) (outline_in one ∷ others) }
     requires faultless { (others : List Outline) → IfSome
@@ -172,13 +177,6 @@ fn judge_operation(
         shape,
         kind,
     }))
-}
-
-/// A shape keeps its rules, as its functions say.
-fn recall_rules(shape: &Shape)
-    ensures { IsShape shape.now }
-{
-    let _epsg = shape.epsg();
 }
 
 /// The collection that a request loads.

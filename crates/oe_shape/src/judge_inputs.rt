@@ -15,17 +15,11 @@ ghost use Rattle.oe_shape.specs.Walked.{AreResolved, IsKnown, state_at};
 ghost use Rattle.oe_expr.specs.Requests.{with_both};
 
 use crate::checked::State;
+use crate::input::Input;
 use crate::links::index_of;
 use crate::request::Request;
-use oe_dims::{CellKind, Dims, Shape};
+use oe_dims::Dims;
 use oe_graph::Node;
-
-/// The shape and the kind of a cube that a request works on.
-#[derive(Clone, Copy)]
-pub(crate) struct Input<'a> {
-    pub shape: &'a Shape,
-    pub kind: CellKind,
-}
 
 /// The cubes that a request works on, the one twice where it takes one alone: of a load the collection, `None` where
 /// there is none of the id.
@@ -98,6 +92,7 @@ fn collection_named<'a>(dims: &'a Dims, id: &str) -> Option<Input<'a>>
             return Some(Input {
                 shape: &row.shape,
                 kind: row.kind,
+                kept: None,
             });
         }
     }
@@ -121,8 +116,9 @@ fn input_of(state: &State) -> Option<Input<'_>>
 {
     match state {
         State::Sound(kept) => Some(Input {
-            shape: &kept.shape,
+            shape: &*kept.shape,
             kind: kept.kind,
+            kept: Some(&kept.shape),
         }),
         _ => None,
     }

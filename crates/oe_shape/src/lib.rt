@@ -8,6 +8,7 @@
 mod checked;
 mod extent;
 mod graph_check;
+mod input;
 mod judge;
 mod judge_inputs;
 mod laws;
@@ -32,6 +33,7 @@ mod shape_labels;
 mod shape_merged;
 mod shape_parts;
 mod shape_result;
+mod shape_shared;
 mod shape_without;
 mod walk;
 

@@ -130,17 +130,6 @@ fn epsg_of_either(one: &Shape, two: &Shape) -> u32
     if first == 0 { second } else { first }
 }
 
-/// The shape with the labels of both cubes, put together list by list.
-fn joined_shape(alloc: Global, one: &Shape, two: &Shape) -> Result<Option<Shape>, OutOfMemory>
-    ensures { IfOk result (λ found. found ≡ where_within_limits (merged_shape one.now two.now)) }
-{
-    let t = all_rising(alloc, one, two, Kind::Time)?;
-    let bands = either_bands(alloc, one, two)?;
-    let y = all_falling(alloc, one, two)?;
-    let x = all_rising(alloc, one, two, Kind::X)?;
-    Ok(shape_within(epsg_of_either(one, two), t, bands, y, x))
-}
-
 /// The second cube lacks the dimension, or has the labels of the first there, in the same order.
 #[tactic(auto, using(crate::proofs::SameLemmas::lacking_stay, crate::proofs::SameLemmas::same_stay))]
 fn has_no_other(kind: Kind, one: &Shape, two: &Shape) -> bool
@@ -151,7 +140,7 @@ fn has_no_other(kind: Kind, one: &Shape, two: &Shape) -> bool
 
 /// The second cube has nothing that the first lacks, as one pass over its labels tells.
 #[tactic(auto, using(crate::proofs::SameLemmas::all_stay))]
-fn adds_nothing(one: &Shape, two: &Shape) -> bool
+pub fn adds_nothing(one: &Shape, two: &Shape) -> bool
     ensures { result ≡ true → merged_shape one.now two.now ≡ one.now }
 {
     epsg_of_either(one, two) == one.epsg()
@@ -162,15 +151,14 @@ fn adds_nothing(one: &Shape, two: &Shape) -> bool
 }
 
 /// The shape with the labels of both cubes (`merge_cubes` of openEO Processes), `None` where it has over 65536 labels
-/// along a dimension or over 2^40 cells. Refuses: out of memory.
-#[tactic(auto, using(crate::proofs::ResultLemmas::valid_within))]
+/// along a dimension or over 2^40 cells. Whether the second adds nothing is seen sooner by `adds_nothing`. Refuses: out
+/// of memory.
 pub fn merged_shape(alloc: Global, one: &Shape, two: &Shape) -> Result<Option<Shape>, OutOfMemory>
     ensures { IfOk result (λ found. found ≡ where_within_limits (merged_shape one.now two.now)) }
 {
-    // such a merge needs no index of names and no test of its labels
-    if adds_nothing(one, two) {
-        Ok(Some(one.copy()?))
-    } else {
-        joined_shape(alloc, one, two)
-    }
+    let t = all_rising(alloc, one, two, Kind::Time)?;
+    let bands = either_bands(alloc, one, two)?;
+    let y = all_falling(alloc, one, two)?;
+    let x = all_rising(alloc, one, two, Kind::X)?;
+    Ok(shape_within(epsg_of_either(one, two), t, bands, y, x))
 }

@@ -66,3 +66,10 @@ pub fn shape_within(
         Err(_) => None,
     }
 }
+
+/// A shape keeps its rules, as its functions say.
+pub fn recall_rules(shape: &Shape)
+    ensures { IsShape shape.now }
+{
+    let _epsg = shape.epsg();
+}

@@ -1,4 +1,5 @@
-use Rattle.std.proofs.Common.{◌≡◌, ℕ, Bool, true, false, not, List, ◌∷◌, None, option_map, refl, sym, ap, ◌∙◌, subst}
+use Rattle.std.proofs.Common.{◌≡◌, ℕ, Bool, true, false, not, List, ◌∷◌, Option, Some, None, is_none, option_map, refl, sym, ap, ◌∙◌, subst}
+use Rattle.std.specs.Arc.{arc_value}
 use Rattle.std.proofs.lemmas.Result.{IfOk-weaker}
 use Rattle.oe_dims.specs.declared.dims.DimsRow.{DimsRow}
 use Rattle.oe_expr.proofs.StateLemmas.{plain_id}
@@ -17,6 +18,10 @@ use Rattle.oe_shape.proofs.judge.judge_request.Goals as goal
 not_twice : (b : Bool) → not (not b) ≡ b
 not_twice true = refl
 not_twice false = refl
+
+none_either : {A B : Type 0} (f : A → B) (o : Option A) → is_none o ≡ is_none (option_map f o)
+none_either f None = refl
+none_either f (Some a) = refl
 
 pub returns-in-Ok-None : goal.returns-in-Ok-None
 returns-in-Ok-None c =
@@ -40,6 +45,6 @@ returns-in-Err-Fault c =
     let least : IsLeast (StandsInCallback n.id r one) c.in-Err-Fault.fault =
     subst (λ (name : List ℕ). IsLeast (StandsInCallback name r one) c.in-Err-Fault.fault) id
     (subst (IsFault (StandsInCallback c.as_str.result.now r one)) c.in-Err-Fault.field-0-is c.in-Err-Fault.ensures.refused) in
-    c.least_with_size.ensures r c.in_ok-shape.shape one two
+    c.least_with_size.ensures r (option_map arc_value c.in_ok-shape.shape) one two
     (subst (IsLeast (StandsInCallback n.id r one)) (sym c.in-Err-Fault.fault-is) least) c.in_ok-shape.ensures
-    (sym (ap not c.is_none.ensures ∙ not_twice c.is_none.result))
+    (sym (ap not c.is_none.ensures ∙ not_twice c.is_none.result) ∙ none_either arc_value c.in_ok-shape.shape)

@@ -4,7 +4,7 @@ use Rattle.oe_shape.specs.Labels.{merged_shape}
 use Rattle.oe_shape.specs.Results.{where_within_limits}
 use Rattle.oe_shape.specs.ValidShapes.{is_within_limits}
 use Rattle.oe_shape.proofs.ResultLemmas.{from_parts, merged_valid}
-use Rattle.oe_shape.proofs.shape_merged.joined_shape.Goals as goal
+use Rattle.oe_shape.proofs.shape_merged.merged_shape.Goals as goal
 
 pub shape_within-requires : goal.shape_within-requires
 shape_within-requires c =
