@@ -22,3 +22,4 @@ pub mod PlaneSourceLemmas
 pub mod NodeLemmas
 pub mod DateLemmas
 pub mod AggregateLemmas
+pub mod IntervalLemmas

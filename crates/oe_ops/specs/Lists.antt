@@ -1,6 +1,7 @@
 -- The lists of cells that a reduction works on, as the code has them.
-use Rattle.std.specs.Prelude.{◌≡◌, ℕ, ℤ, ◌+◌, ◌*◌, ◌<◌, List, Option, find, length, map, slice_index_or}
+use Rattle.std.specs.Prelude.{◌≡◌, ℕ, ℤ, ◌+◌, ◌*◌, ◌<◌, Bool, false, List, Option, find, length, map, slice_get, slice_index_or}
 use Rattle.std.specs.List.{All, range_with_len}
+use Rattle.std.specs.Option.{option_map_or}
 use Rattle.oe_cell.specs.declared.cell.Cell.{Cell}
 use Rattle.oe_cell.specs.declared.cell.Cell.TheVariants.{Empty}
 use Rattle.oe_cube.specs.Kinds.{IsOfKind}
@@ -47,6 +48,11 @@ value_of_list c list cells = callback_value c (environment c Empty Empty cells l
 -- the first interval with a label
 abbrev pub interval_labelled : List Interval → ℤ → Option Interval
 interval_labelled intervals label = find (λ (i : Interval). same_number i.label label) intervals
+
+-- there is an interval of the number, and it has the label
+abbrev pub is_labelled_at : List Interval → ℕ → ℤ → Bool
+is_labelled_at intervals number label =
+    option_map_or (λ (i : Interval). same_number i.label label) (slice_get intervals number) false
 
 -- the callback is one on lists, of which the one of a number has so many cells; all of these are of their kind
 pub record TakesList (c : Callback) (list count : ℕ) (cells : List Cell) : Type 0 where

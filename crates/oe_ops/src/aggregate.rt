@@ -1,5 +1,5 @@
 // `aggregate_temporal`: the lists of cells inside each interval by a callback.
-ghost use Rattle.std.specs.Prelude.{◌≡◌, ℕ, ◌+◌, ◌*◌, ◌<◌, ◌≤◌, length, slice_get};
+ghost use Rattle.std.specs.Prelude.{◌≡◌, true, ℕ, ◌+◌, ◌*◌, ◌<◌, ◌≤◌, length, slice_get};
 ghost use Rattle.std.specs.List.{All};
 ghost use Rattle.oe_cell.specs.declared.cell.Cell.{Cell};
 ghost use Rattle.oe_cell.specs.declared.cell.Cell.TheVariants.{Empty};
@@ -9,11 +9,13 @@ ghost use Rattle.oe_dims.specs.Dimensions.{IsShape};
 ghost use Rattle.oe_dims.specs.Indices.{same_number};
 ghost use Rattle.oe_dims.specs.declared.kind.Kind.{Kind};
 ghost use Rattle.oe_expr.specs.Callback.{KeepsKind, callback_kind};
+ghost use Rattle.oe_shape.specs.Labels.{are_distinct};
 ghost use Rattle.oe_shape.specs.Meaning.{aggregated};
 ghost use Rattle.oe_shape.specs.Operations.{aggregated_shape};
+ghost use Rattle.oe_shape.specs.ValidShapes.{labels_of};
 ghost use Rattle.oe_window.specs.Cells.{cells_on};
 ghost use Rattle.oe_window.specs.Windows.{Holds, IsAlong, extent_along, position_count, whole_window};
-ghost use Rattle.oe_ops.specs.Lists.{TakesIntervals, interval_labelled};
+ghost use Rattle.oe_ops.specs.Lists.{TakesIntervals, interval_labelled, is_labelled_at};
 ghost use Rattle.oe_ops.specs.Needs.{HasLabelsBeside, HoldsNeed, part_at_time};
 ghost use Rattle.oe_ops.specs.Slices.{IsCounted, IsOn};
 
@@ -34,8 +36,18 @@ fn has_label(interval: &Interval, label: i64) -> bool
     interval.label == label
 }
 
+/// There is an interval of the number, and it has the label.
+fn has_label_at(intervals: &[Interval], number: usize, label: i64) -> bool
+    ensures { result ≡ is_labelled_at intervals.now number label }
+{
+    match intervals.get(number) {
+        Some(interval) => has_label(interval, label),
+        None => false,
+    }
+}
+
 /// The number of the first interval with a label; how many there are, where none has it.
-fn interval_of(intervals: &[Interval], label: i64) -> usize
+fn first_interval_of(intervals: &[Interval], label: i64) -> usize
     ensures { slice_get intervals.now result ≡ interval_labelled intervals.now label }
 {
     for number in 0..intervals.len() {
@@ -44,6 +56,19 @@ fn interval_of(intervals: &[Interval], label: i64) -> usize
         }
     }
     intervals.len()
+}
+
+/// The same, where no two intervals have one label. The number `near` is looked at first: where the labels of intervals
+/// rise, as they mostly do, the label of an index of the result is that of the interval of this number.
+fn interval_of(intervals: &[Interval], label: i64, near: usize) -> usize
+    requires differ { are_distinct same_number (labels_of intervals.now) ≡ true }
+    ensures { slice_get intervals.now result ≡ interval_labelled intervals.now label }
+{
+    if has_label_at(intervals, near, label) {
+        near
+    } else {
+        first_interval_of(intervals, label)
+    }
 }
 
 /// The values of the callback on a window with one index along `t`: the lists are those inside the interval of its
@@ -77,7 +102,7 @@ fn eval_interval(
     ensures kinds { All (IsOfKind (callback_kind expr.now)) out.new }
 {
     let label = shape.label_at(Kind::Time, window.t.from);
-    let list = interval_of(intervals, label);
+    let list = interval_of(intervals, label, window.t.from as usize);
     let part = part_in_time(&intervals[list].extent, argument.labels(Kind::Time));
     let rows = ListRows {
         expr,

@@ -11,11 +11,15 @@ use Rattle.oe_shape.specs.declared.extent.Interval.{Interval}
 use Rattle.oe_ops.specs.Lists.{TakesList, list_from, value_of_list, with_index}
 use Rattle.oe_ops.proofs.AggregateLemmas.{aggregated_is, count_of, few_intervals, first_label, from_of, held_inside, labelled_by, takes_interval, to_of}
 use Rattle.oe_ops.proofs.ColumnLemmas.{value_fits}
+use Rattle.oe_ops.proofs.IntervalLemmas.{intervals_differ}
 use Rattle.oe_ops.proofs.KindLemmas.{all_fit}
 use Rattle.oe_ops.proofs.aggregate.eval_interval.Goals as goal
 
 pub label_at-label-requires : goal.label_at-label-requires
 label_at-label-requires c = first_label c.args.intervals.now c.args.argument.now c.args.shape.now c.args.window.now c.requires.aggregated c.requires.within (omega arith)
+
+pub interval_of-list-requires : goal.interval_of-list-requires
+interval_of-list-requires c = record { differ = intervals_differ c.args.intervals.now c.args.argument.now c.args.shape.now c.requires.aggregated c.requires.shape_valid }
 
 pub bounds-intervals-list : goal.bounds-intervals-list
 bounds-intervals-list c =

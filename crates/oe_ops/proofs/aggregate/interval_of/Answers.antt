@@ -1,24 +1,15 @@
-use Rattle.std.proofs.Common.{◌∙◌, arith, FitsSigned, sym, w64}
+use Rattle.std.proofs.Common.{◌∙◌, FitsSigned, sym, w64}
 use Rattle.std.proofs.lemmas.Int.{to_z-of_z}
-use Rattle.oe_ops.proofs.AggregateLemmas.{labelled_here, labelled_over, labelled_past}
+use Rattle.oe_ops.proofs.IntervalLemmas.{labelled_first}
 use Rattle.oe_ops.proofs.aggregate.interval_of.Goals as goal
 
-pub returns-then-has_label : goal.returns-then-has_label
-returns-then-has_label c =
+pub returns-then-has_label_at : goal.returns-then-has_label_at
+returns-then-has_label_at c =
     let fits : FitsSigned w64 c.args.label = c.ranges.label in
-    let before = simp to_z-of_z at c.loop-number.invariant in
-    let test = simp to_z-of_z at (sym c.has_label.ensures ∙ c.if-has_label.true) in
-    labelled_here c.args.intervals.now c.args.label c.loop-number.number _ c.loop-number-test.true test before
+    let test = simp to_z-of_z at (sym c.has_label_at.ensures ∙ c.if-has_label_at.true) in
+    labelled_first c.args.intervals.now c.args.label c.args.near c.requires.differ test
 
-pub loop-number-preserved : goal.loop-number-preserved
-loop-number-preserved c =
+pub returns-else-has_label_at : goal.returns-else-has_label_at
+returns-else-has_label_at c =
     let fits : FitsSigned w64 c.args.label = c.ranges.label in
-    let before = simp to_z-of_z at c.loop-number.invariant in
-    let test = simp to_z-of_z at (sym c.has_label.ensures ∙ c.if-has_label.false) in
-    simp to_z-of_z (labelled_over c.args.intervals.now c.args.label c.loop-number.number _ c.loop-number-test.true test before)
-
-pub returns : goal.returns
-returns c =
-    let fits : FitsSigned w64 c.args.label = c.ranges.label in
-    let before = simp to_z-of_z at c.loop-number.invariant in
-    labelled_past c.args.intervals.now c.args.label c.loop-number.number (omega arith) before
+    simp to_z-of_z at c.first_interval_of.ensures

@@ -1,6 +1,6 @@
 use Rattle.std.proofs.Common.{◌≡◌, drop}
 use Rattle.oe_ops.specs.Lists.{interval_labelled}
-use Rattle.oe_ops.proofs.aggregate.interval_of.Given as goal
+use Rattle.oe_ops.proofs.aggregate.first_interval_of.Given as goal
 
 -- the first one is behind those so far
 abbrev pub invariant-loop-number : goal.invariant-loop-number
