@@ -1,9 +1,10 @@
 #!/usr/bin/env python3
 """Runs the program on an ordinary year: 12 dates, 4 bands and SIDE x SIDE pixels (1000 where no side is given).
 
-`year.py PROGRAM [SIDE]` writes a collection YEAR of whole numbers from 0 to 99 with gaps into a folder of its own (432 MB
-for 1000 pixels a side), runs `PROGRAM run 64 64 12 4` there on bench/year.json, and prints seconds, cells of the collection
-per second and peak memory. The text of the result is thrown away. It needs nothing but python3.
+`year.py PROGRAM [SIDE [WORKERS]]` writes a collection YEAR of whole numbers from 0 to 99 with gaps into a folder of its own
+(432 MB for 1000 pixels a side), runs `PROGRAM run 64 64 12 WORKERS` there on bench/year.json (4 where no number is given),
+and prints seconds by the clock and of processors, cells of the collection per second and peak memory. The text of the
+result is thrown away. It needs nothing but python3.
 """
 import os
 import resource
@@ -61,20 +62,23 @@ def write_year(path, side):
 def main():
     program = os.path.abspath(sys.argv[1])
     side = int(sys.argv[2]) if len(sys.argv) > 2 else 1000
+    workers = sys.argv[3] if len(sys.argv) > 3 else "4"
     graph = os.path.join(os.path.dirname(os.path.abspath(__file__)), "year.json")
     with tempfile.TemporaryDirectory(prefix="openeo-year-") as folder:
         os.mkdir(os.path.join(folder, "collections"))
         write_year(os.path.join(folder, "collections", "YEAR.cube"), side)
         with open(graph, "rb") as given:
             begun = time.monotonic()
-            words = [program, "run", "64", "64", "12", "4"]
+            words = [program, "run", "64", "64", "12", workers]
             status = subprocess.run(words, stdin=given, stdout=subprocess.DEVNULL, cwd=folder).returncode
             seconds = time.monotonic() - begun
     if status != 0:
         sys.exit(f"the program ended with status {status}")
     cells = len(DATES) * len(BANDS) * side * side
-    peak = resource.getrusage(resource.RUSAGE_CHILDREN).ru_maxrss / 1024
-    print(f"{seconds:.1f} s, {cells / seconds / 1e6:.2f} million cells of the collection per second, {peak:.0f} MB at most")
+    used = resource.getrusage(resource.RUSAGE_CHILDREN)
+    peak = used.ru_maxrss / 1024
+    processors = f"{used.ru_utime:.1f} + {used.ru_stime:.1f} s of processors"
+    print(f"{seconds:.1f} s, {processors}, {cells / seconds / 1e6:.2f} million cells of the collection per second, {peak:.0f} MB at most")
 
 
 if __name__ == "__main__":

@@ -1,9 +1,8 @@
 -- The benches of a round: what holds of the first so many of them, each with its chunk.
-use Rattle.std.proofs.Common.{◌≡◌, ◌≢◌, ℕ, zero, suc, ◌+◌, ◌<◌, ◌≤◌, min, List, [], ◌∷◌, length, get_or, set, Some, inl, inr, refl, sym, ap, ◌∙◌, subst, arith}
+use Rattle.std.proofs.Common.{◌≡◌, ◌≢◌, ℕ, zero, suc, ◌+◌, ◌<◌, ◌≤◌, List, [], ◌∷◌, length, get_or, set, Some, inl, inr, refl, sym, ap, ◌∙◌, subst, arith}
 use Rattle.std.specs.List.{slice_get}
 use Rattle.std.proofs.lemmas.Bool.{cases_eq}
 use Rattle.std.proofs.lemmas.Option.{same_Some, slice_get_within, slice_get-get_or}
-use Rattle.oe_outside.specs.Faults.{last_count}
 use Rattle.oe_engine.specs.Benches.{BenchOf}
 use Rattle.oe_engine.specs.Chunks.{EachBench}
 
@@ -60,7 +59,3 @@ module _ (first : ℕ) (Holds : ℕ → BenchOf → Type 0) where
       → Holds (first + n) (get_or benches n other)
   each_here benches n other within each =
       each n (get_or benches n other) (omega arith) (slice_get-get_or benches n other within)
-
--- one more evaluation
-pub counted_more : (before count n : ℕ) → count ≡ min (before + n) last_count → min (count + 1) last_count ≡ min (before + (n + 1)) last_count
-counted_more before count n is = omega arith

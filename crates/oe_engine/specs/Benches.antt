@@ -9,7 +9,7 @@ use Rattle.oe_order.specs.Graph as order
 use Rattle.oe_order.specs.Live.{is_live}
 use Rattle.oe_shape.specs.Checked.{CheckedGraph, outline_of_node}
 use Rattle.oe_shape.specs.Graphs.{Collections}
-use Rattle.oe_shape.specs.Laws.{meaning_of_node}
+use Rattle.oe_shape.specs.Laws.{AreCollectionsOf, meaning_of_node}
 use Rattle.oe_shape.specs.Links.{links_of}
 use Rattle.oe_window.specs.Cells.{cells_on}
 use Rattle.oe_window.specs.Chunks.{chunk_window, tiling_of}
@@ -137,3 +137,15 @@ pub record AreArguments (p : PlanOf) (step first second : ℕ) : Type 0 where
   pub first_taken : Takes p.graph step 0 first
   pub second_taken : Takes p.graph step 1 second
       ⊎ ((second ≡ first) × (length (arguments_of_node p.graph (node_at p step)) ≡ 1))
+
+-- ---- evaluations
+
+-- what an evaluation makes of a bench: one that is idle or done stays as it is, and one that is loaded is done, over
+-- whatever collections it was loaded
+pub record IsEvaluated (p : PlanOf) (before after : BenchOf) : Type 0 where
+  pub bench : IsBenchFor p after
+  pub idle : before.state ≡ Idle → after ≡ before
+  pub done : (k : ℕ) → before.state ≡ Done k → after ≡ before
+  pub evaluated : (k : ℕ) → before.state ≡ Loaded k → after.state ≡ Done k
+  pub value : (collections : Collections) (k : ℕ) → AreCollectionsOf p.graph collections
+      → IsLoaded p collections k before → IsDone p collections k after

@@ -1,5 +1,5 @@
 // The chunks of one round, each in a bench of its own.
-ghost use Rattle.std.specs.Prelude.{◌≡◌, ◌+◌, ◌^◌, ◌≤◌, length, IfErr, OnOk};
+ghost use Rattle.std.specs.Prelude.{◌≡◌, ◌+◌, ◌^◌, ◌<◌, ◌≤◌, length, IfErr, OnOk};
 ghost use Rattle.std.specs.List.{All};
 ghost use Rattle.oe_cell.specs.Cells.{IsCell};
 ghost use Rattle.oe_outside.specs.Faults.{HasCauseOf};
@@ -7,21 +7,25 @@ ghost use Rattle.oe_plan.specs.Figures.{shape_of_node};
 ghost use Rattle.oe_shape.specs.Graphs.{Collections};
 ghost use Rattle.oe_shape.specs.Laws.{AreCollectionsOf};
 ghost use Rattle.oe_spool.specs.Spooled.{ChangesOnly, IsInSome};
-ghost use Rattle.oe_engine.specs.Benches.{IsDone, IsLoaded};
+ghost use Rattle.oe_engine.specs.Benches.{IsBenchFor, IsDone, IsEvaluated, IsLoaded};
 ghost use Rattle.oe_engine.specs.Chunks.{EachBench, HasRecordsOf, HasValidCells, IsAtDone, IsAtLoaded, IsLeastOf};
 ghost use Rattle.oe_engine.specs.Runs.{chunk_total, chunks_from, evaluated_after};
 ghost use Rattle.oe_engine.specs.declared.rounds.RunFail.{RunFail};
 
-use crate::bench::Bench;
+use crate::bench::{Bench, State};
 use crate::rounds::RunFail;
 use oe_cell::Cell;
 use oe_outside::{Gate, Store};
 use oe_plan::Plan;
 use oe_spool::{least_over, lesser, write_window};
+use std::thread;
+use std::thread::Threads;
 
-/// Evaluates benches that are loaded for the chunks from a first one on, each once behind the gate. Answers the number
-/// of evaluations, before which there were so many.
-pub(crate) fn evaluate_chunks<G: Gate>(
+/// Evaluates benches that are loaded for the chunks from a first one on, each once behind the gate. They are dealt in
+/// equal shares to as many threads as the plan has workers, this one among them. Answers the number of evaluations,
+/// before which there were so many.
+pub(crate) fn evaluate_chunks<R: Threads + Sync, G: Gate>(
+    rt: &R,
     plan: &Plan,
     benches: &mut [Bench],
     gate: &G,
@@ -38,15 +42,23 @@ pub(crate) fn evaluate_chunks<G: Gate>(
     ensures count { length benches.new ≡ length benches.old }
     ensures evaluations { result ≡ evaluated_after evaluations (length benches.old) }
 {
-    // A plan has at most 2^48 chunks, so that their numbers fit 64 bits.
-    let _chunks = plan.chunks();
-    let mut count = evaluations;
-    for index in 0..benches.len() {
-        gate.enter(first + index as u64);
-        benches[index].evaluate(plan);
-        count = count.saturating_add(1);
-    }
-    count
+    let count = benches.len() as u64;
+    let workers = plan.workers() as usize;
+    thread::for_each_mut(
+        rt,
+        benches,
+        workers,
+        &|_index: usize, bench: &mut Bench|
+            requires { IsBenchFor plan.now bench.old }
+            ensures { IsEvaluated plan.entry.now bench.old bench.new }
+        {
+            if let State::Loaded(chunk) = bench.state() {
+                gate.enter(chunk);
+            }
+            bench.evaluate(plan);
+        },
+    );
+    evaluations.saturating_add(count)
 }
 
 /// Writes the records of the chunks from a first one on, of benches that are done.

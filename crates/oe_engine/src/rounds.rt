@@ -11,6 +11,7 @@ use oe_shape::Checked;
 use oe_sources::Catalogue;
 use oe_spool::lesser;
 use std::marker::Model;
+use std::thread::Threads;
 
 /// How far a run is after a round.
 #[derive(Clone, Copy, Debug, PartialEq, Eq)]
@@ -34,7 +35,8 @@ pub enum RunFail {
     Overflow(u64),
 }
 
-/// A plan that is carried out in a workspace. From its start on nothing takes memory.
+/// A plan that is carried out in a workspace. From its start on nothing takes memory, but for what the system takes for
+/// a thread.
 #[derive(Drop)]
 pub struct Run {
     plan: Plan,
@@ -106,13 +108,15 @@ impl Run {
     }
 
     /// Takes the next chunks, two for each worker or those that are left: loads them, evaluates each once behind the
-    /// gate, and writes their records.
+    /// gate, and writes their records. They are dealt in equal shares to as many threads as the plan has workers, this
+    /// one among them; where a thread can't be had, its share is evaluated here. All of them have ended when it answers.
     ///
     /// Refuses: `SourceFailed` and `SpoolFailed` only where the fault counter of a collection that is loaded, or of the
     /// spool, rose; `SourceDamaged` only with a damaged position that a load keeps. Then the run stands at the same
     /// chunks.
-    pub fn round<P: Store, G: Gate>(
+    pub fn round<R: Threads + Sync, P: Store, G: Gate>(
         &mut self,
+        rt: &R,
         catalogue: &mut Catalogue,
         spool: &mut P,
         gate: &G,
@@ -131,7 +135,8 @@ impl Run {
         let end = count as usize;
         load_taken(&self.plan, &mut self.benches, end, catalogue, self.done)?;
         let all = &mut self.benches;
-        self.evaluations = evaluate_taken(&self.plan, all, end, gate, self.done, self.evaluations);
+        let evaluations = self.evaluations;
+        self.evaluations = evaluate_taken(rt, &self.plan, all, end, gate, self.done, evaluations);
         let benches = &self.benches[..end];
         write_chunks(&self.plan, benches, spool, self.base, self.done)?;
         self.over = lesser(self.over, least_of_chunks(&self.plan, benches, self.done));

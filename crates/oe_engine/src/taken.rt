@@ -18,6 +18,7 @@ use crate::rounds::RunFail;
 use oe_outside::Gate;
 use oe_plan::Plan;
 use oe_sources::Catalogue;
+use std::thread::Threads;
 
 /// Loads the chunks from a first one on into the first so many benches.
 ///
@@ -45,9 +46,10 @@ pub(crate) fn load_taken(
     load_chunks(plan, &mut benches[..count], catalogue, first)
 }
 
-/// Evaluates the first so many benches, each once behind the gate. Answers the number of evaluations, before which
-/// there were so many.
-pub(crate) fn evaluate_taken<G: Gate>(
+/// Evaluates the first so many benches, each once behind the gate, dealt to the workers of the plan. Answers the number
+/// of evaluations, before which there were so many.
+pub(crate) fn evaluate_taken<R: Threads + Sync, G: Gate>(
+    rt: &R,
     plan: &Plan,
     benches: &mut [Bench],
     count: usize,
@@ -67,5 +69,5 @@ pub(crate) fn evaluate_taken<G: Gate>(
     ensures many { length benches.new ≡ length benches.old }
     ensures evaluations { result ≡ evaluated_after evaluations count }
 {
-    evaluate_chunks(plan, &mut benches[..count], gate, first, evaluations)
+    evaluate_chunks(rt, plan, &mut benches[..count], gate, first, evaluations)
 }

@@ -18,6 +18,7 @@ use oe_plan::Plan;
 use oe_render::RenderFail;
 use oe_sources::Catalogue;
 use std::alloc::Global;
+use std::thread::Threads;
 
 /// What stands in the spool before a run, whose records follow it.
 const FRONT: &[u8] = b"front";
@@ -56,7 +57,8 @@ pub(crate) struct Counts {
 
 /// Evaluates a graph over collections, and takes it up again after each refusal. Appends the text and, behind a blank,
 /// the bytes of the spool in hexadecimal digits.
-pub(crate) fn attempt(
+pub(crate) fn attempt<R: Threads + Sync>(
+    rt: &R,
     alloc: Global,
     cubes: &[&str],
     sizes: Sizes,
@@ -76,11 +78,12 @@ pub(crate) fn attempt(
             return Err(Fault::Line);
         }
     }
-    carry_out(alloc, &mut catalogue, sizes, graph, failing, gate, left)
+    carry_out(rt, alloc, &mut catalogue, sizes, graph, failing, gate, left)
 }
 
 /// Evaluates a graph over the collections of a catalogue, likewise.
-fn carry_out(
+fn carry_out<R: Threads + Sync>(
+    rt: &R,
     alloc: Global,
     catalogue: &mut Catalogue,
     sizes: Sizes,
@@ -92,11 +95,11 @@ fn carry_out(
     requires { IsWithinRanges sizes.0 sizes.1 }
 {
     let mut spool = spool_of(alloc, failing.spool)?;
-    let (mut run, chunks) = begin(alloc, catalogue, sizes, graph)?;
+    let mut run = begin(alloc, catalogue, sizes, graph)?;
     evaluate(
+        rt,
         alloc,
         &mut run,
-        chunks,
         catalogue,
         &mut spool,
         failing.writes,
@@ -111,11 +114,11 @@ fn spool_of(alloc: Global, failing: &[u64]) -> Result<MemoryStore, Fault> {
     Ok(MemoryStore::new(front, ROOM, failing.to_vec(alloc)?)?)
 }
 
-/// Carries out a run that has so many chunks, of which none is done.
-fn evaluate(
+/// Carries out a run of which no chunk is done.
+fn evaluate<R: Threads + Sync>(
+    rt: &R,
     alloc: Global,
     run: &mut Run,
-    chunks: u64,
     catalogue: &mut Catalogue,
     spool: &mut MemoryStore,
     failing: &[u64],
@@ -126,7 +129,7 @@ fn evaluate(
     requires none_done { run.old.done ≡ 0 }
 {
     over_is_of_the_result();
-    let stopped = complete(run, catalogue, spool, gate)?;
+    let stopped = complete(rt, run, catalogue, spool, gate)?;
     let evaluations = run.evaluations();
     if run.finish().is_err() {
         return Err(Fault::Line);
@@ -137,25 +140,18 @@ fn evaluate(
         return Err(fault);
     }
     Ok(Counts {
-        chunks,
+        chunks: run.chunks(),
         evaluations,
         refusals: stopped.saturating_add(unwritten),
     })
 }
 
-/// A run of a graph before its first round, whose records are to follow the front of a spool, and how many chunks it
-/// has.
-fn begin(
-    alloc: Global,
-    catalogue: &Catalogue,
-    sizes: Sizes,
-    graph: &str,
-) -> Result<(Run, u64), Fault>
+/// A run of a graph before its first round, whose records are to follow the front of a spool.
+fn begin(alloc: Global, catalogue: &Catalogue, sizes: Sizes, graph: &str) -> Result<Run, Fault>
     requires { IsWithinRanges sizes.0 sizes.1 }
-    ensures mounted { IfOk result
-        (λ r. HasCollections r.0.plan.graph (rows_of seen catalogue.now)) }
-    ensures none_done { IfOk result (λ r. r.0.done ≡ 0) }
-    ensures none_over { IfOk result (λ r. r.0.over ≡ None) }
+    ensures mounted { IfOk result (λ r. HasCollections r.plan.graph (rows_of seen catalogue.now)) }
+    ensures none_done { IfOk result (λ r. r.done ≡ 0) }
+    ensures none_over { IfOk result (λ r. r.over ≡ None) }
 {
     let dims = catalogue.dims()?;
     let checked = checked_of(alloc, graph, &dims)?;
@@ -163,14 +159,14 @@ fn begin(
     let Ok(plan) = Plan::new(alloc, checked, size, workers) else {
         return Err(Fault::Line);
     };
-    let chunks = plan.chunks();
     let workspace = Workspace::new(alloc, &plan)?;
     collections_are_mounted();
-    Ok((Run::start(plan, workspace, BASE), chunks))
+    Ok(Run::start(plan, workspace, BASE))
 }
 
 /// Makes rounds until no chunk is left. Answers how many were refused.
-fn complete(
+fn complete<R: Threads + Sync>(
+    rt: &R,
     run: &mut Run,
     catalogue: &mut Catalogue,
     spool: &mut MemoryStore,
@@ -184,7 +180,7 @@ fn complete(
     reads_change_nothing();
     let mut refused: u64 = 0;
     for _ in 0..MOST_ROUNDS {
-        let answer = run.round(catalogue, spool, gate);
+        let answer = run.round(rt, catalogue, spool, gate);
         if is_complete(&answer) {
             return Ok(refused);
         }

@@ -9,8 +9,9 @@ use oe_lines::{
 };
 use oe_outside::{MemorySink, MemorySource, MemoryStore};
 use oe_sources::{Catalogue, CubeSource, MountFail};
-use oe_top::openeo;
+use oe_top::{Setup, openeo};
 use std::alloc::Global;
+use std::thread::Threads;
 
 /// How many bytes the output, the error output and the spool of a call have room for.
 const OUT_ROOM: usize = 65536;
@@ -48,22 +49,32 @@ pub(crate) enum Answer {
 }
 
 /// Appends the answers to lines about calls.
-pub(crate) fn answer_calls(alloc: Global, text: &str, answers: &mut Answers) -> Result<(), Fault> {
+pub(crate) fn answer_calls<R: Threads + Sync>(
+    rt: &R,
+    alloc: Global,
+    text: &str,
+    answers: &mut Answers,
+) -> Result<(), Fault> {
     let mut lines = Vec::new(alloc);
     for line in text.lines() {
         if line == "catalogue" {
-            spell_answers(alloc, &lines, answers)?;
+            spell_answers(rt, alloc, &lines, answers)?;
             lines.clear();
         } else {
             lines.push(line)?;
         }
     }
-    spell_answers(alloc, &lines, answers)
+    spell_answers(rt, alloc, &lines, answers)
 }
 
 /// Appends the answers to lines that begin with an empty catalogue.
-fn spell_answers(alloc: Global, lines: &[&str], answers: &mut Answers) -> Result<(), Fault> {
-    for answer in &answers_of(alloc, lines, none_failing())? {
+fn spell_answers<R: Threads + Sync>(
+    rt: &R,
+    alloc: Global,
+    lines: &[&str],
+    answers: &mut Answers,
+) -> Result<(), Fault> {
+    for answer in &answers_of(rt, alloc, lines, none_failing())? {
         match answer {
             Answer::Word(word) => push(word, answers),
             Answer::Call(called) => spell_called(alloc, called, answers),
@@ -75,7 +86,8 @@ fn spell_answers(alloc: Global, lines: &[&str], answers: &mut Answers) -> Result
 // Boxes for collections are made and taken out here, and the catalogue that holds them is handed to no function of this
 // crate: `demo` makes boxes too, and a function over a catalogue that makes some may hand them out.
 /// The answers to lines that begin with an empty catalogue, while these calls of each object fail.
-pub(crate) fn answers_of(
+pub(crate) fn answers_of<R: Threads + Sync>(
+    rt: &R,
     alloc: Global,
     lines: &[&str],
     failing: Failing<'_>,
@@ -103,15 +115,19 @@ pub(crate) fn answers_of(
             },
             _ => {
                 let mut objects = objects_of(alloc, line, failing)?;
-                let status = openeo(
+                let setup = Setup {
+                    rt,
                     alloc,
+                    gate: &objects.gate,
+                };
+                let status = openeo(
+                    &setup,
                     &objects.words,
                     &mut objects.input,
                     &mut objects.out,
                     &mut objects.err,
                     &mut catalogue,
                     &mut objects.spool,
-                    &objects.gate,
                 );
                 call_answer(status, objects)
             }
@@ -157,8 +173,9 @@ fn call_answer(status: u8, objects: Objects) -> Answer {
 }
 
 /// The words of a call and its objects, of which these calls fail. The input has blanks behind it up to as many bytes as
-/// the line says.
+/// the line says, and the first two chunks wait for each other where it says so.
 fn objects_of(alloc: Global, line: &str, failing: Failing<'_>) -> Result<Objects, Fault> {
+    let (is_meeting, line) = meeting_of(line);
     let (size, line) = size_of(line)?;
     let (words, input) = line.split_once(" < ").unwrap_or((line, ""));
     Ok(Objects {
@@ -167,7 +184,7 @@ fn objects_of(alloc: Global, line: &str, failing: Failing<'_>) -> Result<Objects
         out: sink_of(alloc, OUT_ROOM, failing.writes)?,
         err: sink_of(alloc, ERR_ROOM, &[])?,
         spool: MemoryStore::new(Vec::new(alloc), SPOOL_ROOM, failing.spool.to_vec(alloc)?)?,
-        gate: CountGate::new(alloc)?,
+        gate: CountGate::of(alloc, is_meeting)?,
     })
 }
 
@@ -183,6 +200,16 @@ fn source_of(
 
 fn sink_of(alloc: Global, room: usize, failing: &[u64]) -> Result<MemorySink, Fault> {
     Ok(MemorySink::new(alloc, room, failing.to_vec(alloc)?)?)
+}
+
+/// Whether the first two chunks of a call wait for each other, and the rest of its line.
+fn meeting_of(line: &str) -> (bool, &str) {
+    let (verb, rest) = first_word(line);
+    if verb == "meeting" {
+        (true, rest)
+    } else {
+        (false, line)
+    }
 }
 
 /// How many bytes the input of a call has at least, and the rest of its line.

@@ -4,10 +4,12 @@ use crate::calls::{Answer, Called, answers_of, spell, spell_ending};
 use crate::runs::{MOST_CALLS, Object, failing_of, none_failing, spell_entries};
 use oe_lines::{Answers, Fault, end_line, first_word, last_other, number_of, push, push_number};
 use std::alloc::Global;
+use std::thread::Threads;
 
 /// Spells what a call leaves in which nothing fails and, behind a semicolon, what each call leaves in which one call of
 /// the object failed, where that differs from the one before it.
-pub(crate) fn spell_failures<'a>(
+pub(crate) fn spell_failures<'a, R: Threads + Sync>(
+    rt: &R,
     alloc: Global,
     cubes: &[&'a str],
     line: &'a str,
@@ -15,16 +17,18 @@ pub(crate) fn spell_failures<'a>(
 ) -> Result<(), Fault> {
     let (object, line) = first_word(line);
     let object = object_of(object)?;
-    let whole = call_over(alloc, cubes, line, none_failing())?;
+    let whole = call_over(rt, alloc, cubes, line, none_failing())?;
     spell_ending(alloc, &whole, answers);
     push(" ;", answers);
-    spell_each(alloc, cubes, line, object, &whole, answers)?;
+    spell_each(rt, alloc, cubes, line, object, &whole, answers)?;
     end_line(answers);
     Ok(())
 }
 
 /// Spells the status of a call in which nothing fails, and how often it entered the gate for each of so many chunks.
-pub(crate) fn spell_entered<'a>(
+/// Where the first two were to wait for each other there, it says whether they met.
+pub(crate) fn spell_entered<'a, R: Threads + Sync>(
+    rt: &R,
     alloc: Global,
     cubes: &[&'a str],
     line: &'a str,
@@ -32,15 +36,21 @@ pub(crate) fn spell_entered<'a>(
 ) -> Result<(), Fault> {
     let (chunks, line) = first_word(line);
     let chunks = number_of(chunks)?;
-    let called = call_over(alloc, cubes, line, none_failing())?;
+    let called = call_over(rt, alloc, cubes, line, none_failing())?;
     push_number("", called.status, answers);
     spell_entries(&called.gate, chunks, answers);
+    match called.gate.have_met() {
+        Some(true) => push(" met", answers),
+        Some(false) => push(" apart", answers),
+        None => {}
+    }
     end_line(answers);
     Ok(())
 }
 
 /// What the call of a line leaves over the collections of these lines, while these calls of each object fail.
-fn call_over<'a>(
+fn call_over<'a, R: Threads + Sync>(
+    rt: &R,
     alloc: Global,
     cubes: &[&'a str],
     line: &'a str,
@@ -48,7 +58,7 @@ fn call_over<'a>(
 ) -> Result<Called, Fault> {
     let mut lines = cubes.to_vec(alloc)?;
     lines.push(line)?;
-    match answers_of(alloc, &lines, failing)?.pop() {
+    match answers_of(rt, alloc, &lines, failing)?.pop() {
         Some(Answer::Call(called)) => Ok(called),
         _ => Err(Fault::Line),
     }
@@ -65,7 +75,8 @@ fn object_of(word: &str) -> Result<Object, Fault> {
 }
 
 /// Spells the calls of which one of the object failed, until the command has no call of that number.
-fn spell_each<'a>(
+fn spell_each<'a, R: Threads + Sync>(
+    rt: &R,
     alloc: Global,
     cubes: &[&'a str],
     line: &'a str,
@@ -76,7 +87,7 @@ fn spell_each<'a>(
     let mut before = answers.bytes().len();
     for number in 0..MOST_CALLS {
         let calls = [number];
-        let one = call_over(alloc, cubes, line, failing_of(object, &calls))?;
+        let one = call_over(rt, alloc, cubes, line, failing_of(object, &calls))?;
         if one.status == 0 {
             spell_end(&one, whole, answers);
             return Ok(());

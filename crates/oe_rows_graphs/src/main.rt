@@ -46,6 +46,7 @@
 //! | `resume SIZES < GRAPH` | evaluates it again and again, while each read of a collection, then each call of the spool, then each write of the output fails once, and the run is taken up where it stands: how many chunks were evaluated each time, and `?` behind it where the records or the text are others than without the failure |
 //! | `fails OBJECT WORDS < INPUT` | calls `openeo` with these words and this input again and again, while each call of the object fails once: of the `input`, of collections (`reads`), of the `spool`, or of the output (`writes`) |
 //! | `entered CHUNKS WORDS < INPUT` | calls `openeo` with these words and this input: the status, and how often the gate was entered for each of so many chunks, with commas between |
+//! | `entered CHUNKS meeting WORDS < INPUT` | the same, while the first two chunks wait for each other in the gate; then `met`, or `apart` where one of them looked in vain |
 //!
 //! The spool begins with the bytes `front` in `run` and `resume`. How their expected lines were found:
 //!
@@ -53,6 +54,8 @@
 //!   failed are not evaluated, so a failed read adds
 //!   none; those of a round whose write failed are evaluated again, so that adds the two a worker that the round takes. A
 //!   call that fails while the text is written adds none.
+//! - The number of workers has no effect on what a run answers. Where it has two chunks and two workers or more, each is
+//!   evaluated in a thread of its own, so that they meet.
 //! - Chunks of a round that stand beside one another along x are read by one call for each row of the hull of their
 //!   windows, another chunk by one for each plane of its window. The records of a chunk are written by one call for each
 //!   of its rows. The text takes one call of the spool, since its buffer has room for all records, and two writes: when
@@ -147,7 +150,7 @@ fn main(rt: HostRuntime) -> ExitCode {
 }
 
 /// Appends the answers to all parts.
-fn answer_parts(rt: &impl Threads, alloc: Global, text: &str, answers: &mut Answers) {
+fn answer_parts<R: Threads + Sync>(rt: &R, alloc: Global, text: &str, answers: &mut Answers) {
     for part in text.split("== ") {
         let (name, lines) = part.split_once('\n').unwrap_or((part, ""));
         let outcome = answer_part(rt, alloc, name, lines, answers);
@@ -156,8 +159,8 @@ fn answer_parts(rt: &impl Threads, alloc: Global, text: &str, answers: &mut Answ
 }
 
 /// Appends the answers to the lines of a part, of which the first has no name and no lines.
-fn answer_part(
-    rt: &impl Threads,
+fn answer_part<R: Threads + Sync>(
+    rt: &R,
     alloc: Global,
     name: &str,
     lines: &str,
@@ -167,9 +170,9 @@ fn answer_part(
         "" => Ok(()),
         "graphs" => answer_graphs(alloc, lines, answers),
         "plans" => answer_plans(rt, alloc, lines, answers),
-        "runs" => answer_runs(alloc, lines, answers),
+        "runs" => answer_runs(rt, alloc, lines, answers),
         "sources" => answer_sources(alloc, lines, answers),
-        "calls" => answer_calls(alloc, lines, answers),
+        "calls" => answer_calls(rt, alloc, lines, answers),
         _ => Err(Fault::Line),
     }
 }

@@ -7,6 +7,7 @@ use crate::failures::{spell_entered, spell_failures};
 use crate::gate::CountGate;
 use oe_lines::{Answers, Fault, end_line, first_word, parts_of, push, push_number};
 use std::alloc::Global;
+use std::thread::Threads;
 
 /// No call of an object has this number.
 pub(crate) const MOST_CALLS: u64 = 1000;
@@ -21,7 +22,12 @@ pub(crate) enum Object {
 }
 
 /// Appends the answers to lines about runs.
-pub(crate) fn answer_runs(alloc: Global, text: &str, answers: &mut Answers) -> Result<(), Fault> {
+pub(crate) fn answer_runs<R: Threads + Sync>(
+    rt: &R,
+    alloc: Global,
+    text: &str,
+    answers: &mut Answers,
+) -> Result<(), Fault> {
     let mut cubes = Vec::new(alloc);
     for line in text.lines() {
         let (word, rest) = first_word(line);
@@ -29,14 +35,15 @@ pub(crate) fn answer_runs(alloc: Global, text: &str, answers: &mut Answers) -> R
             "#" => {}
             "catalogue" => cubes.clear(),
             "cube" => cubes.push(line)?,
-            _ => answer_run(alloc, word, rest, &cubes, answers)?,
+            _ => answer_run(rt, alloc, word, rest, &cubes, answers)?,
         }
     }
     Ok(())
 }
 
 /// Appends the answer of a line that evaluates a graph or calls `openeo`.
-fn answer_run<'a>(
+fn answer_run<'a, R: Threads + Sync>(
+    rt: &R,
     alloc: Global,
     word: &str,
     rest: &'a str,
@@ -44,14 +51,15 @@ fn answer_run<'a>(
     answers: &mut Answers,
 ) -> Result<(), Fault> {
     match word {
-        "fails" => spell_failures(alloc, cubes, rest, answers),
-        "entered" => spell_entered(alloc, cubes, rest, answers),
-        _ => answer_graph(alloc, word, rest, cubes, answers),
+        "fails" => spell_failures(rt, alloc, cubes, rest, answers),
+        "entered" => spell_entered(rt, alloc, cubes, rest, answers),
+        _ => answer_graph(rt, alloc, word, rest, cubes, answers),
     }
 }
 
 /// Appends the answer of a line that evaluates a graph.
-fn answer_graph(
+fn answer_graph<R: Threads + Sync>(
+    rt: &R,
     alloc: Global,
     word: &str,
     rest: &str,
@@ -61,15 +69,16 @@ fn answer_graph(
     let (words, graph) = parts_of(rest, " < ")?;
     let sizes = sizes_of(words)?;
     match word {
-        "run" => spell_run(alloc, cubes, sizes, graph, answers),
-        "resume" => spell_resumed(alloc, cubes, sizes, graph, answers),
+        "run" => spell_run(rt, alloc, cubes, sizes, graph, answers),
+        "resume" => spell_resumed(rt, alloc, cubes, sizes, graph, answers),
         _ => Err(Fault::Line),
     }
 }
 
 /// Spells the number of chunks, the number of evaluations, how often the gate was entered for each chunk, the text and
 /// the bytes of the spool of a run in which no call fails.
-fn spell_run(
+fn spell_run<R: Threads + Sync>(
+    rt: &R,
     alloc: Global,
     cubes: &[&str],
     sizes: Sizes,
@@ -80,7 +89,16 @@ fn spell_run(
 {
     let gate = CountGate::new(alloc)?;
     let mut left = Answers::new(alloc);
-    let counts = attempt(alloc, cubes, sizes, graph, none_failing(), &gate, &mut left)?;
+    let counts = attempt(
+        rt,
+        alloc,
+        cubes,
+        sizes,
+        graph,
+        none_failing(),
+        &gate,
+        &mut left,
+    )?;
     push_number("", counts.chunks, answers);
     push_number(" ", counts.evaluations, answers);
     spell_entries(&gate, counts.chunks, answers);
@@ -101,7 +119,8 @@ pub(crate) fn spell_entries(gate: &CountGate, chunks: u64, answers: &mut Answers
 }
 
 /// Spells of each object, for each of its calls in turn, the number of evaluations of the run in which that call failed.
-fn spell_resumed(
+fn spell_resumed<R: Threads + Sync>(
+    rt: &R,
     alloc: Global,
     cubes: &[&str],
     sizes: Sizes,
@@ -113,6 +132,7 @@ fn spell_resumed(
     let mut whole = Answers::new(alloc);
     let gate = CountGate::new(alloc)?;
     attempt(
+        rt,
         alloc,
         cubes,
         sizes,
@@ -122,14 +142,24 @@ fn spell_resumed(
         &mut whole,
     )?;
     for object in [Object::Collections, Object::Spool, Object::Output] {
-        spell_calls(alloc, cubes, sizes, graph, object, whole.bytes(), answers)?;
+        spell_calls(
+            rt,
+            alloc,
+            cubes,
+            sizes,
+            graph,
+            object,
+            whole.bytes(),
+            answers,
+        )?;
     }
     end_line(answers);
     Ok(())
 }
 
 /// Spells the same of one object. `whole` is what a run leaves in which no call fails.
-fn spell_calls(
+fn spell_calls<R: Threads + Sync>(
+    rt: &R,
     alloc: Global,
     cubes: &[&str],
     sizes: Sizes,
@@ -146,7 +176,7 @@ fn spell_calls(
         let failing = failing_of(object, &calls);
         let gate = CountGate::new(alloc)?;
         let mut left = Answers::new(alloc);
-        let counts = attempt(alloc, cubes, sizes, graph, failing, &gate, &mut left)?;
+        let counts = attempt(rt, alloc, cubes, sizes, graph, failing, &gate, &mut left)?;
         if counts.refusals == 0 {
             break;
         }

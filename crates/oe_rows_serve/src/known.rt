@@ -8,6 +8,7 @@ use oe_lines::{Answers, Fault, first_word, number_of, numbers_of};
 use oe_routes::{Site, Tokens};
 use oe_sources::{Catalogue, MountFail};
 use std::alloc::Global;
+use std::thread::Threads;
 
 /// What the lines so far have set: the moment, which calls of the next life fail, the call in which its keeper stops and
 /// whether it keeps what that call commits, and the lines of its connections; and a keeper of the book that the last life
@@ -26,7 +27,8 @@ pub(crate) struct Known {
 }
 
 /// Appends the answers of the lines of a script.
-pub(crate) fn answer_script(
+pub(crate) fn answer_script<R: Threads + Sync>(
+    rt: &R,
     alloc: Global,
     lines: &[&str],
     answers: &mut Answers,
@@ -43,11 +45,12 @@ pub(crate) fn answer_script(
             mounted(catalogue.mount(id, Box::new(alloc, file_of(alloc, rest)?)?))?;
         }
     }
-    answer_lines(alloc, &mut catalogue, lines, answers)
+    answer_lines(rt, alloc, &mut catalogue, lines, answers)
 }
 
 /// Appends the answers of the lines of a script over a catalogue.
-fn answer_lines(
+fn answer_lines<R: Threads + Sync>(
+    rt: &R,
     alloc: Global,
     catalogue: &mut Catalogue,
     lines: &[&str],
@@ -57,7 +60,7 @@ fn answer_lines(
     for line in lines {
         let (verb, rest) = first_word(line);
         if verb == "serve" {
-            live(alloc, rest, &mut known, catalogue, answers)?;
+            live(rt, alloc, rest, &mut known, catalogue, answers)?;
         } else {
             set(alloc, line, &mut known)?;
         }

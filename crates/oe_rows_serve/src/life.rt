@@ -15,6 +15,7 @@ use oe_sources::Catalogue;
 use oe_window::ChunkSize;
 use std::alloc::Global;
 use std::mem;
+use std::thread::Threads;
 
 /// The first and the last moment that a clock gives.
 const FIRST: i64 = -62135596800;
@@ -32,7 +33,8 @@ struct Objects {
 
 /// A life of the words `CX CY CT W TURNS`. Appends what was written to each connection, how the life ended, and the jobs
 /// that are kept.
-pub(crate) fn live(
+pub(crate) fn live<R: Threads + Sync>(
+    rt: &R,
     alloc: Global,
     line: &str,
     known: &mut Known,
@@ -41,7 +43,7 @@ pub(crate) fn live(
 ) -> Result<(), Fault> {
     let command = command_of(line)?;
     let mut objects = objects_of(alloc, known)?;
-    let ended = serve_over(alloc, &known.site, command, &mut objects, catalogue);
+    let ended = serve_over(rt, alloc, &known.site, command, &mut objects, catalogue);
     end_life(alloc, ended, objects, known, answers);
     Ok(())
 }
@@ -78,7 +80,8 @@ fn clock_at(now: i64) -> Result<FixedClock, Fault> {
 }
 
 /// Serves, and answers how that ended.
-fn serve_over(
+fn serve_over<R: Threads + Sync>(
+    rt: &R,
     alloc: Global,
     site: &Site,
     command: ServeCommand,
@@ -88,6 +91,7 @@ fn serve_over(
     requires { IsWithinRanges command.size command.workers }
 {
     let setup = Setup {
+        rt,
         alloc,
         site,
         gate: &NoGate,

@@ -32,6 +32,7 @@ use oe_lines::{Answers, Fault, end_line};
 use std::alloc::Global;
 use std::io::{Read, Write};
 use std::process::ExitCode;
+use std::thread::Threads;
 
 fn main(rt: HostRuntime) -> ExitCode {
     let alloc = rt.alloc();
@@ -40,7 +41,7 @@ fn main(rt: HostRuntime) -> ExitCode {
         return ExitCode::from(5);
     }
     let mut answers = Answers::new(alloc);
-    let outcome = answer_scripts(alloc, text.as_str(), &mut answers);
+    let outcome = answer_scripts(&rt, alloc, text.as_str(), &mut answers);
     answers.settle(outcome);
     if let Some(fault) = answers.fault() {
         return ExitCode::from(fault.status());
@@ -52,16 +53,21 @@ fn main(rt: HostRuntime) -> ExitCode {
 }
 
 /// Appends the answers of all scripts.
-fn answer_scripts(alloc: Global, text: &str, answers: &mut Answers) -> Result<(), Fault> {
+fn answer_scripts<R: Threads + Sync>(
+    rt: &R,
+    alloc: Global,
+    text: &str,
+    answers: &mut Answers,
+) -> Result<(), Fault> {
     let mut lines = Vec::new(alloc);
     for line in text.lines() {
         if line.is_empty() {
-            answer_script(alloc, &lines, answers)?;
+            answer_script(rt, alloc, &lines, answers)?;
             end_line(answers);
             lines.clear();
         } else {
             lines.push(line)?;
         }
     }
-    answer_script(alloc, &lines, answers)
+    answer_script(rt, alloc, &lines, answers)
 }

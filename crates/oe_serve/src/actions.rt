@@ -25,10 +25,11 @@ use oe_outside::{Gate, Link, Store};
 use oe_routes::Action;
 use oe_service::{Service, commit_change};
 use oe_sources::Catalogue;
+use std::thread::Threads;
 
 /// Does what a request asks for, and answers it.
-pub(crate) fn act<L: Link, P: Store, K: Keeper, G: Gate>(
-    setup: &Setup<'_, G>,
+pub(crate) fn act<R: Threads + Sync, L: Link, P: Store, K: Keeper, G: Gate>(
+    setup: &Setup<'_, R, G>,
     action: Action,
     service: &mut Service,
     link: &mut L,

@@ -27,6 +27,7 @@ use oe_routes::{Action, answers_without_rows, code_of_refusal, route};
 use oe_service::Service;
 use oe_sources::Catalogue;
 use std::alloc::Global;
+use std::thread::Threads;
 
 /// Reads one request from a connection and answers it at a moment, in seconds since 1970-01-01T00:00:00Z (openEO API).
 /// What it changes is committed by the keeper and made in the book, and then it is answered.
@@ -34,8 +35,8 @@ use std::alloc::Global;
 /// A keeper that fails is answered with status 500 and `StoreFault`, and out of memory with 503 and `OutOfMemory`,
 /// which is written without memory; the book is then as before. `Cut` comes only where the spool broke behind the head
 /// of a result, and `LinkFailed` only where the connection's fault counter rose.
-pub fn serve_one<L: Link, P: Store, K: Keeper, G: Gate>(
-    setup: &Setup<'_, G>,
+pub fn serve_one<R: Threads + Sync, L: Link, P: Store, K: Keeper, G: Gate>(
+    setup: &Setup<'_, R, G>,
     service: &mut Service,
     link: &mut L,
     catalogue: &mut Catalogue,
@@ -71,8 +72,8 @@ pub fn serve_one<L: Link, P: Store, K: Keeper, G: Gate>(
 }
 
 /// What is to be done for a request.
-fn action_for<G: Gate>(
-    setup: &Setup<'_, G>,
+fn action_for<R: Threads + Sync, G: Gate>(
+    setup: &Setup<'_, R, G>,
     request: &Request,
     service: &Service,
     catalogue: &Catalogue,

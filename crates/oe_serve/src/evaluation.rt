@@ -22,6 +22,7 @@ use oe_shape::Checked;
 use oe_sources::Catalogue;
 use oe_window::ChunkSize;
 use std::alloc::Global;
+use std::thread::Threads;
 
 /// A run of a graph before its first round, in chunks of a size with so many workers, whose records are to stand in a
 /// spool from a byte on; and the bytes that its text goes through. From here on nothing takes memory.
@@ -49,7 +50,8 @@ pub(crate) fn begin(
 ///
 /// Refuses: as a round does; `NumberOverflow` exactly where all rounds were made and a cell of the result is no number
 /// in range; as reading the records back does.
-pub(crate) fn complete<P: Store, G: Gate>(
+pub(crate) fn complete<R: Threads + Sync, P: Store, G: Gate>(
+    rt: &R,
     run: &mut Run,
     pending: &mut Pending,
     catalogue: &mut Catalogue,
@@ -62,7 +64,7 @@ pub(crate) fn complete<P: Store, G: Gate>(
         (rows_of seen catalogue.new) (P.bytes spool.old) (P.bytes spool.new)
         (P.faults spool.old) (P.faults spool.new) result }
 {
-    match evaluate(run, catalogue, spool, gate) {
+    match evaluate(rt, run, catalogue, spool, gate) {
         Ok(()) => count_text(run, pending, spool),
         Err(fail) => Err(ResultRefusal::of_run(fail)),
     }
@@ -72,7 +74,8 @@ pub(crate) fn complete<P: Store, G: Gate>(
 ///
 /// Refuses: as a round does; `Overflow` exactly where all rounds were made and such a cell was found, with the first
 /// one.
-fn evaluate<P: Store, G: Gate>(
+fn evaluate<R: Threads + Sync, P: Store, G: Gate>(
+    rt: &R,
     run: &mut Run,
     catalogue: &mut Catalogue,
     spool: &mut P,
@@ -84,14 +87,15 @@ fn evaluate<P: Store, G: Gate>(
         (rows_of seen catalogue.new) (P.bytes spool.old) (P.bytes spool.new)
         (P.faults spool.old) (P.faults spool.new) result }
 {
-    match go_through(run, catalogue, spool, gate) {
+    match go_through(rt, run, catalogue, spool, gate) {
         Ok(()) => run.finish(),
         Err(fail) => Err(fail),
     }
 }
 
 /// All rounds of a run.
-fn go_through<P: Store, G: Gate>(
+fn go_through<R: Threads + Sync, P: Store, G: Gate>(
+    rt: &R,
     run: &mut Run,
     catalogue: &mut Catalogue,
     spool: &mut P,
@@ -106,7 +110,7 @@ fn go_through<P: Store, G: Gate>(
 {
     let chunks = run.chunks();
     for _ in 0..chunks {
-        match run.round(catalogue, spool, gate) {
+        match run.round(rt, catalogue, spool, gate) {
             Ok(Progress::Complete) => return Ok(()),
             Ok(Progress::More) => {}
             Err(fail) => return Err(fail),

@@ -31,11 +31,12 @@ use oe_replies::ReplyCode;
 use oe_service::Service;
 use oe_shape::Checked;
 use oe_sources::Catalogue;
+use std::thread::Threads;
 
 /// Runs a graph whole, and answers with the text of its result. Its records stand in the spool behind those of the
 /// service's run. The head is written when the text is known to stand there, and how long it is.
-pub(crate) fn answer_result<L: Link, P: Store, G: Gate>(
-    setup: &Setup<'_, G>,
+pub(crate) fn answer_result<R: Threads + Sync, L: Link, P: Store, G: Gate>(
+    setup: &Setup<'_, R, G>,
     checked: Checked,
     service: &Service,
     link: &mut L,
@@ -66,8 +67,8 @@ pub(crate) fn answer_result<L: Link, P: Store, G: Gate>(
 }
 
 /// Makes all rounds of a run, and answers with the text of its result.
-fn answer_run<L: Link, P: Store, G: Gate>(
-    setup: &Setup<'_, G>,
+fn answer_run<R: Threads + Sync, L: Link, P: Store, G: Gate>(
+    setup: &Setup<'_, R, G>,
     run: &mut Run,
     pending: &mut Pending,
     link: &mut L,
@@ -86,7 +87,7 @@ fn answer_run<L: Link, P: Store, G: Gate>(
     ensures read { AreRead (rows_of seen catalogue.old) (rows_of seen catalogue.new) }
     ensures count { NeverFalls (P.faults spool.old) (P.faults spool.new) }
 {
-    match complete(run, pending, catalogue, spool, setup.gate) {
+    match complete(setup.rt, run, pending, catalogue, spool, setup.gate) {
         Ok(count) => send(run, pending, count, link, spool),
         Err(refusal) => answer_refusal(setup.alloc, run.checked(), refusal, link),
     }

@@ -23,6 +23,7 @@ use oe_jobs::Keeper;
 use oe_outside::{Clock, Door, Gate, Next, Store};
 use oe_service::{OpenBookFail, Service, Ticked, open_book, tick};
 use oe_sources::Catalogue;
+use std::thread::Threads;
 
 /// Why a server ended before its turns were done.
 #[derive(Clone, Copy, Debug, PartialEq, Eq)]
@@ -79,8 +80,8 @@ impl From<OpenBookFail> for ServeFail {
 /// Refuses: `KeeperFault` only where the keeper's fault counter rose in its last call, at the opening of the book or in
 /// a tick; `LinkFault` only where the door's fault counter rose; out of memory at the opening or in a tick. What
 /// becomes of a connection ends that connection alone.
-pub fn serve<P: Store, K: Keeper, D: Door, C: Clock, G: Gate>(
-    setup: &Setup<'_, G>,
+pub fn serve<R: Threads + Sync, P: Store, K: Keeper, D: Door, C: Clock, G: Gate>(
+    setup: &Setup<'_, R, G>,
     command: ServeCommand,
     catalogue: &mut Catalogue,
     spool: &mut P,
@@ -121,8 +122,8 @@ pub fn serve<P: Store, K: Keeper, D: Door, C: Clock, G: Gate>(
 }
 
 /// Takes so many turns, or fewer where the door is closed.
-fn take_turns<P: Store, K: Keeper, D: Door, C: Clock, G: Gate>(
-    setup: &Setup<'_, G>,
+fn take_turns<R: Threads + Sync, P: Store, K: Keeper, D: Door, C: Clock, G: Gate>(
+    setup: &Setup<'_, R, G>,
     turns: u32,
     service: &mut Service,
     catalogue: &mut Catalogue,
@@ -158,8 +159,8 @@ fn take_turns<P: Store, K: Keeper, D: Door, C: Clock, G: Gate>(
 }
 
 /// One turn. Answers whether the door is asked again.
-fn turn<P: Store, K: Keeper, D: Door, C: Clock, G: Gate>(
-    setup: &Setup<'_, G>,
+fn turn<R: Threads + Sync, P: Store, K: Keeper, D: Door, C: Clock, G: Gate>(
+    setup: &Setup<'_, R, G>,
     service: &mut Service,
     catalogue: &mut Catalogue,
     spool: &mut P,
@@ -198,8 +199,8 @@ fn turn<P: Store, K: Keeper, D: Door, C: Clock, G: Gate>(
 }
 
 /// Serves a connection and gives it back.
-fn meet<P: Store, K: Keeper, D: Door, G: Gate>(
-    setup: &Setup<'_, G>,
+fn meet<R: Threads + Sync, P: Store, K: Keeper, D: Door, G: Gate>(
+    setup: &Setup<'_, R, G>,
     service: &mut Service,
     mut conn: D::Conn,
     catalogue: &mut Catalogue,
@@ -227,8 +228,8 @@ fn meet<P: Store, K: Keeper, D: Door, G: Gate>(
 }
 
 /// The tick of a turn. Answers whether the door is asked again.
-fn end_turn<P: Store, K: Keeper, G: Gate>(
-    setup: &Setup<'_, G>,
+fn end_turn<R: Threads + Sync, P: Store, K: Keeper, G: Gate>(
+    setup: &Setup<'_, R, G>,
     service: &mut Service,
     catalogue: &mut Catalogue,
     spool: &mut P,
@@ -247,7 +248,9 @@ fn end_turn<P: Store, K: Keeper, G: Gate>(
         now service.old service.new (K.has_failed keeper.new) result }
 {
     let alloc = setup.alloc;
-    match tick(alloc, service, catalogue, spool, keeper, now, setup.gate) {
+    match tick(
+        setup.rt, alloc, service, catalogue, spool, keeper, now, setup.gate,
+    ) {
         Ticked::Idle | Ticked::Moved => Ok(true),
         Ticked::KeeperFailed => Err(ServeFail::KeeperFault),
         Ticked::OutOfMemory => Err(ServeFail::OutOfMemory),

@@ -31,6 +31,7 @@ use oe_memory::OutOfMemory;
 use oe_outside::{Gate, Store};
 use oe_sources::Catalogue;
 use std::alloc::Global;
+use std::thread::Threads;
 
 /// Starts the queued job of least turn, where no job runs.
 pub(crate) fn start<K: Keeper>(
@@ -166,7 +167,8 @@ fn begin_next(alloc: Global, service: &Service, catalogue: &Catalogue) -> Result
 }
 
 /// Does a round of the run.
-pub(crate) fn round<P: Store, K: Keeper, G: Gate>(
+pub(crate) fn round<R: Threads + Sync, P: Store, K: Keeper, G: Gate>(
+    rt: &R,
     alloc: Global,
     service: &mut Service,
     catalogue: &mut Catalogue,
@@ -190,7 +192,7 @@ pub(crate) fn round<P: Store, K: Keeper, G: Gate>(
     let Some(run) = &mut service.run else {
         unreachable!()
     };
-    match run.round(catalogue, spool, gate) {
+    match run.round(rt, catalogue, spool, gate) {
         Ok(_) => Ticked::Moved,
         Err(refused) => fail(alloc, service, RunRefusal::of_round(refused), keeper, now),
     }

@@ -14,6 +14,7 @@ use oe_jobs::Keeper;
 use oe_outside::{Gate, Store};
 use oe_sources::Catalogue;
 use std::alloc::Global;
+use std::thread::Threads;
 
 /// Does the first of these that is due at a moment, in seconds since 1970-01-01T00:00:00Z: where no job runs, the queued
 /// job of least turn starts; else the next asset of the running job is planned, a round of its chunks is done, its text
@@ -21,7 +22,8 @@ use std::alloc::Global;
 ///
 /// `Idle` comes exactly where no job is queued or runs. `KeeperFailed` comes only where the keeper's fault counter rose,
 /// and then, as after `OutOfMemory`, the book and the run stand as before.
-pub fn tick<P: Store, K: Keeper, G: Gate>(
+pub fn tick<R: Threads + Sync, P: Store, K: Keeper, G: Gate>(
+    rt: &R,
     alloc: Global,
     service: &mut Service,
     catalogue: &mut Catalogue,
@@ -59,7 +61,7 @@ pub fn tick<P: Store, K: Keeper, G: Gate>(
         }
         Some(run) => {
             if run.done() < run.chunks() {
-                round(alloc, service, catalogue, spool, keeper, now, gate)
+                round(rt, alloc, service, catalogue, spool, keeper, now, gate)
             } else {
                 store(alloc, service, spool, keeper, now)
             }

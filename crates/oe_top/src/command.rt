@@ -17,11 +17,12 @@ use crate::refusal::Refusal;
 use crate::repack::repack;
 use crate::run::run;
 use crate::say::say;
+use crate::setup::Setup;
 use crate::words::{Command, read_command};
 use oe_dims::Text;
 use oe_outside::{Gate, Sink, Source, Store};
 use oe_sources::Catalogue;
-use std::alloc::Global;
+use std::thread::Threads;
 
 /// Carries out the command that the words spell, and answers its exit status.
 ///
@@ -45,22 +46,21 @@ use std::alloc::Global;
 ///
 /// A fault of `err` changes nothing. In statuses 1 to 6 and 9 of `run` nothing is written to `out`, and in 7, 8 and 15
 /// a prefix of the text stands there.
-pub fn openeo<I: Source, O: Sink, E: Sink, P: Store, G: Gate>(
-    alloc: Global,
+pub fn openeo<R: Threads + Sync, I: Source, O: Sink, E: Sink, P: Store, G: Gate>(
+    setup: &Setup<'_, R, G>,
     words: &[Text],
     input: &mut I,
     out: &mut O,
     err: &mut E,
     catalogue: &mut Catalogue,
     spool: &mut P,
-    gate: &G,
 ) -> u8
     ensures { let lent = lends I.left I.faults O.written O.faults P.bytes P.faults in
         Answers words.now (lent input.old out.old spool.old (rows_of seen catalogue.old))
         (lent input.new out.new spool.new (rows_of seen catalogue.new))
         (error_output E.written E.faults err.old err.new) result }
 {
-    match obey(alloc, words, input, out, catalogue, spool, gate) {
+    match obey(setup, words, input, out, catalogue, spool) {
         Ok(()) => 0,
         Err(refusal) => {
             say(&refusal, err);
@@ -69,22 +69,22 @@ pub fn openeo<I: Source, O: Sink, E: Sink, P: Store, G: Gate>(
     }
 }
 
-fn obey<I: Source, O: Sink, P: Store, G: Gate>(
-    alloc: Global,
+fn obey<R: Threads + Sync, I: Source, O: Sink, P: Store, G: Gate>(
+    setup: &Setup<'_, R, G>,
     words: &[Text],
     input: &mut I,
     out: &mut O,
     catalogue: &mut Catalogue,
     spool: &mut P,
-    gate: &G,
 ) -> Result<(), Refusal>
     ensures { let lent = lends I.left I.faults O.written O.faults P.bytes P.faults in
         Ends words.now (lent input.old out.old spool.old (rows_of seen catalogue.old))
         (lent input.new out.new spool.new (rows_of seen catalogue.new)) result }
 {
+    let alloc = setup.alloc;
     match read_command(words) {
         Some(Command::Run { size, workers }) => {
-            ending_of_run(run(alloc, (size, workers), input, out, catalogue, spool, gate))
+            ending_of_run(run(setup, (size, workers), input, out, catalogue, spool))
         }
         Some(Command::Plan { size, workers }) => {
             ending_of_check(plan(alloc, size, workers, input, out, catalogue))
@@ -96,7 +96,7 @@ fn obey<I: Source, O: Sink, P: Store, G: Gate>(
                 size,
                 workers,
             },
-        ) => ending_of_demo(demo(alloc, (seed, side), (size, workers), out, spool, gate)),
+        ) => ending_of_demo(demo(setup, (seed, side), (size, workers), out, spool)),
         Some(Command::Check) => ending_of_check(check(alloc, input, out, catalogue)),
         Some(Command::Pack) => ending_of_pack(pack(alloc, &words[1], input, out)),
         Some(Command::Repack) => ending_of_repack(repack(alloc, &words[1], out, catalogue)),

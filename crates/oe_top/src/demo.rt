@@ -23,6 +23,7 @@ use crate::evaluation::{EvaluationFail, begin, complete, fail_of_run, fail_of_te
 use crate::judge::{InputRefusal, judge_bytes};
 use crate::laws;
 use crate::line::Line;
+use crate::setup::Setup;
 use oe_cell::{Cell, TextBuf, print_cell, read_record};
 use oe_engine::Run;
 use oe_memory::OutOfMemory;
@@ -33,6 +34,7 @@ use oe_shape::Checked;
 use oe_sources::Catalogue;
 use oe_window::ChunkSize;
 use std::alloc::Global;
+use std::thread::Threads;
 
 /// The collection `demo` whole, then a kernel of 3 × 3 ones whose border repeats the nearest pixel, then the greatest
 /// cell of the bands.
@@ -66,13 +68,12 @@ impl From<OutOfMemory> for DemoRefusal {
 
 /// Evaluates the graph of the demonstration, in which no fault stands, over the generated collection of a seed and a
 /// side, and writes how many cells its result has, and the first and the last of them.
-pub(crate) fn demo<O: Sink, P: Store, G: Gate>(
-    alloc: Global,
+pub(crate) fn demo<R: Threads + Sync, O: Sink, P: Store, G: Gate>(
+    setup: &Setup<'_, R, G>,
     source: (u32, u32),
     sizes: (ChunkSize, u32),
     out: &mut O,
     spool: &mut P,
-    gate: &G,
 ) -> Result<(), DemoRefusal>
     requires seed { source.0 ≤ 1000000000 }
     requires side { (1 ≤ source.1) × (source.1 ≤ 1024) }
@@ -84,12 +85,22 @@ pub(crate) fn demo<O: Sink, P: Store, G: Gate>(
         (objects input input_faults (O.written out.new) (O.faults out.new)
         (P.bytes spool.new) (P.faults spool.new) rows) result }
 {
+    let alloc = setup.alloc;
     let mut catalogue = Catalogue::generated(alloc, source.0, source.1)?;
     let checked = checked_graph(alloc, &catalogue)?;
     let line = Line::new(alloc)?;
     match begin(alloc, checked, sizes.0, sizes.1) {
         Ok((run, chunks)) => {
-            match write_figures(run, chunks, line, out, &mut catalogue, spool, gate) {
+            match write_figures(
+                setup.rt,
+                run,
+                chunks,
+                line,
+                out,
+                &mut catalogue,
+                spool,
+                setup.gate,
+            ) {
                 Ok(()) => Ok(()),
                 Err(fail) => Err(DemoRefusal::Stopped(fail)),
             }
@@ -119,7 +130,8 @@ fn checked_graph(alloc: Global, catalogue: &Catalogue) -> Result<Checked, OutOfM
 }
 
 /// Evaluates the graph of a run before its first round, which has so many chunks, and writes its figures.
-fn write_figures<O: Sink, P: Store, G: Gate>(
+fn write_figures<R: Threads + Sync, O: Sink, P: Store, G: Gate>(
+    rt: &R,
     mut run: Run,
     chunks: u64,
     mut line: Line,
@@ -146,7 +158,7 @@ fn write_figures<O: Sink, P: Store, G: Gate>(
     // Laws that the proof rests on; they do nothing.
     laws::collections_are_mounted();
     laws::over_is_of_the_result();
-    if let Err(fail) = complete(&mut run, chunks, catalogue, spool, gate) {
+    if let Err(fail) = complete(rt, &mut run, chunks, catalogue, spool, gate) {
         // A law: no read of a generated collection has failed.
         catalogue.generated_never_failed(0);
         return Err(fail_of_run(run.checked(), fail));

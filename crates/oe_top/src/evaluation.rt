@@ -18,6 +18,7 @@ use oe_shape::Checked;
 use oe_sources::Catalogue;
 use oe_window::ChunkSize;
 use std::alloc::Global;
+use std::thread::Threads;
 
 /// Why the evaluation of a graph stopped.
 #[derive(Debug, Drop)]
@@ -63,7 +64,8 @@ pub(crate) fn begin(
 ///
 /// Refuses: as a round does; `Overflow` exactly where all rounds were made and such a cell was found, with the first
 /// one.
-pub(crate) fn complete<P: Store, G: Gate>(
+pub(crate) fn complete<R: Threads + Sync, P: Store, G: Gate>(
+    rt: &R,
     run: &mut Run,
     chunks: u64,
     catalogue: &mut Catalogue,
@@ -76,14 +78,15 @@ pub(crate) fn complete<P: Store, G: Gate>(
     ensures { Completes run.old run.new (rows_of seen catalogue.old) (rows_of seen catalogue.new)
         (P.bytes spool.old) (P.bytes spool.new) (P.faults spool.old) (P.faults spool.new) result }
 {
-    match go_through(run, chunks, catalogue, spool, gate) {
+    match go_through(rt, run, chunks, catalogue, spool, gate) {
         Ok(()) => run.finish(),
         Err(fail) => Err(fail),
     }
 }
 
 /// All rounds of a run, which has so many chunks.
-fn go_through<P: Store, G: Gate>(
+fn go_through<R: Threads + Sync, P: Store, G: Gate>(
+    rt: &R,
     run: &mut Run,
     chunks: u64,
     catalogue: &mut Catalogue,
@@ -103,7 +106,7 @@ fn go_through<P: Store, G: Gate>(
     laws::over_is_of_the_result();
     laws::runs_stay_apart();
     for _ in 0..chunks {
-        match run.round(catalogue, spool, gate) {
+        match run.round(rt, catalogue, spool, gate) {
             Ok(Progress::Complete) => return Ok(()),
             Ok(Progress::More) => {}
             Err(fail) => return Err(fail),

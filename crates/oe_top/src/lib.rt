@@ -23,6 +23,8 @@ mod refusal;
 mod repack;
 mod run;
 mod say;
+mod setup;
 mod words;
 
 pub use command::openeo;
+pub use setup::Setup;

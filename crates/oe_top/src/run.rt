@@ -12,13 +12,14 @@ ghost use Rattle.oe_top.specs.RunAnswer.{Evaluates, RunAnswers};
 use crate::evaluation::{EvaluationFail, begin, complete, fail_of_run, fail_of_text};
 use crate::judge::{InputRefusal, judge_input};
 use crate::laws;
+use crate::setup::Setup;
 use oe_engine::Run;
 use oe_memory::OutOfMemory;
 use oe_outside::{Gate, Pending, Sink, Source, Store};
 use oe_plan::PlanFail;
 use oe_sources::Catalogue;
 use oe_window::ChunkSize;
-use std::alloc::Global;
+use std::thread::Threads;
 
 /// Why `run` did not finish.
 #[derive(Debug, Drop)]
@@ -46,14 +47,13 @@ impl From<OutOfMemory> for RunRefusal {
 
 /// Writes the text of what the graph of the input means over the collections of the catalogue. It is evaluated in
 /// chunks of a size, with so many workers; neither has any effect on the text.
-pub(crate) fn run<I: Source, O: Sink, P: Store, G: Gate>(
-    alloc: Global,
+pub(crate) fn run<R: Threads + Sync, I: Source, O: Sink, P: Store, G: Gate>(
+    setup: &Setup<'_, R, G>,
     sizes: (ChunkSize, u32),
     input: &mut I,
     out: &mut O,
     catalogue: &mut Catalogue,
     spool: &mut P,
-    gate: &G,
 ) -> Result<(), RunRefusal>
     requires { IsWithinRanges sizes.0 sizes.1 }
     ensures { let lent = lends I.left I.faults O.written O.faults P.bytes P.faults in
@@ -61,6 +61,7 @@ pub(crate) fn run<I: Source, O: Sink, P: Store, G: Gate>(
         (lent input.old out.old spool.old (rows_of seen catalogue.old))
         (lent input.new out.new spool.new (rows_of seen catalogue.new)) result }
 {
+    let alloc = setup.alloc;
     let checked = match judge_input(alloc, input, catalogue) {
         Ok(checked) => checked,
         Err(refusal) => return Err(RunRefusal::Input(refusal)),
@@ -68,7 +69,16 @@ pub(crate) fn run<I: Source, O: Sink, P: Store, G: Gate>(
     let mut pending = Pending::new(alloc)?;
     match begin(alloc, checked, sizes.0, sizes.1) {
         Ok((run, chunks)) => {
-            match write_result(run, chunks, &mut pending, out, catalogue, spool, gate) {
+            match write_result(
+                setup.rt,
+                run,
+                chunks,
+                &mut pending,
+                out,
+                catalogue,
+                spool,
+                setup.gate,
+            ) {
                 Ok(()) => Ok(()),
                 Err(fail) => Err(RunRefusal::Stopped(fail)),
             }
@@ -79,7 +89,8 @@ pub(crate) fn run<I: Source, O: Sink, P: Store, G: Gate>(
 }
 
 /// Evaluates the graph of a run before its first round, which has so many chunks, and writes its text.
-fn write_result<O: Sink, P: Store, G: Gate>(
+fn write_result<R: Threads + Sync, O: Sink, P: Store, G: Gate>(
+    rt: &R,
     mut run: Run,
     chunks: u64,
     pending: &mut Pending,
@@ -105,7 +116,7 @@ fn write_result<O: Sink, P: Store, G: Gate>(
     laws::collections_are_mounted();
     laws::over_is_of_the_result();
     laws::ids_are_valid(catalogue);
-    match complete(&mut run, chunks, catalogue, spool, gate) {
+    match complete(rt, &mut run, chunks, catalogue, spool, gate) {
         Ok(()) => match run.render(spool, out, pending) {
             Ok(()) => Ok(()),
             Err(fail) => Err(fail_of_text(fail)),

@@ -17,6 +17,7 @@ use client::client_words;
 use oe_adapters::{Fault, Reader, Writer, mount_outcome, open_collection, open_spool, words_of};
 use oe_outside::NoGate;
 use oe_sources::Catalogue;
+use oe_top::{Setup, openeo};
 use program::{end, set_up};
 use server::{read_tokens, serve_words};
 use std::env;
@@ -49,7 +50,15 @@ fn main(rt: HostRuntime) -> ExitCode {
         Ok(tokens) => tokens,
         Err(fault) => return ExitCode::from(end(&fault, &mut err)),
     };
-    if let Some(status) = serve_words(alloc, &rt, &start.words, tokens, &mut catalogue, &mut err) {
+    if let Some(status) = serve_words(
+        alloc,
+        &rt,
+        &rt,
+        &start.words,
+        tokens,
+        &mut catalogue,
+        &mut err,
+    ) {
         return ExitCode::from(status);
     }
     let mut input = Reader::new(rt.stdin());
@@ -60,14 +69,18 @@ fn main(rt: HostRuntime) -> ExitCode {
     if let Some(status) = client_words(alloc, rt, &start.words, &mut input, &mut out, &mut err) {
         return ExitCode::from(status);
     }
-    ExitCode::from(oe_top::openeo(
+    let setup = Setup {
+        rt: &rt,
         alloc,
+        gate: &NoGate,
+    };
+    ExitCode::from(openeo(
+        &setup,
         &start.words,
         &mut input,
         &mut out,
         &mut err,
         &mut catalogue,
         &mut spool,
-        &NoGate,
     ))
 }

@@ -19,6 +19,7 @@ use oe_sources::Catalogue;
 use sqlite::{Connection, Error, ErrorCode, File, FileStore};
 use std::alloc::Global;
 use std::io::{ErrorKind, IsTerminal, Stderr};
+use std::thread::Threads;
 use std::{env, fs};
 
 /// The users of the file `tokens.txt`, none where there is no such file.
@@ -39,11 +40,12 @@ pub fn read_tokens(alloc: Global, rt: &HostRuntime) -> Result<Tokens, Fault> {
     }
 }
 
-/// Serves as the words say, over the file `openeo.db`, and answers its exit status. `None` only where they spell no
-/// command `serve`: then no file was opened.
-pub fn serve_words<E: Sink>(
+/// Serves as the words say, over the file `openeo.db`, with threads for its runs, and answers its exit status. `None`
+/// only where they spell no command `serve`: then no file was opened.
+pub fn serve_words<R: Threads + Sync, E: Sink>(
     alloc: Global,
     rt: &HostRuntime,
+    threads: &R,
     words: &[Text],
     tokens: Tokens,
     catalogue: &mut Catalogue,
@@ -52,7 +54,7 @@ pub fn serve_words<E: Sink>(
     ensures { IfNone result ((command : Command) → ¬ SpellsServe words.now command) }
 {
     let command = read_serve(words)?;
-    let status = match served(alloc, rt, command, tokens, catalogue) {
+    let status = match served(alloc, rt, threads, command, tokens, catalogue) {
         Ok(Ok(())) => 0,
         Ok(Err(fail)) => say(fail, err),
         Err(fault) => end(&fault, err),
@@ -72,9 +74,10 @@ fn say<E: Sink>(fail: ServeFail, err: &mut E) -> u8
 /// Opens the database and the file for the cells of runs, and serves.
 ///
 /// Refuses: the set-up fault of the file that could not be opened or made; out of memory.
-fn served(
+fn served<R: Threads + Sync>(
     alloc: Global,
     rt: &HostRuntime,
+    threads: &R,
     command: ServeCommand,
     tokens: Tokens,
     catalogue: &mut Catalogue,
@@ -88,6 +91,7 @@ fn served(
     let mut door = LogDoor::new(door, *rt, log_of(rt));
     let mut clock = SystemClock::new(*rt);
     let setup = Setup {
+        rt: threads,
         alloc,
         site: &site,
         gate: &NoGate,

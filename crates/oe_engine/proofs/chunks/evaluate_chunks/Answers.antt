@@ -1,58 +1,50 @@
-use Rattle.std.proofs.Common.{◌≡◌, ℕ, ◌+◌, ◌<◌, length, get_or, refl, sym, ap, ◌∙◌, arith}
-use Rattle.std.proofs.lemmas.List.{length-set}
+use denote.Param.Send.{sendable}
+use Rattle.std.proofs.Crossing.{crosses}
+use Rattle.std.proofs.Common.{◌≡◌, ◌+◌, ◌<◌, ◌∙◌, ℕ, length, get_or, refl, sym, ap, subst, arith}
+use Rattle.std.proofs.lemmas.Option.{slice_get_read, slice_get-get_or, slice_get_within, get_or_from_slice_get}
+use Rattle.oe_plan.proofs.CrossLemmas.{plan_sync}
 use Rattle.oe_engine.specs.Benches.{BenchOf, IsDone, IsLoaded}
-use Rattle.oe_engine.specs.Chunks.{IsAtDone, IsAtLoaded}
-use Rattle.oe_engine.proofs.ChunkLemmas.{counted_more, each_all, each_here, each_left, each_none, each_set}
+use Rattle.oe_engine.specs.Chunks.{IsAtDone}
 use Rattle.oe_engine.proofs.chunks.evaluate_chunks.Goals as goal
 
-pub loop-index-init : goal.loop-index-init
-loop-index-init g c = record {
-  many = refl;
-  done = each_none c.args.first (IsAtDone c.args.plan.now) c.args.benches.now;
-  left = λ i b from at. c.requires.loaded i b at;
-  value = λ collections has loaded.
-      (each_none c.args.first (IsDone c.args.plan.now collections) c.args.benches.now, λ i b from at. loaded i b at);
-  count_is = omega arith;
+pub for_each_mut-requires-sync-F : goal.for_each_mut-requires-sync-F
+for_each_mut-requires-sync-F g c κs within = record {
+  shared = λ x b o κ. search (crosses, sendable, plan_sync.shared, c.type_bounds.sync-G.shared) depth 30;
 }
 
-pub evaluate-requires : goal.evaluate-requires
-evaluate-requires g c =
-    let within : c.loop-index.index < length c.loop-index.benches = omega (arith, c.loop-index.invariant.many) in
-    (each_here c.args.first (IsAtLoaded c.args.plan.now) c.loop-index.benches c.loop-index.index c.index-benches-index.result within
-    c.loop-index.invariant.left).bench
+pub for_each_mut-requires-clause-threads : goal.for_each_mut-requires-clause-threads
+for_each_mut-requires-clause-threads g c κs within = omega (arith, c.workers-workers.ensures.value, c.workers-workers.ensures.valid.ranges.least)
 
-pub loop-index-preserved : goal.loop-index-preserved
-loop-index-preserved g c =
-    let p = c.args.plan.now in
-    let first = c.args.first in
-    let n = c.loop-index.index in
-    let benches = c.loop-index.benches in
-    let b = c.index-benches-index.result in
-    let new = c.evaluate.new.self in
-    let inv = c.loop-index.invariant in
-    let within : n < length benches = omega (arith, c.loop-index.invariant.many) in
-    let loaded = each_here first (IsAtLoaded p) benches n b within inv.left in
-    record {
-      many = length-set benches n new ∙ inv.many;
-      done = each_set first (IsAtDone p) benches n new within inv.done
-          (record { bench = c.evaluate.ensures.bench; state = c.evaluate.ensures.evaluated (first + n) loaded.state });
-      left = each_left first (IsAtLoaded p) benches n new inv.left;
-      value = λ collections has all.
-          let values = inv.value collections has all in (
-            each_set first (IsDone p collections) benches n new within values.0
-                (c.evaluate.ensures.value collections (first + n) has
-                (each_here first (IsLoaded p collections) benches n b within values.1)),
-            each_left first (IsLoaded p collections) benches n new values.1,
-          );
-      count_is = c.saturating_add-count.ensures ∙ counted_more c.args.evaluations c.loop-index.count n inv.count_is;
-    }
+pub for_each_mut-requires-clause-accepts : goal.for_each_mut-requires-clause-accepts
+for_each_mut-requires-clause-accepts g c κs within = λ i p h is.
+    let old = c.args.benches.now in
+    (c.requires.loaded i p.now (slice_get_read old (length old) i p.now refl h is)).bench
 
 pub returns-clause-done : goal.returns-clause-done
-returns-clause-done g c =
-    each_all c.args.first (IsAtDone c.args.plan.now) c.loop-index.benches c.loop-index.index
-    (omega (arith, c.loop-index.invariant.many)) c.loop-index.invariant.done
+returns-clause-done g c = λ i b at.
+    let p = c.args.plan.now in
+    let old = c.args.benches.now in
+    let new = c.for_each_mut.new.s in
+    let k : ℕ = c.args.first + i in
+    let in_new = slice_get_within new i b at in
+    let in_old : i < length old = omega (arith, c.for_each_mut.auto.s, in_new) in
+    let change = (c.for_each_mut.ensures i b in_old).1 in
+    let loaded = c.requires.loaded i (get_or old i b) (slice_get-get_or old i b in_old) in
+    subst (IsAtDone p k) (◌∙◌ {b = get_or new i b} change.left (get_or_from_slice_get new i b b at))
+    (record {
+      bench = change.call.bench;
+      state = change.call.evaluated k (ap (λ (x : BenchOf). x.state) change.argument_is ∙ loaded.state);
+    })
 
 pub returns-clause-value : goal.returns-clause-value
-returns-clause-value g c = λ collections has loaded.
-    each_all c.args.first (IsDone c.args.plan.now collections) c.loop-index.benches c.loop-index.index
-    (omega (arith, c.loop-index.invariant.many)) (c.loop-index.invariant.value collections has loaded).0
+returns-clause-value g c = λ collections has all i b at.
+    let p = c.args.plan.now in
+    let old = c.args.benches.now in
+    let new = c.for_each_mut.new.s in
+    let k : ℕ = c.args.first + i in
+    let in_new = slice_get_within new i b at in
+    let in_old : i < length old = omega (arith, c.for_each_mut.auto.s, in_new) in
+    let change = (c.for_each_mut.ensures i b in_old).1 in
+    let loaded = all i (get_or old i b) (slice_get-get_or old i b in_old) in
+    subst (IsDone p collections k) (◌∙◌ {b = get_or new i b} change.left (get_or_from_slice_get new i b b at))
+    (change.call.value collections k has (subst (IsLoaded p collections k) (sym change.argument_is) loaded))
