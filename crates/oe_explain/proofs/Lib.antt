@@ -1,0 +1,4 @@
+pub mod AskedLemmas
+pub mod Explained
+pub mod NodeLemmas
+pub mod Tests

@@ -1,0 +1,4 @@
+pub mod Asked
+pub mod AtFault
+pub mod Explanation
+pub mod Words
