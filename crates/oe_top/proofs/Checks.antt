@@ -108,7 +108,7 @@ module _ (rows : List DimsRow) (bytes : List ℕ) (long : most_input < length by
 
 -- ---- the input
 
-fault_of_all : (rows : List DimsRow) (before : Option (List ℕ)) (bytes : List ℕ) (after : Option (List ℕ)) (fault : Fault)
+pub fault_of_all : (rows : List DimsRow) (before : Option (List ℕ)) (bytes : List ℕ) (after : Option (List ℕ)) (fault : Fault)
     → ReadsUpTo most_input before bytes after → IsLeast (StandsOver rows bytes) fault
     → IfSome before (λ all. IsLeast (StandsOver rows all) fault)
 fault_of_all rows None bytes after fault read l = tt

@@ -3,7 +3,7 @@ use Rattle.std.proofs.Common.{◌≡◌, ℕ, ◌^◌, ◌<◌, List, [], ◌∷
 use Rattle.oe_top.proofs.Numbers.{one_number}
 use Rattle.oe_top.specs.Words.{AreRunNumbers, IsNumberWord, Spells, SpellsDemo, SpellsId, SpellsNumbers}
 use Rattle.oe_top.specs.declared.words.Command.{Command}
-use Rattle.oe_top.specs.declared.words.Command.TheVariants.{Run, Plan, Demo, Check, Pack, Repack, DescribeAll, Describe}
+use Rattle.oe_top.specs.declared.words.Command.TheVariants.{Run, Plan, Demo, Check, Explain, Pack, Repack, DescribeAll, Describe}
 use Rattle.oe_window.specs.declared.grid.ChunkSize.{ChunkSize}
 
 -- ---- the verb of a command
@@ -13,6 +13,7 @@ verb_of (Run size workers) = codes "run"
 verb_of (Plan size workers) = codes "plan"
 verb_of (Demo seed side size workers) = codes "demo"
 verb_of Check = codes "check"
+verb_of Explain = codes "explain"
 verb_of Pack = codes "pack"
 verb_of Repack = codes "repack"
 verb_of DescribeAll = codes "describe"
@@ -24,6 +25,7 @@ begins words (Run size workers) spells = ap (λ w. get_or w 0 []) spells.words_a
 begins words (Plan size workers) spells = ap (λ w. get_or w 0 []) spells.words_are
 begins words (Demo seed side size workers) spells = ap (λ w. get_or w 0 []) spells.words_are
 begins words Check is = ap (λ w. get_or w 0 []) is
+begins words Explain is = ap (λ w. get_or w 0 []) is
 begins words Pack spells = ap (λ w. get_or w 0 []) spells.words_are
 begins words Repack spells = ap (λ w. get_or w 0 []) spells.words_are
 begins words DescribeAll is = ap (λ w. get_or w 0 []) is
@@ -79,6 +81,7 @@ one_command words (Run s n) (Run t m) one two = ap (λ (p : ChunkSize × ℕ). R
 one_command words (Run s n) (Plan t m) one two = let same : verb_of (Run s n) ≡ verb_of (Plan t m) = one_verb words (Run s n) (Plan t m) one two in cc
 one_command words (Run s n) (Demo l e t m) one two = let same : verb_of (Run s n) ≡ verb_of (Demo l e t m) = one_verb words (Run s n) (Demo l e t m) one two in cc
 one_command words (Run s n) Check one two = let same : verb_of (Run s n) ≡ verb_of Check = one_verb words (Run s n) Check one two in cc
+one_command words (Run s n) Explain one two = let same : verb_of (Run s n) ≡ verb_of Explain = one_verb words (Run s n) Explain one two in cc
 one_command words (Run s n) Pack one two = let same : verb_of (Run s n) ≡ verb_of Pack = one_verb words (Run s n) Pack one two in cc
 one_command words (Run s n) Repack one two = let same : verb_of (Run s n) ≡ verb_of Repack = one_verb words (Run s n) Repack one two in cc
 one_command words (Run s n) DescribeAll one two = let same : verb_of (Run s n) ≡ verb_of DescribeAll = one_verb words (Run s n) DescribeAll one two in cc
@@ -87,6 +90,7 @@ one_command words (Plan s n) (Run t m) one two = let same : verb_of (Plan s n) �
 one_command words (Plan s n) (Plan t m) one two = ap (λ (p : ChunkSize × ℕ). Plan p.0 p.1) (one_run (codes "plan") words s t n m one two)
 one_command words (Plan s n) (Demo l e t m) one two = let same : verb_of (Plan s n) ≡ verb_of (Demo l e t m) = one_verb words (Plan s n) (Demo l e t m) one two in cc
 one_command words (Plan s n) Check one two = let same : verb_of (Plan s n) ≡ verb_of Check = one_verb words (Plan s n) Check one two in cc
+one_command words (Plan s n) Explain one two = let same : verb_of (Plan s n) ≡ verb_of Explain = one_verb words (Plan s n) Explain one two in cc
 one_command words (Plan s n) Pack one two = let same : verb_of (Plan s n) ≡ verb_of Pack = one_verb words (Plan s n) Pack one two in cc
 one_command words (Plan s n) Repack one two = let same : verb_of (Plan s n) ≡ verb_of Repack = one_verb words (Plan s n) Repack one two in cc
 one_command words (Plan s n) DescribeAll one two = let same : verb_of (Plan s n) ≡ verb_of DescribeAll = one_verb words (Plan s n) DescribeAll one two in cc
@@ -95,6 +99,7 @@ one_command words (Demo k d s n) (Run t m) one two = let same : verb_of (Demo k 
 one_command words (Demo k d s n) (Plan t m) one two = let same : verb_of (Demo k d s n) ≡ verb_of (Plan t m) = one_verb words (Demo k d s n) (Plan t m) one two in cc
 one_command words (Demo k d s n) (Demo l e t m) one two = one_demo words k l d e s t n m one two
 one_command words (Demo k d s n) Check one two = let same : verb_of (Demo k d s n) ≡ verb_of Check = one_verb words (Demo k d s n) Check one two in cc
+one_command words (Demo k d s n) Explain one two = let same : verb_of (Demo k d s n) ≡ verb_of Explain = one_verb words (Demo k d s n) Explain one two in cc
 one_command words (Demo k d s n) Pack one two = let same : verb_of (Demo k d s n) ≡ verb_of Pack = one_verb words (Demo k d s n) Pack one two in cc
 one_command words (Demo k d s n) Repack one two = let same : verb_of (Demo k d s n) ≡ verb_of Repack = one_verb words (Demo k d s n) Repack one two in cc
 one_command words (Demo k d s n) DescribeAll one two = let same : verb_of (Demo k d s n) ≡ verb_of DescribeAll = one_verb words (Demo k d s n) DescribeAll one two in cc
@@ -103,14 +108,25 @@ one_command words Check (Run t m) one two = let same : verb_of Check ≡ verb_of
 one_command words Check (Plan t m) one two = let same : verb_of Check ≡ verb_of (Plan t m) = one_verb words Check (Plan t m) one two in cc
 one_command words Check (Demo l e t m) one two = let same : verb_of Check ≡ verb_of (Demo l e t m) = one_verb words Check (Demo l e t m) one two in cc
 one_command words Check Check one two = refl
+one_command words Check Explain one two = let same : verb_of Check ≡ verb_of Explain = one_verb words Check Explain one two in cc
 one_command words Check Pack one two = let same : verb_of Check ≡ verb_of Pack = one_verb words Check Pack one two in cc
 one_command words Check Repack one two = let same : verb_of Check ≡ verb_of Repack = one_verb words Check Repack one two in cc
 one_command words Check DescribeAll one two = let same : verb_of Check ≡ verb_of DescribeAll = one_verb words Check DescribeAll one two in cc
 one_command words Check Describe one two = let same : verb_of Check ≡ verb_of Describe = one_verb words Check Describe one two in cc
+one_command words Explain (Run t m) one two = let same : verb_of Explain ≡ verb_of (Run t m) = one_verb words Explain (Run t m) one two in cc
+one_command words Explain (Plan t m) one two = let same : verb_of Explain ≡ verb_of (Plan t m) = one_verb words Explain (Plan t m) one two in cc
+one_command words Explain (Demo l e t m) one two = let same : verb_of Explain ≡ verb_of (Demo l e t m) = one_verb words Explain (Demo l e t m) one two in cc
+one_command words Explain Check one two = let same : verb_of Explain ≡ verb_of Check = one_verb words Explain Check one two in cc
+one_command words Explain Explain one two = refl
+one_command words Explain Pack one two = let same : verb_of Explain ≡ verb_of Pack = one_verb words Explain Pack one two in cc
+one_command words Explain Repack one two = let same : verb_of Explain ≡ verb_of Repack = one_verb words Explain Repack one two in cc
+one_command words Explain DescribeAll one two = let same : verb_of Explain ≡ verb_of DescribeAll = one_verb words Explain DescribeAll one two in cc
+one_command words Explain Describe one two = let same : verb_of Explain ≡ verb_of Describe = one_verb words Explain Describe one two in cc
 one_command words Pack (Run t m) one two = let same : verb_of Pack ≡ verb_of (Run t m) = one_verb words Pack (Run t m) one two in cc
 one_command words Pack (Plan t m) one two = let same : verb_of Pack ≡ verb_of (Plan t m) = one_verb words Pack (Plan t m) one two in cc
 one_command words Pack (Demo l e t m) one two = let same : verb_of Pack ≡ verb_of (Demo l e t m) = one_verb words Pack (Demo l e t m) one two in cc
 one_command words Pack Check one two = let same : verb_of Pack ≡ verb_of Check = one_verb words Pack Check one two in cc
+one_command words Pack Explain one two = let same : verb_of Pack ≡ verb_of Explain = one_verb words Pack Explain one two in cc
 one_command words Pack Pack one two = refl
 one_command words Pack Repack one two = let same : verb_of Pack ≡ verb_of Repack = one_verb words Pack Repack one two in cc
 one_command words Pack DescribeAll one two = let same : verb_of Pack ≡ verb_of DescribeAll = one_verb words Pack DescribeAll one two in cc
@@ -119,6 +135,7 @@ one_command words Repack (Run t m) one two = let same : verb_of Repack ≡ verb_
 one_command words Repack (Plan t m) one two = let same : verb_of Repack ≡ verb_of (Plan t m) = one_verb words Repack (Plan t m) one two in cc
 one_command words Repack (Demo l e t m) one two = let same : verb_of Repack ≡ verb_of (Demo l e t m) = one_verb words Repack (Demo l e t m) one two in cc
 one_command words Repack Check one two = let same : verb_of Repack ≡ verb_of Check = one_verb words Repack Check one two in cc
+one_command words Repack Explain one two = let same : verb_of Repack ≡ verb_of Explain = one_verb words Repack Explain one two in cc
 one_command words Repack Pack one two = let same : verb_of Repack ≡ verb_of Pack = one_verb words Repack Pack one two in cc
 one_command words Repack Repack one two = refl
 one_command words Repack DescribeAll one two = let same : verb_of Repack ≡ verb_of DescribeAll = one_verb words Repack DescribeAll one two in cc
@@ -127,6 +144,7 @@ one_command words DescribeAll (Run t m) one two = let same : verb_of DescribeAll
 one_command words DescribeAll (Plan t m) one two = let same : verb_of DescribeAll ≡ verb_of (Plan t m) = one_verb words DescribeAll (Plan t m) one two in cc
 one_command words DescribeAll (Demo l e t m) one two = let same : verb_of DescribeAll ≡ verb_of (Demo l e t m) = one_verb words DescribeAll (Demo l e t m) one two in cc
 one_command words DescribeAll Check one two = let same : verb_of DescribeAll ≡ verb_of Check = one_verb words DescribeAll Check one two in cc
+one_command words DescribeAll Explain one two = let same : verb_of DescribeAll ≡ verb_of Explain = one_verb words DescribeAll Explain one two in cc
 one_command words DescribeAll Pack one two = let same : verb_of DescribeAll ≡ verb_of Pack = one_verb words DescribeAll Pack one two in cc
 one_command words DescribeAll Repack one two = let same : verb_of DescribeAll ≡ verb_of Repack = one_verb words DescribeAll Repack one two in cc
 one_command words DescribeAll DescribeAll one two = refl
@@ -135,6 +153,7 @@ one_command words Describe (Run t m) one two = let same : verb_of Describe ≡ v
 one_command words Describe (Plan t m) one two = let same : verb_of Describe ≡ verb_of (Plan t m) = one_verb words Describe (Plan t m) one two in cc
 one_command words Describe (Demo l e t m) one two = let same : verb_of Describe ≡ verb_of (Demo l e t m) = one_verb words Describe (Demo l e t m) one two in cc
 one_command words Describe Check one two = let same : verb_of Describe ≡ verb_of Check = one_verb words Describe Check one two in cc
+one_command words Describe Explain one two = let same : verb_of Describe ≡ verb_of Explain = one_verb words Describe Explain one two in cc
 one_command words Describe Pack one two = let same : verb_of Describe ≡ verb_of Pack = one_verb words Describe Pack one two in cc
 one_command words Describe Repack one two = let same : verb_of Describe ≡ verb_of Repack = one_verb words Describe Repack one two in cc
 one_command words Describe DescribeAll one two = absurd (apart words two one)

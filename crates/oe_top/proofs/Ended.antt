@@ -29,7 +29,7 @@ use Rattle.oe_top.specs.declared.repack.RepackRefusal.TheVariants as repack
 use Rattle.oe_top.specs.declared.run.RunRefusal.{RunRefusal}
 use Rattle.oe_top.specs.declared.run.RunRefusal.TheVariants as run
 use Rattle.oe_top.specs.declared.words.Command.{Command}
-use Rattle.oe_top.specs.declared.words.Command.TheVariants.{Run, Plan, Demo, Check, Pack, Repack, DescribeAll, Describe}
+use Rattle.oe_top.specs.declared.words.Command.TheVariants.{Run, Plan, Demo, Check, Explain, Pack, Repack, DescribeAll, Describe}
 
 -- ---- no command ends by `Usage`
 
@@ -98,6 +98,7 @@ not_usage words (Plan size workers) before after ending (ended, same, answers) =
 not_usage words (Demo seed side size workers) before after ending (ended, same, answers) =
     other of_demo demo_other ended ending same
 not_usage words Check before after ending (ended, same, answers) = other of_check check_other ended ending same
+not_usage words Explain before after ending (ended, same, answers) = other of_check check_other ended ending same
 not_usage words Pack before after ending (ended, same, answers) = other of_pack pack_other ended ending same
 not_usage words Repack before after ending (ended, same, answers) = other of_repack repack_other ended ending same
 not_usage words DescribeAll before after ending (ended, same, answers) = other of_listing listing_other ended ending same

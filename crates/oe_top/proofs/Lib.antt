@@ -10,6 +10,7 @@ pub mod Repackings
 pub mod Said
 pub mod Rounds
 pub mod Evaluations
+pub mod Explanations
 pub mod DemoReadings
 pub mod DemoNames
 pub mod DemoCubes

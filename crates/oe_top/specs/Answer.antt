@@ -4,6 +4,7 @@ use Rattle.oe_top.specs.CheckAnswer.{CheckAnswers}
 use Rattle.oe_top.specs.DemoAnswer.{DemoAnswers}
 use Rattle.oe_top.specs.DescribeAnswer.{DescribeAnswers, ListingAnswers}
 use Rattle.oe_top.specs.Endings.{ending_of, of_check, of_demo, of_describe, of_listing, of_pack, of_repack, of_run}
+use Rattle.oe_top.specs.ExplainAnswer.{ExplainAnswers}
 use Rattle.oe_top.specs.Lines.{ErrorOutput, SaysEnding, status_of}
 use Rattle.oe_top.specs.Objects.{Objects}
 use Rattle.oe_top.specs.PackAnswer.{PackAnswers}
@@ -14,7 +15,7 @@ use Rattle.oe_top.specs.Words.{SpellsCommand, Spells, id_in}
 use Rattle.oe_top.specs.declared.refusal.Refusal.{Refusal}
 use Rattle.oe_top.specs.declared.refusal.Refusal.TheVariants.{Usage}
 use Rattle.oe_top.specs.declared.words.Command.{Command}
-use Rattle.oe_top.specs.declared.words.Command.TheVariants.{Run, Plan, Demo, Check, Pack, Repack, DescribeAll, Describe}
+use Rattle.oe_top.specs.declared.words.Command.TheVariants.{Run, Plan, Demo, Check, Explain, Pack, Repack, DescribeAll, Describe}
 
 -- the call ends as the command did, in a way that the table of the command has
 abbrev pub EndsAs : {E : Type 0} → (E → Refusal) → (Result (Unit {0}) E → Type 0) → Result (Unit {0}) Refusal → Type 0
@@ -29,6 +30,7 @@ CommandEnds words (Plan size workers) before after ending =
 CommandEnds words (Demo seed side size workers) before after ending =
     EndsAs of_demo (DemoAnswers seed side size workers before after) ending
 CommandEnds words Check before after ending = EndsAs of_check (CheckAnswers before after) ending
+CommandEnds words Explain before after ending = EndsAs of_check (ExplainAnswers before after) ending
 CommandEnds words Pack before after ending = EndsAs of_pack (PackAnswers (id_in words) before after) ending
 CommandEnds words Repack before after ending = EndsAs of_repack (RepackAnswers (id_in words) before after) ending
 CommandEnds words DescribeAll before after ending = EndsAs of_listing (ListingAnswers before after) ending

@@ -5,6 +5,7 @@ pub mod DemoAnswer
 pub mod DescribeAnswer
 pub mod Endings
 pub mod Evaluated
+pub mod ExplainAnswer
 pub mod Faults
 pub mod Judged
 pub mod Lines

@@ -3,7 +3,7 @@ use Rattle.std.specs.Prelude.{◌≡◌, ℕ, ◌≤◌, true, List, [], ◌∷�
 use Rattle.oe_dims.specs.Names.{is_name}
 use Rattle.oe_window.specs.declared.grid.ChunkSize.{ChunkSize}
 use Rattle.oe_top.specs.declared.words.Command.{Command}
-use Rattle.oe_top.specs.declared.words.Command.TheVariants.{Run, Plan, Demo, Check, Pack, Repack, DescribeAll, Describe}
+use Rattle.oe_top.specs.declared.words.Command.TheVariants.{Run, Plan, Demo, Check, Explain, Pack, Repack, DescribeAll, Describe}
 
 -- a number from low to high, spelled in decimal with no sign and no leading zero
 pub record IsNumberWord (low high : ℕ) (word : List ℕ) (number : ℕ) : Type 0 where
@@ -59,6 +59,7 @@ Spells words (Run size workers) = SpellsNumbers (codes "run") words size workers
 Spells words (Plan size workers) = SpellsNumbers (codes "plan") words size workers
 Spells words (Demo seed side size workers) = SpellsDemo words seed side size workers
 Spells words Check = words ≡ codes "check" ∷ []
+Spells words Explain = words ≡ codes "explain" ∷ []
 Spells words Pack = SpellsId (codes "pack") words
 Spells words Repack = SpellsId (codes "repack") words
 Spells words DescribeAll = words ≡ codes "describe" ∷ []

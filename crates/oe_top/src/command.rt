@@ -11,6 +11,7 @@ use crate::endings::{
     ending_of_check, ending_of_demo, ending_of_describe, ending_of_listing, ending_of_pack,
     ending_of_repack, ending_of_run,
 };
+use crate::explain::explain;
 use crate::pack::pack;
 use crate::plan::plan;
 use crate::refusal::Refusal;
@@ -30,6 +31,7 @@ use std::thread::Threads;
 /// |---|---|
 /// | `run CX CY CT W` | evaluates the process graph of `input` and writes its result text |
 /// | `check` | writes `valid` where no fault stands in the process graph of `input` |
+/// | `explain` | the same, and of a fault the lines that explain it |
 /// | `plan CX CY CT W` | writes `bound B chunks N`: how many cells such a run holds at most, and its chunks |
 /// | `demo SEED SIDE CX CY CT W` | evaluates a graph over a generated collection: `cells N first A last B` |
 /// | `pack ID` | writes the cube file of the result text of `input` under the id |
@@ -98,6 +100,7 @@ fn obey<R: Threads + Sync, I: Source, O: Sink, P: Store, G: Gate>(
             },
         ) => ending_of_demo(demo(setup, (seed, side), (size, workers), out, spool)),
         Some(Command::Check) => ending_of_check(check(alloc, input, out, catalogue)),
+        Some(Command::Explain) => ending_of_check(explain(alloc, input, out, catalogue)),
         Some(Command::Pack) => ending_of_pack(pack(alloc, &words[1], input, out)),
         Some(Command::Repack) => ending_of_repack(repack(alloc, &words[1], out, catalogue)),
         Some(Command::DescribeAll) => ending_of_listing(describe_all(alloc, out, catalogue)),

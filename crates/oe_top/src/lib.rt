@@ -13,6 +13,7 @@ mod demo;
 mod describe;
 mod endings;
 mod evaluation;
+mod explain;
 mod input;
 mod judge;
 mod laws;

@@ -29,6 +29,8 @@ pub enum Command {
     },
     /// To look for a fault of the graph of the input.
     Check,
+    /// To look for a fault of the graph of the input, and to explain it.
+    Explain,
     /// To write the cube file of the result text of the input, under the id of the second word.
     Pack,
     /// To write the cube file of the mounted collection of the id of the second word.
@@ -62,6 +64,8 @@ fn read_alone(verb: &Text) -> Option<Command>
 {
     if is_word(verb, "check") {
         Some(Command::Check)
+    } else if is_word(verb, "explain") {
+        Some(Command::Explain)
     } else if is_word(verb, "describe") {
         Some(Command::DescribeAll)
     } else {

@@ -1,6 +1,6 @@
 use Rattle.oe_sources.specs.CatalogueRows.{rows_of}
 use Rattle.oe_top.proofs.Ended.{ends_describe, ends_of, ends_pack, ends_repack, ends_usage}
-use Rattle.oe_top.specs.declared.words.Command.TheVariants.{Run, Plan, Demo, Check, Pack, Repack, DescribeAll, Describe}
+use Rattle.oe_top.specs.declared.words.Command.TheVariants.{Run, Plan, Demo, Check, Explain, Pack, Repack, DescribeAll, Describe}
 use Rattle.oe_top.proofs.command.obey.Goals as goal
 
 pub returns-in-Some-Run : goal.returns-in-Some-Run
@@ -24,6 +24,12 @@ returns-in-Some-Check g c =
     ends_of c.args.words.now Check _ _ c.ending_of_check-in-Some-Check.result
     (rw c.in-Some-Check.field-0-is at c.in-Some-Check.ensures.some)
     (c.check.result, c.ending_of_check-in-Some-Check.ensures, c.check.ensures _ _)
+
+pub returns-in-Some-Explain : goal.returns-in-Some-Explain
+returns-in-Some-Explain g c =
+    ends_of c.args.words.now Explain _ _ c.ending_of_check-in-Some-Explain.result
+    (rw c.in-Some-Explain.field-0-is at c.in-Some-Explain.ensures.some)
+    (c.explain.result, c.ending_of_check-in-Some-Explain.ensures, c.explain.ensures _ _)
 
 pub returns-in-Some-Pack : goal.returns-in-Some-Pack
 returns-in-Some-Pack g c =
