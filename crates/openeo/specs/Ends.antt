@@ -10,7 +10,7 @@ IsTextWord word = (word ≡ codes "--help") ⊎ (word ≡ codes "--version")
 
 -- the word of a command
 abbrev pub IsVerb : List ℕ → Type 0
-IsVerb word = (word ≡ codes "run") ⊎ (word ≡ codes "check") ⊎ (word ≡ codes "plan")
+IsVerb word = (word ≡ codes "run") ⊎ (word ≡ codes "check") ⊎ (word ≡ codes "explain") ⊎ (word ≡ codes "plan")
     ⊎ (word ≡ codes "demo") ⊎ (word ≡ codes "pack") ⊎ (word ≡ codes "repack") ⊎ (word ≡ codes "describe")
     ⊎ (word ≡ codes "serve") ⊎ (word ≡ codes "client")
 

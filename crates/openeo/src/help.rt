@@ -10,6 +10,7 @@ openeo: an openEO back end whose answers are exact
 Usage:
   openeo run CX CY CT W            read a process graph and write its result text
   openeo check                     read a process graph and write 'valid', or say which fault stands in it
+  openeo explain                   the same, and say of a fault which argument it is of and what to do
   openeo plan CX CY CT W           read a process graph and write how many cells a run holds at most, and its chunks
   openeo demo SEED SIDE CX CY CT W evaluate a graph over a generated collection and write its first and last cell
   openeo pack ID                   read a result text and write it as a cube file
@@ -69,6 +70,15 @@ const CHECK: &str = "\
 openeo check < GRAPH
 
 Reads a process graph from standard input and writes 'valid', or says which fault stands in it. No collection is read.
+Exit status: 0, 1 Usage, 2 CODE NODE, 5 ReadFault, 8 WriteFault, 9 OutOfMemory, 14 Setup.
+";
+
+const EXPLAIN: &str = "\
+openeo explain < GRAPH
+
+Reads a process graph from standard input and writes 'valid', or lines that explain the fault that check names: its code,
+its node, the argument that it is of, what that argument must hold, and what to do; of a text that is no JSON also where
+reading stopped. No collection is read. Status and standard error are those of check.
 Exit status: 0, 1 Usage, 2 CODE NODE, 5 ReadFault, 8 WriteFault, 9 OutOfMemory, 14 Setup.
 ";
 
@@ -204,6 +214,7 @@ fn help_of(verb: &str) -> Option<&'static str>
     match verb {
         "run" => Some(RUN),
         "check" => Some(CHECK),
+        "explain" => Some(EXPLAIN),
         "plan" => Some(PLAN),
         "demo" => Some(DEMO),
         "pack" => Some(PACK),
