@@ -2,9 +2,9 @@
 use crate::fault::Fault;
 use crate::network::Network;
 use crate::spelling::{end_line, spell_number, spell_word};
-use crate::system::System;
-use oe_outside::{Clock, Door, Link, Next};
-use oe_sockets::{Patience, SystemClock, TcpDoor};
+use crate::system::{Lines, System};
+use oe_outside::{Clock, Door, Link, Next, Sink};
+use oe_sockets::{LogDoor, Patience, SystemClock, TcpDoor};
 use std::alloc::Global;
 
 /// As many bytes as a row reads or writes at most.
@@ -46,6 +46,17 @@ pub(crate) fn answer_door(
     answer_calls(alloc, row, network, &mut door, answers)
 }
 
+pub(crate) fn answer_log(
+    alloc: Global,
+    script: &str,
+    row: &str,
+    answers: &mut Vec<u8>,
+) -> Result<(), Fault> {
+    let network = Network::new(alloc, script)?;
+    let (system, lines) = (System::new(network), Lines::new(network));
+    answer_told_calls(alloc, row, network, system, lines, answers)
+}
+
 fn open_door<N: oe_sockets::Network>(
     alloc: Global,
     is_client: bool,
@@ -57,6 +68,20 @@ fn open_door<N: oe_sockets::Network>(
         Patience::of_server()
     };
     Ok(TcpDoor::new(alloc, system, PORT, patience)?)
+}
+
+/// Calls of a door that writes a line for each connection.
+fn answer_told_calls<N: oe_sockets::Network, E: Sink + Drop>(
+    alloc: Global,
+    row: &str,
+    network: &Network,
+    system: N,
+    lines: E,
+    answers: &mut Vec<u8>,
+) -> Result<(), Fault> {
+    let door = open_door(alloc, false, system)?;
+    let mut door = LogDoor::new(door, system, Some(lines));
+    answer_calls(alloc, row, network, &mut door, answers)
 }
 
 fn answer_calls<D: Door>(
@@ -144,16 +169,12 @@ where
 fn answer_link<L: Link + Drop>(
     alloc: Global,
     verb: &str,
-    count: &str,
+    operand: &str,
     conn: L,
     answers: &mut Vec<u8>,
 ) -> Result<Option<L>, Fault> {
     let mut conn = conn;
-    let Ok(count) = count.parse::<usize>() else {
-        return Err(Fault::Line);
-    };
-    let mut bytes = Vec::with_capacity(alloc, MOST_BYTES)?;
-    bytes.resize(count.min(MOST_BYTES), b'a')?;
+    let mut bytes = bytes_of(alloc, operand)?;
     match verb {
         "read" => match conn.read(&mut bytes) {
             Ok(count) => {
@@ -173,4 +194,15 @@ fn answer_link<L: Link + Drop>(
         _ => return Err(Fault::Line),
     }
     Ok(Some(conn))
+}
+
+/// The text behind a `=`, or so many bytes of the letter `a`.
+fn bytes_of(alloc: Global, operand: &str) -> Result<Vec<u8>, Fault> {
+    let mut bytes = Vec::with_capacity(alloc, MOST_BYTES)?;
+    match (operand.strip_prefix('='), operand.parse::<usize>()) {
+        (Some(text), _) => bytes.extend_from_slice(text.as_bytes())?,
+        (None, Ok(count)) => bytes.resize(count.min(MOST_BYTES), b'a')?,
+        (None, Err(_)) => return Err(Fault::Line),
+    }
+    Ok(bytes)
 }

@@ -10,17 +10,20 @@
 //! | `clock ANSWERS; now; ..` | the time of day, by a system whose clock gives seconds |
 //! | `server ANSWERS; CALLS` | a door to port 80 with the time limits of a server |
 //! | `client ANSWERS; CALLS` | a door with those of a client |
+//! | `log ANSWERS; CALLS` | a door with those of a server, which writes a line for each connection |
 //!
 //! CALLS are `next` and `next busy`, `dial HOST`, `done`, and of the connection that came last `read N` and `write N`, N
-//! bytes of the letter `a`. ANSWERS has the answer of each call of the network, in their order, with blanks between them:
-//! `ok`, a number of bytes, or a KIND of error, and `-` stands for none. A number behind `@` is the time in milliseconds
-//! from then on. KIND is `interrupted`, `reset`, `aborted`, `waits`, `refused` or `broken`. A call without an answer is
-//! refused.
+//! bytes of the letter `a`, and `write =TEXT`. ANSWERS has the answer of each call of the network, in their order, with
+//! blanks between them: `ok`, a number of bytes, or a KIND of error, and `-` stands for none. Of a read it may be `=TEXT`,
+//! the bytes that are read, in which `_` stands for a blank and `$` for a line feed. A number behind `@` is the time in
+//! milliseconds from then on. KIND is `interrupted`, `reset`, `aborted`, `waits`, `refused` or `broken`. A call without an
+//! answer is refused.
 //!
 //! The network prints `bind PORT`, `wait` and `look` (a connection is taken, by a caller that waits and by one that does
 //! not), `lookup HOST PORT`, `connect PORT SECONDS`, `by-read MS` and `by-write MS` (the time limit of the next read or
-//! write), `read N`, `write N`, `shutdown` of what is written, `drains` (reads do not wait any more) and `close`. An answer
-//! of a call is `ok` with the number of bytes of a read, `Conn`, `Nobody`, `Failed`, or of the clock its seconds.
+//! write), `peek N` (bytes are read and stay to be read), `read N`, `write N`, `shutdown` of what is written, `drains`
+//! (reads do not wait any more), `close` and `line TEXT`, which a door wrote. An answer of a call is `ok` with the number of
+//! bytes of a read, `Conn`, `Nobody`, `Failed`, or of the clock its seconds.
 #![tactic(auto)]
 
 mod calls;
@@ -68,6 +71,7 @@ fn answer_line(alloc: Global, line: &str, answers: &mut Vec<u8>) -> Result<(), F
         "clock" => calls::answer_clock(alloc, script, row, answers),
         "server" => calls::answer_door(alloc, false, script, row, answers),
         "client" => calls::answer_door(alloc, true, script, row, answers),
+        "log" => calls::answer_log(alloc, script, row, answers),
         _ => Err(Fault::Line),
     }
 }

@@ -1,4 +1,7 @@
 // The state of a network in memory: the answers that are left, the time, and what it was asked for.
+ghost use Rattle.std.specs.Prelude.{◌≤◌, length};
+ghost use Rattle.std.specs.Io.{ReadsAtMost};
+
 use crate::fault::Fault;
 use std::alloc::Global;
 use std::cell::{Cell, RefCell};
@@ -49,6 +52,20 @@ impl Network {
         }
     }
 
+    /// Prints bytes, of which a line feed stands as `\n`.
+    pub(crate) fn print_bytes(&self, bytes: &[u8]) {
+        if let Ok(mut asked) = self.asked.try_borrow_mut() {
+            let _ = asked.push(b' ');
+            for byte in bytes {
+                if *byte == b'\n' {
+                    let _ = asked.extend_from_slice(b"\\n");
+                } else {
+                    let _ = asked.push(*byte);
+                }
+            }
+        }
+    }
+
     /// Prints a number.
     pub(crate) fn print_number(&self, number: u64) {
         self.print(itoa::Buffer::new().format(number));
@@ -56,6 +73,26 @@ impl Network {
 
     /// The answer of the next call: a number of bytes, which is 0 for `ok`.
     pub(crate) fn answer(&self) -> IoResult<usize> {
+        answer_of(self.word()?)
+    }
+
+    /// The answer of the next call, which reads: bytes at the front of `into`, and their number.
+    pub(crate) fn answer_bytes(&self, into: &mut [u8]) -> IoResult<usize>
+        ensures { ReadsAtMost result into.new }
+    {
+        let word = self.word()?;
+        match word.strip_prefix('=') {
+            Some(text) => Ok(put_text(text, into)),
+            None => {
+                let count = answer_of(word)?.min(into.len());
+                into[..count].fill(b'a');
+                Ok(count)
+            }
+        }
+    }
+
+    /// The word of the next call. The time is then as it says.
+    fn word(&self) -> IoResult<&str> {
         let number = self.calls.get();
         self.calls.set(number.saturating_add(1));
         let Some(word) = self.script.split(' ').nth(number) else {
@@ -65,8 +102,24 @@ impl Network {
         if let Ok(at) = at.parse::<u64>() {
             self.milliseconds.set(at);
         }
-        answer_of(word)
+        Ok(word)
     }
+}
+
+/// Puts a text at the front of `into`, with a blank for `_` and a line feed for `$`, and answers how many bytes it has.
+fn put_text(text: &str, into: &mut [u8]) -> usize
+    ensures { result ≤ length into.new }
+{
+    let count = text.len().min(into.len());
+    into[..count].copy_from_slice(&text.as_bytes()[..count]);
+    for byte in into[..count].iter_mut() {
+        match *byte {
+            b'_' => *byte = b' ',
+            b'$' => *byte = b'\n',
+            _ => {}
+        }
+    }
+    count
 }
 
 fn answer_of(word: &str) -> IoResult<usize> {

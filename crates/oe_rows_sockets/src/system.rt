@@ -1,5 +1,8 @@
-// A network in memory as the system's.
+// A network in memory as the system's, and what a door writes of its connections.
+ghost use Rattle.std.specs.Prelude.{None};
+
 use crate::network::Network as Memory;
+use oe_outside::{Failed, Sink};
 use oe_sockets::Network;
 use std::io::{Read, Result as IoResult, Write};
 use std::net::{OpenStream, Shutdown, SocketAddr};
@@ -110,6 +113,12 @@ impl OpenStream for Stream {
         Ok(())
     }
 
+    fn peek(&self, into: &mut [u8]) -> IoResult<usize> {
+        self.network.print("peek");
+        self.network.print_number(into.len() as u64);
+        self.network.answer_bytes(into)
+    }
+
     fn set_read_timeout(&self, limit: Option<Duration>) -> IoResult<()> {
         self.print_limit("by-read", limit);
         Ok(())
@@ -125,9 +134,7 @@ impl Read for Stream {
     fn read(&mut self, into: &mut [u8]) -> IoResult<usize> {
         self.network.print("read");
         self.network.print_number(into.len() as u64);
-        let count = self.network.answer()?.min(into.len());
-        into[..count].fill(b'a');
-        Ok(count)
+        self.network.answer_bytes(into)
     }
 }
 
@@ -140,5 +147,36 @@ impl Write for Stream {
 
     fn flush(&mut self) -> IoResult<()> {
         Ok(())
+    }
+}
+
+/// What the lines of a door are written to, which prints them.
+#[derive(Drop)]
+pub(crate) struct Lines {
+    network: &'static Memory,
+    faults: u64,
+}
+
+impl Lines {
+    pub(crate) fn new(network: &'static Memory) -> Lines {
+        Lines { network, faults: 0 }
+    }
+}
+
+impl Sink for Lines {
+    ghost written = { λ _. None };
+
+    ghost faults = { λ s. s.faults };
+
+    fn write(&mut self, piece: &[u8]) -> Result<(), Failed> {
+        self.network.print("line");
+        self.network.print_bytes(piece);
+        match self.network.answer() {
+            Ok(_) => Ok(()),
+            Err(_) => {
+                self.faults = self.faults.saturating_add(1);
+                Err(Failed)
+            }
+        }
     }
 }

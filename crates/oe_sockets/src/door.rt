@@ -1,7 +1,7 @@
 // Connections over TCP: those that come to a port, and those that are dialled.
 ghost use Rattle.std.specs.Prelude.{◌≡◌, None, IsTrue};
 ghost use Rattle.std.specs.Vec.{vec_capacity};
-ghost use Rattle.oe_outside.specs.Doors.{IsNobody};
+ghost use Rattle.oe_outside.specs.Doors.{IsNobody, IfConn};
 
 use crate::deadline::Deadline;
 use crate::lingering::Lingering;
@@ -68,17 +68,24 @@ impl<N: Network> TcpDoor<N> {
         self.listener.is_some()
     }
 
-    /// The next stream, `Nobody` where the caller is busy and none waits, and `Failed` where the port fails. A peer that
-    /// is gone before it was taken is passed over.
-    fn take(&self, busy: bool) -> Next<N::Stream>
+    /// The next connection, once its first byte has come: what is answered at the moment of the answer should not be
+    /// older than that. `Nobody` where the caller is busy and none waits, and `Failed` where the port fails. A peer that
+    /// is gone before its first byte is passed over.
+    fn take(&self, busy: bool) -> Next<TcpLink<N>>
         ensures nobody { IsNobody result → IsTrue busy }
+        ensures fresh { IfConn result (λ link. link.faults ≡ 0) }
     {
         let Some(listener) = &self.listener else {
             return Next::Failed;
         };
         for _ in 0..u64::MAX {
             match self.system.accept(listener, !busy) {
-                Ok(stream) => return Next::Conn(stream),
+                Ok(stream) => {
+                    let link = TcpLink::new(self.system, stream, self.patience);
+                    if link.is_there() {
+                        return Next::Conn(link);
+                    }
+                }
                 Err(error) => match error.kind() {
                     ErrorKind::WouldBlock if busy => return Next::Nobody,
                     ErrorKind::Interrupted
@@ -142,7 +149,8 @@ impl<N: Network> Door for TcpDoor<N> {
 
     ghost link_faults = { λ d. d.link_faults };
 
-    /// The next connection to the port, for which a caller that is not busy waits.
+    /// The next connection to the port, for which a caller that is not busy waits. One that was taken is waited for until
+    /// its first byte has come or its time is over.
     fn next(&mut self, busy: bool) -> Next<TcpLink<N>> {
         self.sweep();
         let next = if self.bind() {
@@ -150,15 +158,10 @@ impl<N: Network> Door for TcpDoor<N> {
         } else {
             Next::Failed
         };
-        match next {
-            Next::Conn(stream) => Next::Conn(TcpLink::new(self.system, stream, self.patience)),
-            Next::Nobody => Next::Nobody,
-            Next::Closed => Next::Closed,
-            Next::Failed => {
-                self.faults = self.faults.saturating_add(1);
-                Next::Failed
-            }
+        if let Next::Failed = next {
+            self.faults = self.faults.saturating_add(1);
         }
+        next
     }
 
     /// Tries all addresses of the host, in their order.

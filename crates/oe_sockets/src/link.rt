@@ -39,6 +39,12 @@ impl<N: Network> TcpLink<N> {
         }
     }
 
+    /// Waits until a read would not: for the first byte, for the end of what the peer sends, or until the time is over.
+    /// `false` where the peer has given the connection up instead.
+    pub(crate) fn is_there(&self) -> bool {
+        is_there_by(&self.system, &self.stream, self.reading)
+    }
+
     /// How many calls have failed.
     pub(crate) fn faults(&self) -> u64
         ensures { result ≡ self.now.faults }
@@ -93,6 +99,29 @@ impl<N: Network> Link for TcpLink<N> {
             }
         }
     }
+}
+
+/// Waits until a read would not, or the time is over, and takes no byte. `false` where the peer has given the connection
+/// up. Where waiting fails otherwise, a read will tell.
+fn is_there_by<R: Clock, S: OpenStream>(system: &R, stream: &S, until: Deadline) -> bool {
+    let mut first = [0; 1];
+    for _ in 0..u64::MAX {
+        let Some(left) = until.left(system) else {
+            return true;
+        };
+        if stream.set_read_timeout(Some(left)).is_err() {
+            return true;
+        }
+        match stream.peek(&mut first) {
+            Ok(_) => return true,
+            Err(error) => match error.kind() {
+                ErrorKind::Interrupted => {}
+                ErrorKind::ConnectionAborted | ErrorKind::ConnectionReset => return false,
+                _ => return true,
+            },
+        }
+    }
+    true
 }
 
 /// Reads once, and `None` where that fails or is not in time.
