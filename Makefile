@@ -34,6 +34,7 @@ examples:
 	@[ -z '$(STANDING)' ] || examples/edges $(STANDING)
 	@[ -z '$(STANDING)' ] || ! command -v $(PYTHON) > /dev/null || $(PYTHON) examples/client-check $(STANDING)
 	@[ -z '$(STANDING)' ] || ! command -v curl > /dev/null || examples/service/session $(STANDING)
+	@[ -z '$(STANDING)' ] || ! command -v curl > /dev/null || examples/service/replies $(STANDING) > /dev/null
 	@[ -z '$(STANDING)' ] || ! command -v $(PYTHON) > /dev/null || $(PYTHON) -B examples/service/session.py $(STANDING)
 
 # Proves the crates below the program, lowest first and each by several processes, over what earlier checks kept, and

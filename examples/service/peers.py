@@ -3,11 +3,14 @@
 
 A server answers one connection at a time, so a peer may hold it up, but only for so long: 30 seconds for what is read,
 and 30 for what is written and besides 16 microseconds for each byte that was taken. Behind each peer an ordinary request
-is made, which should be answered within that time. The last line says how much was as it should be; the exit status is
-1 where something was not.
+is made, which should be answered within that time. At the end a thousand peers ask at once while one keeps the server
+waiting, and none of them should go without an answer. The last line says how much was as it should be; the exit status
+is 1 where something was not.
 """
+import asyncio
 import json
 import os
+import resource
 import shutil
 import socket
 import struct
@@ -25,6 +28,7 @@ SLACK = 5
 ORDINARY = b"GET /conformance HTTP/1.1\r\n\r\n"
 HEAD = b"Authorization: Bearer basic//abc\r\n"
 BROAD = (4, 330, 340)
+CROWD = 1000
 
 
 def connection(port, room=None):
@@ -206,6 +210,33 @@ def ordinary(port):
     return time.time() - begin, reply
 
 
+async def asked(port):
+    """The reply to an ordinary request."""
+    reader, writer = await asyncio.open_connection("127.0.0.1", port)
+    try:
+        writer.write(ORDINARY)
+        return await reader.read()
+    finally:
+        writer.close()
+
+
+async def crowd(port, holding):
+    """The replies to many requests that are made at once, while a connection holds the server for two seconds."""
+    asyncio.get_running_loop().call_later(2, holding.sendall, ORDINARY[20:])
+    return await asyncio.gather(*(asked(port) for _ in range(CROWD)), return_exceptions=True)
+
+
+def unanswered(port, whole):
+    """How many of a crowd were not answered, and how long the last of them waited."""
+    most = resource.getrlimit(resource.RLIMIT_NOFILE)[1]
+    resource.setrlimit(resource.RLIMIT_NOFILE, (most, most))
+    with connection(port) as holding:
+        holding.sendall(ORDINARY[:20])
+        begin = time.time()
+        replies = asyncio.run(crowd(port, holding))
+        return sum(reply != whole for reply in replies), time.time() - begin
+
+
 def main():
     program = os.path.realpath(sys.argv[1])
     folder = tempfile.mkdtemp()
@@ -232,6 +263,9 @@ def main():
             else:
                 bad += 1
                 print(f"examples/service/peers.py: {peer.__name__}: saw {seen} and not {wanted}, {took:.1f} s, {reply}", file=sys.stderr)
+        lost, took = unanswered(port, whole)
+        print(f"of {CROWD} that ask at once {lost} are not answered; the last one is after {took:.1f} s", flush=True)
+        good, bad = good + (lost == 0), bad + (lost > 0)
         if server.poll() is not None:
             bad += 1
             print(f"examples/service/peers.py: the server ended with {server.returncode}", file=sys.stderr)
