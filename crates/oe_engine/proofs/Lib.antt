@@ -30,3 +30,7 @@ pub mod CatalogueLemmas
 pub mod LawLemmas
 pub mod GoingLemmas
 pub mod RoundLemmas
+pub mod RuleLemmas
+pub mod SeatLemmas
+pub mod EvaluationLemmas
+pub mod CrossLemmas

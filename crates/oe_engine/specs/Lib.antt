@@ -10,3 +10,4 @@ pub mod Chunks
 pub mod Hulls
 pub mod Laws
 pub mod Going
+pub mod Views

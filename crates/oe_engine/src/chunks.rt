@@ -1,65 +1,20 @@
 // The chunks of one round, each in a bench of its own.
-ghost use Rattle.std.specs.Prelude.{◌≡◌, ◌+◌, ◌^◌, ◌<◌, ◌≤◌, length, IfErr, OnOk};
+ghost use Rattle.std.specs.Prelude.{◌≡◌, ◌+◌, ◌^◌, ◌≤◌, length, IfErr, OnOk};
 ghost use Rattle.std.specs.List.{All};
 ghost use Rattle.oe_cell.specs.Cells.{IsCell};
 ghost use Rattle.oe_outside.specs.Faults.{HasCauseOf};
 ghost use Rattle.oe_plan.specs.Figures.{shape_of_node};
-ghost use Rattle.oe_shape.specs.Graphs.{Collections};
-ghost use Rattle.oe_shape.specs.Laws.{AreCollectionsOf};
 ghost use Rattle.oe_spool.specs.Spooled.{ChangesOnly, IsInSome};
-ghost use Rattle.oe_engine.specs.Benches.{IsBenchFor, IsDone, IsEvaluated, IsLoaded};
-ghost use Rattle.oe_engine.specs.Chunks.{EachBench, HasRecordsOf, HasValidCells, IsAtDone, IsAtLoaded, IsLeastOf};
-ghost use Rattle.oe_engine.specs.Runs.{chunk_total, chunks_from, evaluated_after};
+ghost use Rattle.oe_engine.specs.Chunks.{EachBench, HasRecordsOf, HasValidCells, IsAtDone, IsLeastOf};
+ghost use Rattle.oe_engine.specs.Runs.{chunk_total, chunks_from};
 ghost use Rattle.oe_engine.specs.declared.rounds.RunFail.{RunFail};
 
-use crate::bench::{Bench, State};
+use crate::bench::Bench;
 use crate::rounds::RunFail;
 use oe_cell::Cell;
-use oe_outside::{Gate, Store};
+use oe_outside::Store;
 use oe_plan::Plan;
 use oe_spool::{least_over, lesser, write_window};
-use std::thread;
-use std::thread::Threads;
-
-/// Evaluates benches that are loaded for the chunks from a first one on, each once behind the gate. They are dealt in
-/// equal shares to as many threads as the plan has workers, this one among them. Answers the number of evaluations,
-/// before which there were so many.
-pub(crate) fn evaluate_chunks<R: Threads + Sync, G: Gate>(
-    rt: &R,
-    plan: &Plan,
-    benches: &mut [Bench],
-    gate: &G,
-    first: u64,
-    evaluations: u64,
-) -> u64
-    requires loaded { EachBench first (IsAtLoaded plan.now) benches.old }
-    requires chunks { first + length benches.old ≤ chunk_total plan.now }
-    ensures done { EachBench first (IsAtDone plan.now) benches.new }
-    // Over whatever collections all were loaded, they are done over the same ones.
-    ensures value { (collections : Collections) → AreCollectionsOf plan.now.graph collections
-        → EachBench first (IsLoaded plan.now collections) benches.old
-        → EachBench first (IsDone plan.now collections) benches.new }
-    ensures count { length benches.new ≡ length benches.old }
-    ensures evaluations { result ≡ evaluated_after evaluations (length benches.old) }
-{
-    let count = benches.len() as u64;
-    let workers = plan.workers() as usize;
-    thread::for_each_mut(
-        rt,
-        benches,
-        workers,
-        &|_index: usize, bench: &mut Bench|
-            requires { IsBenchFor plan.now bench.old }
-            ensures { IsEvaluated plan.entry.now bench.old bench.new }
-        {
-            if let State::Loaded(chunk) = bench.state() {
-                gate.enter(chunk);
-            }
-            bench.evaluate(plan);
-        },
-    );
-    evaluations.saturating_add(count)
-}
 
 /// Writes the records of the chunks from a first one on, of benches that are done.
 ///

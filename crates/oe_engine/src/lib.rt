@@ -8,15 +8,20 @@
 
 mod bench;
 mod chunks;
+mod hands;
 mod hulls;
 mod laws;
+mod lead;
 mod loading;
 mod over;
+mod round_table;
 mod rounds;
 mod run;
 mod step;
 mod strips;
+mod table;
 mod taken;
+mod work;
 mod workspace;
 
 pub use bench::{Bench, State};

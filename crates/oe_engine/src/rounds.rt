@@ -1,6 +1,7 @@
 // A run: rounds of chunks, from collections to the records of a spool.
 use crate::bench::Bench;
 use crate::chunks::{least_of_chunks, write_chunks};
+use crate::round_table::Crew;
 use crate::taken::{evaluate_taken, load_taken};
 use crate::workspace::Workspace;
 use oe_dims::Shape;
@@ -41,6 +42,7 @@ pub enum RunFail {
 pub struct Run {
     plan: Plan,
     benches: Vec<Bench>,
+    crew: Crew,
     base: u64,
     done: u64,
     evaluations: u64,
@@ -48,7 +50,7 @@ pub struct Run {
 }
 
 impl Model for Run {
-    ghost use Rattle.std.specs.Prelude.{◌≤◌, ◌^◌};
+    ghost use Rattle.std.specs.Prelude.{◌≡◌, ◌≤◌, ◌^◌};
     ghost use Rattle.oe_engine.specs.Runs.{RunOf, chunk_total};
     ghost use Rattle.oe_engine.specs.Workspaces.{AreBenchesFor};
     ghost use Rattle.oe_expr.specs.Codes.{nodes_code};
@@ -67,7 +69,7 @@ impl Model for Run {
     } };
 
     ghost invariant = { λ r. (r.base ≤ 2 ^ 62) × (r.done ≤ chunk_total r.plan)
-        × AreBenchesFor r.plan r.benches.items };
+        × AreBenchesFor r.plan r.benches.items × (r.crew ≡ r.plan.workers) };
 }
 
 impl Run {
@@ -97,9 +99,11 @@ impl Run {
         ensures { result
             ≡ record { plan = plan; base = base; done = 0; evaluations = 0; over = None } }
     {
+        let (benches, crew) = workspace.into_parts();
         Run {
             plan,
-            benches: workspace.into_benches(),
+            benches,
+            crew,
             base,
             done: 0,
             evaluations: 0,
@@ -107,9 +111,9 @@ impl Run {
         }
     }
 
-    /// Takes the next chunks, two for each worker or those that are left: loads them, evaluates each once behind the
-    /// gate, and writes their records. They are dealt in equal shares to as many threads as the plan has workers, this
-    /// one among them; where a thread can't be had, its share is evaluated here. All of them have ended when it answers.
+    /// Takes the next chunks, two for each worker or those that are left: loads them, has the workers evaluate each once
+    /// behind the gate, at once in threads of their own, and writes their records. Where a thread cannot be had, the
+    /// caller's does its work.
     ///
     /// Refuses: `SourceFailed` and `SpoolFailed` only where the fault counter of a collection that is loaded, or of the
     /// spool, rose; `SourceDamaged` only with a damaged position that a load keeps. Then the run stands at the same
@@ -134,9 +138,16 @@ impl Run {
         let count = left.min(self.benches.len() as u64);
         let end = count as usize;
         load_taken(&self.plan, &mut self.benches, end, catalogue, self.done)?;
-        let all = &mut self.benches;
-        let evaluations = self.evaluations;
-        self.evaluations = evaluate_taken(rt, &self.plan, all, end, gate, self.done, evaluations);
+        self.evaluations = evaluate_taken(
+            rt,
+            &mut self.crew,
+            &self.plan,
+            &mut self.benches,
+            end,
+            gate,
+            self.done,
+            self.evaluations,
+        );
         let benches = &self.benches[..end];
         write_chunks(&self.plan, benches, spool, self.base, self.done)?;
         self.over = lesser(self.over, least_of_chunks(&self.plan, benches, self.done));

@@ -10,10 +10,11 @@ ghost use Rattle.oe_engine.specs.Chunks.{EachBench, IsAtDone, IsAtLoaded};
 ghost use Rattle.oe_engine.specs.Collections.{HasCollections};
 ghost use Rattle.oe_engine.specs.Loads.{HasRead, LoadsBench};
 ghost use Rattle.oe_engine.specs.Runs.{chunk_total, evaluated_after, load_count};
+ghost use Rattle.oe_engine.specs.Workspaces.{AreBenchesFor};
 
 use crate::bench::Bench;
-use crate::chunks::evaluate_chunks;
 use crate::hulls::load_chunks;
+use crate::round_table::Crew;
 use crate::rounds::RunFail;
 use oe_outside::Gate;
 use oe_plan::Plan;
@@ -46,28 +47,34 @@ pub(crate) fn load_taken(
     load_chunks(plan, &mut benches[..count], catalogue, first)
 }
 
-/// Evaluates the first so many benches, each once behind the gate, dealt to the workers of the plan. Answers the number
-/// of evaluations, before which there were so many.
+/// Has the workers evaluate the first so many benches, each once behind the gate. Answers the number of evaluations,
+/// before which there were so many.
 pub(crate) fn evaluate_taken<R: Threads + Sync, G: Gate>(
     rt: &R,
+    crew: &mut Crew,
     plan: &Plan,
-    benches: &mut [Bench],
+    benches: &mut Vec<Bench>,
     count: usize,
     gate: &G,
     first: u64,
     evaluations: u64,
 ) -> u64
-    requires count { count ≤ length benches.old }
-    requires benches { All (IsBenchFor plan.now) benches.old }
-    requires loaded { EachBench first (IsAtLoaded plan.now) (take count benches.old) }
+    requires crew { crew.old ≡ plan.now.workers }
+    requires made { AreBenchesFor plan.now benches.old.items }
+    requires count { count ≤ length benches.old.items }
+    requires loaded { EachBench first (IsAtLoaded plan.now) (take count benches.old.items) }
     requires chunks { first + count ≤ chunk_total plan.now }
-    ensures done { EachBench first (IsAtDone plan.now) (take count benches.new) }
+    ensures crew { crew.new ≡ crew.old }
+    ensures done { EachBench first (IsAtDone plan.now) (take count benches.new.items) }
     ensures value { (collections : Collections) → AreCollectionsOf plan.now.graph collections
-        → EachBench first (IsLoaded plan.now collections) (take count benches.old)
-        → EachBench first (IsDone plan.now collections) (take count benches.new) }
-    ensures benches { All (IsBenchFor plan.now) benches.new }
-    ensures many { length benches.new ≡ length benches.old }
+        → EachBench first (IsLoaded plan.now collections) (take count benches.old.items)
+        → EachBench first (IsDone plan.now collections) (take count benches.new.items) }
+    ensures made { AreBenchesFor plan.now benches.new.items }
     ensures evaluations { result ≡ evaluated_after evaluations count }
 {
-    evaluate_chunks(rt, plan, &mut benches[..count], gate, first, evaluations)
+    // A plan has at most 2^48 chunks, so that their numbers fit 64 bits, and at most 64 workers.
+    let _chunks = plan.chunks();
+    let _workers = plan.workers();
+    crew.evaluate(rt, plan, benches, gate, first);
+    evaluations.saturating_add(count as u64)
 }

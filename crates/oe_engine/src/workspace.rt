@@ -1,23 +1,26 @@
 // All the cells of a run.
-ghost use Rattle.std.specs.Prelude.{◌≡◌, IfOk};
+ghost use Rattle.std.specs.Prelude.{◌≡◌, ◌*◌, IfOk, length};
 ghost use Rattle.oe_plan.specs.Figures.{bound_of};
 ghost use Rattle.oe_engine.specs.Workspaces.{AreBenchesFor, cells_of_benches};
 
 use crate::bench::Bench;
+use crate::round_table::Crew;
 use oe_memory::OutOfMemory;
 use oe_plan::Plan;
 use std::alloc::Global;
 use std::marker::Model;
 
-/// The benches of a run, two for each worker. They hold all its cells.
+/// The benches of a run, two for each worker, and the workers with the table over which they are handed benches. The
+/// benches hold all its cells.
 #[derive(Drop)]
 pub struct Workspace {
     benches: Vec<Bench>,
     cells: u64,
+    crew: Crew,
 }
 
 impl Model for Workspace {
-    ghost use Rattle.std.specs.Prelude.{◌≡◌, List};
+    ghost use Rattle.std.specs.Prelude.{◌≡◌, ◌*◌, List, length};
     ghost use Rattle.oe_engine.specs.Benches.{BenchOf};
     ghost use Rattle.oe_engine.specs.Workspaces.{cells_of_benches};
 
@@ -25,7 +28,8 @@ impl Model for Workspace {
 
     ghost view = { λ w. w.benches.items };
 
-    ghost invariant = { λ w. w.cells ≡ cells_of_benches w.benches.items };
+    ghost invariant = { λ w. (w.cells ≡ cells_of_benches w.benches.items)
+        × (length w.benches.items ≡ 2 * w.crew) };
 }
 
 impl Workspace {
@@ -37,7 +41,9 @@ impl Workspace {
         ensures cells { IfOk result (λ benches. cells_of_benches benches
             ≡ bound_of plan.now.graph plan.now.size plan.now.workers) }
     {
-        let count = 2 * plan.workers();
+        let workers = plan.workers();
+        let crew = Crew::new(alloc, workers)?;
+        let count = 2 * workers;
         let mut benches = Vec::with_capacity(alloc, count as usize)?;
         let mut cells = 0;
         for _ in 0..count {
@@ -45,7 +51,11 @@ impl Workspace {
             cells += bench.cells(plan);
             benches.push(bench)?;
         }
-        Ok(Workspace { benches, cells })
+        Ok(Workspace {
+            benches,
+            cells,
+            crew,
+        })
     }
 
     /// How many cells it holds.
@@ -55,10 +65,16 @@ impl Workspace {
         self.cells
     }
 
-    /// The benches.
-    pub(crate) fn into_benches(self) -> Vec<Bench>
-        ensures { result.items ≡ self }
+    /// The benches, and the workers.
+    pub(crate) fn into_parts(self) -> (Vec<Bench>, Crew)
+        ensures benches { result.0.items ≡ self }
+        ensures crew { length self ≡ 2 * result.1 }
     {
-        self.benches
+        let Workspace {
+            benches,
+            cells: _,
+            crew,
+        } = self;
+        (benches, crew)
     }
 }

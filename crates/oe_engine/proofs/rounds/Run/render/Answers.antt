@@ -121,4 +121,5 @@ invariant_of-self g c =
         as_many = length-set benches 0 c.render.new.self ∙ made.as_many;
         each = All-set (IsBenchFor p) benches 0 c.render.new.self c.render.ensures.bench made.each;
       },
+      c.self.invariant.3,
     )

@@ -28,18 +28,25 @@ evaluate_taken-self-inside-requires-clause-loaded g c =
     let count = c.min-count.result in
     let loaded = c.load_taken.new.benches in
     let long : length loaded ≡ length i.benches.items = c.in_ok-load_taken.ensures.many ∙ ap length c.deref_mut.ensures.value in
-    let seen : c.deref_mut-2.result.now ≡ loaded = c.deref_mut-2.ensures.value ∙ with_items_is i.benches loaded long in
+    let seen : (with_items i.benches loaded).items ≡ loaded = with_items_is i.benches loaded long in
     λ κs within. subst (λ (bs : List BenchOf). EachBench i.done (IsAtLoaded p) (take count bs)) (sym seen)
     (λ k b at. (let here = c.in_ok-load_taken.ensures.loaded k b at in record { bench = here.keeps; state = here.state }))
 
-pub evaluate_taken-self-inside-requires-clause-benches : goal.evaluate_taken-self-inside-requires-clause-benches
-evaluate_taken-self-inside-requires-clause-benches g c =
+pub evaluate_taken-self-inside-requires-clause-made : goal.evaluate_taken-self-inside-requires-clause-made
+evaluate_taken-self-inside-requires-clause-made g c =
     let i = c.self.inside in
     let p = i.plan in
     let loaded = c.load_taken.new.benches in
     let long : length loaded ≡ length i.benches.items = c.in_ok-load_taken.ensures.many ∙ ap length c.deref_mut.ensures.value in
-    let seen : c.deref_mut-2.result.now ≡ loaded = c.deref_mut-2.ensures.value ∙ with_items_is i.benches loaded long in
-    λ κs within. subst (All (IsBenchFor p)) (sym seen) c.in_ok-load_taken.ensures.benches
+    λ κs within. subst (AreBenchesFor p) (sym (with_items_is i.benches loaded long))
+    (record { as_many = long ∙ c.self.invariant.2.as_many; each = c.in_ok-load_taken.ensures.benches })
+
+pub evaluate_taken-self-inside-requires-clause-count : goal.evaluate_taken-self-inside-requires-clause-count
+evaluate_taken-self-inside-requires-clause-count g c =
+    let i = c.self.inside in
+    let loaded = c.load_taken.new.benches in
+    let long : length loaded ≡ length i.benches.items = c.in_ok-load_taken.ensures.many ∙ ap length c.deref_mut.ensures.value in
+    λ κs within. omega (arith, c.min-count.ensures, c.len.ensures, i.benches.ok.0, long, ap length (with_items_is i.benches loaded long))
 
 pub write_chunks-requires-clause-done : goal.write_chunks-requires-clause-done
 write_chunks-requires-clause-done g c =
@@ -48,10 +55,10 @@ write_chunks-requires-clause-done g c =
     let count = c.min-count.result in
     let loaded = c.load_taken.new.benches in
     let long : length loaded ≡ length i.benches.items = c.in_ok-load_taken.ensures.many ∙ ap length c.deref_mut.ensures.value in
-    let seen : c.deref_mut-2.result.now ≡ loaded = c.deref_mut-2.ensures.value ∙ with_items_is i.benches loaded long in
-    let done = c.evaluate_taken-self-inside.new.benches in
-    let long_done : length done ≡ length (with_items i.benches loaded).items = c.evaluate_taken-self-inside.ensures.many ∙ ap length c.deref_mut-2.ensures.value in
-    let last : c.deref.result.now ≡ done = c.deref.ensures.value ∙ with_items_is (with_items i.benches loaded) done long_done in
+    let seen : (with_items i.benches loaded).items ≡ loaded = with_items_is i.benches loaded long in
+    let done = c.evaluate_taken-self-inside.new.benches.items in
+    let long_done : length done ≡ 2 * p.workers = c.evaluate_taken-self-inside.ensures.made.as_many in
+    let last : c.deref.result.now ≡ done = c.deref.ensures.value in
     subst (λ (bs : List BenchOf). EachBench i.done (IsAtDone p) (take count bs)) (sym last) c.evaluate_taken-self-inside.ensures.done
 
 pub least_of_chunks-requires-clause-done : goal.least_of_chunks-requires-clause-done
@@ -61,10 +68,10 @@ least_of_chunks-requires-clause-done g c =
     let count = c.min-count.result in
     let loaded = c.load_taken.new.benches in
     let long : length loaded ≡ length i.benches.items = c.in_ok-load_taken.ensures.many ∙ ap length c.deref_mut.ensures.value in
-    let seen : c.deref_mut-2.result.now ≡ loaded = c.deref_mut-2.ensures.value ∙ with_items_is i.benches loaded long in
-    let done = c.evaluate_taken-self-inside.new.benches in
-    let long_done : length done ≡ length (with_items i.benches loaded).items = c.evaluate_taken-self-inside.ensures.many ∙ ap length c.deref_mut-2.ensures.value in
-    let last : c.deref.result.now ≡ done = c.deref.ensures.value ∙ with_items_is (with_items i.benches loaded) done long_done in
+    let seen : (with_items i.benches loaded).items ≡ loaded = with_items_is i.benches loaded long in
+    let done = c.evaluate_taken-self-inside.new.benches.items in
+    let long_done : length done ≡ 2 * p.workers = c.evaluate_taken-self-inside.ensures.made.as_many in
+    let last : c.deref.result.now ≡ done = c.deref.ensures.value in
     subst (λ (bs : List BenchOf). EachBench i.done (IsAtDone p) (take count bs)) (sym last) c.evaluate_taken-self-inside.ensures.done
 
 pub returns-in_err-load_taken-clause-reads : goal.returns-in_err-load_taken-clause-reads
@@ -131,13 +138,13 @@ returns-in_err-write_chunks-clause-writes g c =
     let old = g.P.Store.bytes c.args.spool.now in
     let loaded = c.load_taken.new.benches in
     let long : length loaded ≡ length i.benches.items = c.in_ok-load_taken.ensures.many ∙ ap length c.deref_mut.ensures.value in
-    let seen : c.deref_mut-2.result.now ≡ loaded = c.deref_mut-2.ensures.value ∙ with_items_is i.benches loaded long in
-    let done = c.evaluate_taken-self-inside.new.benches in
-    let long_done : length done ≡ length (with_items i.benches loaded).items = c.evaluate_taken-self-inside.ensures.many ∙ ap length c.deref_mut-2.ensures.value in
-    let last : c.deref.result.now ≡ done = c.deref.ensures.value ∙ with_items_is (with_items i.benches loaded) done long_done in
+    let seen : (with_items i.benches loaded).items ≡ loaded = with_items_is i.benches loaded long in
+    let done = c.evaluate_taken-self-inside.new.benches.items in
+    let long_done : length done ≡ 2 * p.workers = c.evaluate_taken-self-inside.ensures.made.as_many in
+    let last : c.deref.result.now ≡ done = c.deref.ensures.value in
     let new = g.P.Store.bytes c.write_chunks.new.spool in
     let few : count ≤ length c.deref.result.now =
-    omega (arith, c.min-count.ensures, c.len.ensures, i.benches.ok.0, long, long_done, ap length last, ap length (with_items_is i.benches loaded long)) in
+    omega (arith, c.min-count.ensures, c.len.ensures, i.benches.ok.0, c.self.invariant.2.as_many, long_done, ap length last) in
     let benches = take count c.deref.result.now in
     let many : length benches ≡ count = length-take-le count c.deref.result.now few in
     let evaluated = c.evaluate_taken-self-inside.ensures.evaluations in
@@ -158,13 +165,13 @@ returns-clause-writes g c =
     let old = g.P.Store.bytes c.args.spool.now in
     let loaded = c.load_taken.new.benches in
     let long : length loaded ≡ length i.benches.items = c.in_ok-load_taken.ensures.many ∙ ap length c.deref_mut.ensures.value in
-    let seen : c.deref_mut-2.result.now ≡ loaded = c.deref_mut-2.ensures.value ∙ with_items_is i.benches loaded long in
-    let done = c.evaluate_taken-self-inside.new.benches in
-    let long_done : length done ≡ length (with_items i.benches loaded).items = c.evaluate_taken-self-inside.ensures.many ∙ ap length c.deref_mut-2.ensures.value in
-    let last : c.deref.result.now ≡ done = c.deref.ensures.value ∙ with_items_is (with_items i.benches loaded) done long_done in
+    let seen : (with_items i.benches loaded).items ≡ loaded = with_items_is i.benches loaded long in
+    let done = c.evaluate_taken-self-inside.new.benches.items in
+    let long_done : length done ≡ 2 * p.workers = c.evaluate_taken-self-inside.ensures.made.as_many in
+    let last : c.deref.result.now ≡ done = c.deref.ensures.value in
     let new = g.P.Store.bytes c.write_chunks.new.spool in
     let few : count ≤ length c.deref.result.now =
-    omega (arith, c.min-count.ensures, c.len.ensures, i.benches.ok.0, long, long_done, ap length last, ap length (with_items_is i.benches loaded long)) in
+    omega (arith, c.min-count.ensures, c.len.ensures, i.benches.ok.0, c.self.invariant.2.as_many, long_done, ap length last) in
     let benches = take count c.deref.result.now in
     let many : length benches ≡ count = length-take-le count c.deref.result.now few in
     let evaluated = c.evaluate_taken-self-inside.ensures.evaluations in
@@ -191,38 +198,21 @@ invariant_of-self g c =
       c.self.invariant.1,
       subst (AreBenchesFor p) (sym (with_items_is i.benches loaded long))
           (record { as_many = long ∙ c.self.invariant.2.as_many; each = c.in_err-load_taken.ensures.benches }),
+      c.self.invariant.3,
     )
 
 pub invariant_of-self-in_err-write_chunks : goal.invariant_of-self-in_err-write_chunks
-invariant_of-self-in_err-write_chunks g c =
-    let i = c.self.inside in
-    let p = i.plan in
-    let loaded = c.load_taken.new.benches in
-    let long : length loaded ≡ length i.benches.items = c.in_ok-load_taken.ensures.many ∙ ap length c.deref_mut.ensures.value in
-    let done = c.evaluate_taken-self-inside.new.benches in
-    let long_done : length done ≡ length (with_items i.benches loaded).items = c.evaluate_taken-self-inside.ensures.many ∙ ap length c.deref_mut-2.ensures.value in (
-      c.self.invariant.0,
-      c.self.invariant.1,
-      subst (AreBenchesFor p) (sym (with_items_is (with_items i.benches loaded) done long_done))
-          (record {
-            as_many = long_done ∙ (ap length (with_items_is i.benches loaded long) ∙ (long ∙ c.self.invariant.2.as_many));
-            each = c.evaluate_taken-self-inside.ensures.benches;
-          }),
-    )
+invariant_of-self-in_err-write_chunks g c = (
+  c.self.invariant.0,
+  c.self.invariant.1,
+  c.evaluate_taken-self-inside.ensures.made,
+  c.evaluate_taken-self-inside.ensures.crew ∙ c.self.invariant.3,
+)
 
 pub invariant_of-self-2 : goal.invariant_of-self-2
-invariant_of-self-2 g c =
-    let i = c.self.inside in
-    let p = i.plan in
-    let loaded = c.load_taken.new.benches in
-    let long : length loaded ≡ length i.benches.items = c.in_ok-load_taken.ensures.many ∙ ap length c.deref_mut.ensures.value in
-    let done = c.evaluate_taken-self-inside.new.benches in
-    let long_done : length done ≡ length (with_items i.benches loaded).items = c.evaluate_taken-self-inside.ensures.many ∙ ap length c.deref_mut-2.ensures.value in (
-      c.self.invariant.0,
-      omega (arith, c.min-count.ensures, c.chunks.ensures.value, c.self.invariant.1),
-      subst (AreBenchesFor p) (sym (with_items_is (with_items i.benches loaded) done long_done))
-          (record {
-            as_many = long_done ∙ (ap length (with_items_is i.benches loaded long) ∙ (long ∙ c.self.invariant.2.as_many));
-            each = c.evaluate_taken-self-inside.ensures.benches;
-          }),
-    )
+invariant_of-self-2 g c = (
+  c.self.invariant.0,
+  omega (arith, c.min-count.ensures, c.chunks.ensures.value, c.self.invariant.1),
+  c.evaluate_taken-self-inside.ensures.made,
+  c.evaluate_taken-self-inside.ensures.crew ∙ c.self.invariant.3,
+)

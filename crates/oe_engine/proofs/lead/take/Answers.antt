@@ -1,0 +1,16 @@
+use Rattle.std.proofs.Common.{◌≡◌, ◌∙◌, ◌+◌, ◌<◌, ◌∷◌, [], ℕ, List, Option, sym, ap, subst, arith}
+use Rattle.atomic_table.specs.Table.{Allows, rest}
+use Rattle.oe_engine.specs.Views.{At, IsOrderly, gives_up, starts, takes_back}
+use Rattle.oe_engine.specs.declared.table.View.{View}
+use Rattle.oe_engine.specs.declared.table.View.TheVariants.{Leads, Works}
+use Rattle.oe_engine.proofs.RuleLemmas.{can_take}
+use Rattle.oe_engine.proofs.lead.take.Goals as goal
+
+pub load-requires : goal.load-requires
+load-requires c =
+    let key = c.args.shelf.now.key in
+    let holds = c.requires.holds in (
+      c.requires.table,
+      c.requires.words,
+      can_take key c.args.shelf.now.table_id.slots c.args.seat.now.id c.args.seat.now.me holds.lead holds.is holds.calm (omega (arith, holds.held_is, c.requires.left)),
+    )
