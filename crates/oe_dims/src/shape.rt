@@ -31,7 +31,7 @@ pub enum ShapeFault {
 }
 
 /// The dimensions of a cube with their labels, which keep every rule of [`ShapeFault`].
-#[derive(Debug, Drop)]
+#[derive(Debug)]
 pub struct Shape {
     lists: Lists,
 }
@@ -51,6 +51,13 @@ impl Model for Shape {
     ghost view = { λ s. dimensions_of s.lists };
 
     ghost invariant = { λ s. IsShape (dimensions_of s.lists) };
+}
+
+/// Written out, so that a shape that ends is one call wherever it does.
+impl Drop for Shape {
+    fn drop(self) {
+        let Shape { lists: _ } = self;
+    }
 }
 
 impl Shape {
