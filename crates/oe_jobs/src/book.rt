@@ -15,7 +15,6 @@ use oe_memory::OutOfMemory;
 use std::alloc::Global;
 
 /// A stored process of a user.
-#[derive(Drop)]
 pub struct Owned {
     pub user: Text,
     pub process: StoredProcess,
@@ -26,13 +25,32 @@ pub struct Owned {
 /// A valid book (`IsBook`) keeps these rules: the numbers of jobs rise and are below the next one, at most one job
 /// runs, jobs that are queued or running differ in their turns, and the limits of each user hold. Every change that
 /// the calls of this crate give of a valid book makes a valid one.
-#[derive(Drop)]
 pub struct Book {
     /// The number of the next job, and the next turn.
     pub next: u64,
     /// In order of creation.
     pub jobs: Vec<Job>,
     pub processes: Vec<Owned>,
+}
+
+/// Written out, as that of a book, so that such a value ends by one call wherever it does.
+impl Drop for Owned {
+    fn drop(self) {
+        let Owned {
+            user: _,
+            process: _,
+        } = self;
+    }
+}
+
+impl Drop for Book {
+    fn drop(self) {
+        let Book {
+            next: _,
+            jobs: _,
+            processes: _,
+        } = self;
+    }
 }
 
 impl Book {

@@ -5,7 +5,6 @@ use oe_dims::Text;
 use oe_graph::StoredProcess;
 
 /// A command of a user.
-#[derive(Drop)]
 pub enum Command {
     /// A new job.
     Create {
@@ -74,4 +73,30 @@ pub enum Outcome {
 pub struct Verdict {
     pub change: Option<Change>,
     pub outcome: Outcome,
+}
+
+/// Written out, so that a command that ends is one call wherever it does.
+impl Drop for Command {
+    fn drop(self) {
+        match self {
+            Command::Create {
+                title: _,
+                description: _,
+                process: _,
+                level: _,
+            } => {}
+            Command::Patch {
+                id: _,
+                title: _,
+                description: _,
+                process: _,
+                level: _,
+            } => {}
+            Command::Delete { id: _ } => {}
+            Command::Queue { id: _ } => {}
+            Command::Cancel { id: _ } => {}
+            Command::Store { process: _ } => {}
+            Command::Forget { id: _ } => {}
+        }
+    }
 }

@@ -5,7 +5,7 @@ use oe_dims::Text;
 use oe_graph::StoredProcess;
 
 /// An entry of a job's logs.
-#[derive(Debug, Drop)]
+#[derive(Debug)]
 pub struct LogEntry {
     pub level: Level,
     pub code: Option<Text>,
@@ -13,21 +13,19 @@ pub struct LogEntry {
 }
 
 /// A result file of a job: its name, and the text that it holds.
-#[derive(Debug, Drop)]
+#[derive(Debug)]
 pub struct Asset {
     pub name: Text,
     pub text: Text,
 }
 
 /// What a job runs: its process and its user's stored processes, as they were when it was queued.
-#[derive(Drop)]
 pub struct Ran {
     pub process: Text,
     pub stored: Vec<StoredProcess>,
 }
 
 /// A batch job (openEO API, batch jobs).
-#[derive(Drop)]
 pub struct Job {
     /// `j-N`, where N is the number that the job drew.
     pub id: Text,
@@ -48,4 +46,50 @@ pub struct Job {
     pub ran: Option<Ran>,
     pub logs: Vec<LogEntry>,
     pub assets: Vec<Asset>,
+}
+
+/// Written out, as those below, so that such a value ends by one call wherever it does.
+impl Drop for LogEntry {
+    fn drop(self) {
+        let LogEntry {
+            level: _,
+            code: _,
+            message: _,
+        } = self;
+    }
+}
+
+impl Drop for Asset {
+    fn drop(self) {
+        let Asset { name: _, text: _ } = self;
+    }
+}
+
+impl Drop for Ran {
+    fn drop(self) {
+        let Ran {
+            process: _,
+            stored: _,
+        } = self;
+    }
+}
+
+impl Drop for Job {
+    fn drop(self) {
+        let Job {
+            id: _,
+            user: _,
+            title: _,
+            description: _,
+            process: _,
+            status: _,
+            level: _,
+            created: _,
+            updated: _,
+            turn: _,
+            ran: _,
+            logs: _,
+            assets: _,
+        } = self;
+    }
 }
