@@ -8,6 +8,7 @@ ghost use Rattle.oe_order.specs.Order.{IsListing};
 ghost use Rattle.oe_shape.specs.Links.{links_of};
 ghost use Rattle.oe_window.specs.Windows.{extent_along};
 ghost use Rattle.oe_plan.specs.Figures as spec;
+ghost use Rattle.oe_plan.specs.Figures.{side_along};
 ghost use Rattle.oe_plan.specs.Ranges.{AreStepsOf, IsWithinRanges, most_reach};
 
 use oe_dims::{Kind, Shape};
@@ -44,8 +45,19 @@ struct Reach {
     halo: u64,
 }
 
+/// The most indices that a window of a node has along each dimension.
+#[derive(Clone, Copy, Debug, PartialEq, Eq)]
+pub struct Sides {
+    pub t: u32,
+    pub bands: u32,
+    pub y: u32,
+    pub x: u32,
+}
+
 /// The order in which the nodes that the result needs are worked off.
-pub(crate) fn order_of(alloc: Global, checked: &Checked) -> Result<NodeOrder, OutOfMemory>
+///
+/// Refuses: where an allocation was refused, and nowhere else.
+pub fn order_of(alloc: Global, checked: &Checked) -> Result<NodeOrder, OutOfMemory>
     ensures steps { IfOk result (λ o. o.steps ≡ spec.steps_of checked.now) }
     ensures within { IfOk result (λ o. AreStepsOf checked.now o.steps) }
     ensures listing { IfOk result
@@ -72,8 +84,8 @@ fn extent(shape: &Shape, along: Kind) -> u32
     }
 }
 
-/// The largest number of labels along a dimension among the cubes of these nodes, and at least 1.
-fn most_along(checked: &Checked, steps: &[u32], along: Kind) -> u32
+/// The largest number of labels along a dimension among the cubes of a run of these steps, and at least 1.
+pub fn most_along(checked: &Checked, steps: &[u32], along: Kind) -> u32
     requires { AreStepsOf checked.now steps.now }
     ensures value { result ≡ spec.most_along checked.now along }
     ensures most { result ≤ 65536 }
@@ -141,21 +153,22 @@ fn product(t: u32, bands: u32, y: u32, x: u32) -> u128
     u128::from(t) * u128::from(bands) * u128::from(y) * u128::from(x)
 }
 
-/// How many cells the buffers have in a run of these steps with chunks of this size.
-pub(crate) fn sizes_of(checked: &Checked, steps: &[u32], size: ChunkSize) -> Sizes
+/// The most indices that a window has along each dimension in a run of these steps with chunks of this size: all labels
+/// where a node of the run needs the whole side, and else the chunk's, widened by what all kernels reach.
+pub fn sides_of(checked: &Checked, steps: &[u32], size: ChunkSize) -> Sides
     requires steps { AreStepsOf checked.now steps.now }
     requires x { size.x ≤ 4096 }
     requires y { size.y ≤ 4096 }
     requires t { size.t ≤ 4096 }
-    ensures largest { result.largest ≡ spec.largest_window checked.now size }
-    ensures largest_most { result.largest ≤ 18446744073709551616 }
-    ensures scratch { result.scratch ≡ spec.scratch_of checked.now }
-    ensures scratch_most { result.scratch ≤ 131264 }
+    ensures t { result.t ≡ side_along checked.now size Time }
+    ensures bands { result.bands ≡ side_along checked.now size Bands }
+    ensures y { result.y ≡ side_along checked.now size Y }
+    ensures x { result.x ≡ side_along checked.now size X }
+    ensures t_most { result.t ≤ 65536 }
+    ensures bands_most { result.bands ≤ 65536 }
+    ensures y_most { result.y ≤ 65536 }
+    ensures x_most { result.x ≤ 65536 }
 {
-    let t = most_along(checked, steps, Kind::Time);
-    let bands = most_along(checked, steps, Kind::Bands);
-    let y = most_along(checked, steps, Kind::Y);
-    let x = most_along(checked, steps, Kind::X);
     let (halo_x, halo_y) = halos(checked, steps);
     let whole_t = is_whole_along(checked, steps, Kind::Time);
     let whole_y = is_whole_along(checked, steps, Kind::Y);
@@ -172,15 +185,42 @@ pub(crate) fn sizes_of(checked: &Checked, steps: &[u32], size: ChunkSize) -> Siz
         whole: whole_x,
         halo: halo_x,
     };
-    let largest = product(
-        side_with_reach(t, size.t, reach_t),
-        bands,
-        side_with_reach(y, size.y, reach_y),
-        side_with_reach(x, size.x, reach_x),
-    );
+    Sides {
+        t: side_with_reach(most_along(checked, steps, Kind::Time), size.t, reach_t),
+        bands: most_along(checked, steps, Kind::Bands),
+        y: side_with_reach(most_along(checked, steps, Kind::Y), size.y, reach_y),
+        x: side_with_reach(most_along(checked, steps, Kind::X), size.x, reach_x),
+    }
+}
+
+/// How many cells an evaluation of a node needs besides its windows in a run of these steps.
+pub fn scratch_of(checked: &Checked, steps: &[u32]) -> u64
+    requires { AreStepsOf checked.now steps.now }
+    ensures value { result ≡ spec.scratch_of checked.now }
+    ensures most { result ≤ 131264 }
+{
+    let t = most_along(checked, steps, Kind::Time);
+    let bands = most_along(checked, steps, Kind::Bands);
+    let y = most_along(checked, steps, Kind::Y);
+    let x = most_along(checked, steps, Kind::X);
+    2 * u64::from(t.max(bands).max(y.max(x))) + 192
+}
+
+/// How many cells the buffers have in a run of these steps with chunks of this size.
+pub(crate) fn sizes_of(checked: &Checked, steps: &[u32], size: ChunkSize) -> Sizes
+    requires steps { AreStepsOf checked.now steps.now }
+    requires x { size.x ≤ 4096 }
+    requires y { size.y ≤ 4096 }
+    requires t { size.t ≤ 4096 }
+    ensures largest { result.largest ≡ spec.largest_window checked.now size }
+    ensures largest_most { result.largest ≤ 18446744073709551616 }
+    ensures scratch { result.scratch ≡ spec.scratch_of checked.now }
+    ensures scratch_most { result.scratch ≤ 131264 }
+{
+    let sides = sides_of(checked, steps, size);
     Sizes {
-        largest,
-        scratch: 2 * u64::from(t.max(bands).max(y.max(x))) + 192,
+        largest: product(sides.t, sides.bands, sides.y, sides.x),
+        scratch: scratch_of(checked, steps),
     }
 }
 

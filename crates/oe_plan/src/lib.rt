@@ -13,7 +13,7 @@ mod laws;
 mod plan;
 mod windows;
 
-pub use bound::{PlanFigures, figures};
+pub use bound::{PlanFigures, Sides, figures, most_along, order_of, scratch_of, sides_of};
 pub use laws::{plans_cross_threads, plans_fit};
 pub use plan::{Plan, PlanFail};
-pub use windows::windows_of;
+pub use windows::{argument_of, windows_of};

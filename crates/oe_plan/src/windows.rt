@@ -65,8 +65,8 @@ fn argument_count(checked: &Checked, node: u32) -> usize
     links.arguments.len()
 }
 
-/// The argument of a number of a node.
-fn argument_of(checked: &Checked, node: u32, number: usize) -> u32
+/// The node whose cube a node takes as its argument of a number, counted from 0.
+pub fn argument_of(checked: &Checked, node: u32, number: usize) -> u32
     requires node { node < node_count checked.now.nodes }
     requires number { number < length (arguments_of_node checked.now node) }
     ensures value { slice_get (arguments_of_node checked.now node) number ≡ Some result }
