@@ -48,13 +48,47 @@ pub(crate) fn judge_input<I: Source>(
         Err(ReadRefusal::Failed) => return Err(InputRefusal::ReadFault),
         Err(ReadRefusal::OutOfMemory) => return Err(InputRefusal::OutOfMemory),
     };
+    judge_in(alloc, &bytes, catalogue)
+}
+
+/// The graph that the bytes are, expanded and checked over the collections of the catalogue.
+///
+/// Refuses: the least fault, exactly where one stands; out of memory.
+fn judge_in(alloc: Global, bytes: &[u8], catalogue: &Catalogue) -> Result<Checked, InputRefusal>
+    ensures judged { JudgesBytes (dims_of (rows_of seen catalogue.now)) bytes.now result }
+    ensures collections { OnOk result (GivesCollections (rows_of seen catalogue.now)) }
+    ensures found { IfOk result (λ c. AreDimsOf (rows_of seen catalogue.now) c.rows) }
+{
+    match checked_in(alloc, bytes, catalogue) {
+        Ok(checked) => Ok(checked),
+        Err(oe_graph::Refusal::Fault(fault)) => Err(InputRefusal::Graph(fault)),
+        Err(oe_graph::Refusal::OutOfMemory) => Err(InputRefusal::OutOfMemory),
+    }
+}
+
+/// The same, by what the crates below answer. The labels of all collections are copied only for bytes that are a graph.
+fn checked_in(
+    alloc: Global,
+    bytes: &[u8],
+    catalogue: &Catalogue,
+) -> Result<Checked, oe_graph::Refusal>
+    ensures checked { IfOk result (IsCheckedText (dims_of (rows_of seen catalogue.now)) bytes.now) }
+    ensures refused { IfErr result
+        (IsFault (StandsOver (dims_of (rows_of seen catalogue.now)) bytes.now)) }
+    ensures collections { OnOk result (GivesCollections (rows_of seen catalogue.now)) }
+    ensures found { IfOk result (λ c. AreDimsOf (rows_of seen catalogue.now) c.rows) }
+{
+    let graph = match read_graph(alloc, bytes) {
+        Ok(graph) => graph,
+        Err(refusal) => return Err(refusal),
+    };
     let dims = match catalogue.dims() {
         Ok(dims) => dims,
-        Err(_) => return Err(InputRefusal::OutOfMemory),
+        Err(_) => return Err(oe_graph::Refusal::OutOfMemory),
     };
     // A law that the proof rests on: its loop only looks.
     laws::collections_are_valid(catalogue, &dims);
-    judge_bytes(alloc, &bytes, &dims)
+    judge(alloc, &graph, &[], &dims)
 }
 
 /// The graph that the bytes are, expanded and checked over collections.

@@ -9,8 +9,8 @@ returns-clause-judged g c =
     record {
       ends =
           judges (dims_of rows) (g.I.Source.left c.args.input.now) (g.I.Source.faults c.args.input.now) c.in-Ok.bytes.items
-          (g.I.Source.left c.read_input.new.input) (g.I.Source.faults c.read_input.new.input) c.judge_bytes.result c.in-Ok.ensures.read
-          (rw (c.in-Ok-dims.ensures.rows, c.deref.ensures.value) at c.judge_bytes.ensures);
+          (g.I.Source.left c.read_input.new.input) (g.I.Source.faults c.read_input.new.input) c.judge_in.result c.in-Ok.ensures.read
+          (rw (c.deref.ensures.value) at c.judge_in.ensures.judged);
       taken = c.in-Ok.ensures.bounded;
       count = c.in-Ok.ensures.cause.count;
     }
