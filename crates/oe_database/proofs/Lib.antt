@@ -2,3 +2,4 @@ mod Steps
 mod Asks
 mod Lists
 mod NumberLemmas
+mod InsideLemmas

@@ -42,6 +42,10 @@ appends_asset number asset = record {
 abbrev pub sets_next : List ℕ → PlainStatement
 sets_next next = record { text = codes "UPDATE book SET next = ?1"; parameters = Blob next ∷ [] }
 
+-- the tables are those of version 2
+abbrev pub sets_version : PlainStatement
+sets_version = record { text = codes "UPDATE book SET version = 2"; parameters = [] }
+
 -- a job has no entry
 abbrev pub drops_entry : List ℕ → PlainStatement
 drops_entry number = record { text = codes "DELETE FROM jobs WHERE number = ?1"; parameters = Blob number ∷ [] }

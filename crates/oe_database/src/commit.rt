@@ -1,5 +1,5 @@
 // A change of the book, in one transaction.
-ghost use Rattle.std.specs.Prelude.{◌≡◌, IsTrue, OnOk, OnErr};
+ghost use Rattle.std.specs.Prelude.{◌≡◌, IsTrue, OnOk, OnErr, false};
 ghost use Rattle.sqlite.specs.Held.{state};
 ghost use Rattle.sqlite.specs.State.{HasCleanDisk, Survives};
 ghost use Rattle.oe_jobs.specs.Plain.{plain_change};
@@ -28,6 +28,7 @@ pub(crate) fn commit<S: Alter>(
     ensures crash { Survives (state S.Store conn.old) (state S.Store conn.new) (λ trees. (db : _)
         × IsMadeBy S.Store (Makes S.Store (plain_change change.now)) conn.old db
         × (trees ≡ db.trees)) }
+    ensures mode { conn.old.in_transaction ≡ false → conn.new.in_transaction ≡ false }
 {
     if !conn.is_autocommit() {
         return Err(Refusal::Failed);

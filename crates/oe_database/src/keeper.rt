@@ -1,16 +1,17 @@
 // The keeper over a database.
-ghost use Rattle.std.specs.Prelude.{◌≡◌, ◌↔◌, IfOk, IsErrOf, IsTrue, None, OnErr, OnOk};
+ghost use Rattle.std.specs.Prelude.{◌≡◌, ◌↔◌, IfOk, IsErrOf, IsTrue, None, OnErr, OnOk, false};
 ghost use Rattle.sqlite.specs.Held.{state};
 ghost use Rattle.sqlite.specs.State.{HasCleanDisk, Survives};
-ghost use Rattle.oe_outside.specs.Faults.{HasCauseOf, NeverFalls, Rose};
+ghost use Rattle.oe_outside.specs.Faults.{HasCauseOf, NeverFalls, Rose, count_after};
 ghost use Rattle.oe_jobs.specs.Plain.{plain_book, plain_change};
 ghost use Rattle.oe_jobs.specs.Valid.{IsBook};
 ghost use Rattle.oe_database.specs.Each.{IsMadeBy};
+ghost use Rattle.oe_database.specs.Loads.{Loads};
 ghost use Rattle.oe_database.specs.Makes.{Makes};
 
 use crate::commit::commit;
+use crate::load::load;
 use crate::refusal::Refusal;
-use crate::tables::load;
 use oe_jobs::{Book, Change, Keeper, KeeperFail};
 use sqlite::{Alter, Connection};
 use std::alloc::Global;
@@ -57,6 +58,7 @@ impl<S: Alter + Drop> SqliteKeeper<S> {
     /// What a call that was refused answers, counted where it failed.
     fn count(&mut self, refusal: Refusal) -> KeeperFail
         ensures conn { self.new.conn ≡ self.old.conn }
+        ensures counted { self.new.faults ≡ count_after self.old.faults self.new.has_failed }
         ensures count { NeverFalls self.old.faults self.new.faults }
         ensures failed { result ≡ KeeperFail.Failed → Rose self.old.faults self.new.faults }
         ensures last { IsTrue self.new.has_failed ↔ result ≡ KeeperFail.Failed }
@@ -82,11 +84,24 @@ impl<S: Alter + Drop> Keeper for SqliteKeeper<S> {
 
     ghost has_failed = { λ k. k.has_failed };
 
-    /// The book of the database. A new one gets its tables, and one of version 1 is written anew as version 2.
+    /// The book of the database, read in one transaction. A new database gets its tables, and one of version 1 is
+    /// written anew as version 2. Over a disk that gives back what was written, an Ok has the book that the rows of the
+    /// queries are, and leaves the database that the statements of this make; a refusal leaves the one before, where
+    /// the connection is still open; and a crash in the call leaves one of the two.
     ///
     /// Refuses: `Failed` where the database refuses, or a row or the book is not valid; out of memory.
     fn load(&mut self) -> Result<Book, KeeperFail>
         ensures valid { IfOk result (λ b. IsBook (plain_book b)) }
+        ensures all { HasCleanDisk (state S.Store self.new.conn) → IfOk result (λ b. IsMadeBy S.Store
+            (Loads S.Store (plain_book b)) self.old.conn (state S.Store self.new.conn).committed) }
+        ensures none { HasCleanDisk (state S.Store self.new.conn)
+            → IsTrue (state S.Store self.new.conn).is_open → OnErr result
+            ((state S.Store self.new.conn).committed ≡ (state S.Store self.old.conn).committed) }
+        ensures crash { Survives (state S.Store self.old.conn) (state S.Store self.new.conn)
+            (λ trees. (b : _) × (db : _) × IsMadeBy S.Store (Loads S.Store b) self.old.conn db
+            × (trees ≡ db.trees)) }
+        ensures mode { self.old.conn.in_transaction ≡ false → self.new.conn.in_transaction ≡ false }
+        ensures counted { self.new.faults ≡ count_after self.old.faults self.new.has_failed }
         ensures cause { HasCauseOf KeeperFail.Failed self.old.faults self.new.faults result }
         ensures last { IsTrue self.new.has_failed ↔ IsErrOf result KeeperFail.Failed }
     {
@@ -118,6 +133,8 @@ impl<S: Alter + Drop> Keeper for SqliteKeeper<S> {
             (λ trees. (db : _)
             × IsMadeBy S.Store (Makes S.Store (plain_change change.now)) self.old.conn db
             × (trees ≡ db.trees)) }
+        ensures mode { self.old.conn.in_transaction ≡ false → self.new.conn.in_transaction ≡ false }
+        ensures counted { self.new.faults ≡ count_after self.old.faults self.new.has_failed }
         ensures cause { HasCauseOf KeeperFail.Failed self.old.faults self.new.faults result }
         ensures last { IsTrue self.new.has_failed ↔ IsErrOf result KeeperFail.Failed }
     {

@@ -6,9 +6,12 @@
 
 mod commit;
 mod held;
+mod jobs;
 mod keeper;
+mod load;
 mod make;
 mod number;
+mod queries;
 mod refusal;
 mod rows;
 mod run;

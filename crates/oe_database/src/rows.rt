@@ -1,39 +1,45 @@
-// Rows of the tables, as jobs and stored processes.
+// Rows of the tables, as jobs, assets and stored processes.
+ghost use Rattle.std.specs.Prelude.{◌≡◌, IfOk, map};
+ghost use Rattle.sqlite_value.specs.Order.{column};
+ghost use Rattle.sqlite_value.specs.declared.value.Value.TheVariants.{Blob, Text as text_value};
+ghost use Rattle.oe_graph.specs.Plain.{plain_stored};
+ghost use Rattle.oe_graph.specs.Read.{ReadsStored};
+ghost use Rattle.oe_jobs.specs.Plain.{plain_job, plain_owned};
+ghost use Rattle.oe_database.specs.Loads.{AreCount, AreEach, AreHead, IsAssetRow, IsJobRow, IsProcessRow};
+ghost use Rattle.oe_database.specs.Statements.{number_bytes};
+
 use crate::refusal::Refusal;
 use oe_dims::Text;
 use oe_graph::{Refusal as Unread, StoredProcess, read_stored};
 use oe_jobs::{Asset, Job, Owned, job_id};
 use oe_keeper::read_job;
-use sqlite::{Alter, Connection, Row};
+use sqlite::Row;
 use std::alloc::Global;
 
-/// Reads all jobs, without their assets, by their numbers.
-pub(crate) fn read_jobs<S: Alter>(
-    alloc: Global,
-    conn: &mut Connection<S>,
-) -> Result<Vec<Job>, Refusal> {
-    let mut jobs = Vec::new(alloc);
-    let mut rows = conn.query("SELECT number, entry FROM jobs ORDER BY number", &[])?;
-    for _ in 0..u64::MAX {
-        let Some(row) = rows.next()? else {
-            break;
-        };
-        jobs.push(job_in(alloc, &row)?)?;
+/// The number of the one row. Refuses: other rows.
+pub(crate) fn count_in(rows: &[Row]) -> Result<i64, Refusal>
+    ensures { IfOk result (AreCount rows.now) }
+{
+    match rows {
+        [row] => Ok(row.get(0)?),
+        _ => Err(Refusal::Failed),
     }
-    Ok(jobs)
 }
 
-fn job_in(alloc: Global, row: &Row) -> Result<Job, Refusal> {
-    let id = job_id(alloc, number_in(row, 0)?)?;
-    let entry: Vec<u8> = row.get(1)?;
-    match read_job(alloc, &id, &entry)? {
-        Some(job) => Ok(job),
-        None => Err(Refusal::Failed),
+/// The version and the next number of the one row. Refuses: other rows; out of memory.
+pub(crate) fn head_in(rows: &[Row]) -> Result<(i64, u64), Refusal>
+    ensures { IfOk result (λ r. AreHead rows.now r.0 r.1) }
+{
+    match rows {
+        [row] => Ok((row.get(0)?, number_in(row, 1)?)),
+        _ => Err(Refusal::Failed),
     }
 }
 
 /// A number, as the tables have it: 8 bytes, highest first.
-pub(crate) fn number_in(row: &Row, at: usize) -> Result<u64, Refusal> {
+fn number_in(row: &Row, at: usize) -> Result<u64, Refusal>
+    ensures { IfOk result (λ n. column row.now at ≡ Blob (number_bytes n)) }
+{
     let bytes: Vec<u8> = row.get(at)?;
     match <[u8; 8]>::try_from(bytes.as_slice()) {
         Ok(bytes) => Ok(u64::from_be_bytes(bytes)),
@@ -41,101 +47,89 @@ pub(crate) fn number_in(row: &Row, at: usize) -> Result<u64, Refusal> {
     }
 }
 
-/// Reads all assets into the jobs, which stand by their numbers as the rows do.
-pub(crate) fn read_assets<S: Alter>(
-    alloc: Global,
-    conn: &mut Connection<S>,
-    jobs: &mut Vec<Job>,
-) -> Result<(), Refusal> {
-    let mut at: usize = 0;
-    let mut rows = conn.query(
-        "SELECT number, place, name, body FROM assets ORDER BY number, place",
-        &[],
-    )?;
-    for _ in 0..u64::MAX {
-        let Some(row) = rows.next()? else {
-            break;
-        };
-        at = job_from(jobs, at, number_in(&row, 0)?)?;
-        add_asset(alloc, jobs, at, &row)?;
-    }
-    Ok(())
-}
-
-/// The index of the job of a number, from an index on.
-fn job_from(jobs: &Vec<Job>, from: usize, number: u64) -> Result<usize, Refusal> {
-    for at in from..jobs.len() {
-        if jobs[at].number() == Some(number) {
-            return Ok(at);
-        }
-    }
-    Err(Refusal::Failed)
-}
-
-/// Adds the asset of a row to a job, at the place that the row says.
-fn add_asset(alloc: Global, jobs: &mut Vec<Job>, at: usize, row: &Row) -> Result<(), Refusal> {
-    let place: i64 = row.get(1)?;
-    let asset = asset_in(alloc, row)?;
-    match jobs.get_mut(at) {
-        Some(job) => push_at(job, place, asset),
+/// The number of the job of a row, and the job without its assets. Refuses: what is not valid; out of memory.
+pub(crate) fn job_in(alloc: Global, row: &Row) -> Result<(u64, Job), Refusal>
+    ensures { IfOk result (λ r. IsJobRow row.now r.0 (plain_job r.1)) }
+{
+    let number = number_in(row, 0)?;
+    let entry: Vec<u8> = row.get(1)?;
+    match read_job(alloc, &job_id(alloc, number)?, &entry)? {
+        Some(job) => Ok((number, job)),
         None => Err(Refusal::Failed),
     }
 }
 
-fn asset_in(alloc: Global, row: &Row) -> Result<Asset, Refusal> {
-    let name: String = row.get(2)?;
-    let body: Vec<u8> = row.get(3)?;
+/// The assets of rows, at their places. Refuses: what is not valid; out of memory.
+pub(crate) fn assets_in(alloc: Global, rows: &[Row]) -> Result<Vec<Asset>, Refusal>
+    ensures { IfOk result (λ v. AreEach IsAssetRow 0 rows.now v.items) }
+{
+    let mut assets = Vec::new(alloc);
+    for row in rows {
+        let asset = asset_in(alloc, row, assets.len())?;
+        assets.push(asset)?;
+    }
+    Ok(assets)
+}
+
+fn asset_in(alloc: Global, row: &Row, place: usize) -> Result<Asset, Refusal>
+    ensures { IfOk result (IsAssetRow place row.now) }
+{
+    let stored: u64 = row.get(0)?;
+    if stored != place as u64 {
+        return Err(Refusal::Failed);
+    }
     Ok(Asset {
-        name: Text::of(alloc, name.as_str())?,
-        text: text_in(alloc, &body)?,
+        name: word_in(alloc, row, 1)?,
+        text: body_in(alloc, row, 2)?,
     })
 }
 
-fn text_in(alloc: Global, bytes: &[u8]) -> Result<Text, Refusal> {
-    match str::from_utf8(bytes) {
+/// The text of a column.
+fn word_in(alloc: Global, row: &Row, at: usize) -> Result<Text, Refusal>
+    ensures { IfOk result (λ text. column row.now at ≡ text_value text) }
+{
+    let text: String = row.get(at)?;
+    Ok(Text::of(alloc, text.as_str())?)
+}
+
+/// The text that the bytes of a column are.
+fn body_in(alloc: Global, row: &Row, at: usize) -> Result<Text, Refusal>
+    ensures { IfOk result (λ text. column row.now at ≡ Blob text) }
+{
+    let bytes: Vec<u8> = row.get(at)?;
+    match str::from_utf8(&bytes) {
         Ok(text) => Ok(Text::of(alloc, text)?),
         Err(_) => Err(Refusal::Failed),
     }
 }
 
-fn push_at(job: &mut Job, place: i64, asset: Asset) -> Result<(), Refusal> {
-    if i64::try_from(job.assets.len()) != Ok(place) {
-        return Err(Refusal::Failed);
-    }
-    job.assets.push(asset)?;
-    Ok(())
-}
-
-/// Reads all stored processes, by their users and ids.
-pub(crate) fn read_processes<S: Alter>(
-    alloc: Global,
-    conn: &mut Connection<S>,
-) -> Result<Vec<Owned>, Refusal> {
+/// The stored processes of rows. Refuses: what is not valid; out of memory.
+pub(crate) fn processes_in(alloc: Global, rows: &[Row]) -> Result<Vec<Owned>, Refusal>
+    ensures { IfOk result (λ v. AreEach IsProcessRow 0 rows.now (map plain_owned v.items)) }
+{
     let mut processes = Vec::new(alloc);
-    let mut rows = conn.query(
-        "SELECT owner, id, body FROM processes ORDER BY owner, id",
-        &[],
-    )?;
-    for _ in 0..u64::MAX {
-        let Some(row) = rows.next()? else {
-            break;
-        };
-        processes.push(owned_in(alloc, &row)?)?;
+    for row in rows {
+        let owned = owned_in(alloc, row)?;
+        processes.push(owned)?;
     }
     Ok(processes)
 }
 
-fn owned_in(alloc: Global, row: &Row) -> Result<Owned, Refusal> {
-    let user: String = row.get(0)?;
+fn owned_in(alloc: Global, row: &Row) -> Result<Owned, Refusal>
+    ensures { IfOk result (λ owned. (place : _) → IsProcessRow place row.now (plain_owned owned)) }
+{
+    let user = word_in(alloc, row, 0)?;
     let id: String = row.get(1)?;
     let body: Vec<u8> = row.get(2)?;
     Ok(Owned {
-        user: Text::of(alloc, user.as_str())?,
+        user,
         process: stored_in(alloc, id.as_str(), &body)?,
     })
 }
 
-fn stored_in(alloc: Global, id: &str, text: &[u8]) -> Result<StoredProcess, Refusal> {
+fn stored_in(alloc: Global, id: &str, text: &[u8]) -> Result<StoredProcess, Refusal>
+    ensures { IfOk result (λ process. ReadsStored id.now text.now (plain_stored process)) }
+{
     match read_stored(alloc, id, text) {
         Ok(process) => Ok(process),
         Err(Unread::Fault(_)) => Err(Refusal::Failed),
