@@ -17,7 +17,6 @@ use sqlite::{Alter, Connection};
 use std::alloc::Global;
 
 /// A keeper of a job book over a database. Its book is not visible.
-#[derive(Drop)]
 pub struct SqliteKeeper<S: Alter> {
     conn: Connection<S>,
     alloc: Global,
@@ -25,7 +24,19 @@ pub struct SqliteKeeper<S: Alter> {
     has_failed: bool,
 }
 
-impl<S: Alter + Drop> SqliteKeeper<S> {
+/// Written out, so that a keeper that ends is one call wherever it does.
+impl<S: Alter + Drop> Drop for SqliteKeeper<S> {
+    fn drop(self) {
+        let SqliteKeeper {
+            conn: _,
+            alloc: _,
+            faults: _,
+            has_failed: _,
+        } = self;
+    }
+}
+
+impl<S: Alter> SqliteKeeper<S> {
     /// A keeper over an open database, which is not looked at before the first call.
     pub fn new(alloc: Global, conn: Connection<S>) -> SqliteKeeper<S>
         ensures conn { result.conn ≡ conn }
@@ -51,7 +62,12 @@ impl<S: Alter + Drop> SqliteKeeper<S> {
     pub fn into_connection(self) -> Connection<S>
         ensures { result ≡ self.conn }
     {
-        let SqliteKeeper { conn, .. } = self;
+        let SqliteKeeper {
+            conn,
+            alloc: _,
+            faults: _,
+            has_failed: _,
+        } = self;
         conn
     }
 
@@ -77,7 +93,7 @@ impl<S: Alter + Drop> SqliteKeeper<S> {
     }
 }
 
-impl<S: Alter + Drop> Keeper for SqliteKeeper<S> {
+impl<S: Alter> Keeper for SqliteKeeper<S> {
     ghost kept = { λ k. None };
 
     ghost faults = { λ k. k.faults };
