@@ -1,0 +1,4 @@
+pub mod Queries
+pub mod Pages
+pub mod Estimates
+pub mod Laws
