@@ -1,3 +1,4 @@
+mod Catalogue
 mod Floats
 mod Moments
 mod PlainErrors

@@ -1,17 +1,17 @@
 // Collections, with and without their dimensions.
-ghost use Rattle.std.specs.Prelude.{◌≡◌, [], ◌∷◌, IfOk, map};
+ghost use Rattle.std.specs.Prelude.{◌≡◌, [], ◌∷◌, IfOk, false, map};
 ghost use Rattle.std.specs.Option.{option_copied, option_map};
 ghost use Rattle.serde_json.specs.Data.{object};
 ghost use Rattle.serde_json.specs.View.{members_view, view};
-ghost use Rattle.serde_json.specs.Written.{compact_text};
+ghost use Rattle.serde_json.specs.Written.{compact_text, has_float};
 ghost use Rattle.oe_dims.specs.Dimensions.{number_labels};
 ghost use Rattle.oe_dims.specs.declared.kind.Kind.TheVariants as Kind;
 ghost use Rattle.oe_replies.specs.Collections as spec;
 ghost use Rattle.oe_replies.specs.Json.{list_data, moment_data, whole_data};
 
-use crate::json::{compact_body, empty_list, listing_json, put_where, single, str_json};
 use crate::moment::moment_json;
 use crate::root::text_values;
+use crate::values::{compact_body, empty_list, listing_json, put_where, single, str_json};
 use oe_dims::{Dims, DimsRow, Kind, Shape};
 use oe_memory::OutOfMemory;
 use serde_json::{Map, Value, put};
@@ -20,13 +20,23 @@ use std::alloc::Global;
 /// The mounted collections, without their dimensions (openEO API, collections).
 ///
 /// Refuses: out of memory.
-#[tactic(auto, using(crate::proofs::Floats::collections_whole))]
 pub fn collections_body(alloc: Global, dims: &Dims) -> Result<Vec<u8>, OutOfMemory>
     ensures { IfOk result
         (λ body. body.items ≡ compact_text (spec.collections_data dims.now.rows.items)) }
 {
-    let value = collections_json(alloc, &dims.rows)?;
+    let value = collections_list(alloc, dims)?;
     compact_body(alloc, &value)
+}
+
+/// The same before it is written, of which a page may be taken.
+///
+/// Refuses: out of memory.
+#[tactic(auto, using(crate::proofs::Floats::collections_whole))]
+pub fn collections_list(alloc: Global, dims: &Dims) -> Result<Value, OutOfMemory>
+    ensures list { IfOk result (λ v. view v ≡ spec.collections_data dims.now.rows.items) }
+    ensures whole { IfOk result (λ v. has_float (view v) ≡ false) }
+{
+    collections_json(alloc, &dims.rows)
 }
 
 fn collections_json(alloc: Global, rows: &[DimsRow]) -> Result<Value, OutOfMemory>

@@ -9,8 +9,8 @@ ghost use Rattle.oe_jobs.specs.Texts.{status_text};
 ghost use Rattle.oe_jobs.specs.Verdicts.{is_job_of};
 ghost use Rattle.oe_replies.specs.Jobs as spec;
 
-use crate::json::{compact_body, listing_json, put_where, str_json, words_json};
 use crate::moment::moment_json;
+use crate::values::{compact_body, listing_json, put_where, str_json, words_json};
 use oe_jobs::{Book, Job};
 use oe_memory::OutOfMemory;
 use serde_json::{Map, Value, put};
@@ -90,13 +90,23 @@ fn process_json(alloc: Global, text: &str) -> Result<Value, OutOfMemory>
 /// The jobs of a user, in order of creation, without their descriptions and processes (openEO API, batch jobs).
 ///
 /// Refuses: out of memory.
-#[tactic(auto, using(crate::proofs::Floats::jobs_whole))]
 pub fn jobs_body(alloc: Global, book: &Book, user: &str) -> Result<Vec<u8>, OutOfMemory>
     ensures { IfOk result
         (λ body. body.items ≡ compact_text (spec.jobs_data (plain_book book.now) user.now)) }
 {
-    let value = jobs_json(alloc, book, user)?;
+    let value = jobs_list(alloc, book, user)?;
     compact_body(alloc, &value)
+}
+
+/// The same before it is written, of which a page may be taken.
+///
+/// Refuses: out of memory.
+#[tactic(auto, using(crate::proofs::Floats::jobs_whole))]
+pub fn jobs_list(alloc: Global, book: &Book, user: &str) -> Result<Value, OutOfMemory>
+    ensures list { IfOk result (λ v. view v ≡ spec.jobs_data (plain_book book.now) user.now) }
+    ensures whole { IfOk result (λ v. has_float (view v) ≡ false) }
+{
+    jobs_json(alloc, book, user)
 }
 
 fn jobs_json(alloc: Global, book: &Book, user: &str) -> Result<Value, OutOfMemory>

@@ -6,7 +6,7 @@ ghost use Rattle.serde_json.specs.View.{view};
 ghost use Rattle.serde_json.specs.Written.{compact_text};
 ghost use Rattle.oe_replies.specs.Logs as spec;
 
-use crate::json::{compact_body, listing_json, put_where, str_json, words_json};
+use crate::values::{compact_body, listing_json, put_where, str_json, words_json};
 use oe_jobs::{Level, LogEntry};
 use oe_memory::OutOfMemory;
 use serde_json::{Map, Value, put};

@@ -6,7 +6,7 @@ ghost use Rattle.oe_dims.specs.Dimensions.{first_instant, last_instant};
 ghost use Rattle.oe_dims.specs.Instant.{instant_text};
 ghost use Rattle.oe_replies.specs.Json as spec;
 
-use crate::json::str_json;
+use crate::values::str_json;
 use oe_dims::{is_instant, print_instant};
 use oe_memory::OutOfMemory;
 use serde_json::Value;

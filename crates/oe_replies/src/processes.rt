@@ -1,14 +1,14 @@
 // Processes: those of the catalogue, and those that a user has stored.
-ghost use Rattle.std.specs.Prelude.{◌≡◌, IfOk, map};
+ghost use Rattle.std.specs.Prelude.{◌≡◌, IfOk, false, map};
 ghost use Rattle.serde_json.specs.View.{view};
-ghost use Rattle.serde_json.specs.Written.{compact_text};
+ghost use Rattle.serde_json.specs.Written.{compact_text, has_float};
 ghost use Rattle.oe_graph.specs.Catalogue.{processes_data};
 ghost use Rattle.oe_jobs.specs.Plain.{plain_book};
 ghost use Rattle.oe_jobs.specs.Verdicts.{stored_of};
 ghost use Rattle.oe_replies.specs.Jobs as spec;
 
 use crate::job::is_same;
-use crate::json::{compact_body, listing_json, single, str_json};
+use crate::values::{compact_body, listing_json, single, str_json};
 use oe_graph::processes_text;
 use oe_jobs::Book;
 use oe_memory::OutOfMemory;
@@ -25,16 +25,43 @@ pub fn processes_body(alloc: Global) -> Result<Vec<u8>, OutOfMemory>
     Ok(Vec::from_slice(alloc, text.as_str().as_bytes())?)
 }
 
+/// The same before it is written, of which a page may be taken: the text of the catalogue is read again.
+///
+/// Refuses: out of memory.
+#[tactic(auto, using(crate::proofs::Catalogue::catalogue_whole, crate::proofs::Catalogue::is_catalogue, crate::proofs::Catalogue::is_read))]
+pub fn processes_list(alloc: Global) -> Result<Value, OutOfMemory>
+    ensures list { IfOk result (λ v. view v ≡ processes_data) }
+    ensures whole { IfOk result (λ v. has_float (view v) ≡ false) }
+{
+    let text = processes_text(alloc)?;
+    match Value::from_str(alloc, text.as_str()) {
+        Ok(value) => Ok(value),
+        Err(error) if error.is_memory() => Err(OutOfMemory),
+        Err(_) => unreachable!(),
+    }
+}
+
 /// The ids of the processes that a user has stored, in byte order (openEO API, user-defined processes).
 ///
 /// Refuses: out of memory.
-#[tactic(auto, using(crate::proofs::Floats::stored_whole))]
 pub fn stored_list_body(alloc: Global, book: &Book, user: &str) -> Result<Vec<u8>, OutOfMemory>
     ensures { IfOk result (λ body. body.items
         ≡ compact_text (spec.stored_list_data (plain_book book.now) user.now)) }
 {
-    let value = stored_list_json(alloc, book, user)?;
+    let value = stored_list(alloc, book, user)?;
     compact_body(alloc, &value)
+}
+
+/// The same before it is written, of which a page may be taken.
+///
+/// Refuses: out of memory.
+#[tactic(auto, using(crate::proofs::Floats::stored_whole))]
+pub fn stored_list(alloc: Global, book: &Book, user: &str) -> Result<Value, OutOfMemory>
+    ensures list { IfOk result
+        (λ v. view v ≡ spec.stored_list_data (plain_book book.now) user.now) }
+    ensures whole { IfOk result (λ v. has_float (view v) ≡ false) }
+{
+    stored_list_json(alloc, book, user)
 }
 
 fn stored_list_json(alloc: Global, book: &Book, user: &str) -> Result<Value, OutOfMemory>

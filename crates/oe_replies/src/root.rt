@@ -5,7 +5,7 @@ ghost use Rattle.serde_json.specs.View.{view};
 ghost use Rattle.serde_json.specs.Written.{compact_text};
 ghost use Rattle.oe_replies.specs.Bodies as spec;
 
-use crate::json::{compact_body, empty_list, single, str_json};
+use crate::values::{compact_body, empty_list, single, str_json};
 use oe_dims::Text;
 use oe_memory::OutOfMemory;
 use serde_json::{Map, Value, put};

@@ -2,6 +2,7 @@ mod AskedLemmas
 mod CommandLemmas
 mod FormLemmas
 mod FoundLemmas
+mod ListLemmas
 mod NamedLemmas
 mod PhraseLemmas
 mod QueryLemmas

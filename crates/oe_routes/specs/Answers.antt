@@ -23,6 +23,7 @@ use Rattle.oe_jobs.specs.declared.job.LogEntry.{LogEntry}
 use Rattle.oe_jobs.specs.declared.status.Status.{Status}
 use Rattle.oe_jobs.specs.declared.status.Status.TheVariants as status
 use Rattle.oe_judge.specs.Judged.{checked_over}
+use Rattle.oe_pages.specs.Pages.{paged_text}
 use Rattle.oe_replies.specs.Answers.{created_reply, empty_reply, failed_reply, refused_reply, stored_reply}
 use Rattle.oe_replies.specs.Bodies.{capabilities_data, conformance_data, file_formats_data, validation_data, versions_data}
 use Rattle.oe_replies.specs.Collections.{collection_data, collections_data}
@@ -36,7 +37,7 @@ use Rattle.oe_routes.specs.Codes.{code_of_fault}
 use Rattle.oe_routes.specs.Forms.{faultless, graph_in}
 use Rattle.oe_routes.specs.Found.{Found}
 use Rattle.oe_routes.specs.Paths.{id_in, name_in}
-use Rattle.oe_routes.specs.Queries.{logs_asked}
+use Rattle.oe_routes.specs.Queries.{coded, logs_asked}
 use Rattle.oe_routes.specs.Rejections.{Rejected, reject, plainly, ◌>>=◌}
 use Rattle.oe_routes.specs.Scenes.{PlainScene}
 use Rattle.oe_routes.specs.Sent.{changes_sent, graph_sent, job_sent, process_sent, validated}
@@ -49,6 +50,12 @@ use Rattle.oe_routes.specs.declared.table.Operation.TheVariants as ops
 
 abbrev pub shown : Data → PlainAction
 shown body = answer (json_reply 200 (compact_text body))
+
+-- the list that a body has: whole, or the page that the query asks for
+abbrev pub listed : PlainScene → PlainRequest → Data → Result PlainAction Rejected
+listed s r body =
+    plainly (coded (paged_text s.base r.path r.query body)) >>= λ text.
+    Ok (answer (json_reply 200 text))
 
 -- ---- the named object
 
@@ -150,11 +157,11 @@ perform s f user r ops.ShowCapabilities = Ok (shown (capabilities_data (map endp
 perform s f user r ops.ShowVersions = Ok (shown (versions_data s.base))
 perform s f user r ops.ShowConformance = Ok (shown conformance_data)
 perform s f user r ops.ListFileFormats = Ok (shown file_formats_data)
-perform s f user r ops.ListCollections = Ok (shown (collections_data s.rows))
+perform s f user r ops.ListCollections = listed s r (collections_data s.rows)
 perform s f user r ops.ShowCollection =
     named_row s.rows (id_in r.path) >>= λ row.
     Ok (shown (collection_data row))
-perform s f user r ops.ListProcesses = Ok (shown processes_data)
+perform s f user r ops.ListProcesses = listed s r processes_data
 perform s f user r ops.Validate =
     validated (f.in_bytes r.body) (f.judged (stored_of user s.book) (graph_in (unwrap_or (f.json r.body) null)))
     >>= λ fault. Ok (shown (validation_data fault))
@@ -162,7 +169,7 @@ perform s f user r ops.RunNow =
     graph_sent f r.body >>= λ g.
     sound s f user g >>= λ is_sound.
     Ok (run_now (checked_over s.rows (stored_of user s.book) g))
-perform s f user r ops.ListJobs = Ok (shown (jobs_data s.book user))
+perform s f user r ops.ListJobs = listed s r (jobs_data s.book user)
 perform s f user r ops.CreateJob =
     job_sent f r.body >>= λ new.
     commanded s user (create new.title new.description new.process new.level)
@@ -192,7 +199,7 @@ perform s f user r ops.SendAsset =
     if has
     then (named_asset job.assets (name_in r.path) >>= λ asset. Ok (send_asset (Some asset.text)))
     else Ok (failed job)
-perform s f user r ops.ListStored = Ok (shown (stored_list_data s.book user))
+perform s f user r ops.ListStored = listed s r (stored_list_data s.book user)
 perform s f user r ops.ShowStored =
     named_process s.book user (id_in r.path) >>= λ owned.
     Ok (answer (json_reply 200 owned.process.text))

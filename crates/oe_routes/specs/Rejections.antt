@@ -3,8 +3,10 @@ use Rattle.std.specs.Prelude.{◌≡◌, ℕ, List, [], Option, Some, Result, Ok
 use Rattle.oe_graph.specs.declared.fault.Fault.{Fault}
 use Rattle.oe_graph.specs.declared.fault.Refusal as graphs
 use Rattle.oe_graph.specs.declared.fault.Refusal.TheVariants as graph
+use Rattle.oe_pages.specs.declared.query.QueryFail.{QueryFail}
+use Rattle.oe_pages.specs.declared.query.QueryFail.TheVariants as query
 use Rattle.oe_replies.specs.declared.code.ReplyCode.{ReplyCode}
-use Rattle.oe_replies.specs.declared.code.ReplyCode.TheVariants.{Graph}
+use Rattle.oe_replies.specs.declared.code.ReplyCode.TheVariants.{Graph, QueryInvalid}
 use Rattle.oe_routes.specs.declared.refusal.Refusal.{Refusal}
 use Rattle.oe_routes.specs.declared.refusal.Refusal.TheVariants as refusal
 use Rattle.oe_routes.specs.declared.refusal.Rejection.{Rejection}
@@ -49,6 +51,11 @@ Rejects (rejection.Fault fault) step = step ≡ Err (of_fault fault)
 abbrev pub Settles : {X Y : Type 0} → (X → Y) → Result X Rejection → Result Y Rejected → Type 0
 Settles view (Ok x) step = step ≡ Ok (view x)
 Settles view (Err e) step = Rejects e step
+
+-- a failure of a query
+abbrev pub refusal_of : QueryFail → Refusal
+refusal_of query.OutOfMemory = refusal.OutOfMemory
+refusal_of query.Invalid = refusal.Code QueryInvalid
 
 -- a refusal with a code alone
 abbrev pub rejection_of : Refusal → Rejection

@@ -19,6 +19,7 @@ use crate::command::{
     cancel_action, create_action, delete_action, forget_action, patch_action, store_action,
 };
 use crate::judged::{queue_action, run_action, validation_reply};
+use crate::lists::{list_collections, list_jobs, list_processes, list_stored};
 use crate::refusal::Rejection;
 use crate::results::{asset_action, results_reply};
 use crate::shown::{
@@ -28,10 +29,7 @@ use crate::table::Operation;
 use oe_dims::Text;
 use oe_http::{Request, Response};
 use oe_memory::OutOfMemory;
-use oe_replies::{
-    collections_body, conformance_body, file_formats_body, jobs_body, processes_body,
-    stored_list_body, versions_body,
-};
+use oe_replies::{conformance_body, file_formats_body, versions_body};
 use std::alloc::Global;
 
 /// What an operation does for a user: the form of the body or the query, then the thing that is named, then the command.
@@ -54,12 +52,12 @@ pub(crate) fn perform(
         Operation::ShowVersions => show(versions_body(alloc, base)),
         Operation::ShowConformance => show(conformance_body(alloc)),
         Operation::ListFileFormats => show(file_formats_body(alloc)),
-        Operation::ListCollections => show(collections_body(alloc, scene.dims)),
+        Operation::ListCollections => list_collections(alloc, request, scene),
         Operation::ShowCollection => action_of(collection_reply(alloc, request, scene)),
-        Operation::ListProcesses => show(processes_body(alloc)),
+        Operation::ListProcesses => list_processes(alloc, request, scene),
         Operation::Validate => action_of(validation_reply(alloc, request, user, scene)),
         Operation::RunNow => run_action(alloc, request, user, scene),
-        Operation::ListJobs => show(jobs_body(alloc, scene.book, user.as_str())),
+        Operation::ListJobs => list_jobs(alloc, request, user, scene),
         Operation::CreateJob => create_action(alloc, request, user, scene),
         Operation::ShowJob => action_of(job_reply(alloc, request, user, scene)),
         Operation::PatchJob => patch_action(alloc, request, user, scene),
@@ -69,7 +67,7 @@ pub(crate) fn perform(
         Operation::CancelJob => cancel_action(alloc, request, user, scene),
         Operation::ShowResults => action_of(results_reply(alloc, request, user, scene)),
         Operation::SendAsset => asset_action(alloc, request, user, scene),
-        Operation::ListStored => show(stored_list_body(alloc, scene.book, user.as_str())),
+        Operation::ListStored => list_stored(alloc, request, user, scene),
         Operation::ShowStored => action_of(process_reply(alloc, request, user, scene)),
         Operation::StoreProcess => store_action(alloc, request, user, scene),
         Operation::ForgetProcess => forget_action(alloc, request, user, scene),

@@ -1,11 +1,12 @@
 // Why a step of a request is refused.
 ghost use Rattle.std.specs.Prelude.{◌≡◌};
-ghost use Rattle.oe_routes.specs.Rejections.{rejection_of, rejection_of_graph};
+ghost use Rattle.oe_routes.specs.Rejections.{refusal_of, rejection_of, rejection_of_graph};
 ghost use Rattle.oe_routes.specs.declared.refusal.Refusal.TheVariants as refusal;
 ghost use Rattle.oe_routes.specs.declared.refusal.Rejection.TheVariants as rejection;
 
 use oe_graph::{Fault, Refusal as GraphRefusal};
 use oe_memory::OutOfMemory;
+use oe_pages::QueryFail;
 use oe_replies::ReplyCode;
 use std::alloc::AllocError;
 
@@ -29,6 +30,17 @@ impl From<OutOfMemory> for Refusal {
 
     fn from(_error: OutOfMemory) -> Refusal {
         Refusal::OutOfMemory
+    }
+}
+
+impl From<QueryFail> for Refusal {
+    ghost from_gives = { λ fail e. e ≡ refusal_of fail };
+
+    fn from(fail: QueryFail) -> Refusal {
+        match fail {
+            QueryFail::Invalid => Refusal::Code(ReplyCode::QueryInvalid),
+            QueryFail::OutOfMemory => Refusal::OutOfMemory,
+        }
     }
 }
 
@@ -56,6 +68,17 @@ impl From<OutOfMemory> for Rejection {
 
     fn from(_error: OutOfMemory) -> Rejection {
         Rejection::OutOfMemory
+    }
+}
+
+impl From<QueryFail> for Rejection {
+    ghost from_gives = { λ fail e. e ≡ rejection_of (refusal_of fail) };
+
+    fn from(fail: QueryFail) -> Rejection {
+        match fail {
+            QueryFail::Invalid => Rejection::Code(ReplyCode::QueryInvalid),
+            QueryFail::OutOfMemory => Rejection::OutOfMemory,
+        }
     }
 }
 

@@ -1,14 +1,9 @@
-use Rattle.std.proofs.Common.{◌≡◌, ℕ, List, Result, map, sym, ap, subst}
+use Rattle.std.proofs.Common.{◌≡◌, ℕ, List, Result, map, sym, subst}
 use Rattle.std.specs.Prelude.{IfOk}
-use Rattle.serde_json.specs.Data.{Data}
 use Rattle.serde_json.specs.Written.{compact_text}
-use Rattle.oe_dims.specs.Plain.{plain_rows}
-use Rattle.oe_graph.specs.Catalogue.{processes_data}
 use Rattle.oe_http.specs.Plain.{PlainRequest, plain_request}
 use Rattle.oe_jobs.specs.Plain.{plain_book}
 use Rattle.oe_replies.specs.Bodies.{capabilities_data, conformance_data, file_formats_data, versions_data}
-use Rattle.oe_replies.specs.Collections.{collections_data}
-use Rattle.oe_replies.specs.Jobs.{jobs_data, stored_list_data}
 use Rattle.oe_routes.specs.Actions.{MayBeDone}
 use Rattle.oe_routes.specs.Answers as spec
 use Rattle.oe_routes.specs.Asks.{needs_rows}
@@ -248,48 +243,40 @@ returns-in-ListFileFormats-clause-valid c =
 
 pub returns-in-ListCollections-clause-answer : goal.returns-in-ListCollections-clause-answer
 returns-in-ListCollections-clause-answer c =
-    at (plain_scene c.args.scene) c.args.user.now (plain_request c.args.request.now) c.args.operation ops.ListCollections c.show-in-ListCollections.result
-    c.in-ListCollections.is (λ f is.
-    c.show-in-ListCollections.ensures.answer (plain_book c.args.scene.book.now) (collections_data (plain_rows c.args.scene.dims.now))
-    c.collections_body.ensures)
+    at (plain_scene c.args.scene) c.args.user.now (plain_request c.args.request.now) c.args.operation ops.ListCollections c.list_collections.result
+    c.in-ListCollections.is (c.list_collections.ensures.answer c.args.user.now)
 
 pub returns-in-ListCollections-clause-valid : goal.returns-in-ListCollections-clause-valid
 returns-in-ListCollections-clause-valid c =
-    may_at (plain_scene c.args.scene) c.args.operation ops.ListCollections c.show-in-ListCollections.result c.in-ListCollections.is
-    (c.show-in-ListCollections.ensures.valid (plain_scene c.args.scene) (needs_rows ops.ListCollections))
+    may_at (plain_scene c.args.scene) c.args.operation ops.ListCollections c.list_collections.result c.in-ListCollections.is
+    (c.list_collections.ensures.valid (plain_scene c.args.scene) (needs_rows ops.ListCollections))
 
 pub returns-in-ListProcesses-clause-answer : goal.returns-in-ListProcesses-clause-answer
 returns-in-ListProcesses-clause-answer c =
-    at (plain_scene c.args.scene) c.args.user.now (plain_request c.args.request.now) c.args.operation ops.ListProcesses c.show-in-ListProcesses.result
-    c.in-ListProcesses.is (λ f is.
-    c.show-in-ListProcesses.ensures.answer (plain_book c.args.scene.book.now) processes_data
-    c.processes_body.ensures)
+    at (plain_scene c.args.scene) c.args.user.now (plain_request c.args.request.now) c.args.operation ops.ListProcesses c.list_processes.result
+    c.in-ListProcesses.is (c.list_processes.ensures.answer c.args.user.now)
 
 pub returns-in-ListProcesses-clause-valid : goal.returns-in-ListProcesses-clause-valid
 returns-in-ListProcesses-clause-valid c =
-    may_at (plain_scene c.args.scene) c.args.operation ops.ListProcesses c.show-in-ListProcesses.result c.in-ListProcesses.is
-    (c.show-in-ListProcesses.ensures.valid (plain_scene c.args.scene) (needs_rows ops.ListProcesses))
+    may_at (plain_scene c.args.scene) c.args.operation ops.ListProcesses c.list_processes.result c.in-ListProcesses.is
+    (c.list_processes.ensures.valid (plain_scene c.args.scene) (needs_rows ops.ListProcesses))
 
 pub returns-in-ListJobs-clause-answer : goal.returns-in-ListJobs-clause-answer
 returns-in-ListJobs-clause-answer c =
-    at (plain_scene c.args.scene) c.args.user.now (plain_request c.args.request.now) c.args.operation ops.ListJobs c.show-in-ListJobs.result
-    c.in-ListJobs.is (λ f is.
-    c.show-in-ListJobs.ensures.answer (plain_book c.args.scene.book.now) (jobs_data (plain_book c.args.scene.book.now) c.args.user.now)
-    (subst (λ (t : List ℕ). IfOk c.jobs_body.result (λ body. body.items ≡ compact_text (jobs_data (plain_book c.args.scene.book.now) t))) c.as_str.ensures c.jobs_body.ensures))
+    at (plain_scene c.args.scene) c.args.user.now (plain_request c.args.request.now) c.args.operation ops.ListJobs c.list_jobs.result
+    c.in-ListJobs.is c.list_jobs.ensures.answer
 
 pub returns-in-ListJobs-clause-valid : goal.returns-in-ListJobs-clause-valid
 returns-in-ListJobs-clause-valid c =
-    may_at (plain_scene c.args.scene) c.args.operation ops.ListJobs c.show-in-ListJobs.result c.in-ListJobs.is
-    (c.show-in-ListJobs.ensures.valid (plain_scene c.args.scene) (needs_rows ops.ListJobs))
+    may_at (plain_scene c.args.scene) c.args.operation ops.ListJobs c.list_jobs.result c.in-ListJobs.is
+    (c.list_jobs.ensures.valid (plain_scene c.args.scene) (needs_rows ops.ListJobs))
 
 pub returns-in-ListStored-clause-answer : goal.returns-in-ListStored-clause-answer
 returns-in-ListStored-clause-answer c =
-    at (plain_scene c.args.scene) c.args.user.now (plain_request c.args.request.now) c.args.operation ops.ListStored c.show-in-ListStored.result
-    c.in-ListStored.is (λ f is.
-    c.show-in-ListStored.ensures.answer (plain_book c.args.scene.book.now) (stored_list_data (plain_book c.args.scene.book.now) c.args.user.now)
-    (subst (λ (t : List ℕ). IfOk c.stored_list_body.result (λ body. body.items ≡ compact_text (stored_list_data (plain_book c.args.scene.book.now) t))) c.as_str-in-ListStored.ensures c.stored_list_body.ensures))
+    at (plain_scene c.args.scene) c.args.user.now (plain_request c.args.request.now) c.args.operation ops.ListStored c.list_stored.result
+    c.in-ListStored.is c.list_stored.ensures.answer
 
 pub returns-in-ListStored-clause-valid : goal.returns-in-ListStored-clause-valid
 returns-in-ListStored-clause-valid c =
-    may_at (plain_scene c.args.scene) c.args.operation ops.ListStored c.show-in-ListStored.result c.in-ListStored.is
-    (c.show-in-ListStored.ensures.valid (plain_scene c.args.scene) (needs_rows ops.ListStored))
+    may_at (plain_scene c.args.scene) c.args.operation ops.ListStored c.list_stored.result c.in-ListStored.is
+    (c.list_stored.ensures.valid (plain_scene c.args.scene) (needs_rows ops.ListStored))
