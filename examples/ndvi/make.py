@@ -7,8 +7,11 @@ formula: round fields on bare soil, greener from date to date, with a river thro
 """
 import sys
 
-import netCDF4
-import numpy
+try:
+    import netCDF4
+    import numpy
+except ImportError as error:
+    sys.exit(f"make.py needs netCDF4 and numpy: apt-get install python3-netcdf4 ({error})")
 
 SIDE, PIXEL = 120, 10
 DATES = [18049, 18079, 18109]  # days since 1970: 2019-06-02, 2019-07-02, 2019-08-01
@@ -50,4 +53,6 @@ def main():
 
 
 if __name__ == "__main__":
+    if len(sys.argv) != 2:
+        sys.exit("usage: make.py FILE")
     main()

@@ -76,7 +76,9 @@ class Files(InFolder):
             self.assertTrue(self.cubes("show", "text", status=2).startswith("cubes: "), cells)
         self.cubes("show", self.keep("text", cube_text("", "7")[:-2]), status=2)
         self.cubes("show", self.keep("text", "{}"), status=2)
-        self.cubes("show", "nothing", status=2)
+        self.assertEqual(self.cubes("show", "nothing", status=2), "cubes: nothing: No such file or directory")
+        self.keep("picture", b"\x89PNG\r\n\x1a\n")
+        self.assertEqual(self.cubes("show", "picture", status=2), "cubes: picture is neither a cube file nor a result text")
 
     def test_shapes_are_refused(self):
         x = '{"name":"x","type":"spatial","axis":"x","reference_system":%d,"labels":[%s]}'

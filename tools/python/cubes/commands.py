@@ -245,6 +245,15 @@ def parser() -> argparse.ArgumentParser:
     return words
 
 
+def line_of(refusal: Exception) -> str:
+    """What a refusal says; of a file that the system refuses, its name and why."""
+    if isinstance(refusal, OSError) and refusal.filename is not None:
+        return f"{os.fsdecode(refusal.filename)}: {refusal.strerror}"
+    if isinstance(refusal, UnicodeDecodeError):
+        return f"the input is no text in UTF-8: {refusal}"
+    return str(refusal)
+
+
 def main(words: list[str]) -> int:
     """Does what the words say, and returns the status."""
     said = parser().parse_args(words)
@@ -256,6 +265,6 @@ def main(words: list[str]) -> int:
         os.dup2(os.open(os.devnull, os.O_WRONLY), sys.stdout.fileno())
         return REFUSED
     except (Refusal, OSError, UnicodeDecodeError) as refusal:
-        print(f"cubes: {refusal}", file=sys.stderr)
+        print(f"cubes: {line_of(refusal)}", file=sys.stderr)
         return REFUSED
     return 0

@@ -132,7 +132,10 @@ class TextCube:
             found = re.search(r'"data"\s*:\s*\[', head)
             if found:
                 return head[: found.end() - 1], found.end()
-            piece = file.read(PIECE)
+            try:
+                piece = file.read(PIECE)
+            except UnicodeDecodeError:
+                piece = ""
             if not piece or len(head) > 2 * MOST_HEADER:
                 raise Refusal(f"{self.path} is neither a cube file nor a result text")
             head += piece
