@@ -1,0 +1,5 @@
+pub mod LinkLemmas
+pub mod PartLemmas
+pub mod CutLemmas
+pub mod FoldLemmas
+mod Worked

@@ -1,0 +1,16 @@
+//! Long time series folded slab by slab.
+//!
+//! A reduction of t needs all dates of a pixel at once where the graph is evaluated in chunks. Where it reduces them date
+//! by date, and no other node needs all dates, the run can be cut there: slabs of some dates are evaluated and folded one
+//! after the other, and the part behind the cut is evaluated on what the fold gives. [`slab_figures`] finds the cut, and
+//! tells how many cells such a run holds; [`SlabPlan::new`] refuses a run that would hold too many.
+#![tactic(auto)]
+
+mod cut;
+mod figures;
+mod links;
+mod parts;
+mod plan;
+
+pub use figures::{SlabNumbers, SlabNumbersFail, slab_figures};
+pub use plan::{SlabPlan, SlabPlanFail};

@@ -1,0 +1,123 @@
+// A plan of a run that is folded slab by slab.
+ghost use Rattle.std.specs.Prelude.{◌≡◌, ◌≤◌, ◌^◌, ℕ, IfOk, IsErrOf};
+ghost use Rattle.oe_plan.specs.Figures as plan;
+ghost use Rattle.oe_slab.specs.Cuts.{HasNoTimeCut};
+ghost use Rattle.oe_slab.specs.Figures.{AreSlabSides, slab_bound};
+ghost use Rattle.oe_slab.specs.Plans.{IsSlabPlan, IsTooLarge};
+ghost use Rattle.oe_slab.specs.declared.plan.SlabPlanFail.{SlabPlanFail};
+
+use crate::cut::time_cut;
+use crate::figures::{bound_at, chunks_of};
+use oe_memory::OutOfMemory;
+use oe_plan::order_of;
+use oe_shape::Checked;
+use oe_window::ChunkSize;
+use std::alloc::Global;
+use std::marker::Model;
+
+/// Why a graph was not planned.
+#[derive(Clone, Copy, Debug, PartialEq, Eq)]
+pub enum SlabPlanFail {
+    /// The run has no time cut.
+    NoTimeFold,
+    /// The run would hold so many cells at once, which are more than 67108864.
+    TooLarge(u128),
+    OutOfMemory,
+}
+
+impl From<OutOfMemory> for SlabPlanFail {
+    ghost use Rattle.oe_slab.specs.declared.plan.SlabPlanFail.TheVariants.{OutOfMemory as out_of_memory};
+
+    ghost from_gives = { λ _ fail. fail ≡ out_of_memory };
+
+    fn from(_error: OutOfMemory) -> SlabPlanFail {
+        SlabPlanFail::OutOfMemory
+    }
+}
+
+/// A plan of the run of a checked graph that folds slabs of some dates one after the other. It holds no cell.
+#[derive(Drop)]
+pub struct SlabPlan {
+    checked: Checked,
+    size: ChunkSize,
+    fold: u32,
+    bound: u128,
+    chunks: u64,
+}
+
+impl Model for SlabPlan {
+    ghost use Rattle.oe_expr.specs.Codes.{nodes_code};
+    ghost use Rattle.oe_slab.specs.Plans.{IsKeptSlabPlan, SlabPlanOf};
+    ghost use Rattle.std.specs.Coded.{codes};
+
+    ghost Value = { SlabPlanOf };
+
+    ghost coded = { Prim.hlevel (codes, nodes_code (Prim.hlevel codes)) };
+
+    ghost view = { λ p. record { graph = p.checked; size = p.size; fold = p.fold } };
+
+    ghost invariant = { λ p. IsKeptSlabPlan
+        (record { graph = p.checked; size = p.size; fold = p.fold }) p.bound p.chunks };
+}
+
+impl SlabPlan {
+    /// The plan of a run in chunks of at most this size along x and y, which folds slabs of at most so many dates.
+    ///
+    /// Refuses: `NoTimeFold` exactly where the run has no time cut, and `TooLarge` exactly where it has one and would
+    /// hold more than 67108864 cells at once, with their number, unless an allocation was refused. A refusal drops the
+    /// graph.
+    pub fn new(alloc: Global, checked: Checked, size: ChunkSize) -> Result<SlabPlan, SlabPlanFail>
+        requires { AreSlabSides size }
+        ensures graph { IfOk result (λ p. p.graph ≡ checked) }
+        ensures size { IfOk result (λ p. p.size ≡ size) }
+        // That it is a plan has that the run has a time cut and is not too large.
+        ensures valid { IfOk result IsSlabPlan }
+        ensures none { IsErrOf result SlabPlanFail.NoTimeFold → HasNoTimeCut checked }
+        ensures too_large { (cells : ℕ) → IsErrOf result (SlabPlanFail.TooLarge cells)
+            → IsTooLarge checked size cells }
+    {
+        let order = order_of(alloc, &checked)?;
+        let cut = match time_cut(alloc, &checked, order.steps())? {
+            Some(cut) => cut,
+            None => return Err(SlabPlanFail::NoTimeFold),
+        };
+        let bound = bound_at(&checked, order.steps(), size, cut);
+        if bound > 67108864 {
+            return Err(SlabPlanFail::TooLarge(bound));
+        }
+        // A checked graph is without a fault, as the number of its nodes says.
+        let _count = checked.nodes();
+        let chunks = chunks_of(&checked, size);
+        Ok(SlabPlan {
+            checked,
+            size,
+            fold: cut.fold,
+            bound,
+            chunks,
+        })
+    }
+
+    /// The graph that is run.
+    pub fn checked(&self) -> &Checked
+        ensures value { result.now ≡ self.now.graph }
+        ensures valid { IsSlabPlan self.now }
+    {
+        &self.checked
+    }
+
+    /// How many cells the run holds at once at most.
+    pub fn bound(&self) -> u128
+        ensures value { result ≡ slab_bound self.now.graph self.now.size self.now.fold }
+        ensures valid { IsSlabPlan self.now }
+    {
+        self.bound
+    }
+
+    /// How many chunks the result has.
+    pub fn chunks(&self) -> u64
+        ensures value { result ≡ plan.chunks_of self.now.graph self.now.size }
+        ensures valid { IsSlabPlan self.now }
+    {
+        self.chunks
+    }
+}
