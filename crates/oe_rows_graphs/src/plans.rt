@@ -8,11 +8,12 @@ use crate::resolved::spell_resolved;
 use crate::windows::spell_windows;
 use oe_dims::{CellKind, Dims, DimsRow, Shape, Text};
 use oe_lines::{
-    Answers, Fault, end_line, first_word, names_of, number_of, parts_of, push_number, push_window,
-    words_of,
+    Answers, Fault, end_line, first_word, names_of, number_of, parts_of, push, push_number,
+    push_window, words_of,
 };
 use oe_plan::{Plan, PlanFail, figures};
 use oe_shape::Checked;
+use oe_slab::{SlabNumbersFail, slab_figures};
 use std::alloc::Global;
 use std::thread::Threads;
 
@@ -95,6 +96,7 @@ fn answer_to(
     let checked = checked_of(alloc, graph, dims)?;
     match verb {
         "figures" => spell_figures(alloc, checked, sizes_of(words)?, answers)?,
+        "slab" => spell_slab(alloc, checked, sizes_of(words)?, answers)?,
         "plan" => spell_planned(alloc, checked, sizes_of(words)?, answers),
         "windows" => spell_windows(rt, alloc, checked, words, answers)?,
         _ => return Err(Fault::Line),
@@ -115,6 +117,28 @@ fn spell_figures(
     push_number("bound ", found.bound, answers);
     push_number(" chunks ", found.chunks, answers);
     Ok(())
+}
+
+fn spell_slab(
+    alloc: Global,
+    checked: Checked,
+    sizes: Sizes,
+    answers: &mut Answers,
+) -> Result<(), Fault>
+    requires { IsWithinRanges sizes.0 sizes.1 }
+{
+    match slab_figures(alloc, &checked, sizes.0) {
+        Ok(found) => {
+            push_number("bound ", found.bound, answers);
+            push_number(" chunks ", found.chunks, answers);
+            Ok(())
+        }
+        Err(SlabNumbersFail::NoTimeFold) => {
+            push("no time fold", answers);
+            Ok(())
+        }
+        Err(SlabNumbersFail::OutOfMemory) => Err(Fault::OutOfMemory),
+    }
 }
 
 fn spell_planned(alloc: Global, checked: Checked, sizes: Sizes, answers: &mut Answers)

@@ -1,9 +1,9 @@
 -- Words spell one command alone.
 use Rattle.std.proofs.Common.{◌≡◌, ℕ, ◌^◌, ◌<◌, List, [], ◌∷◌, get_or, refl, sym, ap, ◌∙◌, codes, arith}
 use Rattle.oe_top.proofs.Numbers.{one_number}
-use Rattle.oe_top.specs.Words.{AreRunNumbers, IsNumberWord, Spells, SpellsDemo, SpellsId, SpellsNumbers}
+use Rattle.oe_top.specs.Words.{AreRunNumbers, IsNumberWord, Spells, SpellsDemo, SpellsId, SpellsNumbers, SpellsSides}
 use Rattle.oe_top.specs.declared.words.Command.{Command}
-use Rattle.oe_top.specs.declared.words.Command.TheVariants.{Run, Plan, Demo, Check, Explain, Pack, Repack, DescribeAll, Describe}
+use Rattle.oe_top.specs.declared.words.Command.TheVariants.{Run, Plan, SlabPlan, Demo, Check, Explain, Pack, Repack, DescribeAll, Describe}
 use Rattle.oe_window.specs.declared.grid.ChunkSize.{ChunkSize}
 
 -- ---- the verb of a command
@@ -11,6 +11,7 @@ use Rattle.oe_window.specs.declared.grid.ChunkSize.{ChunkSize}
 abbrev verb_of : Command → List ℕ
 verb_of (Run size workers) = codes "run"
 verb_of (Plan size workers) = codes "plan"
+verb_of (SlabPlan size) = codes "slabplan"
 verb_of (Demo seed side size workers) = codes "demo"
 verb_of Check = codes "check"
 verb_of Explain = codes "explain"
@@ -23,6 +24,7 @@ verb_of Describe = codes "describe"
 begins : (words : List (List ℕ)) (command : Command) → Spells words command → get_or words 0 [] ≡ verb_of command
 begins words (Run size workers) spells = ap (λ w. get_or w 0 []) spells.words_are
 begins words (Plan size workers) spells = ap (λ w. get_or w 0 []) spells.words_are
+begins words (SlabPlan size) spells = ap (λ w. get_or w 0 []) spells.words_are
 begins words (Demo seed side size workers) spells = ap (λ w. get_or w 0 []) spells.words_are
 begins words Check is = ap (λ w. get_or w 0 []) is
 begins words Explain is = ap (λ w. get_or w 0 []) is
@@ -54,6 +56,17 @@ one_run verb words size other workers number one two =
     let n : workers ≡ number = one_number one.w two.w (omega arith) (same_word _ _ 4 same) one.numbers.1 two.numbers.1 in
     rw (x, y, t, n) refl
 
+-- and so without workers
+one_size : (verb : List ℕ) (words : List (List ℕ)) (size other : ChunkSize) → SpellsSides verb words size
+    → SpellsSides verb words other → size ≡ other
+one_size verb words size other one two =
+    let same : verb ∷ one.cx ∷ one.cy ∷ one.ct ∷ [] ≡ verb ∷ two.cx ∷ two.cy ∷ two.ct ∷ [] =
+    sym one.words_are ∙ two.words_are in
+    let x : size.x ≡ other.x = one_number one.cx two.cx (omega arith) (same_word _ _ 1 same) one.sides.x two.sides.x in
+    let y : size.y ≡ other.y = one_number one.cy two.cy (omega arith) (same_word _ _ 2 same) one.sides.y two.sides.y in
+    let t : size.t ≡ other.t = one_number one.ct two.ct (omega arith) (same_word _ _ 3 same) one.sides.t two.sides.t in
+    rw (x, y, t) refl
+
 -- and so of a demonstration
 one_demo : (words : List (List ℕ)) (seed seed2 side side2 : ℕ) (size other : ChunkSize) (workers number : ℕ)
     → SpellsDemo words seed side size workers → SpellsDemo words seed2 side2 other number
@@ -79,6 +92,7 @@ apart words alone spells = let same : codes "describe" ∷ [] ≡ codes "describ
 pub one_command : (words : List (List ℕ)) (a b : Command) → Spells words a → Spells words b → a ≡ b
 one_command words (Run s n) (Run t m) one two = ap (λ (p : ChunkSize × ℕ). Run p.0 p.1) (one_run (codes "run") words s t n m one two)
 one_command words (Run s n) (Plan t m) one two = let same : verb_of (Run s n) ≡ verb_of (Plan t m) = one_verb words (Run s n) (Plan t m) one two in cc
+one_command words (Run s n) (SlabPlan t) one two = let same : verb_of (Run s n) ≡ verb_of (SlabPlan t) = one_verb words (Run s n) (SlabPlan t) one two in cc
 one_command words (Run s n) (Demo l e t m) one two = let same : verb_of (Run s n) ≡ verb_of (Demo l e t m) = one_verb words (Run s n) (Demo l e t m) one two in cc
 one_command words (Run s n) Check one two = let same : verb_of (Run s n) ≡ verb_of Check = one_verb words (Run s n) Check one two in cc
 one_command words (Run s n) Explain one two = let same : verb_of (Run s n) ≡ verb_of Explain = one_verb words (Run s n) Explain one two in cc
@@ -88,6 +102,7 @@ one_command words (Run s n) DescribeAll one two = let same : verb_of (Run s n) �
 one_command words (Run s n) Describe one two = let same : verb_of (Run s n) ≡ verb_of Describe = one_verb words (Run s n) Describe one two in cc
 one_command words (Plan s n) (Run t m) one two = let same : verb_of (Plan s n) ≡ verb_of (Run t m) = one_verb words (Plan s n) (Run t m) one two in cc
 one_command words (Plan s n) (Plan t m) one two = ap (λ (p : ChunkSize × ℕ). Plan p.0 p.1) (one_run (codes "plan") words s t n m one two)
+one_command words (Plan s n) (SlabPlan t) one two = let same : verb_of (Plan s n) ≡ verb_of (SlabPlan t) = one_verb words (Plan s n) (SlabPlan t) one two in cc
 one_command words (Plan s n) (Demo l e t m) one two = let same : verb_of (Plan s n) ≡ verb_of (Demo l e t m) = one_verb words (Plan s n) (Demo l e t m) one two in cc
 one_command words (Plan s n) Check one two = let same : verb_of (Plan s n) ≡ verb_of Check = one_verb words (Plan s n) Check one two in cc
 one_command words (Plan s n) Explain one two = let same : verb_of (Plan s n) ≡ verb_of Explain = one_verb words (Plan s n) Explain one two in cc
@@ -95,8 +110,19 @@ one_command words (Plan s n) Pack one two = let same : verb_of (Plan s n) ≡ ve
 one_command words (Plan s n) Repack one two = let same : verb_of (Plan s n) ≡ verb_of Repack = one_verb words (Plan s n) Repack one two in cc
 one_command words (Plan s n) DescribeAll one two = let same : verb_of (Plan s n) ≡ verb_of DescribeAll = one_verb words (Plan s n) DescribeAll one two in cc
 one_command words (Plan s n) Describe one two = let same : verb_of (Plan s n) ≡ verb_of Describe = one_verb words (Plan s n) Describe one two in cc
+one_command words (SlabPlan s) (Run t m) one two = let same : verb_of (SlabPlan s) ≡ verb_of (Run t m) = one_verb words (SlabPlan s) (Run t m) one two in cc
+one_command words (SlabPlan s) (Plan t m) one two = let same : verb_of (SlabPlan s) ≡ verb_of (Plan t m) = one_verb words (SlabPlan s) (Plan t m) one two in cc
+one_command words (SlabPlan s) (SlabPlan t) one two = ap SlabPlan (one_size (codes "slabplan") words s t one two)
+one_command words (SlabPlan s) (Demo l e t m) one two = let same : verb_of (SlabPlan s) ≡ verb_of (Demo l e t m) = one_verb words (SlabPlan s) (Demo l e t m) one two in cc
+one_command words (SlabPlan s) Check one two = let same : verb_of (SlabPlan s) ≡ verb_of Check = one_verb words (SlabPlan s) Check one two in cc
+one_command words (SlabPlan s) Explain one two = let same : verb_of (SlabPlan s) ≡ verb_of Explain = one_verb words (SlabPlan s) Explain one two in cc
+one_command words (SlabPlan s) Pack one two = let same : verb_of (SlabPlan s) ≡ verb_of Pack = one_verb words (SlabPlan s) Pack one two in cc
+one_command words (SlabPlan s) Repack one two = let same : verb_of (SlabPlan s) ≡ verb_of Repack = one_verb words (SlabPlan s) Repack one two in cc
+one_command words (SlabPlan s) DescribeAll one two = let same : verb_of (SlabPlan s) ≡ verb_of DescribeAll = one_verb words (SlabPlan s) DescribeAll one two in cc
+one_command words (SlabPlan s) Describe one two = let same : verb_of (SlabPlan s) ≡ verb_of Describe = one_verb words (SlabPlan s) Describe one two in cc
 one_command words (Demo k d s n) (Run t m) one two = let same : verb_of (Demo k d s n) ≡ verb_of (Run t m) = one_verb words (Demo k d s n) (Run t m) one two in cc
 one_command words (Demo k d s n) (Plan t m) one two = let same : verb_of (Demo k d s n) ≡ verb_of (Plan t m) = one_verb words (Demo k d s n) (Plan t m) one two in cc
+one_command words (Demo k d s n) (SlabPlan t) one two = let same : verb_of (Demo k d s n) ≡ verb_of (SlabPlan t) = one_verb words (Demo k d s n) (SlabPlan t) one two in cc
 one_command words (Demo k d s n) (Demo l e t m) one two = one_demo words k l d e s t n m one two
 one_command words (Demo k d s n) Check one two = let same : verb_of (Demo k d s n) ≡ verb_of Check = one_verb words (Demo k d s n) Check one two in cc
 one_command words (Demo k d s n) Explain one two = let same : verb_of (Demo k d s n) ≡ verb_of Explain = one_verb words (Demo k d s n) Explain one two in cc
@@ -106,6 +132,7 @@ one_command words (Demo k d s n) DescribeAll one two = let same : verb_of (Demo 
 one_command words (Demo k d s n) Describe one two = let same : verb_of (Demo k d s n) ≡ verb_of Describe = one_verb words (Demo k d s n) Describe one two in cc
 one_command words Check (Run t m) one two = let same : verb_of Check ≡ verb_of (Run t m) = one_verb words Check (Run t m) one two in cc
 one_command words Check (Plan t m) one two = let same : verb_of Check ≡ verb_of (Plan t m) = one_verb words Check (Plan t m) one two in cc
+one_command words Check (SlabPlan t) one two = let same : verb_of Check ≡ verb_of (SlabPlan t) = one_verb words Check (SlabPlan t) one two in cc
 one_command words Check (Demo l e t m) one two = let same : verb_of Check ≡ verb_of (Demo l e t m) = one_verb words Check (Demo l e t m) one two in cc
 one_command words Check Check one two = refl
 one_command words Check Explain one two = let same : verb_of Check ≡ verb_of Explain = one_verb words Check Explain one two in cc
@@ -115,6 +142,7 @@ one_command words Check DescribeAll one two = let same : verb_of Check ≡ verb_
 one_command words Check Describe one two = let same : verb_of Check ≡ verb_of Describe = one_verb words Check Describe one two in cc
 one_command words Explain (Run t m) one two = let same : verb_of Explain ≡ verb_of (Run t m) = one_verb words Explain (Run t m) one two in cc
 one_command words Explain (Plan t m) one two = let same : verb_of Explain ≡ verb_of (Plan t m) = one_verb words Explain (Plan t m) one two in cc
+one_command words Explain (SlabPlan t) one two = let same : verb_of Explain ≡ verb_of (SlabPlan t) = one_verb words Explain (SlabPlan t) one two in cc
 one_command words Explain (Demo l e t m) one two = let same : verb_of Explain ≡ verb_of (Demo l e t m) = one_verb words Explain (Demo l e t m) one two in cc
 one_command words Explain Check one two = let same : verb_of Explain ≡ verb_of Check = one_verb words Explain Check one two in cc
 one_command words Explain Explain one two = refl
@@ -124,6 +152,7 @@ one_command words Explain DescribeAll one two = let same : verb_of Explain ≡ v
 one_command words Explain Describe one two = let same : verb_of Explain ≡ verb_of Describe = one_verb words Explain Describe one two in cc
 one_command words Pack (Run t m) one two = let same : verb_of Pack ≡ verb_of (Run t m) = one_verb words Pack (Run t m) one two in cc
 one_command words Pack (Plan t m) one two = let same : verb_of Pack ≡ verb_of (Plan t m) = one_verb words Pack (Plan t m) one two in cc
+one_command words Pack (SlabPlan t) one two = let same : verb_of Pack ≡ verb_of (SlabPlan t) = one_verb words Pack (SlabPlan t) one two in cc
 one_command words Pack (Demo l e t m) one two = let same : verb_of Pack ≡ verb_of (Demo l e t m) = one_verb words Pack (Demo l e t m) one two in cc
 one_command words Pack Check one two = let same : verb_of Pack ≡ verb_of Check = one_verb words Pack Check one two in cc
 one_command words Pack Explain one two = let same : verb_of Pack ≡ verb_of Explain = one_verb words Pack Explain one two in cc
@@ -133,6 +162,7 @@ one_command words Pack DescribeAll one two = let same : verb_of Pack ≡ verb_of
 one_command words Pack Describe one two = let same : verb_of Pack ≡ verb_of Describe = one_verb words Pack Describe one two in cc
 one_command words Repack (Run t m) one two = let same : verb_of Repack ≡ verb_of (Run t m) = one_verb words Repack (Run t m) one two in cc
 one_command words Repack (Plan t m) one two = let same : verb_of Repack ≡ verb_of (Plan t m) = one_verb words Repack (Plan t m) one two in cc
+one_command words Repack (SlabPlan t) one two = let same : verb_of Repack ≡ verb_of (SlabPlan t) = one_verb words Repack (SlabPlan t) one two in cc
 one_command words Repack (Demo l e t m) one two = let same : verb_of Repack ≡ verb_of (Demo l e t m) = one_verb words Repack (Demo l e t m) one two in cc
 one_command words Repack Check one two = let same : verb_of Repack ≡ verb_of Check = one_verb words Repack Check one two in cc
 one_command words Repack Explain one two = let same : verb_of Repack ≡ verb_of Explain = one_verb words Repack Explain one two in cc
@@ -142,6 +172,7 @@ one_command words Repack DescribeAll one two = let same : verb_of Repack ≡ ver
 one_command words Repack Describe one two = let same : verb_of Repack ≡ verb_of Describe = one_verb words Repack Describe one two in cc
 one_command words DescribeAll (Run t m) one two = let same : verb_of DescribeAll ≡ verb_of (Run t m) = one_verb words DescribeAll (Run t m) one two in cc
 one_command words DescribeAll (Plan t m) one two = let same : verb_of DescribeAll ≡ verb_of (Plan t m) = one_verb words DescribeAll (Plan t m) one two in cc
+one_command words DescribeAll (SlabPlan t) one two = let same : verb_of DescribeAll ≡ verb_of (SlabPlan t) = one_verb words DescribeAll (SlabPlan t) one two in cc
 one_command words DescribeAll (Demo l e t m) one two = let same : verb_of DescribeAll ≡ verb_of (Demo l e t m) = one_verb words DescribeAll (Demo l e t m) one two in cc
 one_command words DescribeAll Check one two = let same : verb_of DescribeAll ≡ verb_of Check = one_verb words DescribeAll Check one two in cc
 one_command words DescribeAll Explain one two = let same : verb_of DescribeAll ≡ verb_of Explain = one_verb words DescribeAll Explain one two in cc
@@ -151,6 +182,7 @@ one_command words DescribeAll DescribeAll one two = refl
 one_command words DescribeAll Describe one two = absurd (apart words one two)
 one_command words Describe (Run t m) one two = let same : verb_of Describe ≡ verb_of (Run t m) = one_verb words Describe (Run t m) one two in cc
 one_command words Describe (Plan t m) one two = let same : verb_of Describe ≡ verb_of (Plan t m) = one_verb words Describe (Plan t m) one two in cc
+one_command words Describe (SlabPlan t) one two = let same : verb_of Describe ≡ verb_of (SlabPlan t) = one_verb words Describe (SlabPlan t) one two in cc
 one_command words Describe (Demo l e t m) one two = let same : verb_of Describe ≡ verb_of (Demo l e t m) = one_verb words Describe (Demo l e t m) one two in cc
 one_command words Describe Check one two = let same : verb_of Describe ≡ verb_of Check = one_verb words Describe Check one two in cc
 one_command words Describe Explain one two = let same : verb_of Describe ≡ verb_of Explain = one_verb words Describe Explain one two in cc

@@ -18,4 +18,5 @@ pub mod Demos
 pub mod Descriptions
 pub mod Namings
 pub mod Runs
+pub mod SlabPlans
 pub mod Writings

@@ -15,11 +15,13 @@ use Rattle.oe_top.specs.declared.judge.InputRefusal.TheVariants as input
 use Rattle.oe_top.specs.declared.pack.PackRefusal.{PackRefusal}
 use Rattle.oe_top.specs.declared.pack.PackRefusal.TheVariants as pack
 use Rattle.oe_top.specs.declared.refusal.Refusal.{Refusal}
-use Rattle.oe_top.specs.declared.refusal.Refusal.TheVariants.{Graph, NoCubeText, NotMounted, TooLarge, Overflow, ReadFault, Damaged, SpoolFault, WriteFault, OutOfMemory, SpoolDamaged}
+use Rattle.oe_top.specs.declared.refusal.Refusal.TheVariants.{Graph, NoCubeText, NotMounted, NoTimeFold, TooLarge, Overflow, ReadFault, Damaged, SpoolFault, WriteFault, OutOfMemory, SpoolDamaged}
 use Rattle.oe_top.specs.declared.repack.RepackRefusal.{RepackRefusal}
 use Rattle.oe_top.specs.declared.repack.RepackRefusal.TheVariants as repack
 use Rattle.oe_top.specs.declared.run.RunRefusal.{RunRefusal}
 use Rattle.oe_top.specs.declared.run.RunRefusal.TheVariants as run
+use Rattle.oe_top.specs.declared.slab_plan.SlabPlanRefusal.{SlabPlanRefusal}
+use Rattle.oe_top.specs.declared.slab_plan.SlabPlanRefusal.TheVariants as slab_plan
 
 -- the refusals of commands, by their own names
 
@@ -46,6 +48,12 @@ abbrev pub of_check : CheckRefusal → Refusal
 of_check (check.Input refusal) = of_input refusal
 of_check check.WriteFault = WriteFault
 of_check check.OutOfMemory = OutOfMemory
+
+abbrev pub of_slab_plan : SlabPlanRefusal → Refusal
+of_slab_plan (slab_plan.Input refusal) = of_input refusal
+of_slab_plan slab_plan.NoTimeFold = NoTimeFold
+of_slab_plan slab_plan.WriteFault = WriteFault
+of_slab_plan slab_plan.OutOfMemory = OutOfMemory
 
 abbrev pub of_demo : DemoRefusal → Refusal
 of_demo (demo.TooLarge cells) = TooLarge cells

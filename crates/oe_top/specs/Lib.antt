@@ -14,5 +14,6 @@ pub mod PackAnswer
 pub mod PlanAnswer
 pub mod RepackAnswer
 pub mod RunAnswer
+pub mod SlabPlanAnswer
 pub mod Words
 pub mod Written

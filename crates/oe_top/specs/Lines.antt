@@ -5,7 +5,7 @@ use Rattle.oe_judge.specs.Texts.{behind_blank}
 use Rattle.oe_outside.specs.Faults.{NeverFalls, Rose}
 use Rattle.oe_outside.specs.Visible.{Appends, AppendsPrefix}
 use Rattle.oe_top.specs.declared.refusal.Refusal.{Refusal}
-use Rattle.oe_top.specs.declared.refusal.Refusal.TheVariants.{Usage, Graph, NoCubeText, NotMounted, TooLarge, Overflow, ReadFault, Damaged, SpoolFault, WriteFault, OutOfMemory, SpoolDamaged}
+use Rattle.oe_top.specs.declared.refusal.Refusal.TheVariants.{Usage, Graph, NoCubeText, NotMounted, NoTimeFold, TooLarge, Overflow, ReadFault, Damaged, SpoolFault, WriteFault, OutOfMemory, SpoolDamaged}
 
 -- ---- a refusal
 
@@ -15,6 +15,7 @@ status_and_code Usage = (1, codes "Usage")
 status_and_code (Graph fault) = (2, name_of fault.code)
 status_and_code NoCubeText = (2, codes "CubeTextInvalid")
 status_and_code NotMounted = (2, codes "CollectionNotFound")
+status_and_code NoTimeFold = (2, codes "NoTimeFold")
 status_and_code (TooLarge cells) = (3, codes "PlanTooLarge")
 status_and_code (Overflow position) = (4, codes "NumberOverflow")
 status_and_code ReadFault = (5, codes "ReadFault")
@@ -34,6 +35,7 @@ detail_of Usage = []
 detail_of (Graph fault) = behind_blank fault.node
 detail_of NoCubeText = []
 detail_of NotMounted = []
+detail_of NoTimeFold = []
 detail_of (TooLarge cells) = number_said cells
 detail_of (Overflow position) = number_said position
 detail_of ReadFault = []

@@ -3,7 +3,7 @@ use Rattle.std.specs.Prelude.{◌≡◌, ℕ, ◌≤◌, true, List, [], ◌∷�
 use Rattle.oe_dims.specs.Names.{is_name}
 use Rattle.oe_window.specs.declared.grid.ChunkSize.{ChunkSize}
 use Rattle.oe_top.specs.declared.words.Command.{Command}
-use Rattle.oe_top.specs.declared.words.Command.TheVariants.{Run, Plan, Demo, Check, Explain, Pack, Repack, DescribeAll, Describe}
+use Rattle.oe_top.specs.declared.words.Command.TheVariants.{Run, Plan, SlabPlan, Demo, Check, Explain, Pack, Repack, DescribeAll, Describe}
 
 -- a number from low to high, spelled in decimal with no sign and no leading zero
 pub record IsNumberWord (low high : ℕ) (word : List ℕ) (number : ℕ) : Type 0 where
@@ -29,6 +29,14 @@ pub record SpellsNumbers (verb : List ℕ) (words : List (List ℕ)) (size : Chu
   pub w : List ℕ
   pub words_are : words ≡ verb ∷ cx ∷ cy ∷ ct ∷ w ∷ []
   pub numbers : AreRunNumbers cx cy ct w size workers
+
+-- `VERB CX CY CT`: a verb and the sides of a chunk
+pub record SpellsSides (verb : List ℕ) (words : List (List ℕ)) (size : ChunkSize) : Type 0 where
+  pub cx : List ℕ
+  pub cy : List ℕ
+  pub ct : List ℕ
+  pub words_are : words ≡ verb ∷ cx ∷ cy ∷ ct ∷ []
+  pub sides : AreSides cx cy ct size
 
 -- `demo SEED SIDE CX CY CT W`: a seed, a side in pixels, the sides of a chunk and a number of workers
 pub record SpellsDemo (words : List (List ℕ)) (seed side : ℕ) (size : ChunkSize) (workers : ℕ) : Type 0 where
@@ -57,6 +65,7 @@ id_in words = slice_index_or words 1 []
 abbrev pub Spells : List (List ℕ) → Command → Type 0
 Spells words (Run size workers) = SpellsNumbers (codes "run") words size workers
 Spells words (Plan size workers) = SpellsNumbers (codes "plan") words size workers
+Spells words (SlabPlan size) = SpellsSides (codes "slabplan") words size
 Spells words (Demo seed side size workers) = SpellsDemo words seed side size workers
 Spells words Check = words ≡ codes "check" ∷ []
 Spells words Explain = words ≡ codes "explain" ∷ []

@@ -9,7 +9,7 @@ use crate::demo::demo;
 use crate::describe::{describe, describe_all};
 use crate::endings::{
     ending_of_check, ending_of_demo, ending_of_describe, ending_of_listing, ending_of_pack,
-    ending_of_repack, ending_of_run,
+    ending_of_repack, ending_of_run, ending_of_slab_plan,
 };
 use crate::explain::explain;
 use crate::pack::pack;
@@ -19,6 +19,7 @@ use crate::repack::repack;
 use crate::run::run;
 use crate::say::say;
 use crate::setup::Setup;
+use crate::slab_plan::slab_plan;
 use crate::words::{Command, read_command};
 use oe_dims::Text;
 use oe_outside::{Gate, Sink, Source, Store};
@@ -33,6 +34,7 @@ use std::thread::Threads;
 /// | `check` | writes `valid` where no fault stands in the process graph of `input` |
 /// | `explain` | the same, and of a fault the lines that explain it |
 /// | `plan CX CY CT W` | writes `bound B chunks N`: how many cells such a run holds at most, and its chunks |
+/// | `slabplan CX CY CT` | the same of a run that folds slabs of CT dates one after the other |
 /// | `demo SEED SIDE CX CY CT W` | evaluates a graph over a generated collection: `cells N first A last B` |
 /// | `pack ID` | writes the cube file of the result text of `input` under the id |
 /// | `repack ID` | writes the cube file of the mounted collection of the id, in least widths |
@@ -90,6 +92,9 @@ fn obey<R: Threads + Sync, I: Source, O: Sink, P: Store, G: Gate>(
         }
         Some(Command::Plan { size, workers }) => {
             ending_of_check(plan(alloc, size, workers, input, out, catalogue))
+        }
+        Some(Command::SlabPlan { size }) => {
+            ending_of_slab_plan(slab_plan(alloc, size, input, out, catalogue))
         }
         Some(
             Command::Demo {

@@ -11,6 +11,7 @@ use crate::pack::PackRefusal;
 use crate::refusal::Refusal;
 use crate::repack::RepackRefusal;
 use crate::run::RunRefusal;
+use crate::slab_plan::SlabPlanRefusal;
 
 /// Why an input was refused.
 fn of_input(refusal: InputRefusal) -> Refusal
@@ -57,6 +58,18 @@ fn of_check(refusal: CheckRefusal) -> Refusal
         CheckRefusal::Input(refusal) => of_input(refusal),
         CheckRefusal::WriteFault => Refusal::WriteFault,
         CheckRefusal::OutOfMemory => Refusal::OutOfMemory,
+    }
+}
+
+/// Why `slabplan` did not finish.
+fn of_slab_plan(refusal: SlabPlanRefusal) -> Refusal
+    ensures { result ≡ spec.of_slab_plan refusal }
+{
+    match refusal {
+        SlabPlanRefusal::Input(refusal) => of_input(refusal),
+        SlabPlanRefusal::NoTimeFold => Refusal::NoTimeFold,
+        SlabPlanRefusal::WriteFault => Refusal::WriteFault,
+        SlabPlanRefusal::OutOfMemory => Refusal::OutOfMemory,
     }
 }
 
@@ -133,6 +146,16 @@ pub(crate) fn ending_of_check(ended: Result<(), CheckRefusal>) -> Result<(), Ref
     match ended {
         Ok(()) => Ok(()),
         Err(refusal) => Err(of_check(refusal)),
+    }
+}
+
+/// The ending of `slabplan`.
+pub(crate) fn ending_of_slab_plan(ended: Result<(), SlabPlanRefusal>) -> Result<(), Refusal>
+    ensures { result ≡ spec.ending_of spec.of_slab_plan ended }
+{
+    match ended {
+        Ok(()) => Ok(()),
+        Err(refusal) => Err(of_slab_plan(refusal)),
     }
 }
 

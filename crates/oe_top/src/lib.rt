@@ -25,6 +25,7 @@ mod repack;
 mod run;
 mod say;
 mod setup;
+mod slab_plan;
 mod words;
 
 pub use command::openeo;

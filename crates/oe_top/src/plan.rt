@@ -10,7 +10,7 @@ use crate::judge::judge_input;
 use itoa::Buffer;
 use oe_memory::OutOfMemory;
 use oe_outside::{Sink, Source};
-use oe_plan::{PlanFigures, figures};
+use oe_plan::figures;
 use oe_shape::Checked;
 use oe_sources::Catalogue;
 use oe_window::ChunkSize;
@@ -57,18 +57,18 @@ fn line_of(
     ensures { IfOk result (λ line. line.items ≡ plan_text checked.now size workers) }
 {
     let figures = figures(alloc, checked, size, workers)?;
-    spell_figures(alloc, figures)
+    spell_figures(alloc, figures.bound, figures.chunks)
 }
 
 /// The line of two figures.
-fn spell_figures(alloc: Global, figures: PlanFigures) -> Result<Vec<u8>, OutOfMemory>
-    ensures { IfOk result (λ line. line.items ≡ figures_text figures.bound figures.chunks) }
+pub(crate) fn spell_figures(alloc: Global, bound: u128, chunks: u64) -> Result<Vec<u8>, OutOfMemory>
+    ensures { IfOk result (λ line. line.items ≡ figures_text bound chunks) }
 {
     let mut line = Vec::with_capacity(alloc, 128)?;
     line.extend_from_slice(b"bound ")?;
-    line.extend_from_slice(Buffer::new().format(figures.bound).as_bytes())?;
+    line.extend_from_slice(Buffer::new().format(bound).as_bytes())?;
     line.extend_from_slice(b" chunks ")?;
-    line.extend_from_slice(Buffer::new().format(figures.chunks).as_bytes())?;
+    line.extend_from_slice(Buffer::new().format(chunks).as_bytes())?;
     line.push(b'\n')?;
     Ok(line)
 }

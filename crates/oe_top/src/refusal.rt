@@ -13,6 +13,8 @@ pub enum Refusal {
     NoCubeText,
     /// No collection is mounted under the id.
     NotMounted,
+    /// The run has no reduction of t at which it can be cut.
+    NoTimeFold,
     /// The run would hold so many cells, which are more than are allowed.
     TooLarge(u128),
     /// A cell of the result is out of the range of numbers, at this row-major number at first.
@@ -41,7 +43,8 @@ impl Refusal {
     {
         match self {
             Refusal::Usage => 1,
-            Refusal::Graph(_) | Refusal::NoCubeText | Refusal::NotMounted => 2,
+            Refusal::Graph(_) | Refusal::NoCubeText | Refusal::NotMounted | Refusal::NoTimeFold =>
+                2,
             Refusal::TooLarge(_) => 3,
             Refusal::Overflow(_) => 4,
             Refusal::ReadFault => 5,
@@ -62,6 +65,7 @@ impl Refusal {
             Refusal::Graph(fault) => fault.code.as_str(),
             Refusal::NoCubeText => "CubeTextInvalid",
             Refusal::NotMounted => "CollectionNotFound",
+            Refusal::NoTimeFold => "NoTimeFold",
             Refusal::TooLarge(_) => "PlanTooLarge",
             Refusal::Overflow(_) => "NumberOverflow",
             Refusal::ReadFault => "ReadFault",

@@ -54,6 +54,7 @@ fn write_detail<E: Sink>(refusal: &Refusal, err: &mut E) -> Result<(), Failed>
         Refusal::Usage
         | Refusal::NoCubeText
         | Refusal::NotMounted
+        | Refusal::NoTimeFold
         | Refusal::ReadFault
         | Refusal::SpoolFault
         | Refusal::WriteFault

@@ -20,6 +20,10 @@ pub enum Command {
         size: ChunkSize,
         workers: u32,
     },
+    /// To say how many cells a run holds at most that folds slabs of so many dates, and how many chunks it has.
+    SlabPlan {
+        size: ChunkSize,
+    },
     /// To evaluate a graph over the generated collection of a seed and a side in pixels.
     Demo {
         seed: u32,
@@ -49,6 +53,7 @@ pub fn read_command(words: &[Text]) -> Option<Command>
     match words {
         [verb] => read_alone(verb),
         [verb, id] => read_with_id(verb, id),
+        [verb, cx, cy, ct] => read_sized(verb, cx, cy, ct),
         [verb, cx, cy, ct, workers] => read_numbered(verb, cx, cy, ct, workers),
         [verb, seed, side, cx, cy, ct, workers] => {
             read_demo(verb, seed, side, cx, cy, ct, workers)
@@ -89,6 +94,18 @@ fn read_with_id(verb: &Text, id: &Text) -> Option<Command>
     }
     if is_word(verb, "describe") {
         return Some(Command::Describe);
+    }
+    None
+}
+
+/// The command of a verb and the sides of a chunk, `None` exactly where they spell none.
+fn read_sized(verb: &Text, cx: &Text, cy: &Text, ct: &Text) -> Option<Command>
+    ensures some { IfSome result (Spells (verb.now ∷ cx.now ∷ cy.now ∷ ct.now ∷ [])) }
+    ensures none { IfNone result (¬ SpellsCommand (verb.now ∷ cx.now ∷ cy.now ∷ ct.now ∷ [])) }
+{
+    let size = read_size(cx, cy, ct)?;
+    if is_word(verb, "slabplan") {
+        return Some(Command::SlabPlan { size });
     }
     None
 }

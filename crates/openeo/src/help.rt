@@ -12,6 +12,7 @@ Usage:
   openeo check                     read a process graph and write 'valid', or say which fault stands in it
   openeo explain                   the same, and say of a fault which argument it is of and what to do
   openeo plan CX CY CT W           read a process graph and write how many cells a run holds at most, and its chunks
+  openeo slabplan CX CY CT         the same of a run that folds slabs of CT dates one after the other
   openeo demo SEED SIDE CX CY CT W evaluate a graph over a generated collection and write its first and last cell
   openeo pack ID                   read a result text and write it as a cube file
   openeo repack ID                 write the cube file of a collection, as short as it can be
@@ -38,7 +39,8 @@ Exit status, and the line on standard error:
   0   the whole text was written
   1   Usage: the words are no command
   2   CODE NODE: the least fault of a graph; CubeTextInvalid: the input of pack, also one over 1048576 bytes;
-      CollectionNotFound: the id of repack or describe; InputTooLong: what client sends is over 1048576 bytes
+      CollectionNotFound: the id of repack or describe; NoTimeFold: slabplan finds no reduction of t to cut at;
+      InputTooLong: what client sends is over 1048576 bytes
   3   PlanTooLarge CELLS: a run would hold more than 67108864 cells; try smaller chunks or extents
   4   NumberOverflow POSITION: a number of the result is out of range
   5   ReadFault: the input or a collection could not be read
@@ -88,6 +90,16 @@ openeo plan CX CY CT W < GRAPH
 Reads a process graph from standard input and writes 'bound B chunks N': a run with these words holds at most B cells
 at once, and has N chunks. The words are those of run. No collection is read.
 Exit status: 0, 1 Usage, 2 CODE NODE, 5 ReadFault, 8 WriteFault, 9 OutOfMemory, 14 Setup.
+";
+
+const SLABPLAN: &str = "\
+openeo slabplan CX CY CT < GRAPH
+
+Reads a process graph from standard input and writes 'bound B chunks N': a run that evaluates slabs of at most CT dates
+one after the other and folds them holds at most B cells at once, and has N chunks. It needs a reduction of t that goes
+date by date, by one of sum, product, mean, min, max, first, last, any, all and count, which is the only node that needs
+all dates and through which all goes that is loaded. CX, CY and CT are from 1 to 4096. No collection is read.
+Exit status: 0, 1 Usage, 2 CODE NODE or NoTimeFold, 5 ReadFault, 8 WriteFault, 9 OutOfMemory, 14 Setup.
 ";
 
 const DEMO: &str = "\
@@ -216,6 +228,7 @@ fn help_of(verb: &str) -> Option<&'static str>
         "check" => Some(CHECK),
         "explain" => Some(EXPLAIN),
         "plan" => Some(PLAN),
+        "slabplan" => Some(SLABPLAN),
         "demo" => Some(DEMO),
         "pack" => Some(PACK),
         "repack" => Some(REPACK),

@@ -1,0 +1,50 @@
+use Rattle.std.proofs.Common.{Err, refl, ap}
+use Rattle.oe_outside.proofs.Causes.{NeverFalls-refl}
+use Rattle.oe_sources.specs.CatalogueRows.{rows_of}
+use Rattle.oe_top.proofs.SlabPlans.{slab_plan_stopped, slab_plan_written}
+use Rattle.oe_top.specs.Objects.{objects}
+use Rattle.oe_top.proofs.slab_plan.slab_plan.Goals as goal
+
+pub returns-in-Ok-write : goal.returns-in-Ok-write
+returns-in-Ok-write g c = λ spool spool_faults.
+    let rows = rows_of (λ z. (goal.CubeSource-dyn g z).seen z.1) c.args.catalogue.now in
+    let before = objects (g.I.Source.left c.args.input.now) (g.I.Source.faults c.args.input.now) (g.O.Sink.written c.args.out.now) (g.O.Sink.faults c.args.out.now) spool spool_faults rows in
+    let after = objects (g.I.Source.left c.judge_input.new.input) (g.I.Source.faults c.judge_input.new.input) (g.O.Sink.written c.write.new.self) (g.O.Sink.faults c.write.new.self) spool spool_faults rows in
+    record {
+      ends =
+          slab_plan_written c.args.size before after c.in-Ok.checked c.deref.result.now c.in-Ok-line_of.line.items c.in-Ok.ensures.judged.ends
+          c.deref.ensures.value c.in-Ok-line_of.ensures.line c.in-Ok-write.ensures.appended;
+      others_kept = record { spool = refl; spool_faults = refl; collections = refl };
+      input_taken = c.in-Ok.ensures.judged.taken;
+      input_count = c.in-Ok.ensures.judged.count;
+      out_count = c.in-Ok-write.ensures.cause.count;
+    }
+
+pub returns-in-Ok-line_of : goal.returns-in-Ok-line_of
+returns-in-Ok-line_of g c = λ spool spool_faults.
+    let rows = rows_of (λ z. (goal.CubeSource-dyn g z).seen z.1) c.args.catalogue.now in
+    let before = objects (g.I.Source.left c.args.input.now) (g.I.Source.faults c.args.input.now) (g.O.Sink.written c.args.out.now) (g.O.Sink.faults c.args.out.now) spool spool_faults rows in
+    let after = objects (g.I.Source.left c.judge_input.new.input) (g.I.Source.faults c.judge_input.new.input) (g.O.Sink.written c.write.new.self) (g.O.Sink.faults c.write.new.self) spool spool_faults rows in
+    record {
+      ends =
+          slab_plan_stopped c.args.size before after c.in-Ok.checked c.deref.result.now c.in-Ok-line_of.line.items c.in-Ok.ensures.judged.ends
+          c.deref.ensures.value c.in-Ok-line_of.ensures.line (c.in-Err-write.ensures.cause.failed refl) c.in-Err-write.ensures.prefix;
+      others_kept = record { spool = refl; spool_faults = refl; collections = refl };
+      input_taken = c.in-Ok.ensures.judged.taken;
+      input_count = c.in-Ok.ensures.judged.count;
+      out_count = c.in-Err-write.ensures.cause.count;
+    }
+
+pub returns-in-Err-NoTimeFold : goal.returns-in-Err-NoTimeFold
+returns-in-Err-NoTimeFold g c = λ spool spool_faults. record {
+  ends = record {
+    graph = c.in-Ok.checked;
+    input = c.in-Ok.ensures.judged.ends;
+    lacks = c.in-Err-NoTimeFold.ensures.none (ap Err c.in-Err-NoTimeFold.field-0-is);
+    unwritten = record { out = refl; faults = refl };
+  };
+  others_kept = record { spool = refl; spool_faults = refl; collections = refl };
+  input_taken = c.in-Ok.ensures.judged.taken;
+  input_count = c.in-Ok.ensures.judged.count;
+  out_count = NeverFalls-refl _;
+}
