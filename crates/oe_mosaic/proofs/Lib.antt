@@ -1,0 +1,4 @@
+mod LabelLemmas
+mod PartLemmas
+mod TextLemmas
+mod Worked

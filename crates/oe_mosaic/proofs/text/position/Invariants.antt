@@ -1,0 +1,7 @@
+use Rattle.std.proofs.Common.{◌≡◌, ◌+◌, ◌==◌, drop}
+use Rattle.std.specs.List.{position_or_len}
+use Rattle.oe_mosaic.proofs.text.position.Given as goal
+
+abbrev pub invariant-loop-index : goal.invariant-loop-index
+invariant-loop-index l =
+    position_or_len (λ b. b == l.byte) l.bytes ≡ l.index + position_or_len (λ b. b == l.byte) (drop l.index l.bytes)

@@ -1,0 +1,6 @@
+pub mod Labels
+pub mod Mosaics
+pub mod MosaicStates
+pub mod MosaicText
+pub mod PartRefusals
+pub mod Parts
