@@ -1,4 +1,11 @@
+mod BoxLemmas
+mod DecideLemmas
+mod FindLemmas
+mod HalfLemmas
 mod LabelLemmas
+mod MosaicLemmas
 mod PartLemmas
+mod PlaceLemmas
+mod ReadLemmas
 mod TextLemmas
 mod Worked

@@ -4,3 +4,5 @@ pub mod MosaicStates
 pub mod MosaicText
 pub mod PartRefusals
 pub mod Parts
+pub mod Places
+pub mod Readings

@@ -7,9 +7,12 @@ ghost use Rattle.oe_mosaic.specs.Mosaics.{bands_of_parts, labels_of_parts, mosai
 
 use crate::Parts;
 use crate::labels::{join_bands, join_labels};
-use oe_dims::{Kind, Shape, Text};
+use crate::reading::read_any;
+use oe_cell::Cell;
+use oe_dims::{CellKind, Kind, Shape, Text};
 use oe_memory::OutOfMemory;
-use oe_sources::CubeSource;
+use oe_sources::{CubeSource, SourceFail};
+use oe_window::{Window, size};
 use std::alloc::Global;
 use std::marker::Model;
 
@@ -86,6 +89,27 @@ impl<S: CubeSource> Mosaic<S> {
             asked: _,
         } = self;
         Parts { items }
+    }
+}
+
+impl<S: CubeSource> CubeSource for Mosaic<S> {
+    ghost use Rattle.oe_mosaic.specs.MosaicStates.{source_of};
+
+    ghost seen = { λ m. source_of S.seen m };
+
+    fn shape(&self) -> &Shape {
+        let _epsg = self.shape.epsg();
+        &self.shape
+    }
+
+    fn kind(&self) -> CellKind {
+        self.items[0].kind()
+    }
+
+    /// It takes no memory, and asks a part only for windows that the part has and decides about.
+    fn read(&mut self, window: &Window, into: &mut [Cell]) -> Result<(), SourceFail> {
+        self.asked = self.asked.saturating_add(size(window));
+        read_any(self.items.as_mut_slice(), &self.shape, window, into)
     }
 }
 

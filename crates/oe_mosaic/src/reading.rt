@@ -1,0 +1,191 @@
+// A window of a mosaic read from its parts.
+ghost use Rattle.std.specs.Prelude.{◌≡◌, ◌<◌, ℕ, length, slice_index_or};
+ghost use Rattle.oe_dims.specs.Dimensions.{IsShape, extent};
+ghost use Rattle.oe_dims.specs.Positions.{number_of};
+ghost use Rattle.oe_mosaic.specs.Mosaics.{fault_count, parts_of};
+ghost use Rattle.oe_mosaic.specs.Parts.{ArePartsOfOne};
+ghost use Rattle.oe_mosaic.specs.Places.{first_of, side_sum};
+ghost use Rattle.oe_mosaic.specs.Readings.{Finds, IsAnswer, IsTried, OnlyReads};
+ghost use Rattle.oe_window.specs.Windows.{Holds, IsEmpty, extent_along, position_count, whole_window};
+
+use crate::halves::{halves, is_single};
+use crate::place::{Place, place_of};
+use oe_cell::Cell;
+use oe_dims::{Kind, Shape};
+use oe_sources::{CubeSource, SourceFail};
+use oe_window::{Window, size};
+
+/// Which part decides about the tuples of a window.
+#[derive(Clone, Copy, Debug, PartialEq, Eq)]
+pub enum Found {
+    /// No part has any of them.
+    Nowhere,
+    /// The part of this place has all of them in a box, and none before it has any.
+    In(usize, Window),
+    /// Not one part alone.
+    Across,
+}
+
+/// What came of reading a window at once.
+#[derive(Drop)]
+pub enum Tried {
+    /// This is the answer.
+    Done(Result<(), SourceFail>),
+    /// It is to be read in two halves.
+    Cut,
+}
+
+/// The part that decides about the tuples of a window, if it is one.
+#[tactic(auto, using(crate::proofs::FindLemmas::apart_more, crate::proofs::FindLemmas::all_apart, crate::proofs::FindLemmas::found_in, crate::proofs::FindLemmas::none_apart, crate::proofs::FindLemmas::place_within))]
+fn find<S: CubeSource>(items: &[S], shape: &Shape, window: &Window) -> Found
+    requires inside { Holds (whole_window shape.now) window.now }
+    requires filled { ¬ IsEmpty window.now }
+    ensures { Finds (parts_of S.seen items.now) shape.now window.now result }
+{
+    for index in 0..items.len() {
+        match place_of(shape, items[index].shape(), window) {
+            Place::Apart => {}
+            Place::Box(part) => return Found::In(index, part),
+            Place::Across => return Found::Across,
+        }
+    }
+    Found::Nowhere
+}
+
+/// How many indices a shape has along bands, y and x.
+#[derive(Clone, Copy, Debug, PartialEq, Eq)]
+pub struct Extents {
+    bands: u64,
+    y: u64,
+    x: u64,
+}
+
+fn extent_of(shape: &Shape, kind: Kind) -> u64
+    ensures { result ≡ extent_along shape.now kind }
+{
+    match shape.count(kind) {
+        None => 1,
+        Some(count) => u64::from(count),
+    }
+}
+
+fn extents_of(shape: &Shape) -> Extents
+    ensures bands { result.bands ≡ extent shape.now.bands }
+    ensures y { result.y ≡ extent shape.now.y }
+    ensures x { result.x ≡ extent shape.now.x }
+    ensures valid { IsShape shape.now }
+{
+    let _epsg = shape.epsg();
+    Extents {
+        bands: extent_of(shape, Kind::Bands),
+        y: extent_of(shape, Kind::Y),
+        x: extent_of(shape, Kind::X),
+    }
+}
+
+/// The row-major number of the first position of a window.
+fn first_number(shape: &Shape, window: &Window) -> u64
+    requires inside { Holds (whole_window shape.now) window.now }
+    requires filled { ¬ IsEmpty window.now }
+    ensures { result ≡ number_of shape.now (first_of window.now) }
+{
+    let cube = extents_of(shape);
+    let band = u64::from(window.t.from) * cube.bands + u64::from(window.bands.from);
+    let row = band * cube.y + u64::from(window.y.from);
+    row * cube.x + u64::from(window.x.from)
+}
+
+/// Makes each cell null.
+fn fill_null(into: &mut [Cell])
+    ensures { (k : ℕ) → k < length into.new → slice_index_or into.new k Cell.Empty ≡ Cell.Empty }
+{
+    for index in 0..into.len() {
+        into[index] = Cell::Empty;
+    }
+}
+
+/// Reads a window at once where one part decides about all of it, or none.
+fn try_window<S: CubeSource>(
+    items: &mut [S],
+    shape: &Shape,
+    window: &Window,
+    into: &mut [Cell],
+) -> Tried
+    requires inside { Holds (whole_window shape.now) window.now }
+    requires filled { ¬ IsEmpty window.now }
+    requires room { length into.old ≡ position_count window.now }
+    requires parts { ArePartsOfOne (parts_of S.seen items.old) }
+    ensures tried { IsTried (parts_of S.seen items.old) shape.now window.now into.new
+        (fault_count S.seen items.old) (fault_count S.seen items.new) result }
+    ensures reads { OnlyReads S.seen items.old items.new }
+{
+    match find(items, shape, window) {
+        Found::Nowhere => {
+            fill_null(into);
+            Tried::Done(Ok(()))
+        }
+        Found::Across => Tried::Cut,
+        Found::In(index, part) => match items[index].read(&part, into) {
+            Ok(()) => Tried::Done(Ok(())),
+            Err(SourceFail::Failed) => Tried::Done(Err(SourceFail::Failed)),
+            Err(SourceFail::Damaged(_)) => {
+                if is_single(window) {
+                    Tried::Done(Err(SourceFail::Damaged(first_number(shape, window))))
+                } else {
+                    Tried::Cut
+                }
+            }
+        },
+    }
+}
+
+/// Reads the cells of a window, in row-major order, and asks each part only for what it decides. Where a position is
+/// damaged, the halves are read until it is found.
+fn read_window<S: CubeSource>(
+    items: &mut [S],
+    shape: &Shape,
+    window: &Window,
+    into: &mut [Cell],
+) -> Result<(), SourceFail>
+    requires inside { Holds (whole_window shape.now) window.now }
+    requires filled { ¬ IsEmpty window.now }
+    requires room { length into.old ≡ position_count window.now }
+    requires parts { ArePartsOfOne (parts_of S.seen items.old) }
+    ensures answer { IsAnswer (parts_of S.seen items.old) shape.now window.now into.new
+        (fault_count S.seen items.old) (fault_count S.seen items.new) result }
+    ensures reads { OnlyReads S.seen items.old items.new }
+{
+    match try_window(items, shape, window, into) {
+        Tried::Done(result) => result,
+        Tried::Cut => {
+            let _epsg = shape.epsg();
+            let (front, back) = halves(window);
+            let (first, second) = into.split_at_mut(size(&front) as usize);
+            match read_window(items, shape, &front, first) {
+                Ok(()) => read_window(items, shape, &back, second),
+                Err(fail) => Err(fail),
+            }
+        }
+    }
+}
+
+/// Reads the cells of a window, which may be empty.
+#[tactic(auto, using(crate::proofs::MosaicLemmas::empty_read, crate::proofs::ReadLemmas::only_refl))]
+pub fn read_any<S: CubeSource>(
+    items: &mut [S],
+    shape: &Shape,
+    window: &Window,
+    into: &mut [Cell],
+) -> Result<(), SourceFail>
+    requires inside { Holds (whole_window shape.now) window.now }
+    requires room { length into.old ≡ position_count window.now }
+    requires parts { ArePartsOfOne (parts_of S.seen items.old) }
+    ensures answer { IsAnswer (parts_of S.seen items.old) shape.now window.now into.new
+        (fault_count S.seen items.old) (fault_count S.seen items.new) result }
+    ensures reads { OnlyReads S.seen items.old items.new }
+{
+    if window.is_empty() {
+        return Ok(());
+    }
+    read_window(items, shape, window, into)
+}
