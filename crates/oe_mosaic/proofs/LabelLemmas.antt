@@ -1,18 +1,18 @@
 -- Labels that are merged, one step at a time.
-use Rattle.std.proofs.Common.{◌≡◌, ℕ, ◌+◌, ◌<◌, ◌≤◌, true, false, Bool, List, [], ◌∷◌, ◌++◌, length, get_or, drop, refl, arith, ℤ, pos, sym, ap, ◌∙◌, append_assoc}
+use Rattle.std.proofs.Common.{◌≡◌, ℕ, ◌+◌, ◌<◌, ◌≤◌, true, false, List, [], ◌∷◌, ◌++◌, length, get_or, drop, refl, ℤ, pos, sym, ap, ◌∙◌, append_assoc}
 use Rattle.std.proofs.lemmas.List.{append-nil, drop_more, drop_all}
 use Rattle.oe_dims.specs.declared.kind.Kind.{Kind}
 use Rattle.oe_mosaic.specs.Labels.{merge_labels, stands_before}
 
-takes_first : (kind : Kind) (a b : ℤ) (one two : List ℤ) → stands_before kind a b ≡ true
+pub takes_first : (kind : Kind) (a b : ℤ) (one two : List ℤ) → stands_before kind a b ≡ true
     → merge_labels kind (a ∷ one) (b ∷ two) ≡ a ∷ merge_labels kind one (b ∷ two)
 takes_first kind a b one two h = rw h refl
 
-takes_second : (kind : Kind) (a b : ℤ) (one two : List ℤ) → stands_before kind a b ≡ false → stands_before kind b a ≡ true
+pub takes_second : (kind : Kind) (a b : ℤ) (one two : List ℤ) → stands_before kind a b ≡ false → stands_before kind b a ≡ true
     → merge_labels kind (a ∷ one) (b ∷ two) ≡ b ∷ merge_labels kind (a ∷ one) two
 takes_second kind a b one two h k = rw (h, k) refl
 
-takes_both : (kind : Kind) (a b : ℤ) (one two : List ℤ) → stands_before kind a b ≡ false → stands_before kind b a ≡ false
+pub takes_both : (kind : Kind) (a b : ℤ) (one two : List ℤ) → stands_before kind a b ≡ false → stands_before kind b a ≡ false
     → merge_labels kind (a ∷ one) (b ∷ two) ≡ a ∷ merge_labels kind one two
 takes_both kind a b one two h k = rw (h, k) refl
 

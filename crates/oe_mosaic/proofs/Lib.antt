@@ -3,6 +3,7 @@ mod DecideLemmas
 mod FindLemmas
 mod HalfLemmas
 mod LabelLemmas
+mod LawLemmas
 mod MosaicLemmas
 mod PartLemmas
 mod PlaceLemmas

@@ -1,4 +1,5 @@
 pub mod Labels
+pub mod MosaicLaws
 pub mod Mosaics
 pub mod MosaicStates
 pub mod MosaicText

@@ -26,10 +26,6 @@ lines_of bytes = slice_split is_line_feed bytes
 abbrev pub may_follow : List (List ℕ) → List ℕ → Bool
 may_follow before line = is_name line && nat_lt (length before) most_lines
 
--- the names before, and behind them that of a line where it is added
-abbrev pub names_with : List (List ℕ) → List ℕ → Bool → List (List ℕ)
-names_with before line added = if added then before ++ line ∷ [] else before
-
 -- the names where there are enough of them, or the number of the line that is missing
 abbrev pub if_enough : List (List ℕ) → Result (List (List ℕ)) ℕ
 if_enough names = if nat_lt (length names) fewest_lines then Err (length names + 1) else Ok names
@@ -54,3 +50,9 @@ abbrev pub Reads : {X : Type 0} → (X → List (List ℕ)) → Result (List (Li
 Reads view names (Ok read) = names ≡ Ok (view read)
 Reads view names (Err (Invalid line)) = names ≡ Err line
 Reads view names (Err OutOfMemory) = ⊤
+
+-- ---- for private functions
+
+-- the names before, and behind them that of a line where it is added
+abbrev pub names_with : List (List ℕ) → List ℕ → Bool → List (List ℕ)
+names_with before line added = if added then before ++ line ∷ [] else before

@@ -1,5 +1,5 @@
 -- A mosaic: one collection of several, in order of priority.
-use Rattle.std.specs.Prelude.{ℕ, ℤ, ◌==◌, Bool, true, false, min, List, [], ◌∷◌, map, filter, sum_by, slice_get, Option, Some, None, is_some, if◌then◌else◌}
+use Rattle.std.specs.Prelude.{ℕ, ℤ, ◌==◌, Bool, false, min, List, [], ◌∷◌, map, filter, sum_by, slice_get, Option, Some, None, is_some, if◌then◌else◌}
 use Rattle.std.specs.List.{find, list_all, list_any, range_with_len}
 use Rattle.std.specs.Option.{option_map_or}
 use Rattle.oe_cell.specs.declared.cell.Cell.{Cell}

@@ -1,4 +1,4 @@
--- A window of a mosaic read from its parts.
+-- For private functions. A window of a mosaic read from its parts.
 use Rattle.std.specs.Prelude.{◌≡◌, ℕ, ◌<◌, true, false, List, length, slice_get, Result, Ok, Err, IfSome}
 use Rattle.std.specs.List.{list_all}
 use Rattle.oe_cell.specs.declared.cell.Cell.{Cell}

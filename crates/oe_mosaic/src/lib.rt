@@ -9,12 +9,14 @@
 
 mod halves;
 mod labels;
+mod laws;
 mod mosaic;
 mod parts;
 mod place;
 mod reading;
 mod text;
 
+pub use laws::mosaics_have_all_labels;
 pub use mosaic::{Mosaic, MosaicFail};
 pub use parts::{PartFail, Parts};
 pub use text::{MosaicText, MosaicTextFail, read_mosaic};
