@@ -2,7 +2,7 @@
 //!
 //! [`Parts`] are the collections, all of one kind, with the same dimensions and one reference system. A [`Mosaic`] of
 //! them is a collection again: it has all labels of its parts, and the cell of a label tuple is that of the first part
-//! that has the tuple, null or not. It reads from a part only what that part decides. [`read_mosaic`] reads the file
+//! that has the tuple, null or not. It asks a part only for windows that the part has. [`read_mosaic`] reads the file
 //! that names a mosaic's id and its files. The layers above use that the collection of a mosaic is the one that its
 //! definition makes of the collections of its parts.
 #![tactic(auto)]

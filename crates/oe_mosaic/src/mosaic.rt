@@ -106,7 +106,7 @@ impl<S: CubeSource> CubeSource for Mosaic<S> {
         self.items[0].kind()
     }
 
-    /// It takes no memory, and asks a part only for windows that the part has and decides about.
+    /// It takes no memory, and asks a part only for windows that the part has.
     fn read(&mut self, window: &Window, into: &mut [Cell]) -> Result<(), SourceFail> {
         self.asked = self.asked.saturating_add(size(window));
         read_any(self.items.as_mut_slice(), &self.shape, window, into)
