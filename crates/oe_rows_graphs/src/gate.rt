@@ -66,6 +66,8 @@ impl CountGate {
 }
 
 impl Gate for CountGate {
+    fn open(&self, _chunks: u64) {}
+
     fn enter(&self, chunk: u64) {
         if let Some(count) = self.entered.get(chunk as usize) {
             count.fetch_add(1, Ordering::SeqCst);
@@ -74,4 +76,6 @@ impl Gate for CountGate {
             self.wait_for(1 - chunk);
         }
     }
+
+    fn close(&self) {}
 }

@@ -78,6 +78,28 @@ pub(crate) fn complete<R: Threads + Sync, P: Store, G: Gate>(
     ensures { Completes run.old run.new (rows_of seen catalogue.old) (rows_of seen catalogue.new)
         (P.bytes spool.old) (P.bytes spool.new) (P.faults spool.old) (P.faults spool.new) result }
 {
+    gate.open(chunks);
+    let end = finish(rt, run, chunks, catalogue, spool, gate);
+    gate.close();
+    end
+}
+
+/// All rounds of a run, which has so many chunks, and whether no cell of its result is out of the range of numbers, at a
+/// gate that is open.
+fn finish<R: Threads + Sync, P: Store, G: Gate>(
+    rt: &R,
+    run: &mut Run,
+    chunks: u64,
+    catalogue: &mut Catalogue,
+    spool: &mut P,
+    gate: &G,
+) -> Result<(), RunFail>
+    requires begun { IsBegun run.old }
+    requires chunks { chunks ≡ chunk_total run.old.plan }
+    requires mounted { HasCollections run.old.plan.graph (rows_of seen catalogue.old) }
+    ensures { Completes run.old run.new (rows_of seen catalogue.old) (rows_of seen catalogue.new)
+        (P.bytes spool.old) (P.bytes spool.new) (P.faults spool.old) (P.faults spool.new) result }
+{
     match go_through(rt, run, chunks, catalogue, spool, gate) {
         Ok(()) => run.finish(),
         Err(fail) => Err(fail),
