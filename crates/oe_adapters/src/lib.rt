@@ -1,5 +1,5 @@
 //! What the program stands on outside: its words, its standard streams, files as stores, cube files as collections, the
-//! file that a run keeps its records in, and why one of these could not be had.
+//! file that a run keeps its records in, a line that tells how far a run is, and why one of these could not be had.
 //!
 //! All of it runs over any files and streams, so that they can be made to fail. The bytes that pass are hidden, so
 //! contracts say when a call may fail and which fault is said of it; which file a call opens, and what it hands on, is
@@ -9,6 +9,7 @@
 mod collections;
 mod fault;
 mod files;
+mod progress;
 mod spool;
 mod streams;
 mod words;
@@ -16,6 +17,7 @@ mod words;
 pub use collections::{cube_files, mount_outcome, open_collection};
 pub use fault::Fault;
 pub use files::FileStore;
+pub use progress::ProgressGate;
 pub use spool::open_spool;
 pub use streams::{Reader, Writer, hold_standard};
 pub use words::words_of;

@@ -6,11 +6,11 @@
 #![tactic(auto)]
 
 use oe_adapters::{
-    Fault, Reader, Writer, cube_files, hold_standard, mount_outcome, open_collection, open_spool,
-    words_of,
+    Fault, ProgressGate, Reader, Writer, cube_files, hold_standard, mount_outcome, open_collection,
+    open_spool, words_of,
 };
 use oe_dims::Text;
-use oe_outside::{NoGate, Sink};
+use oe_outside::Sink;
 use oe_sources::Catalogue;
 use oe_top::Setup;
 use std::alloc::Global;
@@ -45,7 +45,7 @@ fn main(rt: HostRuntime) -> ExitCode {
             &Setup {
                 rt: &rt,
                 alloc,
-                gate: &NoGate,
+                gate: &ProgressGate::new(rt.stderr()),
             },
             &start.words,
             &mut Reader::new(rt.stdin()),

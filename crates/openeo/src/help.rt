@@ -64,6 +64,7 @@ CX, CY and CT are the sides of a chunk along x, y and t, from 1 to 4096, and W i
 None of the four has an effect on the text. All four cost memory: a run holds 2 W chunks at once, with the pixels around
 them that kernels need; 'openeo plan' with the same words says how many cells, of 24 bytes each. Small sides cost time,
 since each chunk is read with what is around it.
+While it works, and standard error is a terminal, a line 'chunk K of N' there tells how many of its chunks were begun.
 Exit status: 0, 1 Usage, 2 CODE NODE, 3 PlanTooLarge, 4 NumberOverflow, 5 ReadFault, 6 SourceDamaged, 7 SpoolFault,
 8 WriteFault, 9 OutOfMemory, 14 Setup, 15 SpoolDamaged.
 ";
@@ -106,7 +107,8 @@ const DEMO: &str = "\
 openeo demo SEED SIDE CX CY CT W
 
 Evaluates a kernel of 3 x 3 ones and the greatest cell of the bands over a collection that is generated from SEED, 0 to
-1000000000, with SIDE pixels a side, 1 to 1024. It writes 'cells N first A last B'. The other words are those of run.
+1000000000, with SIDE pixels a side, 1 to 1024. It writes 'cells N first A last B'. The other words are those of run,
+and so is the line on a terminal.
 Exit status: 0, 1 Usage, 3 PlanTooLarge, 4 NumberOverflow, 7 SpoolFault, 8 WriteFault, 9 OutOfMemory, 14 Setup,
 15 SpoolDamaged.
 ";

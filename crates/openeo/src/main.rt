@@ -14,8 +14,9 @@ mod program;
 mod server;
 
 use client::client_words;
-use oe_adapters::{Fault, Reader, Writer, mount_outcome, open_collection, open_spool, words_of};
-use oe_outside::NoGate;
+use oe_adapters::{
+    Fault, ProgressGate, Reader, Writer, mount_outcome, open_collection, open_spool, words_of,
+};
 use oe_sources::Catalogue;
 use oe_top::{Setup, openeo};
 use program::{end, set_up};
@@ -72,7 +73,7 @@ fn main(rt: HostRuntime) -> ExitCode {
     let setup = Setup {
         rt: &rt,
         alloc,
-        gate: &NoGate,
+        gate: &ProgressGate::new(rt.stderr()),
     };
     ExitCode::from(openeo(
         &setup,
