@@ -10,4 +10,5 @@ pub mod HaloLemmas
 pub mod TakeLemmas
 pub mod FitLemmas
 mod Worked
+pub mod ScheduleLemmas
 pub mod CrossLemmas

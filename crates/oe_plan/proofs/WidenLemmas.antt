@@ -410,3 +410,25 @@ need_of_node c node number op window box is need =
       least = λ other all. need.least other (λ p q h n. all p q h (back p q n));
       zero = λ none. need.zero (λ p q h n. none p q h (back p q n));
     }
+
+-- ---- a part of the graph
+
+-- what a node needs does not depend on which node is the result
+pub needs_in_part : (c : CheckedGraph) (last node number : ℕ) (p q : Position) → NeedsOfNode c node number p q
+    → NeedsOfNode (record c { result = last }) node number p q
+needs_in_part c last node number p q n = record { operation = n.operation; operation_is = n.operation_is; needs = n.needs }
+
+pub needs_in_whole : (c : CheckedGraph) (last node number : ℕ) (p q : Position)
+    → NeedsOfNode (record c { result = last }) node number p q → NeedsOfNode c node number p q
+needs_in_whole c last node number p q n = record { operation = n.operation; operation_is = n.operation_is; needs = n.needs }
+
+pub need_in_part : (c : CheckedGraph) (last node number : ℕ) (window box : Window) → IsNeed (NeedsOfNode c node number) window box
+    → IsNeed (NeedsOfNode (record c { result = last }) node number) window box
+need_in_part c last node number window box need = record {
+  holds = λ p q h n. need.holds p q h (needs_in_whole c last node number p q n);
+  least = λ other all. need.least other (λ p q h n. all p q h (needs_in_part c last node number p q n));
+  zero = λ none. need.zero (λ p q h n. none p q h (needs_in_part c last node number p q n));
+}
+
+pub faultless_part : (c : CheckedGraph) (last : ℕ) → last < node_count c.nodes → AreFaultless c → AreFaultless (record c { result = last })
+faultless_part c last within f = record { resolved = f.resolved; has_result = within; sound = f.sound; sound_cells = f.sound_cells }

@@ -2,6 +2,8 @@ pub mod Figures
 pub mod Ranges
 pub mod Steps
 pub mod Windows
+pub mod Schedules
 pub mod Plans
 pub mod Widening
 pub mod Fits
+pub mod Laws

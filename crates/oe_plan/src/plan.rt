@@ -8,13 +8,15 @@ ghost use Rattle.oe_window.specs.Chunks.{FitsSides, chunk_window, tiling_of};
 ghost use Rattle.oe_window.specs.Windows.{Holds, IsIn, whole_window};
 ghost use Rattle.oe_plan.specs.Figures as spec;
 ghost use Rattle.oe_plan.specs.Figures.{shape_of_node};
-ghost use Rattle.oe_plan.specs.Plans.{IsPlan};
+ghost use Rattle.oe_plan.specs.Plans.{IsPlan, schedule_of};
 ghost use Rattle.oe_plan.specs.Ranges.{AreStepsOf, IsWithinRanges};
+ghost use Rattle.oe_plan.specs.Schedules.{IsSchedule};
 ghost use Rattle.oe_plan.specs.Steps.{Takes, argument_at};
 ghost use Rattle.oe_plan.specs.Windows.{AreWindows};
 ghost use Rattle.oe_plan.specs.declared.plan.PlanFail.{PlanFail};
 
 use crate::bound::{bound_of, order_of, sizes_of};
+use crate::schedule::Schedule;
 use crate::windows::windows_of;
 use oe_dims::Shape;
 use oe_memory::OutOfMemory;
@@ -47,11 +49,10 @@ impl From<OutOfMemory> for PlanFail {
 #[derive(Drop)]
 pub struct Plan {
     checked: Checked,
-    order: NodeOrder,
+    schedule: Schedule,
     size: ChunkSize,
     workers: u32,
     grid: Grid,
-    largest: u64,
     scratch: u64,
 }
 
@@ -64,11 +65,21 @@ impl Model for Plan {
 
     ghost coded = { Prim.hlevel (codes, nodes_code (Prim.hlevel codes)) };
 
-    ghost view = { λ p. record { graph = p.checked; size = p.size; workers = p.workers; order = p.order } };
+    ghost view = { λ p. record {
+      graph = p.checked;
+      size = p.size;
+      workers = p.workers;
+      order = p.schedule.order;
+    } };
 
     ghost invariant = { λ p. IsKeptPlan
-        (record { graph = p.checked; size = p.size; workers = p.workers; order = p.order })
-        p.grid p.largest p.scratch };
+        (record {
+          graph = p.checked;
+          size = p.size;
+          workers = p.workers;
+          order = p.schedule.order;
+        })
+        p.schedule p.grid p.scratch };
 }
 
 impl Plan {
@@ -98,13 +109,13 @@ impl Plan {
             return Err(PlanFail::TooLarge(bound));
         }
         let grid = Grid::new(checked.shape(checked.result()), size);
+        let schedule = Schedule::new(order, checked.result(), None, sizes.largest as u64);
         Ok(Plan {
             checked,
-            order,
+            schedule,
             size,
             workers,
             grid,
-            largest: sizes.largest as u64,
             scratch: sizes.scratch,
         })
     }
@@ -141,12 +152,21 @@ impl Plan {
         self.workers
     }
 
+    /// The schedule of the run: its steps with their slots, up to the result.
+    pub fn schedule(&self) -> &Schedule
+        ensures value { result.now ≡ schedule_of self.now }
+        ensures schedule { IsSchedule self.now.graph result.now }
+        ensures valid { IsPlan self.now }
+    {
+        &self.schedule
+    }
+
     /// The node of each step, in the order in which they are worked off.
     pub fn steps(&self) -> &[u32]
         ensures value { result.now ≡ self.now.order.steps }
         ensures valid { IsPlan self.now }
     {
-        self.order.steps()
+        self.schedule.steps()
     }
 
     /// The node of a step.
@@ -156,7 +176,7 @@ impl Plan {
         ensures within { result < node_count self.now.graph.nodes }
         ensures valid { IsPlan self.now }
     {
-        self.order.steps()[step as usize]
+        self.schedule.steps()[step as usize]
     }
 
     /// The slot in which the window of a step is kept, below `width`.
@@ -166,7 +186,7 @@ impl Plan {
         ensures below { result < self.now.order.width }
         ensures valid { IsPlan self.now }
     {
-        self.order.slot(step)
+        self.schedule.slot(step)
     }
 
     /// How many windows are kept at once for a chunk.
@@ -174,7 +194,7 @@ impl Plan {
         ensures value { result ≡ self.now.order.width }
         ensures valid { IsPlan self.now }
     {
-        self.order.width()
+        self.schedule.width()
     }
 
     /// The most cells of a window.
@@ -182,7 +202,7 @@ impl Plan {
         ensures value { result ≡ spec.largest_window self.now.graph self.now.size }
         ensures valid { IsPlan self.now }
     {
-        self.largest
+        self.schedule.largest()
     }
 
     /// How many cells an evaluation needs besides.
@@ -224,7 +244,7 @@ impl Plan {
         ensures exact { (r : ℕ) → (result ≡ Some r) ↔ Takes self.now.graph step number r }
         ensures valid { IsPlan self.now }
     {
-        argument_of(&self.checked, &self.order, step, number)
+        argument_of(&self.checked, self.schedule.order(), step, number)
     }
 
     /// The windows of all steps for a chunk, one for each step: the chunk itself at the step of the result, and at each
@@ -240,7 +260,7 @@ impl Plan {
         ensures windows { AreWindows self.now.graph self.now.size chunk.now windows.new }
         ensures valid { IsPlan self.now }
     {
-        windows_of(&self.checked, &self.order, chunk, windows);
+        windows_of(&self.checked, &self.schedule, chunk, windows);
     }
 }
 

@@ -10,14 +10,15 @@ ghost use Rattle.oe_window.specs.Chunks.{FitsSides, tiling_of};
 ghost use Rattle.oe_window.specs.Windows.{Holds, IsEmpty, whole_window};
 ghost use Rattle.oe_window.specs.declared.grid.ChunkSize.{ChunkSize};
 ghost use Rattle.oe_window.specs.declared.window.Window.{Window};
-ghost use Rattle.oe_plan.specs.Figures.{shape_of_node, steps_of};
+ghost use Rattle.oe_plan.specs.Figures.{shape_of_node};
+ghost use Rattle.oe_plan.specs.Schedules.{part_of, steps_to_last};
 ghost use Rattle.oe_plan.specs.Steps.{NeedsOfNode, arguments_of_node};
 ghost use Rattle.oe_plan.specs.Widening.{AreWidened, IsWidenedBy};
 ghost use Rattle.oe_plan.specs.Windows.{AreWindows, IsOrderOf, window_at};
 
+use crate::schedule::Schedule;
 use oe_dims::{Kind, Shape};
 use oe_ops::need;
-use oe_order::NodeOrder;
 use oe_shape::Checked;
 use oe_window::{Span, Window, hull};
 
@@ -51,7 +52,7 @@ fn shape_of(checked: &Checked, node: u32) -> &Shape
 }
 
 /// How many arguments a node works on: none where it loads a collection.
-fn argument_count(checked: &Checked, node: u32) -> usize
+pub fn argument_count(checked: &Checked, node: u32) -> usize
     requires { node < node_count checked.now.nodes }
     ensures none { is_load (links_of checked.now.nodes) node ≡ true → result ≡ 0 }
     ensures all { is_load (links_of checked.now.nodes) node ≡ false
@@ -76,17 +77,17 @@ pub fn argument_of(checked: &Checked, node: u32, number: usize) -> u32
 }
 
 /// The step of a node that a step takes, which is an earlier one.
-fn step_of_argument(checked: &Checked, order: &NodeOrder, step: usize, argument: u32) -> usize
-    requires order { IsOrderOf checked.now order.now }
-    requires step { step < length (steps_of checked.now) }
+fn step_of_argument(checked: &Checked, schedule: &Schedule, step: usize, argument: u32) -> usize
+    requires order { IsOrderOf (part_of checked.now schedule.now) schedule.now.order }
+    requires step { step < length (steps_to_last checked.now schedule.now) }
     requires works { is_load (links_of checked.now.nodes)
-        (slice_index (steps_of checked.now) step) ≡ false }
+        (slice_index (steps_to_last checked.now schedule.now) step) ≡ false }
     requires has { Contains (arguments_of_node checked.now
-        (slice_index (steps_of checked.now) step)) argument }
+        (slice_index (steps_to_last checked.now schedule.now) step)) argument }
     ensures earlier { result < step }
-    ensures value { slice_index (steps_of checked.now) result ≡ argument }
+    ensures value { slice_index (steps_to_last checked.now schedule.now) result ≡ argument }
 {
-    match order.step_of(argument) {
+    match schedule.step_of(argument) {
         Some(found) => found as usize,
         None => unreachable!(),
     }
@@ -118,80 +119,86 @@ fn need_of_argument(
 }
 
 /// Widens the window of the argument of a number of a step to hold what the window of the step needs.
-fn widen(checked: &Checked, order: &NodeOrder, step: usize, number: usize, windows: &mut [Window])
+fn widen(checked: &Checked, schedule: &Schedule, step: usize, number: usize, windows: &mut [Window])
     requires faultless { AreFaultless checked.now }
-    requires order { IsOrderOf checked.now order.now }
-    requires each { length windows.old ≡ length (steps_of checked.now) }
-    requires step { step < length (steps_of checked.now) }
+    requires order { IsOrderOf (part_of checked.now schedule.now) schedule.now.order }
+    requires last { schedule.now.last < node_count checked.now.nodes }
+    requires each { length windows.old ≡ length (steps_to_last checked.now schedule.now) }
+    requires step { step < length (steps_to_last checked.now schedule.now) }
     requires works { is_load (links_of checked.now.nodes)
-        (slice_index (steps_of checked.now) step) ≡ false }
-    requires number { number
-        < length (arguments_of_node checked.now (slice_index (steps_of checked.now) step)) }
-    requires inside { Holds
-        (whole_window (shape_of_node checked.now (slice_index (steps_of checked.now) step)))
-        (window_at windows.old step) }
-    ensures { IsWidenedBy checked.now step number windows.old windows.new }
+        (slice_index (steps_to_last checked.now schedule.now) step) ≡ false }
+    requires number { number < length (arguments_of_node checked.now
+        (slice_index (steps_to_last checked.now schedule.now) step)) }
+    requires inside { Holds (whole_window (shape_of_node checked.now
+        (slice_index (steps_to_last checked.now schedule.now) step))) (window_at windows.old step) }
+    ensures { IsWidenedBy (part_of checked.now schedule.now) step number windows.old windows.new }
 {
-    let node = order.steps()[step];
+    let node = schedule.steps()[step];
     let argument = argument_of(checked, node, number);
-    let earlier = step_of_argument(checked, order, step, argument);
+    let earlier = step_of_argument(checked, schedule, step, argument);
     let window = windows[step];
     let needed = need_of_argument(checked, node, number, argument, &window);
     windows[earlier] = hull(&windows[earlier], &needed);
 }
 
 /// Widens the windows of all arguments of a step.
-fn widen_arguments(checked: &Checked, order: &NodeOrder, step: usize, windows: &mut [Window])
+fn widen_arguments(checked: &Checked, schedule: &Schedule, step: usize, windows: &mut [Window])
     requires faultless { AreFaultless checked.now }
-    requires order { IsOrderOf checked.now order.now }
-    requires each { length windows.old ≡ length (steps_of checked.now) }
-    requires step { step < length (steps_of checked.now) }
-    requires inside { Holds
-        (whole_window (shape_of_node checked.now (slice_index (steps_of checked.now) step)))
-        (window_at windows.old step) }
-    ensures widened { (chunk : Window) → AreWidened checked.now chunk windows.old (step + 1) 0
-        → AreWidened checked.now chunk windows.new step 0 }
-    ensures valid { IsShape (shape_of_node checked.now (slice_index (steps_of checked.now) step)) }
+    requires order { IsOrderOf (part_of checked.now schedule.now) schedule.now.order }
+    requires last { schedule.now.last < node_count checked.now.nodes }
+    requires each { length windows.old ≡ length (steps_to_last checked.now schedule.now) }
+    requires step { step < length (steps_to_last checked.now schedule.now) }
+    requires inside { Holds (whole_window (shape_of_node checked.now
+        (slice_index (steps_to_last checked.now schedule.now) step))) (window_at windows.old step) }
+    ensures widened { (chunk : Window)
+        → AreWidened (part_of checked.now schedule.now) chunk windows.old (step + 1) 0
+        → AreWidened (part_of checked.now schedule.now) chunk windows.new step 0 }
+    ensures valid { IsShape (shape_of_node checked.now
+        (slice_index (steps_to_last checked.now schedule.now) step)) }
 {
-    let node = order.steps()[step];
+    let node = schedule.steps()[step];
     let _shape = shape_of(checked, node);
     for number in 0..argument_count(checked, node) {
-        widen(checked, order, step, number, windows);
+        widen(checked, schedule, step, number, windows);
     }
 }
 
-/// The step of the result.
-fn step_of_result(checked: &Checked, order: &NodeOrder) -> usize
-    requires { IsOrderOf checked.now order.now }
-    ensures within { result < length (steps_of checked.now) }
-    ensures only { (i : ℕ) → i < length (steps_of checked.now)
-        → slice_index (steps_of checked.now) i ≡ checked.now.result → i ≡ result }
-    ensures value { slice_index (steps_of checked.now) result ≡ checked.now.result }
+/// The step of the last node.
+fn step_of_last(checked: &Checked, schedule: &Schedule) -> usize
+    requires { IsOrderOf (part_of checked.now schedule.now) schedule.now.order }
+    ensures within { result < length (steps_to_last checked.now schedule.now) }
+    ensures only { (i : ℕ) → i < length (steps_to_last checked.now schedule.now)
+        → slice_index (steps_to_last checked.now schedule.now) i ≡ schedule.now.last → i ≡ result }
+    ensures value { slice_index (steps_to_last checked.now schedule.now) result ≡ schedule.now.last }
     ensures faultless { AreFaultless checked.now }
 {
-    match order.step_of(checked.result()) {
+    // A checked graph is without a fault, as the number of its nodes says.
+    let _count = checked.nodes();
+    match schedule.step_of(schedule.last()) {
         Some(found) => found as usize,
         None => unreachable!(),
     }
 }
 
-/// The windows of all steps of a run for a chunk of its result, one for each step: the chunk itself at the step of the
-/// result, and at each other step the least box that has what the windows of all steps that take its cube need of it.
-pub fn windows_of(checked: &Checked, order: &NodeOrder, chunk: &Window, windows: &mut [Window])
-    requires order { IsOrderOf checked.now order.now }
-    requires each { length windows.old ≡ length order.now.steps }
-    requires within { Holds (whole_window (shape_of_node checked.now checked.now.result))
+/// The windows of all steps of a schedule of which no cube is given, for a chunk of its last node's cube, one for each
+/// step: the chunk itself at the step of the last node, and at each other step the least box that has what the windows
+/// of all steps that take its cube need of it. They are those of a run of the graph whose result is the last node.
+pub fn windows_of(checked: &Checked, schedule: &Schedule, chunk: &Window, windows: &mut [Window])
+    requires order { IsOrderOf (part_of checked.now schedule.now) schedule.now.order }
+    requires last { schedule.now.last < node_count checked.now.nodes }
+    requires each { length windows.old ≡ length schedule.now.order.steps }
+    requires within { Holds (whole_window (shape_of_node checked.now schedule.now.last))
         chunk.now }
     requires some { ¬ IsEmpty chunk.now }
     ensures { (size : ChunkSize)
-        → FitsSides (tiling_of (shape_of_node checked.now checked.now.result) size) chunk.now
-        → AreWindows checked.now size chunk.now windows.new }
+        → FitsSides (tiling_of (shape_of_node checked.now schedule.now.last) size) chunk.now
+        → AreWindows (part_of checked.now schedule.now) size chunk.now windows.new }
 {
     clear(windows);
-    windows[step_of_result(checked, order)] = *chunk;
+    windows[step_of_last(checked, schedule)] = *chunk;
     let mut left = windows.len();
     while left > 0 {
         left -= 1;
-        widen_arguments(checked, order, left, windows);
+        widen_arguments(checked, schedule, left, windows);
     }
 }

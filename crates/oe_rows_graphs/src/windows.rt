@@ -1,7 +1,7 @@
 // The answers to lines about the windows of steps.
 use oe_lines::{Answers, Fault, push_number, push_window, window_of};
 use oe_order::order;
-use oe_plan::windows_of;
+use oe_plan::{Schedule, windows_of};
 use oe_shape::Checked;
 use oe_window::{Window, holds, whole};
 use std::alloc::Global;
@@ -40,6 +40,7 @@ fn windows_for(
         return Err(Fault::Line);
     }
     let mut windows = vec![in alloc; *chunk; steps.steps().len()]?;
-    windows_of(checked, &steps, chunk, &mut windows);
+    let schedule = Schedule::new(steps, checked.result(), None, 0);
+    windows_of(checked, &schedule, chunk, &mut windows);
     Ok(windows)
 }
