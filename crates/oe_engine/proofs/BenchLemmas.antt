@@ -5,7 +5,8 @@ use Rattle.oe_plan.specs.Plans.{IsPlan, PlanOf}
 use Rattle.oe_plan.specs.Windows.{window_at}
 use Rattle.oe_shape.specs.Graphs.{Collections}
 use Rattle.oe_window.specs.declared.window.Window.{Window}
-use Rattle.oe_engine.specs.Benches.{AreCells, AreOfKind, BenchOf, HaveRoomFor, IsBenchFor, IsDone, OfResult, node_cells}
+use Rattle.oe_engine.specs.Benches.{AreCells, AreOfKind, BenchOf, HaveRoomFor, IsBenchFor, IsDone, OfResult}
+use Rattle.oe_steps.specs.Steps.{node_cells}
 use Rattle.oe_engine.specs.declared.bench.State.{State}
 use Rattle.oe_engine.specs.declared.bench.State.TheVariants.{Loaded, Done}
 

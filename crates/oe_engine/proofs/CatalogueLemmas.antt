@@ -1,5 +1,5 @@
 -- The collections of a catalogue, as the graphs that were checked over it have them.
-use Rattle.std.proofs.Common.{◌≡◌, ℕ, zero, suc, ◌+◌, ◌<◌, Bool, true, false, ◌&&◌, cond, if◌then◌else◌, List, [], ◌∷◌, length, map, get_or, replicate, unwrap_or, Option, Some, None, IfSome, IsSome, Ordering, Less, Equal, Greater, inl, inr, refl, sym, ap, ◌∙◌, subst, true≢false, arith}
+use Rattle.std.proofs.Common.{◌≡◌, ℕ, zero, suc, ◌<◌, true, false, List, [], ◌∷◌, length, map, get_or, replicate, unwrap_or, Option, Some, None, IfSome, IsSome, Ordering, Less, Equal, Greater, inl, inr, refl, sym, ap, ◌∙◌, subst, true≢false, arith}
 use Rattle.std.specs.List.{All, find, list_all, slice_get}
 use Rattle.std.specs.Option.{option_and_then, option_map, option_map_or}
 use Rattle.std.specs.Ordering.{is_lt}
@@ -23,16 +23,15 @@ use Rattle.oe_graph.specs.Tree.{PlainNode}
 use Rattle.oe_shape.specs.Checked.{CheckedGraph}
 use Rattle.oe_shape.specs.Graphs as graph
 use Rattle.oe_shape.specs.Graphs.{Collections, NamedCollection, collection_named, datacube_of, request_inputs, no_datacube}
-use Rattle.oe_shape.specs.Laws.{AreCollectionsOf, meaning_of_node}
+use Rattle.oe_shape.specs.Laws.{meaning_of_node}
 use Rattle.oe_shape.specs.Meaning.{Datacube, operated, outline}
 use Rattle.oe_shape.specs.Operations.{Operation, operation_of}
 use Rattle.oe_shape.specs.Requests.{CubeRequest, cube_request_at}
-use Rattle.oe_sources.specs.Catalogue.{Row, collections_shown, row_index, row_of, source_at}
+use Rattle.oe_sources.specs.Catalogue.{Row, collections_shown, row_of, source_at}
 use Rattle.oe_sources.specs.CatalogueDims.{AreDimsOf, dims_of, dims_row}
 use Rattle.oe_sources.specs.Source.{Contents, Source, collection_of, collection_with}
 use Rattle.oe_sources.proofs.CatalogueLemmas.{find-map, find_at_index}
-use Rattle.oe_engine.specs.Collections.{IsLoadedBy, IsMountedAt, Shows}
-use Rattle.oe_engine.specs.Laws.{AreVisible, GivesCollections, HasValid, LoadsVisible, collection_at, collection_named_by, collections_of, null_collection}
+use Rattle.oe_engine.specs.Laws.{AreVisible, GivesCollections, HasValid, collection_at, collection_named_by, collections_of, null_collection}
 
 -- ---- ids that rise
 

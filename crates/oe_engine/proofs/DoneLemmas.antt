@@ -6,9 +6,10 @@ use Rattle.oe_cell.specs.declared.cell.Cell.{Cell}
 use Rattle.oe_cell.specs.declared.cell.Cell.TheVariants.{Empty}
 use Rattle.oe_dims.specs.Cube.{Cube}
 use Rattle.oe_dims.specs.Positions.{Position}
-use Rattle.oe_plan.specs.Plans.{IsPlan, PlanOf}
+use Rattle.oe_plan.specs.Plans.{IsPlan, PlanOf, schedule_of}
 use Rattle.oe_plan.specs.Windows.{window_at}
 use Rattle.oe_plan.proofs.RunLemmas.{only_step}
+use Rattle.oe_plan.proofs.ScheduleLemmas.{plan_schedule, plan_windows}
 use Rattle.oe_shape.specs.Graphs.{Collections}
 use Rattle.oe_shape.specs.Laws.{AreCollectionsOf}
 use Rattle.oe_shape.specs.Operations.{Outline}
@@ -20,12 +21,12 @@ use Rattle.oe_window.proofs.CellLemmas.{cells_on-get, length-cells_on}
 use Rattle.oe_window.proofs.WholeLemmas.{in_whole, number_in_below}
 use Rattle.oe_engine.specs.Benches.{BenchOf, IsDone, KeepsState, buffer_cells_at, chunk_of, node_at}
 use Rattle.oe_engine.specs.Chunks.{AreResultOf, HasOnChunk, IsAtDone}
-use Rattle.oe_engine.specs.Inputs.{IsInput}
+use Rattle.oe_steps.specs.Inputs.{IsInput}
 use Rattle.oe_engine.specs.Runs.{result_cube, result_shape}
 use Rattle.oe_engine.specs.declared.bench.State.TheVariants.{Done}
 use Rattle.oe_engine.proofs.CubeLemmas.{given_cube}
 use Rattle.oe_engine.proofs.GridLemmas.{chunk_inside}
-use Rattle.oe_engine.proofs.PlanLemmas.{is_input}
+use Rattle.oe_steps.proofs.ScheduleLemmas.{is_input}
 
 -- what holds of each cell on a window holds of the cell at a position of it
 pub cell_of_window : (P : Cell → Type 0) (cube : Cube Cell) (w : Window) (q : Position) → IsIn w q → All P (cells_on Empty cube w)
@@ -72,10 +73,11 @@ module _ (p : PlanOf) (is : IsPlan p) where
       keeps : KeepsState p b (Done k)
       keeps = subst (KeepsState p b) done.state done.bench.keeps
 
-      input : (cells : List Cell) → AreResultOf p b cells → IsInput p b.windows (result_step.0) cells
+      input : (cells : List Cell) → AreResultOf p b cells → IsInput p.graph (schedule_of p) b.windows (result_step.0) cells
       input cells are =
           let s = result_step in
-          is_input p is (chunk_of p k) b.windows keeps.0.windows b.buffers done.bench.room.buffers s.0 s.1 cells
+          is_input p.graph (schedule_of p) (plan_schedule p is) b.windows
+          (plan_windows p is (chunk_of p k) b.windows keeps.0.windows) b.buffers done.bench.room.buffers s.0 s.1 cells
           (are s.0 s.1 s.2) (keeps.1 s.0 s.1 s.2)
 
       window_is : window_at b.windows (result_step.0) ≡ chunk_of p k

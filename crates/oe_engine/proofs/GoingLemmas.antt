@@ -14,16 +14,17 @@ use Rattle.oe_sources.specs.Catalogue.{Row}
 use Rattle.oe_sources.specs.CatalogueDims.{dims_of}
 use Rattle.oe_spool.specs.Spooled.{IsInSome, IsRecordByte, record_offset}
 use Rattle.oe_spool.proofs.KeptLemmas.{bytes_kept, change_of_more, kept_then, records_kept, store_piece_kept}
-use Rattle.oe_engine.specs.Collections.{AreRead, HasCollections, Shows}
+use Rattle.oe_steps.specs.Collections.{AreRead, HasCollections, Shows}
 use Rattle.oe_engine.specs.Going.{ChangesOwnRecords, IsGoing, RunsGoOn, RunsStayApart, StandsBehind}
 use Rattle.oe_engine.specs.Laws.{GivesCollections}
 use Rattle.oe_engine.specs.Rounds.{Advances, ReadsChunks, WritesChunks}
 use Rattle.oe_engine.specs.Runs.{HasDone, HasRunRecords, RunOf, chunk_total, chunks_from, chunks_in_round, result_cube, result_shape}
 use Rattle.oe_engine.specs.declared.rounds.Progress.{Progress}
-use Rattle.oe_engine.specs.declared.rounds.RunFail.{RunFail}
+use Rattle.oe_steps.specs.declared.fail.RunFail.{RunFail}
 use Rattle.oe_engine.proofs.GridLemmas.{chunks_inside}
 use Rattle.oe_engine.proofs.LawLemmas.{begin_and_end}
-use Rattle.oe_engine.proofs.ReadLemmas.{dims_same, given_same, has_same, shows_same}
+use Rattle.oe_engine.proofs.ReadLemmas.{dims_same, given_same}
+use Rattle.oe_steps.proofs.ReadLemmas.{has_same, shows_same}
 use Rattle.oe_engine.proofs.RenderLemmas.{result_shape_is}
 
 -- ---- records behind those of a run

@@ -1,26 +1,23 @@
 -- What the layers above rely on.
-use Rattle.std.proofs.Common.{◌≡◌, ℕ, ◌<◌, List, [], ◌∷◌, length, map, get_or, Option, Some, None, refl, sym, ap, ◌∙◌, subst}
+use Rattle.std.proofs.Common.{◌≡◌, ℕ, ◌<◌, List, [], ◌∷◌, length, map, get_or, refl, sym, ap, ◌∙◌, subst}
 use Rattle.std.specs.Option.{option_map_or}
 use Rattle.oe_cube.specs.Collections.{Collection}
-use Rattle.oe_dims.specs.Cube.{Cube}
 use Rattle.oe_dims.specs.Positions.{IsPosition, Position}
-use Rattle.oe_cell.specs.declared.cell.Cell.{Cell}
 use Rattle.oe_graph.specs.Printed.{node_count}
-use Rattle.oe_plan.specs.Plans.{IsPlan, PlanOf}
 use Rattle.oe_shape.specs.Graphs.{Collections}
-use Rattle.oe_shape.specs.Laws.{AreCollectionsOf}
 use Rattle.oe_sources.specs.Catalogue.{Row, collections_shown}
 use Rattle.oe_sources.specs.Source.{collection_of}
-use Rattle.oe_spool.specs.Least.{IsLeastOver, least_over_of}
+use Rattle.oe_spool.specs.Least.{IsLeastOver}
 use Rattle.oe_spool.specs.Spooled.{IsInSome}
 use Rattle.oe_spool.proofs.LeastLemmas.{least_of_windows}
-use Rattle.oe_engine.specs.Collections.{AreRead, without_counts}
+use Rattle.oe_steps.specs.Collections.{without_counts}
 use Rattle.oe_engine.specs.Laws.{AreMounted, AreShown, BeginAndEnd, StayAfterReads}
-use Rattle.oe_engine.specs.Runs.{HasDone, HasRunRecords, RunOf, chunk_total, chunks_from, result_cube, result_shape}
+use Rattle.oe_engine.specs.Runs.{RunOf, chunks_from, result_cube}
 use Rattle.oe_engine.proofs.CatalogueLemmas.{same_meaning, visible_at}
 use Rattle.oe_engine.proofs.GridLemmas.{all_inside, chunks_inside}
 use Rattle.oe_engine.proofs.MountLemmas.{has_collections}
-use Rattle.oe_engine.proofs.ReadLemmas.{AreRead-refl, AreRead-trans, dims_same, given_same, has_same, rose_first, rose_later, says_same, shows_same}
+use Rattle.oe_steps.proofs.ReadLemmas.{AreRead-refl, AreRead-trans, has_same, rose_first, rose_later, says_same, shows_same}
+use Rattle.oe_engine.proofs.ReadLemmas.{dims_same, given_same}
 use Rattle.oe_engine.proofs.RenderLemmas.{result_shape_is, result_whole}
 
 pub are_mounted : AreMounted

@@ -1,5 +1,5 @@
 -- What a check has seen of the collections that a graph loads holds of the catalogue that it was checked over.
-use Rattle.std.proofs.Common.{◌≡◌, ℕ, zero, suc, ◌+◌, ◌<◌, Bool, true, false, cond, if◌then◌else◌, is_none, List, [], ◌∷◌, length, get_or, drop, Option, Some, None, refl, sym, ap, ◌∙◌, subst, inl, inr, arith}
+use Rattle.std.proofs.Common.{◌≡◌, ℕ, suc, ◌+◌, ◌<◌, true, cond, if◌then◌else◌, is_none, List, [], ◌∷◌, length, get_or, drop, Option, Some, None, refl, sym, ap, ◌∙◌, inl, inr, arith}
 use Rattle.std.proofs.lemmas.Bool.{cases_Bool}
 use Rattle.std.proofs.lemmas.Option.{same_Some}
 use Rattle.std.specs.List.{find}
@@ -17,13 +17,13 @@ use Rattle.oe_shape.specs.Links.{loaded_collection, loaded_by}
 use Rattle.oe_shape.specs.Operations.{Outline, no_outline}
 use Rattle.oe_shape.specs.Requests as request
 use Rattle.oe_shape.specs.Requests.{CubeRequest, cube_request_at}
-use Rattle.oe_shape.specs.Stands.{HasNoFault, IsSound, cubes_of, early, early_rows, sound}
+use Rattle.oe_shape.specs.Stands.{IsSound, cubes_of, early, early_rows, sound}
 use Rattle.oe_shape.proofs.LinkLemmas.{one_node}
 use Rattle.oe_shape.proofs.RequestLemmas.{found}
 use Rattle.oe_sources.specs.Catalogue.{Row, row_index, row_of, source_at}
 use Rattle.oe_sources.specs.CatalogueDims.{AreDimsOf, dims_row}
 use Rattle.oe_plan.specs.Figures.{steps_of}
-use Rattle.oe_engine.specs.Collections.{HasCollections, IsMountedAt}
+use Rattle.oe_steps.specs.Collections.{HasCollections, IsMountedAt}
 
 -- the row of an id, by its index
 pub record IsRowAt (rows : List Row) (id : List ℕ) (row : Row) : Type 0 where

@@ -14,12 +14,11 @@ use Rattle.oe_sources.specs.Catalogue.{Row}
 use Rattle.oe_engine.specs.Benches.{BenchOf}
 use Rattle.oe_engine.specs.Chunks.{EachBench}
 use Rattle.oe_engine.specs.Hulls.{HasLoadedSteps, IsBegun, LoadsStep}
-use Rattle.oe_engine.specs.Loads.{HasRead}
-use Rattle.oe_engine.specs.declared.rounds.RunFail.{RunFail}
+use Rattle.oe_steps.specs.Loads.{HasRead}
+use Rattle.oe_steps.specs.declared.fail.RunFail.{RunFail}
 use Rattle.oe_engine.proofs.HullLemmas.{none_if_refused}
-use Rattle.oe_engine.proofs.ReadLemmas.{AreRead-trans, has_more, has_most, has_none, has_refused}
-use Rattle.oe_engine.proofs.RoundLemmas.{on_ok}
-use Rattle.oe_engine.proofs.StepLoadLemmas.{slice_more}
+use Rattle.oe_steps.proofs.ReadLemmas.{AreRead-trans, has_more, has_most, has_none, has_refused}
+use Rattle.oe_steps.proofs.StepLoadLemmas.{on_ok, slice_more}
 
 -- ---- what holds of the benches of two pieces
 

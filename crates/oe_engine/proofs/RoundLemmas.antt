@@ -1,6 +1,6 @@
 -- What one round of a run reads and writes, in each of the ways in which it ends: loading is refused, writing is refused, or
 -- it is done.
-use Rattle.std.proofs.Common.{◌≡◌, ℕ, zero, suc, ◌+◌, ◌-◌, ◌*◌, ◌<◌, ◌≤◌, min, List, [], ◌∷◌, ◌++◌, length, take, drop, get_or, Option, Result, Ok, Err, OnOk, ◌∙◌, subst, length-append, length-drop, arith}
+use Rattle.std.proofs.Common.{◌≡◌, ℕ, zero, suc, ◌+◌, ◌-◌, ◌*◌, ◌≤◌, min, List, [], ◌∷◌, ◌++◌, length, take, drop, get_or, Option, Result, ◌∙◌, subst, length-append, length-drop, arith}
 use Rattle.std.specs.List.{All}
 use Rattle.std.proofs.lemmas.List.Elements.{All-append, All-cons}
 use Rattle.std.proofs.lemmas.Option.{slice_get-get_or}
@@ -15,10 +15,11 @@ use Rattle.oe_spool.specs.Spooled.{ChangesOnly, IsInSome, IsRecordByte}
 use Rattle.oe_spool.proofs.KeptLemmas.{bytes_kept}
 use Rattle.oe_engine.specs.Benches.{BenchOf, IsBenchFor, IsDone, IsLoaded}
 use Rattle.oe_engine.specs.Chunks.{EachBench, HasRecordsOf, HasValidCells, IsAtDone, IsLeastOf}
-use Rattle.oe_engine.specs.Loads.{HasRead, LoadsBench}
+use Rattle.oe_steps.specs.Loads.{HasRead}
+use Rattle.oe_engine.specs.Loads.{LoadsBench}
 use Rattle.oe_engine.specs.Rounds.{ReadsChunks, WritesChunks}
 use Rattle.oe_engine.specs.Runs.{chunk_total, chunks_from, evaluated_after, load_count, result_cube, result_shape}
-use Rattle.oe_engine.specs.declared.rounds.RunFail.{RunFail}
+use Rattle.oe_steps.specs.declared.fail.RunFail.{RunFail}
 use Rattle.oe_engine.proofs.RenderLemmas.{result_shape_is}
 use Rattle.oe_engine.proofs.WrittenLemmas.{done_stays, records_more, records_stay, run, values_more}
 
@@ -97,10 +98,6 @@ each_before p (suc n) (b ∷ benches) each =
 pub each_after : (p : PlanOf) (new old : List BenchOf) (count : ℕ) → All (IsBenchFor p) new → All (IsBenchFor p) old
     → All (IsBenchFor p) (new ++ drop count old)
 each_after p new old count each others = All-append (IsBenchFor p) new (drop count old) each (each_behind p count old others)
-
-pub on_ok : {T E : Type 0} (X Y : Type 0) (r : Result T E) → (X → Y) → OnOk r X → OnOk r Y
-on_ok X Y (Ok x) f h = f h
-on_ok X Y (Err x) f h = h
 
 -- each of some benches, one by one
 pub each_done : (p : PlanOf) (first : ℕ) (benches : List BenchOf) → EachBench first (IsAtDone p) benches → All (IsBenchFor p) benches

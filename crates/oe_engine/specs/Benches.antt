@@ -1,25 +1,16 @@
 -- A bench: what one chunk of a run is evaluated in. Its cells, and when they are those of the nodes of a plan.
-use Rattle.std.specs.Prelude.{◌≡◌, ◌⊎◌, ⊤, ◌<◌, ℕ, ◌+◌, Bool, true, List, length, slice_index, sum_by, take}
-use Rattle.std.specs.List.{All}
+use Rattle.std.specs.Prelude.{◌≡◌, ⊤, ◌<◌, ℕ, ◌+◌, Bool, List, length, sum_by}
 use Rattle.oe_cell.specs.declared.cell.Cell.{Cell}
-use Rattle.oe_cell.specs.declared.cell.Cell.TheVariants.{Empty}
-use Rattle.oe_cube.specs.Kinds.{IsOfKind}
-use Rattle.oe_dims.specs.declared.kind.CellKind.{CellKind}
-use Rattle.oe_order.specs.Graph as order
-use Rattle.oe_order.specs.Live.{is_live}
-use Rattle.oe_shape.specs.Checked.{CheckedGraph, outline_of_node}
 use Rattle.oe_shape.specs.Graphs.{Collections}
-use Rattle.oe_shape.specs.Laws.{AreCollectionsOf, meaning_of_node}
-use Rattle.oe_shape.specs.Links.{links_of}
-use Rattle.oe_window.specs.Cells.{cells_on}
+use Rattle.oe_shape.specs.Laws.{AreCollectionsOf}
 use Rattle.oe_window.specs.Chunks.{chunk_window, tiling_of}
-use Rattle.oe_window.specs.Windows.{position_count}
 use Rattle.oe_window.specs.declared.window.Window.{Window}
-use Rattle.oe_plan.specs.Figures.{chunks_of, largest_window, scratch_of, shape_of_node}
-use Rattle.oe_plan.specs.Plans.{PlanOf}
-use Rattle.oe_plan.specs.Steps.{Takes, arguments_of_node}
-use Rattle.oe_plan.specs.Windows.{AreWindows, window_at}
-use Rattle.oe_engine.specs.Buffers.{AreOfSize, buffer_at}
+use Rattle.oe_plan.specs.Figures.{chunks_of, scratch_of, shape_of_node}
+use Rattle.oe_plan.specs.Plans.{PlanOf, schedule_of}
+use Rattle.oe_plan.specs.Schedules as schedules
+use Rattle.oe_plan.specs.Windows.{AreWindows}
+use Rattle.oe_steps.specs.Steps as steps
+use Rattle.oe_steps.specs.Steps.{node_cells}
 use Rattle.oe_engine.specs.declared.bench.State.{State}
 use Rattle.oe_engine.specs.declared.bench.State.TheVariants.{Idle, Loaded, Done}
 
@@ -39,7 +30,7 @@ held_cells b = sum_by (λ (cells : List Cell). length cells) b.buffers + length 
 
 -- for each slot of a plan there is a buffer for the largest window
 abbrev pub HaveRoomFor : PlanOf → List (List Cell) → Type 0
-HaveRoomFor p buffers = AreOfSize buffers p.order.width (largest_window p.graph p.size)
+HaveRoomFor p buffers = steps.HaveRoomFor (schedule_of p) buffers
 
 -- besides these it has a window for each step, and as many cells to work with as the plan says
 pub record HasRoomFor (p : PlanOf) (b : BenchOf) : Type 0 where
@@ -51,33 +42,23 @@ pub record HasRoomFor (p : PlanOf) (b : BenchOf) : Type 0 where
 
 -- the node of a step
 abbrev pub node_at : PlanOf → ℕ → ℕ
-node_at p step = slice_index p.order.steps step
+node_at p step = schedules.node_at (schedule_of p) step
 
 -- whether it loads a collection
 abbrev pub is_load_at : PlanOf → ℕ → Bool
-is_load_at p step = order.is_load (links_of p.graph.nodes) (node_at p step)
-
--- the kind of its cells
-abbrev pub cell_kind_at : PlanOf → ℕ → CellKind
-cell_kind_at p step = (outline_of_node p.graph (node_at p step)).kind
+is_load_at p step = schedules.is_load_at p.graph (schedule_of p) step
 
 -- what a bench holds of it: the front of the buffer of its slot, one cell for each position of its window
 abbrev pub buffer_cells_at : PlanOf → List Window → List (List Cell) → ℕ → List Cell
-buffer_cells_at p windows buffers step =
-    take (position_count (window_at windows step)) (buffer_at buffers (slice_index p.order.slots step))
+buffer_cells_at p windows buffers step = steps.buffer_cells_at (schedule_of p) windows buffers step
 
 -- each of these is null, Over or of the node's kind
 abbrev pub AreOfKind : PlanOf → List Window → List (List Cell) → ℕ → Type 0
-AreOfKind p windows buffers step = All (IsOfKind (cell_kind_at p step)) (buffer_cells_at p windows buffers step)
-
--- the cells of a node's cube on a window, over collections
-abbrev pub node_cells : Collections → CheckedGraph → ℕ → Window → List Cell
-node_cells collections c node window = cells_on Empty (meaning_of_node collections c node).cube window
+AreOfKind p windows buffers step = steps.AreOfKind p.graph (schedule_of p) windows buffers step
 
 -- what a bench holds of a step are the cells of its node on its window
 abbrev pub AreCells : Collections → PlanOf → List Window → List (List Cell) → ℕ → Type 0
-AreCells collections p windows buffers step =
-    buffer_cells_at p windows buffers step ≡ node_cells collections p.graph (node_at p step) (window_at windows step)
+AreCells collections p windows buffers step = steps.AreCells collections p.graph (schedule_of p) windows buffers step
 
 -- ---- states
 
@@ -87,11 +68,15 @@ chunk_of p k = chunk_window (tiling_of (shape_of_node p.graph p.graph.result) p.
 
 -- each step that loads a collection
 abbrev pub EachLoad : PlanOf → (ℕ → Type 0) → Type 0
-EachLoad p Holds = (step : ℕ) → step < length p.order.steps → is_load_at p step ≡ true → Holds step
+EachLoad p Holds = steps.EachLoad p.graph (schedule_of p) Holds
 
 -- the step of the result
 abbrev pub OfResult : PlanOf → (ℕ → Type 0) → Type 0
-OfResult p Holds = (step : ℕ) → step < length p.order.steps → node_at p step ≡ p.graph.result → Holds step
+OfResult p Holds = steps.OfLast (schedule_of p) Holds
+
+-- each step before this one whose node is live at it
+abbrev pub EachLive : PlanOf → ℕ → (ℕ → Type 0) → Type 0
+EachLive p step Holds = steps.EachLive p.graph (schedule_of p) step Holds
 
 -- the windows are those of a chunk, whichever it is
 abbrev pub AreOfChunk : PlanOf → List Window → Type 0
@@ -124,19 +109,6 @@ pub record IsDone (p : PlanOf) (collections : Collections) (k : ℕ) (b : BenchO
   pub state : b.state ≡ Done k
   pub cells : OfResult p (λ step. buffer_cells_at p b.windows b.buffers step
       ≡ node_cells collections p.graph p.graph.result (chunk_of p k))
-
--- ---- between two steps
-
--- each step before this one whose node is live at it
-abbrev pub EachLive : PlanOf → ℕ → (ℕ → Type 0) → Type 0
-EachLive p step Holds =
-    (i : ℕ) → i < step → is_live (links_of p.graph.nodes) p.graph.result p.order.steps step i ≡ true → Holds i
-
--- the node of a step takes the cubes of the nodes of two steps; one that takes one cube has that one as its second too
-pub record AreArguments (p : PlanOf) (step first second : ℕ) : Type 0 where
-  pub first_taken : Takes p.graph step 0 first
-  pub second_taken : Takes p.graph step 1 second
-      ⊎ ((second ≡ first) × (length (arguments_of_node p.graph (node_at p step)) ≡ 1))
 
 -- ---- evaluations
 

@@ -8,12 +8,12 @@ use Rattle.oe_shape.specs.Laws.{AreCollectionsOf}
 use Rattle.oe_sources.specs.Catalogue.{Row}
 use Rattle.oe_sources.specs.CatalogueDims.{dims_of}
 use Rattle.oe_spool.specs.Spooled.{ChangesOnly}
-use Rattle.oe_engine.specs.Collections.{AreRead, HasCollections, Shows}
+use Rattle.oe_steps.specs.Collections.{AreRead, HasCollections, Shows}
 use Rattle.oe_engine.specs.Laws.{GivesCollections}
 use Rattle.oe_engine.specs.Rounds.{Advances, ReadsChunks, WritesChunks}
 use Rattle.oe_engine.specs.Runs.{HasDone, HasRunRecords, RunOf, chunk_total, result_cube, result_shape}
 use Rattle.oe_engine.specs.declared.rounds.Progress.{Progress}
-use Rattle.oe_engine.specs.declared.rounds.RunFail.{RunFail}
+use Rattle.oe_steps.specs.declared.fail.RunFail.{RunFail}
 
 -- ---- under way
 

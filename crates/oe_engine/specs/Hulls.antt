@@ -1,31 +1,24 @@
 -- Chunks that are loaded together: their windows of a step are strips of one hull, each row of which is read once.
-use Rattle.std.specs.Prelude.{◌≡◌, ◌<◌, ◌≤◌, ℕ, ◌+◌, ◌*◌, ◌^◌, List, length, slice_index, false, true, Result, OnOk}
+use Rattle.std.specs.Prelude.{◌≡◌, ◌<◌, ◌≤◌, ℕ, ◌+◌, ◌*◌, ◌^◌, List, length, false, true, Result, OnOk}
 use Rattle.std.specs.List.{All}
 use Rattle.oe_cell.specs.declared.cell.Cell.{Cell}
-use Rattle.oe_window.specs.Windows.{Holds, IsEmpty, position_count, span_length, whole_window}
+use Rattle.oe_window.specs.Windows.{Holds, position_count, span_length, whole_window}
 use Rattle.oe_window.specs.declared.window.Window.{Window}
 use Rattle.oe_plan.specs.Figures.{largest_window, scratch_of, shape_of_node}
-use Rattle.oe_plan.specs.Plans.{PlanOf}
+use Rattle.oe_plan.specs.Plans.{PlanOf, schedule_of}
 use Rattle.oe_plan.specs.Windows.{window_at}
 use Rattle.oe_sources.specs.Catalogue.{Row}
 use Rattle.oe_engine.specs.Benches.{AreOfChunk, BenchOf, EachLive, HasRoomFor, IsAtChunk, is_load_at, node_at}
-use Rattle.oe_engine.specs.Buffers.{buffer_at}
 use Rattle.oe_engine.specs.Chunks.{EachBench}
-use Rattle.oe_engine.specs.Collections.{AreRead}
-use Rattle.oe_engine.specs.Loads.{HasLoadedTo, HasRead, IsLoadedAt}
+use Rattle.oe_steps.specs.Collections.{AreRead}
+use Rattle.oe_steps.specs.Strips as strips
+use Rattle.oe_steps.specs.Strips.{IsStripOf}
+use Rattle.oe_steps.specs.Loads.{HasRead}
+use Rattle.oe_engine.specs.Loads.{IsLoadedAt}
 use Rattle.oe_engine.specs.declared.bench.State.TheVariants.{Idle}
-use Rattle.oe_engine.specs.declared.rounds.RunFail.{RunFail}
+use Rattle.oe_steps.specs.declared.fail.RunFail.{RunFail}
 
--- ---- strips
-
--- a window with positions that differs from a hull along x alone, where its indices are some of the hull's
-pub record IsStripOf (hull window : Window) : Type 0 where
-  pub filled : ¬ IsEmpty window
-  pub t : window.t ≡ hull.t
-  pub bands : window.bands ≡ hull.bands
-  pub y : window.y ≡ hull.y
-  pub from : hull.x.from ≤ window.x.from
-  pub to : window.x.to ≤ hull.x.to
+-- ---- hulls
 
 -- a hull of the windows of a step for so many chunks may be read: it lies in the cube of the step's node, which has
 -- fewer than 2^64 cells, it has no more cells than their largest windows, and there is room for its row in the cells
@@ -61,11 +54,9 @@ pub record HasLoadedSteps (p : PlanOf) (rows : List Row) (step k : ℕ) (b : Ben
   pub loaded : EachLive p step (IsLoadedAt p rows b.windows b.buffers)
 
 -- these are loaded, and of this step so many rows of its window
-pub record HaveLoadedRows (p : PlanOf) (rows : List Row) (step number : ℕ) (windows : List Window)
-    (buffers : List (List Cell)) : Type 0 where
-  pub before : EachLive p step (IsLoadedAt p rows windows buffers)
-  pub loaded : HasLoadedTo p.graph rows (node_at p step) (window_at windows step)
-      (number * span_length (window_at windows step).x) (buffer_at buffers (slice_index p.order.slots step))
+abbrev pub HaveLoadedRows : PlanOf → List Row → ℕ → ℕ → List Window → List (List Cell) → Type 0
+HaveLoadedRows p rows step number windows buffers =
+    strips.HaveLoadedRows p.graph (schedule_of p) rows step number windows buffers
 
 -- the same of a bench that is at this chunk
 pub record HasLoadedRows (p : PlanOf) (rows : List Row) (step number k : ℕ) (b : BenchOf) : Type 0 where

@@ -15,10 +15,10 @@ use Rattle.oe_sources.specs.Catalogue.{Row, collections_shown, row_of, source_at
 use Rattle.oe_sources.specs.CatalogueDims.{AreDimsOf, dims_of}
 use Rattle.oe_sources.specs.Source.{collection_of}
 use Rattle.oe_spool.specs.Least.{least_over_of}
-use Rattle.oe_engine.specs.Collections.{AreRead, HasCollections, IsLoadedBy, IsMountedAt, LoadRose, Shows}
-use Rattle.oe_engine.specs.Rounds.{RefusalSays}
+use Rattle.oe_steps.specs.Collections.{AreRead, HasCollections, IsLoadedBy, IsMountedAt, LoadRose, Shows}
+use Rattle.oe_steps.specs.Refusals.{RefusalSays}
 use Rattle.oe_engine.specs.Runs.{HasDone, HasRunRecords, RunOf, chunk_total, result_cube}
-use Rattle.oe_engine.specs.declared.rounds.RunFail.{RunFail}
+use Rattle.oe_steps.specs.declared.fail.RunFail.{RunFail}
 
 -- ---- the collections of a catalogue
 

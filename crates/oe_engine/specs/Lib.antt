@@ -1,7 +1,4 @@
-pub mod Buffers
 pub mod Benches
-pub mod Inputs
-pub mod Collections
 pub mod Runs
 pub mod Rounds
 pub mod Loads

@@ -1,63 +1,19 @@
--- What reading the cells of a load gives.
-use Rattle.std.specs.Prelude.{◌≡◌, ◌≤◌, ℕ, ◌+◌, List, take, IsErrOf, IfErr, Result, Ok, Err}
-use Rattle.std.specs.List.{All}
+-- What loading a chunk gives.
+use Rattle.std.specs.Prelude.{◌≡◌, ℕ, List}
 use Rattle.oe_cell.specs.declared.cell.Cell.{Cell}
-use Rattle.oe_cube.specs.Kinds.{IsOfKind}
-use Rattle.oe_plan.specs.Plans.{PlanOf}
-use Rattle.oe_plan.specs.Windows.{window_at}
-use Rattle.oe_shape.specs.Checked.{CheckedGraph, outline_of_node}
+use Rattle.oe_plan.specs.Plans.{PlanOf, schedule_of}
 use Rattle.oe_shape.specs.Graphs.{Collections}
 use Rattle.oe_shape.specs.Laws.{AreCollectionsOf}
-use Rattle.oe_sources.specs.Catalogue.{ReadsRow, Row, cells_asked}
-use Rattle.oe_sources.specs.declared.source.SourceFail.{SourceFail}
-use Rattle.oe_sources.specs.declared.source.SourceFail.TheVariants.{Failed, Damaged}
+use Rattle.oe_sources.specs.Catalogue.{Row}
+use Rattle.oe_steps.specs.Collections.{Shows}
+use Rattle.oe_steps.specs.Loads as loads
 use Rattle.oe_window.specs.declared.window.Window.{Window}
-use Rattle.oe_engine.specs.Benches.{BenchOf, IsBenchFor, IsLoaded, buffer_cells_at, node_at, node_cells}
+use Rattle.oe_engine.specs.Benches.{BenchOf, IsBenchFor, IsLoaded}
 use Rattle.oe_engine.specs.declared.bench.State.TheVariants.{Loaded}
-use Rattle.oe_engine.specs.Collections.{AreRead, LoadRose, Shows}
-use Rattle.oe_engine.specs.Rounds.{IsOfSource, RefusalSays}
-use Rattle.oe_engine.specs.declared.rounds.RunFail.{RunFail}
-use Rattle.oe_engine.specs.declared.rounds.RunFail.TheVariants.{SourceFailed, SourceDamaged}
 
--- the refusal of a read for a node
-abbrev pub refusal_for : ℕ → Result (Unit {0}) SourceFail → Result (Unit {0}) RunFail
-refusal_for node (Ok u) = Ok u
-refusal_for node (Err Failed) = Err SourceFailed
-refusal_for node (Err (Damaged number)) = Err (SourceDamaged node number)
-
--- a box of the collection of a row was read for a node
-pub record ReadsBox (before : List Row) (node index : ℕ) (box : Window) (cells : List Cell) (after : List Row)
-    (result : Result (Unit {0}) RunFail) : Type 0 where
-  pub answer : Result (Unit {0}) SourceFail
-  pub read : ReadsRow before index box cells after answer
-  pub refusal : result ≡ refusal_for node answer
-
--- reading asked for so many cells at most, changed nothing but counters, and was refused for a cause
-pub record HasRead (c : CheckedGraph) (most : ℕ) (before after : List Row)
-    (result : Result (Unit {0}) RunFail) : Type 0 where
-  pub read : AreRead before after
-  pub asked : cells_asked after ≤ cells_asked before + most
-  pub cause : IsErrOf result SourceFailed → LoadRose c before after
-  pub says : IfErr result (λ refusal. IsOfSource refusal × RefusalSays c before refusal)
-
--- these are the cells of a node on a window, over the collections that are visible, and each is null or of its kind
-pub record AreLoaded (c : CheckedGraph) (rows : List Row) (node : ℕ) (window : Window)
-    (cells : List Cell) : Type 0 where
-  pub values : (collections : Collections) → AreCollectionsOf c collections → Shows c rows collections
-      → cells ≡ node_cells collections c node window
-  pub kinds : All (IsOfKind (outline_of_node c node).kind) cells
-
--- the cells from the first on, as many as are done, are those of the node over the collections that are visible
-pub record HasLoadedTo (c : CheckedGraph) (rows : List Row) (node : ℕ) (window : Window) (done : ℕ)
-    (buffer : List Cell) : Type 0 where
-  pub values : (collections : Collections) → AreCollectionsOf c collections → Shows c rows collections
-      → take done buffer ≡ take done (node_cells collections c node window)
-  pub kinds : All (IsOfKind (outline_of_node c node).kind) (take done buffer)
-
--- the same of a step, at the front of the buffer of its slot
+-- what a bench holds of a step are the cells of its node on its window, over the collections that are visible
 abbrev pub IsLoadedAt : PlanOf → List Row → List Window → List (List Cell) → ℕ → Type 0
-IsLoadedAt p rows windows buffers step =
-    AreLoaded p.graph rows (node_at p step) (window_at windows step) (buffer_cells_at p windows buffers step)
+IsLoadedAt p rows windows buffers step = loads.IsLoadedAt p.graph (schedule_of p) rows windows buffers step
 
 -- a bench is loaded for a chunk, over whatever collections are visible
 pub record LoadsBench (p : PlanOf) (rows : List Row) (k : ℕ) (bench : BenchOf) : Type 0 where

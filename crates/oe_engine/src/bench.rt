@@ -3,8 +3,9 @@ ghost use Rattle.std.specs.Prelude.{◌≡◌, ◌<◌, ◌+◌, ◌*◌, ℕ, I
 ghost use Rattle.oe_shape.specs.Graphs.{Collections};
 ghost use Rattle.oe_shape.specs.Laws.{AreCollectionsOf};
 ghost use Rattle.oe_plan.specs.Fits.{bench_cells};
-ghost use Rattle.oe_engine.specs.Benches.{IsBenchFor, IsDone, IsLoaded, chunk_of, held_cells, node_cells, IsAtChunk, is_load_at, node_at};
-ghost use Rattle.oe_engine.specs.Buffers.{AreOfSize, lists_of};
+ghost use Rattle.oe_engine.specs.Benches.{IsBenchFor, IsDone, IsLoaded, chunk_of, held_cells, IsAtChunk, is_load_at, node_at};
+ghost use Rattle.oe_steps.specs.Steps.{node_cells};
+ghost use Rattle.oe_steps.specs.Buffers.{AreOfSize, lists_of};
 ghost use Rattle.oe_engine.specs.Chunks.{AreResultOf};
 ghost use Rattle.oe_engine.specs.declared.bench.State.TheVariants.{Idle, Loaded, Done};
 ghost use Rattle.oe_dims.specs.Dimensions.{cell_count};
@@ -14,8 +15,9 @@ ghost use Rattle.oe_render.specs.Rendered.{AppendsCube, AppendsCubePrefix, Count
 ghost use Rattle.oe_render.specs.Stored.{HasCells};
 ghost use Rattle.oe_render.specs.declared.rendering.RenderFail.{RenderFail};
 ghost use Rattle.oe_sources.specs.CatalogueRows.{rows_of};
-ghost use Rattle.oe_engine.specs.Collections.{HasCollections, AreRead, IsMountedAt};
-ghost use Rattle.oe_engine.specs.Loads.{HasRead, LoadsBench, AreLoaded};
+ghost use Rattle.oe_steps.specs.Collections.{HasCollections, AreRead, IsMountedAt};
+ghost use Rattle.oe_steps.specs.Loads.{HasRead, AreLoaded};
+ghost use Rattle.oe_engine.specs.Loads.{LoadsBench};
 ghost use Rattle.oe_engine.specs.Runs.{chunk_total, result_shape};
 ghost use Rattle.oe_engine.specs.Hulls.{HasLoadedRows, HasLoadedSteps, IsBegun, IsStripped, LoadsFirst};
 ghost use Rattle.oe_ops.specs.Needs.{plane_window};
@@ -26,17 +28,14 @@ ghost use Rattle.oe_sources.specs.Catalogue.{Row};
 ghost use Rattle.oe_window.specs.Parts.{row_count, row_of};
 ghost use Rattle.oe_window.specs.Windows.{Holds, position_count, span_length, whole_window};
 
-use crate::loading::{load_front, load_slot};
-use crate::rounds::RunFail;
-use crate::run::{evaluate_steps, step_of_result};
-use crate::step::front;
-use crate::strips::take_part;
+use crate::steps::{evaluate_steps, front, load_front, load_slot, step_of_result, take_part};
 use oe_cell::Cell;
 use oe_memory::OutOfMemory;
 use oe_outside::{Pending, Sink, Store};
 use oe_plan::Plan;
 use oe_render::{RenderFail, render};
 use oe_sources::Catalogue;
+use oe_steps::RunFail;
 use oe_window::{Span, Window};
 use std::alloc::Global;
 use std::marker::Model;
@@ -63,7 +62,7 @@ pub struct Bench {
 
 impl Model for Bench {
     ghost use Rattle.oe_engine.specs.Benches.{BenchOf};
-    ghost use Rattle.oe_engine.specs.Buffers.{lists_of};
+    ghost use Rattle.oe_steps.specs.Buffers.{lists_of};
 
     ghost Value = { BenchOf };
 

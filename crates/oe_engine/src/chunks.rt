@@ -7,14 +7,14 @@ ghost use Rattle.oe_plan.specs.Figures.{shape_of_node};
 ghost use Rattle.oe_spool.specs.Spooled.{ChangesOnly, IsInSome};
 ghost use Rattle.oe_engine.specs.Chunks.{EachBench, HasRecordsOf, HasValidCells, IsAtDone, IsLeastOf};
 ghost use Rattle.oe_engine.specs.Runs.{chunk_total, chunks_from};
-ghost use Rattle.oe_engine.specs.declared.rounds.RunFail.{RunFail};
+ghost use Rattle.oe_steps.specs.declared.fail.RunFail.{RunFail};
 
 use crate::bench::Bench;
-use crate::rounds::RunFail;
 use oe_cell::Cell;
 use oe_outside::Store;
 use oe_plan::Plan;
 use oe_spool::{least_over, lesser, write_window};
+use oe_steps::RunFail;
 
 /// Writes the records of the chunks from a first one on, of benches that are done.
 ///

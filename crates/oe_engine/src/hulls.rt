@@ -4,9 +4,10 @@ ghost use Rattle.std.specs.Prelude.{◌≡◌, ◌<◌, ◌+◌, ◌*◌, ◌^�
 ghost use Rattle.std.specs.List.{All};
 ghost use Rattle.oe_engine.specs.Benches.{IsAtChunk, IsBenchFor, is_load_at, node_at};
 ghost use Rattle.oe_engine.specs.Chunks.{EachBench};
-ghost use Rattle.oe_engine.specs.Collections.{AreRead, HasCollections, IsMountedAt};
+ghost use Rattle.oe_steps.specs.Collections.{AreRead, HasCollections, IsMountedAt};
 ghost use Rattle.oe_engine.specs.Hulls.{HasLoadedRows, HasLoadedSteps, IsBegun, IsReadable, IsStripped, LoadsFirst, LoadsStep};
-ghost use Rattle.oe_engine.specs.Loads.{AreLoaded, HasRead, LoadsBench};
+ghost use Rattle.oe_steps.specs.Loads.{AreLoaded, HasRead};
+ghost use Rattle.oe_engine.specs.Loads.{LoadsBench};
 ghost use Rattle.oe_engine.specs.Runs.{chunk_total, load_count};
 ghost use Rattle.oe_plan.specs.Figures.{largest_window};
 ghost use Rattle.oe_plan.specs.Plans.{IsPlan, PlanOf};
@@ -17,13 +18,11 @@ ghost use Rattle.oe_window.specs.Parts.{row_count, row_of};
 ghost use Rattle.oe_window.specs.Windows.{span_length};
 
 use crate::bench::Bench;
-use crate::loading::place_of;
-use crate::rounds::RunFail;
-use crate::run::loads;
-use crate::strips::is_strip;
+use crate::steps::{loads, place_of};
 use oe_cell::Cell;
 use oe_plan::Plan;
 use oe_sources::Catalogue;
+use oe_steps::{RunFail, is_strip};
 use oe_window::{Window, holds, hull, size, whole};
 
 /// Loads the chunks from a first one on, each into a bench.

@@ -12,13 +12,10 @@ mod hands;
 mod hulls;
 mod laws;
 mod lead;
-mod loading;
 mod over;
 mod round_table;
 mod rounds;
-mod run;
-mod step;
-mod strips;
+mod steps;
 mod table;
 mod taken;
 mod work;
@@ -29,6 +26,7 @@ pub use laws::{
     collections_are_mounted, collections_are_shown, collections_are_valid, over_is_of_the_result,
     reads_change_nothing, runs_go_on, runs_stay_apart,
 };
+pub use oe_steps::RunFail;
 pub use over::first_over;
-pub use rounds::{Progress, Run, RunFail};
+pub use rounds::{Progress, Run};
 pub use workspace::Workspace;

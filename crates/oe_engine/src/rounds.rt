@@ -11,6 +11,7 @@ use oe_render::RenderFail;
 use oe_shape::Checked;
 use oe_sources::Catalogue;
 use oe_spool::lesser;
+use oe_steps::RunFail;
 use std::marker::Model;
 use std::thread::Threads;
 
@@ -21,19 +22,6 @@ pub enum Progress {
     More,
     /// None is left.
     Complete,
-}
-
-/// Why a run did not go on.
-#[derive(Clone, Copy, Debug, PartialEq, Eq)]
-pub enum RunFail {
-    /// A read of a collection failed, and its fault counter rose.
-    SourceFailed,
-    /// The node `load` keeps a damaged position of its collection, by its row-major number there.
-    SourceDamaged { load: u32, position: u64 },
-    /// A write of the spool failed, and its fault counter rose.
-    SpoolFailed,
-    /// The result has a cell that is no number in range, at this row-major number at first.
-    Overflow(u64),
 }
 
 /// A plan that is carried out in a workspace. From its start on nothing takes memory, but for what the system takes for
@@ -86,7 +74,7 @@ impl Run {
     ghost use Rattle.oe_shape.specs.Graphs.{Collections};
     ghost use Rattle.oe_shape.specs.Laws.{AreCollectionsOf};
     ghost use Rattle.oe_sources.specs.CatalogueRows.{rows_of};
-    ghost use Rattle.oe_engine.specs.Collections.{HasCollections};
+    ghost use Rattle.oe_steps.specs.Collections.{HasCollections};
     ghost use Rattle.oe_engine.specs.Going as spec;
     ghost use Rattle.oe_engine.specs.Rounds.{Advances, HasCauses, ReadsChunks, WritesChunks};
     ghost use Rattle.oe_engine.specs.Runs.{HasRunRecords, ShowsDone, chunk_total, overflow_of, result_cube, result_shape};

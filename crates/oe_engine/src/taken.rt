@@ -7,18 +7,19 @@ ghost use Rattle.oe_shape.specs.Laws.{AreCollectionsOf};
 ghost use Rattle.oe_sources.specs.CatalogueRows.{rows_of};
 ghost use Rattle.oe_engine.specs.Benches.{IsBenchFor, IsDone, IsLoaded};
 ghost use Rattle.oe_engine.specs.Chunks.{EachBench, IsAtDone, IsAtLoaded};
-ghost use Rattle.oe_engine.specs.Collections.{HasCollections};
-ghost use Rattle.oe_engine.specs.Loads.{HasRead, LoadsBench};
+ghost use Rattle.oe_steps.specs.Collections.{HasCollections};
+ghost use Rattle.oe_steps.specs.Loads.{HasRead};
+ghost use Rattle.oe_engine.specs.Loads.{LoadsBench};
 ghost use Rattle.oe_engine.specs.Runs.{chunk_total, evaluated_after, load_count};
 ghost use Rattle.oe_engine.specs.Workspaces.{AreBenchesFor};
 
 use crate::bench::Bench;
 use crate::hulls::load_chunks;
 use crate::round_table::Crew;
-use crate::rounds::RunFail;
 use oe_outside::Gate;
 use oe_plan::Plan;
 use oe_sources::Catalogue;
+use oe_steps::RunFail;
 use std::thread::Threads;
 
 /// Loads the chunks from a first one on into the first so many benches.

@@ -2,7 +2,7 @@
 use Rattle.std.proofs.Common.{◌≡◌, ℕ, List, Option, sym, subst}
 use Rattle.oe_plan.specs.Plans.{PlanOf}
 use Rattle.oe_sources.specs.Catalogue.{Row}
-use Rattle.oe_engine.specs.Collections.{AreRead, HasCollections}
+use Rattle.oe_steps.specs.Collections.{AreRead, HasCollections}
 use Rattle.oe_engine.specs.Laws.{StayAfterReads}
 use Rattle.oe_engine.specs.Runs.{HasRunRecords, RunOf}
 

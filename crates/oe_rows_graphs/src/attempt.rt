@@ -1,6 +1,6 @@
 // A run that is taken up again after each refusal.
 ghost use Rattle.std.specs.Prelude.{◌≡◌, IfOk, IsTrue, None, Ok, Some};
-ghost use Rattle.oe_engine.specs.Collections.{HasCollections};
+ghost use Rattle.oe_steps.specs.Collections.{HasCollections};
 ghost use Rattle.oe_engine.specs.Runs.{HasRunRecords, chunk_total};
 ghost use Rattle.oe_plan.specs.Ranges.{IsWithinRanges};
 ghost use Rattle.oe_sources.specs.CatalogueRows.{rows_of};

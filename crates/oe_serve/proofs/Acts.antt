@@ -1,6 +1,6 @@
 -- A graph that is run at once, as what a service does.
 use Rattle.std.proofs.Common.{◌≡◌, ℕ, Bool, true, false, List, Option, Some, None, IfSome, if◌then◌else◌, [], decimal, inl, inr, refl, sym, ap, ◌∙◌, subst, arith}
-use Rattle.oe_engine.specs.Collections.{AreRead}
+use Rattle.oe_steps.specs.Collections.{AreRead}
 use Rattle.oe_engine.specs.Going.{ChangesOwnRecords, IsGoing, StandsBehind}
 use Rattle.oe_engine.specs.Runs.{RunOf}
 use Rattle.oe_engine.proofs.GoingLemmas.{runs_go_on, runs_stay_apart}

@@ -9,7 +9,7 @@ use Rattle.oe_plan.specs.Plans.{IsPlan, PlanOf}
 use Rattle.oe_shape.specs.Checked.{CheckedGraph}
 use Rattle.oe_shape.specs.Links.{links_of}
 use Rattle.oe_sources.specs.Catalogue.{Row, cells_asked}
-use Rattle.oe_engine.specs.Collections.{AreRead}
+use Rattle.oe_steps.specs.Collections.{AreRead}
 use Rattle.oe_window.specs.declared.grid.ChunkSize.{ChunkSize}
 use Rattle.oe_serve.specs.Evaluations.{IsBegun, most_asked}
 use Rattle.oe_serve.specs.Results.{ReadsForResult, loads_of}

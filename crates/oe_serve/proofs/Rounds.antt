@@ -9,16 +9,17 @@ use Rattle.oe_plan.specs.Plans.{IsPlan, PlanOf}
 use Rattle.oe_shape.specs.Laws.{AreCollectionsOf}
 use Rattle.oe_sources.specs.Catalogue.{Row, cells_asked}
 use Rattle.oe_spool.specs.Spooled.{ChangesOnly, KeepsBytesBut}
-use Rattle.oe_engine.specs.Collections.{AreRead, HasCollections, LoadRose, Shows}
+use Rattle.oe_steps.specs.Collections.{AreRead, HasCollections, LoadRose, Shows}
 use Rattle.oe_engine.specs.Going.{ChangesOwnRecords}
 use Rattle.oe_engine.proofs.GoingLemmas.{runs_stay_apart}
 use Rattle.oe_engine.proofs.LawLemmas.{begin_and_end, stay_after_reads}
-use Rattle.oe_engine.specs.Rounds.{Advances, HasCauses, ReadsChunks, RefusalSays, WritesChunks}
+use Rattle.oe_engine.specs.Rounds.{Advances, HasCauses, ReadsChunks, WritesChunks}
+use Rattle.oe_steps.specs.Refusals.{RefusalSays}
 use Rattle.oe_engine.specs.Runs.{HasDone, RunOf, chunk_total, chunks_in_round, overflow_of, result_cube, result_shape}
 use Rattle.oe_engine.specs.declared.rounds.Progress.{Progress}
 use Rattle.oe_engine.specs.declared.rounds.Progress.TheVariants.{Complete, More}
-use Rattle.oe_engine.specs.declared.rounds.RunFail.{RunFail}
-use Rattle.oe_engine.specs.declared.rounds.RunFail.TheVariants as run
+use Rattle.oe_steps.specs.declared.fail.RunFail.{RunFail}
+use Rattle.oe_steps.specs.declared.fail.RunFail.TheVariants as run
 use Rattle.oe_service.specs.Causes.{IsVisible}
 use Rattle.oe_serve.specs.Evaluations.{Evaluates, Goes, GoesThrough, IsFirst, most_asked}
 

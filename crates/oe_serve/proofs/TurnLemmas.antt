@@ -2,7 +2,7 @@
 use Rattle.std.proofs.Common.{◌≡◌, ℕ, ℤ, Bool, true, false, List, [], ◌++◌, Option, Some, None, Result, Ok, Err, refl, sym, ◌∙◌, subst}
 use Rattle.std.specs.Prelude.{IfSome}
 use Rattle.oe_engine.proofs.LawLemmas.{stay_after_reads}
-use Rattle.oe_engine.specs.Collections.{AreRead}
+use Rattle.oe_steps.specs.Collections.{AreRead}
 use Rattle.oe_jobs.specs.Events.{has_busy_job}
 use Rattle.oe_jobs.specs.Plain.{plain_book}
 use Rattle.oe_outside.proofs.Causes.{NeverFalls-refl, NeverFalls-trans}

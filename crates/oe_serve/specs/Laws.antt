@@ -1,6 +1,6 @@
 -- What holds of every connection that is served.
 use Rattle.std.specs.Prelude.{◌≡◌, ⊤, ℤ, Bool}
-use Rattle.oe_engine.specs.Collections.{LoadRose}
+use Rattle.oe_steps.specs.Collections.{LoadRose}
 use Rattle.oe_outside.specs.Faults.{Rose}
 use Rattle.oe_outside.specs.Visible.{Appends}
 use Rattle.oe_service.specs.Causes.{IsVisible, Outside}

@@ -3,11 +3,11 @@ use Rattle.std.specs.Prelude.{◌≡◌, ℕ, ◌<◌, ◌≤◌, ◌+◌, ◌*�
 use Rattle.oe_cell.specs.declared.cell.Cell.{Cell}
 use Rattle.oe_dims.specs.Cube.{Cube}
 use Rattle.oe_dims.specs.Dimensions.{cell_count}
-use Rattle.oe_engine.specs.Collections.{AreRead, LoadRose}
+use Rattle.oe_steps.specs.Collections.{AreRead, LoadRose}
 use Rattle.oe_engine.specs.Laws.{LoadsVisible}
-use Rattle.oe_engine.specs.Rounds.{KeepsDamage}
-use Rattle.oe_engine.specs.declared.rounds.RunFail.{RunFail}
-use Rattle.oe_engine.specs.declared.rounds.RunFail.TheVariants as run
+use Rattle.oe_steps.specs.Refusals.{KeepsDamage}
+use Rattle.oe_steps.specs.declared.fail.RunFail.{RunFail}
+use Rattle.oe_steps.specs.declared.fail.RunFail.TheVariants as run
 use Rattle.oe_http.specs.Replies.{PlainResponse, reply_bytes, reply_head}
 use Rattle.oe_order.specs.Graph.{is_load}
 use Rattle.oe_outside.specs.Faults.{NeverFalls, Rose}

@@ -1,6 +1,6 @@
 -- How one connection is served.
 use Rattle.std.specs.Prelude.{◌≡◌, ◌≢◌, ℕ, ◌+◌, ℤ, Bool, true, false, List, IfSome, IsSome}
-use Rattle.oe_engine.specs.Collections.{AreRead}
+use Rattle.oe_steps.specs.Collections.{AreRead}
 use Rattle.oe_engine.specs.Laws.{GivesCollections}
 use Rattle.oe_engine.specs.Runs.{RunOf}
 use Rattle.http.specs.StatusCode.{reason_phrase}

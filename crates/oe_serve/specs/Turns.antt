@@ -1,7 +1,7 @@
 -- Turns of a server: the connections that came, what became of them, and the events that this was.
 use Rattle.std.specs.Prelude.{◌≡◌, ℕ, zero, suc, ℤ, Bool, true, List, [], ◌∷◌, ◌++◌, map, Option, Some, None, IfSome, if◌then◌else◌}
 use Rattle.std.specs.List.{All}
-use Rattle.oe_engine.specs.Collections.{AreRead}
+use Rattle.oe_steps.specs.Collections.{AreRead}
 use Rattle.oe_jobs.specs.Events.{has_busy_job}
 use Rattle.oe_outside.specs.Doors.{VisibleDoor}
 use Rattle.oe_outside.specs.Faults.{NeverFalls, counted}

@@ -1,6 +1,6 @@
 // A graph that is run at once, and answered with its result.
 ghost use Rattle.std.specs.Prelude.{◌≡◌, [], ℕ, Bool, None, Option};
-ghost use Rattle.oe_engine.specs.Collections.{AreRead};
+ghost use Rattle.oe_steps.specs.Collections.{AreRead};
 ghost use Rattle.oe_engine.specs.Going.{ChangesOwnRecords, IsGoing};
 ghost use Rattle.oe_engine.specs.Runs.{HasRunRecords, chunk_total};
 ghost use Rattle.oe_jobs.specs.Kept.{Kept};

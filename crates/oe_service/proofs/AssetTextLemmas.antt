@@ -9,8 +9,8 @@ use Rattle.oe_dims.proofs.CubeLemmas.{length-tuples}
 use Rattle.oe_engine.specs.Going.{IsGoing}
 use Rattle.oe_engine.specs.Laws.{LoadsVisible, collections_of}
 use Rattle.oe_engine.specs.Runs.{HasDone, RunOf, ShowsDone, chunk_total, overflow_of, result_cube, result_shape}
-use Rattle.oe_engine.specs.declared.rounds.RunFail.{RunFail}
-use Rattle.oe_engine.specs.declared.rounds.RunFail.TheVariants as run
+use Rattle.oe_steps.specs.declared.fail.RunFail.{RunFail}
+use Rattle.oe_steps.specs.declared.fail.RunFail.TheVariants as run
 use Rattle.oe_engine.proofs.LawLemmas.{begin_and_end}
 use Rattle.oe_jobs.specs.Valid.{most_asset}
 use Rattle.oe_outside.specs.Faults.{HasCauseOf, Rose}

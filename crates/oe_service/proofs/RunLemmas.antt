@@ -6,8 +6,8 @@ use Rattle.oe_engine.specs.Laws.{GivesCollections}
 use Rattle.oe_engine.specs.Rounds.{Advances, HasCauses, ReadsChunks, WritesChunks}
 use Rattle.oe_engine.specs.Runs.{RunOf, chunk_total}
 use Rattle.oe_engine.specs.declared.rounds.Progress.{Progress}
-use Rattle.oe_engine.specs.declared.rounds.RunFail.{RunFail}
-use Rattle.oe_engine.specs.declared.rounds.RunFail.TheVariants as run
+use Rattle.oe_steps.specs.declared.fail.RunFail.{RunFail}
+use Rattle.oe_steps.specs.declared.fail.RunFail.TheVariants as run
 use Rattle.oe_engine.proofs.GoingLemmas.{runs_go_on, runs_stay_apart}
 use Rattle.oe_engine.proofs.LawLemmas.{are_mounted}
 use Rattle.oe_graph.specs.Read.{IsFaultless}

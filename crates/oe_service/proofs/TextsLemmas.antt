@@ -4,7 +4,7 @@ use Rattle.std.proofs.Math.Path.{fun_ext}
 use Rattle.std.specs.Prelude.{option_and_then}
 use Rattle.oe_dims.specs.Names.{same_name}
 use Rattle.oe_dims.specs.declared.dims.DimsRow.{DimsRow}
-use Rattle.oe_engine.specs.Collections.{AreRead, without_counts}
+use Rattle.oe_steps.specs.Collections.{AreRead, without_counts}
 use Rattle.oe_engine.specs.Laws.{collection_at, collection_named_by, collections_of, null_collection}
 use Rattle.oe_engine.proofs.LawLemmas.{stay_after_reads}
 use Rattle.oe_jobs.specs.Plain.{PlainRan}

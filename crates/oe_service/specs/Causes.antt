@@ -3,9 +3,9 @@ use Rattle.std.specs.Prelude.{◌≡◌, ⊤, ◌<◌, ◌≤◌, ◌+◌, ℕ, 
 use Rattle.oe_cell.specs.declared.cell.Cell.{Cell}
 use Rattle.oe_dims.specs.Cube.{Cube}
 use Rattle.oe_dims.specs.declared.dims.DimsRow.{DimsRow}
-use Rattle.oe_engine.specs.Collections.{LoadRose}
+use Rattle.oe_steps.specs.Collections.{LoadRose}
 use Rattle.oe_engine.specs.Laws.{LoadsVisible, collections_of}
-use Rattle.oe_engine.specs.Rounds.{KeepsDamage}
+use Rattle.oe_steps.specs.Refusals.{KeepsDamage}
 use Rattle.oe_graph.specs.Faults.{IsLeast}
 use Rattle.oe_graph.specs.Read.{IsFaultless}
 use Rattle.oe_graph.specs.declared.code.Code.{Code}

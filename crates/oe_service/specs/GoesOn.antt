@@ -1,7 +1,7 @@
 -- What a service keeps between its calls.
 use Rattle.std.specs.Prelude.{◌≡◌, ◌≤◌, ◌<◌, ⊤, ℕ, ◌+◌, ◌*◌, List, [], length, Option, Some, None, IfSome}
 use Rattle.std.specs.Option.{option_map, option_map_or}
-use Rattle.oe_engine.specs.Collections.{AreRead}
+use Rattle.oe_steps.specs.Collections.{AreRead}
 use Rattle.oe_engine.specs.Going.{ChangesOwnRecords, IsGoing, records_end}
 use Rattle.oe_engine.specs.Runs.{RunOf, chunks_in_round, load_count}
 use Rattle.oe_jobs.specs.Events.{running_job}

@@ -1,8 +1,8 @@
 -- The codes that a job fails with.
 use Rattle.std.specs.Prelude.{ℕ, List, codes}
 use Rattle.oe_graph.specs.Codes.{name_of}
-use Rattle.oe_engine.specs.declared.rounds.RunFail.{RunFail}
-use Rattle.oe_engine.specs.declared.rounds.RunFail.TheVariants as run
+use Rattle.oe_steps.specs.declared.fail.RunFail.{RunFail}
+use Rattle.oe_steps.specs.declared.fail.RunFail.TheVariants as run
 use Rattle.oe_plan.specs.declared.plan.PlanFail.{PlanFail}
 use Rattle.oe_plan.specs.declared.plan.PlanFail.TheVariants as plan
 use Rattle.oe_render.specs.declared.rendering.RenderFail.{RenderFail}

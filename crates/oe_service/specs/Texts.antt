@@ -1,6 +1,6 @@
 -- The texts that ticks store are those of what the graphs mean, and reading leaves these texts as they are.
 use Rattle.std.specs.Prelude.{◌≡◌, ⊤, ℕ, ℤ, List}
-use Rattle.oe_engine.specs.Collections.{AreRead}
+use Rattle.oe_steps.specs.Collections.{AreRead}
 use Rattle.oe_engine.specs.Laws.{LoadsVisible}
 use Rattle.oe_jobs.specs.Plain.{PlainRan}
 use Rattle.oe_render.specs.Text.{cube_text}

@@ -13,12 +13,12 @@ use Rattle.oe_dims.specs.Dimensions.{cell_count}
 use Rattle.oe_dims.specs.declared.dims.DimsRow.{DimsRow}
 use Rattle.oe_dims.specs.Positions.{IsPosition, Position}
 use Rattle.oe_dims.proofs.CubeLemmas.{position_there}
-use Rattle.oe_engine.specs.Collections.{AreRead, LoadRose, without_counts}
+use Rattle.oe_steps.specs.Collections.{AreRead, LoadRose, without_counts}
 use Rattle.oe_engine.specs.Laws.{BeginAndEnd, GivesCollections, LoadsVisible}
-use Rattle.oe_engine.specs.Rounds.{KeepsDamage}
+use Rattle.oe_steps.specs.Refusals.{KeepsDamage}
 use Rattle.oe_engine.specs.Runs.{HasDone, HasRunRecords, IsHiddenDamage, RunOf, ShowsDone, chunk_total, chunks_from, result_cube, result_shape}
-use Rattle.oe_engine.specs.declared.rounds.RunFail.{RunFail}
-use Rattle.oe_engine.specs.declared.rounds.RunFail.TheVariants as run
+use Rattle.oe_steps.specs.declared.fail.RunFail.{RunFail}
+use Rattle.oe_steps.specs.declared.fail.RunFail.TheVariants as run
 use Rattle.oe_engine.proofs.GridLemmas.{all_inside}
 use Rattle.oe_engine.proofs.RenderLemmas.{result_shape_is, result_whole}
 use Rattle.oe_outside.specs.Faults.{HasCauseOf, NeverFalls, Rose}

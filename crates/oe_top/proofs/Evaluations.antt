@@ -6,8 +6,8 @@ use Rattle.oe_dims.specs.Cube.{Cube}
 use Rattle.oe_dims.specs.Dimensions.{cell_count}
 use Rattle.oe_engine.specs.Laws.{BeginAndEnd, GivesCollections, LoadsVisible, collections_of}
 use Rattle.oe_engine.specs.Runs.{HasDone, RunOf, ShowsDone, chunk_total, result_cube, result_shape}
-use Rattle.oe_engine.specs.declared.rounds.RunFail.{RunFail}
-use Rattle.oe_engine.specs.declared.rounds.RunFail.TheVariants as run
+use Rattle.oe_steps.specs.declared.fail.RunFail.{RunFail}
+use Rattle.oe_steps.specs.declared.fail.RunFail.TheVariants as run
 use Rattle.oe_outside.proofs.Causes.{NeverFalls-refl, NeverFalls-trans, then-Rose}
 use Rattle.oe_outside.specs.Faults.{HasCauseOf, NeverFalls}
 use Rattle.oe_outside.specs.Visible.{Appends, AppendsPrefix}

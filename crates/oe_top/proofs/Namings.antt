@@ -5,9 +5,9 @@ use Rattle.std.proofs.lemmas.Option.{slice_get_within}
 use Rattle.std.specs.List.{list_all}
 use Rattle.std.specs.Option.{option_and_then}
 use Rattle.oe_dims.specs.Names.{is_name, is_name_byte}
-use Rattle.oe_engine.specs.Rounds.{KeepsDamage}
-use Rattle.oe_engine.specs.declared.rounds.RunFail.{RunFail}
-use Rattle.oe_engine.specs.declared.rounds.RunFail.TheVariants as run
+use Rattle.oe_steps.specs.Refusals.{KeepsDamage}
+use Rattle.oe_steps.specs.declared.fail.RunFail.{RunFail}
+use Rattle.oe_steps.specs.declared.fail.RunFail.TheVariants as run
 use Rattle.oe_graph.specs.Printed.{node_count}
 use Rattle.oe_graph.specs.References.{each_node}
 use Rattle.oe_graph.specs.Tree.{PlainNode}

@@ -9,15 +9,16 @@ use Rattle.oe_plan.specs.Plans.{IsPlan, PlanOf}
 use Rattle.oe_shape.specs.Laws.{AreCollectionsOf}
 use Rattle.oe_sources.specs.Catalogue.{Row, cells_asked}
 use Rattle.oe_spool.specs.Spooled.{ChangesOnly, KeepsBytesBut}
-use Rattle.oe_engine.specs.Collections.{AreRead, HasCollections, LoadRose, Shows}
+use Rattle.oe_steps.specs.Collections.{AreRead, HasCollections, LoadRose, Shows}
 use Rattle.oe_engine.specs.Going.{ChangesOwnRecords, RunsStayApart}
 use Rattle.oe_engine.specs.Laws.{BeginAndEnd, StayAfterReads}
-use Rattle.oe_engine.specs.Rounds.{Advances, HasCauses, ReadsChunks, RefusalSays, WritesChunks}
+use Rattle.oe_engine.specs.Rounds.{Advances, HasCauses, ReadsChunks, WritesChunks}
+use Rattle.oe_steps.specs.Refusals.{RefusalSays}
 use Rattle.oe_engine.specs.Runs.{HasDone, RunOf, chunk_total, chunks_in_round, overflow_of, result_cube, result_shape}
 use Rattle.oe_engine.specs.declared.rounds.Progress.{Progress}
 use Rattle.oe_engine.specs.declared.rounds.Progress.TheVariants.{Complete, More}
-use Rattle.oe_engine.specs.declared.rounds.RunFail.{RunFail}
-use Rattle.oe_engine.specs.declared.rounds.RunFail.TheVariants as run
+use Rattle.oe_steps.specs.declared.fail.RunFail.{RunFail}
+use Rattle.oe_steps.specs.declared.fail.RunFail.TheVariants as run
 use Rattle.oe_top.specs.Evaluated.{Completes, Goes, GoesThrough, IsBegun, IsVisible, ReadsForPlan, most_asked}
 
 still_visible : (touched : ℕ → Type 0) (old new : Option (List ℕ)) → KeepsBytesBut touched old new → IsVisible old → IsVisible new

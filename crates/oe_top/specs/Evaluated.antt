@@ -2,13 +2,13 @@
 use Rattle.std.specs.Prelude.{◌≡◌, ⊤, ◌<◌, ℕ, ◌+◌, ◌*◌, ◌≤◌, List, length, count_by, Option, Some, None, Result, IsErrOf, OnOk}
 use Rattle.oe_cell.specs.declared.cell.Cell.{Cell}
 use Rattle.oe_dims.specs.Cube.{Cube}
-use Rattle.oe_engine.specs.Collections.{AreRead, LoadRose, Shows}
+use Rattle.oe_steps.specs.Collections.{AreRead, LoadRose, Shows}
 use Rattle.oe_engine.specs.Going.{ChangesOwnRecords}
 use Rattle.oe_engine.specs.Laws.{LoadsVisible, collections_of}
-use Rattle.oe_engine.specs.Rounds.{KeepsDamage}
+use Rattle.oe_steps.specs.Refusals.{KeepsDamage}
 use Rattle.oe_engine.specs.Runs.{HasDone, HasRunRecords, RunOf, chunk_total, load_count, result_cube}
-use Rattle.oe_engine.specs.declared.rounds.RunFail.{RunFail}
-use Rattle.oe_engine.specs.declared.rounds.RunFail.TheVariants as run
+use Rattle.oe_steps.specs.declared.fail.RunFail.{RunFail}
+use Rattle.oe_steps.specs.declared.fail.RunFail.TheVariants as run
 use Rattle.oe_graph.specs.Printed.{node_count}
 use Rattle.oe_outside.specs.Faults.{HasCauseOf}
 use Rattle.oe_order.specs.Graph.{is_load}

@@ -1,8 +1,8 @@
 -- How the command `run` ends: the table of its statuses, one case a row.
 use Rattle.std.specs.Prelude.{◌≡◌, ◌<◌, ◌≤◌, ℕ, ◌+◌, List, None, Some, Result, Ok, Err}
 use Rattle.oe_dims.specs.Dimensions.{cell_count}
-use Rattle.oe_engine.specs.Collections.{LoadRose}
-use Rattle.oe_engine.specs.Rounds.{KeepsDamage}
+use Rattle.oe_steps.specs.Collections.{LoadRose}
+use Rattle.oe_steps.specs.Refusals.{KeepsDamage}
 use Rattle.oe_graph.specs.Form.{most_input}
 use Rattle.oe_outside.specs.Faults.{NeverFalls, Rose}
 use Rattle.oe_outside.specs.Input.{TakesAtMost}

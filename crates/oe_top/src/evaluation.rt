@@ -1,6 +1,6 @@
 // Graphs that are evaluated chunk by chunk into a spool.
 ghost use Rattle.std.specs.Prelude.{◌≡◌, ◌<◌, ℕ, IfErr, IfOk, IsErrOf};
-ghost use Rattle.oe_engine.specs.Collections.{HasCollections};
+ghost use Rattle.oe_steps.specs.Collections.{HasCollections};
 ghost use Rattle.oe_engine.specs.Runs.{chunk_total};
 ghost use Rattle.oe_plan.specs.Figures.{bound_of, most_held_cells};
 ghost use Rattle.oe_plan.specs.Ranges.{IsWithinRanges};

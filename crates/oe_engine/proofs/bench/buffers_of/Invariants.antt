@@ -1,4 +1,4 @@
-use Rattle.oe_engine.specs.Buffers.{AreOfSize, lists_of}
+use Rattle.oe_steps.specs.Buffers.{AreOfSize, lists_of}
 use Rattle.oe_engine.proofs.bench.buffers_of.Given as goal
 
 abbrev pub invariant-loop : goal.invariant-loop

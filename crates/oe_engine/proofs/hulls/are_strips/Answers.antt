@@ -1,7 +1,8 @@
 use Rattle.std.proofs.Common.{length, refl, subst, arith}
 use Rattle.std.proofs.lemmas.Option.{slice_get_read}
 use Rattle.oe_window.specs.declared.window.Window.{Window}
-use Rattle.oe_engine.specs.Hulls.{IsBegun, IsStripOf, IsStripped}
+use Rattle.oe_engine.specs.Hulls.{IsBegun, IsStripped}
+use Rattle.oe_steps.specs.Strips.{IsStripOf}
 use Rattle.oe_engine.proofs.ChunkLemmas.{each_all, each_more}
 use Rattle.oe_engine.proofs.HullLemmas.{all_of_each, one_of_all}
 use Rattle.oe_engine.proofs.hulls.are_strips.Goals as goal

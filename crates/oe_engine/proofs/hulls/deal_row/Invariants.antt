@@ -5,7 +5,7 @@ use Rattle.oe_window.specs.Parts.{row_of}
 use Rattle.oe_engine.specs.Benches.{node_at}
 use Rattle.oe_engine.specs.Chunks.{EachBench}
 use Rattle.oe_engine.specs.Hulls.{HasLoadedRows, IsStripped}
-use Rattle.oe_engine.specs.Loads.{AreLoaded}
+use Rattle.oe_steps.specs.Loads.{AreLoaded}
 use Rattle.oe_engine.proofs.ChunkLemmas.{EachBefore, EachFrom}
 use Rattle.oe_engine.proofs.hulls.deal_row.Given as goal
 

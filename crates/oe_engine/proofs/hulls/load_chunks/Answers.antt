@@ -6,10 +6,10 @@ use Rattle.oe_sources.specs.CatalogueRows.{rows_of}
 use Rattle.oe_engine.specs.Benches.{IsBenchFor}
 use Rattle.oe_engine.specs.Chunks.{EachBench}
 use Rattle.oe_engine.specs.Hulls.{HasLoadedSteps, IsBegun}
-use Rattle.oe_engine.specs.Loads.{HasRead}
+use Rattle.oe_steps.specs.Loads.{HasRead}
 use Rattle.oe_engine.specs.Runs.{load_count}
 use Rattle.oe_engine.proofs.HullLemmas.{all_of_each, begun_is, step_asked, steps_turned}
-use Rattle.oe_engine.proofs.ReadLemmas.{has_more, has_most, has_none, has_refused, has_same}
+use Rattle.oe_steps.proofs.ReadLemmas.{has_more, has_most, has_none, has_refused, has_same}
 use Rattle.oe_engine.proofs.StepLoadLemmas.{loads_counted}
 use Rattle.oe_engine.proofs.hulls.load_chunks.Goals as goal
 

@@ -4,7 +4,7 @@ use Rattle.oe_plan.specs.Figures.{largest_window}
 use Rattle.oe_sources.specs.CatalogueRows.{rows_of}
 use Rattle.oe_engine.specs.Chunks.{EachBench}
 use Rattle.oe_engine.specs.Hulls.{HasLoadedSteps, IsBegun}
-use Rattle.oe_engine.specs.Loads.{HasRead}
+use Rattle.oe_steps.specs.Loads.{HasRead}
 use Rattle.oe_engine.proofs.hulls.load_chunks.Given as goal
 
 abbrev pub invariant-loop-step : goal.invariant-loop-step

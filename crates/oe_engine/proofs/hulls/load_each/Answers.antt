@@ -4,11 +4,11 @@ use Rattle.std.proofs.lemmas.List.Elements.{All-get_or, All-set}
 use Rattle.oe_plan.specs.Figures.{largest_window}
 use Rattle.oe_sources.specs.CatalogueRows.{rows_of}
 use Rattle.oe_engine.specs.Hulls.{HasLoadedSteps, IsBegun}
-use Rattle.oe_engine.specs.Loads.{HasRead}
+use Rattle.oe_steps.specs.Loads.{HasRead}
 use Rattle.oe_engine.proofs.BenchLoadLemmas.{asked_one_more}
 use Rattle.oe_engine.proofs.ChunkLemmas.{each_all, each_here, each_left, each_none, each_set}
 use Rattle.oe_engine.proofs.HullLemmas.{none_if_refused}
-use Rattle.oe_engine.proofs.ReadLemmas.{AreRead-trans, has_more, has_most, has_none, has_refused, has_same}
+use Rattle.oe_steps.proofs.ReadLemmas.{AreRead-trans, has_more, has_most, has_none, has_refused, has_same}
 use Rattle.oe_engine.proofs.hulls.load_each.Goals as goal
 
 pub loop-index-init : goal.loop-index-init

@@ -4,9 +4,9 @@ use Rattle.oe_plan.specs.Figures.{largest_window}
 use Rattle.oe_sources.specs.Catalogue.{Row}
 use Rattle.oe_sources.specs.CatalogueRows.{rows_of}
 use Rattle.oe_engine.specs.Chunks.{EachBench}
-use Rattle.oe_engine.specs.Collections.{AreRead}
+use Rattle.oe_steps.specs.Collections.{AreRead}
 use Rattle.oe_engine.specs.Hulls.{HasLoadedSteps, IsBegun}
-use Rattle.oe_engine.specs.Loads.{HasRead}
+use Rattle.oe_steps.specs.Loads.{HasRead}
 use Rattle.oe_engine.proofs.ChunkLemmas.{EachBefore, EachFrom}
 use Rattle.oe_engine.proofs.hulls.load_each.Given as goal
 

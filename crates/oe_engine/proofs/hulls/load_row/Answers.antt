@@ -8,9 +8,9 @@ use Rattle.oe_window.specs.declared.window.Window.{Window}
 use Rattle.oe_engine.specs.Benches.{BenchOf, node_at}
 use Rattle.oe_engine.specs.Chunks.{EachBench}
 use Rattle.oe_engine.specs.Hulls.{HasLoadedRows, IsStripped}
-use Rattle.oe_engine.specs.Loads.{AreLoaded}
+use Rattle.oe_steps.specs.Loads.{AreLoaded}
 use Rattle.oe_engine.proofs.HullLemmas.{both_of_all, both_of_each, none_if_refused, one_row, others_of_all, others_of_each, own_of_all, own_of_each, own_set, row_long, rows_after_read, stripped_after_read}
-use Rattle.oe_engine.proofs.StepLoadLemmas.{loaded_before}
+use Rattle.oe_steps.proofs.StepLoadLemmas.{loaded_before}
 use Rattle.oe_engine.proofs.hulls.load_row.Goals as goal
 
 pub read_row-requires-clause-within : goal.read_row-requires-clause-within

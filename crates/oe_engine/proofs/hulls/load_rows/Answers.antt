@@ -5,11 +5,12 @@ use Rattle.oe_sources.specs.CatalogueRows.{rows_of}
 use Rattle.oe_window.specs.Windows.{position_count, span_length}
 use Rattle.oe_engine.specs.Benches.{BenchOf}
 use Rattle.oe_engine.specs.Hulls.{IsBegun, IsStripped}
-use Rattle.oe_engine.specs.Loads.{HasRead}
+use Rattle.oe_steps.specs.Loads.{HasRead}
 use Rattle.oe_engine.proofs.BenchLoadLemmas.{asked_one_more}
 use Rattle.oe_engine.proofs.HullLemmas.{all_rows_of_each, no_row_of_each, none_if_refused}
-use Rattle.oe_engine.proofs.ReadLemmas.{AreRead-trans, has_more, has_most, has_none, has_refused}
-use Rattle.oe_engine.proofs.StepLoadLemmas.{mounted_for}
+use Rattle.oe_steps.proofs.ReadLemmas.{AreRead-trans, has_more, has_most, has_none, has_refused}
+use Rattle.oe_plan.specs.Plans.{schedule_of}
+use Rattle.oe_steps.proofs.StepLoadLemmas.{mounted_for}
 use Rattle.oe_engine.proofs.hulls.load_rows.Goals as goal
 
 pub loop-number-init : goal.loop-number-init
@@ -28,7 +29,7 @@ load_row-requires-clause-mounted g c =
     let before = rows_of (λ z. (goal.CubeSource-dyn g z).seen z.1) c.args.catalogue.now in
     let now = rows_of (λ z. (goal.CubeSource-dyn g z).seen z.1) c.loop-number.catalogue in
     let at = c.place_of-place.ensures in
-    mounted_for c.args.plan.now before now c.args.step c.place_of-place.result at.0 at.1 at.2 c.loop-number.invariant.read.read
+    mounted_for c.args.plan.now.graph (schedule_of c.args.plan.now) before now c.args.step c.place_of-place.result at.0 at.1 at.2 c.loop-number.invariant.read.read
 
 pub returns-in_err-load_row : goal.returns-in_err-load_row
 returns-in_err-load_row g c =

@@ -4,9 +4,9 @@ use Rattle.oe_sources.specs.Catalogue.{Row}
 use Rattle.oe_sources.specs.CatalogueRows.{rows_of}
 use Rattle.oe_window.specs.Windows.{span_length}
 use Rattle.oe_engine.specs.Chunks.{EachBench}
-use Rattle.oe_engine.specs.Collections.{AreRead}
+use Rattle.oe_steps.specs.Collections.{AreRead}
 use Rattle.oe_engine.specs.Hulls.{HasLoadedRows, HasLoadedSteps, IsStripped}
-use Rattle.oe_engine.specs.Loads.{HasRead}
+use Rattle.oe_steps.specs.Loads.{HasRead}
 use Rattle.oe_engine.proofs.hulls.load_rows.Given as goal
 
 abbrev pub invariant-loop-number : goal.invariant-loop-number

@@ -3,7 +3,7 @@ use Rattle.std.proofs.lemmas.List.Elements.{All-drop, All-take}
 use Rattle.oe_sources.specs.CatalogueRows.{rows_of}
 use Rattle.oe_engine.specs.Hulls.{IsBegun}
 use Rattle.oe_engine.proofs.PieceLemmas.{first_all, first_begun, first_more, first_none, first_refused}
-use Rattle.oe_engine.proofs.ReadLemmas.{has_same}
+use Rattle.oe_steps.proofs.ReadLemmas.{has_same}
 use Rattle.oe_engine.proofs.hulls.load_step_of_all.Goals as goal
 
 pub loop-first-init : goal.loop-first-init

@@ -1,13 +1,14 @@
-use Rattle.std.proofs.Common.{◌≡◌, ◌+◌, ◌*◌, ◌≤◌, ◌∙◌, ℕ, length, take, drop, ◌++◌, List, Result, Ok, Err, OnOk, sym, subst, arith}
+use Rattle.std.proofs.Common.{◌≡◌, ◌*◌, ◌∙◌, ℕ, length, take, drop, ◌++◌, sym, subst, arith}
 use Rattle.std.proofs.lemmas.List.{length-take-le}
 use Rattle.oe_plan.specs.Figures.{largest_window}
 use Rattle.oe_sources.specs.CatalogueRows.{rows_of}
-use Rattle.oe_engine.specs.Benches.{BenchOf}
 use Rattle.oe_engine.specs.Chunks.{EachBench}
-use Rattle.oe_engine.specs.Loads.{HasRead, LoadsBench}
+use Rattle.oe_steps.specs.Loads.{HasRead}
+use Rattle.oe_engine.specs.Loads.{LoadsBench}
 use Rattle.oe_engine.specs.Runs.{load_count}
-use Rattle.oe_engine.proofs.BufferLemmas.{take_front}
-use Rattle.oe_engine.proofs.RoundLemmas.{each_after, each_before, front_long, on_ok}
+use Rattle.oe_steps.proofs.BufferLemmas.{take_front}
+use Rattle.oe_engine.proofs.RoundLemmas.{each_after, each_before, front_long}
+use Rattle.oe_steps.proofs.StepLoadLemmas.{on_ok}
 use Rattle.oe_engine.proofs.taken.load_taken.Goals as goal
 
 pub load_chunks-requires-clause-benches : goal.load_chunks-requires-clause-benches

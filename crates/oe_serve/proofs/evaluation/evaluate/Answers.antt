@@ -1,5 +1,5 @@
 use Rattle.std.proofs.Common.{Result, Err, sym, ap, subst}
-use Rattle.oe_engine.specs.declared.rounds.RunFail.{RunFail}
+use Rattle.oe_steps.specs.declared.fail.RunFail.{RunFail}
 use Rattle.oe_sources.specs.CatalogueRows.{rows_of}
 use Rattle.oe_serve.specs.Evaluations.{Evaluates}
 use Rattle.oe_serve.proofs.Rounds.{finished, stopped}

@@ -1,5 +1,5 @@
 use Rattle.std.proofs.Common.{Result, Err, sym, ap, ◌∙◌, subst}
-use Rattle.oe_engine.specs.declared.rounds.RunFail.{RunFail}
+use Rattle.oe_steps.specs.declared.fail.RunFail.{RunFail}
 use Rattle.oe_plan.specs.Plans.{PlanOf}
 use Rattle.oe_shape.specs.Checked.{CheckedGraph}
 use Rattle.oe_top.proofs.Evaluations.{refused, stopped, written}

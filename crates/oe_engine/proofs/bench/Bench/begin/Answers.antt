@@ -2,9 +2,9 @@ use Rattle.std.proofs.Common.{◌∙◌, length, refl, sym, ap, subst}
 use Rattle.oe_plan.specs.Windows.{AreWindows}
 use Rattle.oe_window.specs.declared.window.Window.{Window}
 use Rattle.oe_engine.specs.Benches.{IsBenchFor, chunk_of}
-use Rattle.oe_engine.specs.Buffers.{lists_of}
+use Rattle.oe_steps.specs.Buffers.{lists_of}
 use Rattle.oe_engine.proofs.BenchLemmas.{bench}
-use Rattle.oe_engine.proofs.BufferLemmas.{with_items_is}
+use Rattle.oe_steps.proofs.BufferLemmas.{with_items_is}
 use Rattle.oe_engine.proofs.bench.Bench.begin.Goals as goal
 
 pub windows_of-requires-clause-each : goal.windows_of-requires-clause-each

@@ -1,6 +1,6 @@
 use Rattle.std.proofs.Common.{◌+◌, ◌*◌, ◌∙◌, sym, ap, length}
 use Rattle.std.specs.List.{sum_by}
-use Rattle.oe_engine.proofs.BufferLemmas.{sum_of_size}
+use Rattle.oe_steps.proofs.BufferLemmas.{sum_of_size}
 use Rattle.oe_engine.proofs.bench.Bench.cells.Goals as goal
 
 pub returns : goal.returns

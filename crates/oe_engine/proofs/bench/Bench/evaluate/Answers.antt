@@ -1,11 +1,11 @@
 use Rattle.std.proofs.Common.{◌≡◌, ◌∙◌, refl, sym, ap, subst, length}
 use Rattle.std.specs.Vec.{with_items}
 use Rattle.oe_engine.specs.Benches.{AreCells, AreOfKind, EachLoad, IsBenchFor, IsDone, IsLoaded, OfResult}
-use Rattle.oe_engine.specs.Buffers.{lists_of}
+use Rattle.oe_steps.specs.Buffers.{lists_of}
 use Rattle.oe_engine.specs.declared.bench.State.{State}
 use Rattle.oe_engine.specs.declared.bench.State.TheVariants.{Loaded, Done}
 use Rattle.oe_engine.proofs.BenchLemmas.{bench, bench_after, done_after, same_chunk}
-use Rattle.oe_engine.proofs.BufferLemmas.{with_items_is}
+use Rattle.oe_steps.proofs.BufferLemmas.{with_items_is}
 use Rattle.oe_engine.proofs.bench.Bench.evaluate.Goals as goal
 
 pub returns-in-Loaded-clause-bench : goal.returns-in-Loaded-clause-bench

@@ -3,12 +3,12 @@ use Rattle.std.specs.declared.alloc.Global.{Global}
 use Rattle.oe_cell.specs.declared.cell.Cell.{Cell}
 use Rattle.oe_window.specs.declared.window.Window.{Window}
 use Rattle.oe_engine.specs.Benches.{AreOfChunk, EachLive, HaveRoomFor}
-use Rattle.oe_engine.specs.Buffers.{lists_of}
+use Rattle.oe_steps.specs.Buffers.{lists_of}
 use Rattle.oe_engine.specs.Hulls.{HasLoadedSteps, IsBegun}
 use Rattle.oe_engine.specs.Loads.{IsLoadedAt}
 use Rattle.oe_engine.proofs.BenchLemmas.{bench}
-use Rattle.oe_engine.proofs.BufferLemmas.{with_items_is}
-use Rattle.oe_engine.proofs.RoundLemmas.{on_ok}
+use Rattle.oe_steps.proofs.BufferLemmas.{with_items_is}
+use Rattle.oe_steps.proofs.StepLoadLemmas.{on_ok}
 use Rattle.oe_engine.proofs.bench.Bench.load_step.Goals as goal
 
 pub load_slot-requires-clause-windows : goal.load_slot-requires-clause-windows

@@ -1,7 +1,7 @@
 use Rattle.std.proofs.Common.{◌≡◌, ◌+◌, ◌*◌, ◌∙◌, ap, length, arith}
 use Rattle.oe_plan.specs.Figures.{largest_window}
-use Rattle.oe_engine.specs.Buffers.{lists_of}
-use Rattle.oe_engine.proofs.BufferLemmas.{sum_of_size}
+use Rattle.oe_steps.specs.Buffers.{lists_of}
+use Rattle.oe_steps.proofs.BufferLemmas.{sum_of_size}
 use Rattle.oe_engine.proofs.bench.Bench.new.Goals as goal
 
 pub returns-clause-cells : goal.returns-clause-cells

@@ -3,8 +3,8 @@ use Rattle.oe_cell.specs.declared.cell.Cell.{Cell}
 use Rattle.oe_sources.specs.CatalogueRows.{rows_of}
 use Rattle.oe_window.specs.Windows.{span_length}
 use Rattle.oe_engine.specs.Benches.{node_at}
-use Rattle.oe_engine.specs.Loads.{AreLoaded}
-use Rattle.oe_engine.proofs.BufferLemmas.{with_items_is}
+use Rattle.oe_steps.specs.Loads.{AreLoaded}
+use Rattle.oe_steps.proofs.BufferLemmas.{with_items_is}
 use Rattle.oe_engine.proofs.bench.Bench.read_row.Goals as goal
 
 pub returns-clause-loaded : goal.returns-clause-loaded

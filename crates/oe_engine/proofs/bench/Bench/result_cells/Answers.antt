@@ -1,7 +1,7 @@
 use Rattle.std.proofs.Common.{◌≡◌, ◌∙◌, sym, ap, subst}
 use Rattle.oe_plan.proofs.RunLemmas.{only_step}
 use Rattle.oe_engine.specs.Benches.{BenchOf, buffer_cells_at}
-use Rattle.oe_engine.specs.Buffers.{lists_of}
+use Rattle.oe_steps.specs.Buffers.{lists_of}
 use Rattle.oe_engine.proofs.bench.Bench.result_cells.Goals as goal
 
 pub returns-in-Done-clause-done : goal.returns-in-Done-clause-done

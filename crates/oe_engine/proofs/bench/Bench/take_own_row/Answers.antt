@@ -6,11 +6,12 @@ use Rattle.oe_window.specs.Parts.{row_of}
 use Rattle.oe_window.specs.Windows.{span_length}
 use Rattle.oe_window.specs.declared.window.Window.{Window}
 use Rattle.oe_engine.specs.Benches.{AreOfChunk, HaveRoomFor, node_at}
-use Rattle.oe_engine.specs.Buffers.{lists_of}
-use Rattle.oe_engine.specs.Hulls.{HasLoadedRows, HaveLoadedRows, IsStripOf, IsStripped}
-use Rattle.oe_engine.specs.Loads.{AreLoaded}
+use Rattle.oe_steps.specs.Buffers.{lists_of}
+use Rattle.oe_engine.specs.Hulls.{HasLoadedRows, HaveLoadedRows, IsStripped}
+use Rattle.oe_steps.specs.Strips.{IsStripOf}
+use Rattle.oe_steps.specs.Loads.{AreLoaded}
 use Rattle.oe_engine.proofs.BenchLemmas.{bench}
-use Rattle.oe_engine.proofs.BufferLemmas.{with_items_is}
+use Rattle.oe_steps.proofs.BufferLemmas.{with_items_is}
 use Rattle.oe_engine.proofs.bench.Bench.take_own_row.Goals as goal
 
 pub take_part-requires-clause-windows : goal.take_part-requires-clause-windows

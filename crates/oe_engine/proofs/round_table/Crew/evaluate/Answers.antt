@@ -1,9 +1,8 @@
-use Rattle.std.proofs.Common.{◌≡◌, ◌+◌, ◌*◌, ◌<◌, ◌≤◌, ◌∙◌, ◌^◌, [], ℕ, List, length, refl, sym, ap, subst, arith}
+use Rattle.std.proofs.Common.{◌≡◌, ◌*◌, ◌∙◌, ℕ, length, sym, ap, subst, arith}
 use Rattle.std.specs.List.{All}
 use Rattle.std.specs.Vec.{with_items}
 use Rattle.oe_engine.specs.Views.{HasNothing, IsSpareAt, MayWork, Stands}
-use Rattle.oe_engine.specs.declared.table.Hand.{Hand}
-use Rattle.oe_engine.proofs.BufferLemmas.{with_items_is}
+use Rattle.oe_steps.proofs.BufferLemmas.{with_items_is}
 use Rattle.oe_engine.proofs.SeatLemmas.{are_evaluations, are_for, are_full, have_nothing, may_work}
 use Rattle.oe_engine.proofs.round_table.Crew.evaluate.Goals as goal
 

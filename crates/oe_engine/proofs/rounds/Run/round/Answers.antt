@@ -1,17 +1,16 @@
 use Rattle.std.proofs.Common.{◌≡◌, ◌+◌, ◌-◌, ◌*◌, ◌≤◌, ◌∙◌, ℕ, min, length, take, List, Ok, Err, refl, sym, ap, subst, arith}
-use Rattle.std.specs.List.{All}
 use Rattle.std.specs.Vec.{with_items}
 use Rattle.std.proofs.lemmas.List.{length-take-le}
 use Rattle.oe_outside.specs.Faults.{last_count}
 use Rattle.oe_sources.specs.CatalogueRows.{rows_of}
 use Rattle.oe_spool.specs.Least.{lesser_of}
-use Rattle.oe_engine.specs.Benches.{BenchOf, IsBenchFor, IsDone, IsLoaded}
+use Rattle.oe_engine.specs.Benches.{BenchOf, IsDone, IsLoaded}
 use Rattle.oe_engine.specs.Chunks.{EachBench, IsAtDone, IsAtLoaded}
-use Rattle.oe_engine.specs.Collections.{HasCollections}
+use Rattle.oe_steps.specs.Collections.{HasCollections}
 use Rattle.oe_engine.specs.Rounds.{ReadsChunks, WritesChunks}
-use Rattle.oe_engine.specs.Runs.{RunOf, chunk_total, evaluated_after}
+use Rattle.oe_engine.specs.Runs.{RunOf, chunk_total}
 use Rattle.oe_engine.specs.Workspaces.{AreBenchesFor}
-use Rattle.oe_engine.proofs.BufferLemmas.{with_items_is}
+use Rattle.oe_steps.proofs.BufferLemmas.{with_items_is}
 use Rattle.oe_engine.proofs.RoundLemmas.{reads_chunks, writes_done, writes_none, writes_refused}
 use Rattle.oe_engine.proofs.WrittenLemmas.{run}
 use Rattle.oe_engine.proofs.rounds.Run.round.Goals as goal

@@ -1,0 +1,67 @@
+use Rattle.std.proofs.Common.{◌<◌, ◌+◌, List, length}
+use Rattle.oe_plan.specs.Schedules.{AreWindowsFor, IsSchedule, node_at}
+use Rattle.oe_plan.proofs.ScheduleLemmas.{plan_schedule, plan_windows}
+use Rattle.oe_sources.specs.Catalogue.{Row}
+use Rattle.oe_steps.specs.Buffers.{lists_of}
+use Rattle.oe_steps.specs.Loads.{AreLoaded}
+use Rattle.oe_steps.specs.Steps.{HaveRoomFor}
+use Rattle.oe_steps.specs.Strips.{HaveLoadedRows}
+use Rattle.oe_window.specs.Parts.{row_of}
+use Rattle.oe_engine.proofs.ScheduleLemmas.{as_read, of_plan}
+use Rattle.oe_engine.proofs.steps.take_part.Goals as goal
+
+pub take_part-requires-clause-schedule : goal.take_part-requires-clause-schedule
+take_part-requires-clause-schedule c =
+    let p = c.args.plan.now in
+    let graph = c.checked.result.now in
+    let schedule = c.schedule.result.now in
+    let same = c.checked.ensures.value in
+    let is = c.schedule.ensures.value in
+    as_read (λ g s. IsSchedule g s) p graph schedule same is (plan_schedule p c.schedule.ensures.valid)
+
+pub take_part-requires-clause-step : goal.take_part-requires-clause-step
+take_part-requires-clause-step c =
+    let p = c.args.plan.now in
+    let graph = c.checked.result.now in
+    let schedule = c.schedule.result.now in
+    let same = c.checked.ensures.value in
+    let is = c.schedule.ensures.value in
+    as_read (λ g s. c.args.step < length s.order.steps) p graph schedule same is c.requires.step
+
+pub take_part-requires-clause-windows : goal.take_part-requires-clause-windows
+take_part-requires-clause-windows c =
+    let p = c.args.plan.now in
+    let graph = c.checked.result.now in
+    let schedule = c.schedule.result.now in
+    let same = c.checked.ensures.value in
+    let is = c.schedule.ensures.value in
+    as_read (λ g s. AreWindowsFor g s c.args.windows.now) p graph schedule same is (plan_windows p c.schedule.ensures.valid c.requires.windows.0 c.args.windows.now c.requires.windows.1)
+
+pub take_part-requires-clause-room : goal.take_part-requires-clause-room
+take_part-requires-clause-room c =
+    let p = c.args.plan.now in
+    let graph = c.checked.result.now in
+    let schedule = c.schedule.result.now in
+    let same = c.checked.ensures.value in
+    let is = c.schedule.ensures.value in
+    as_read (λ g s. HaveRoomFor s (lists_of c.args.buffers.now)) p graph schedule same is c.requires.room
+
+pub returns-clause-room : goal.returns-clause-room
+returns-clause-room c =
+    let p = c.args.plan.now in
+    let graph = c.checked.result.now in
+    let schedule = c.schedule.result.now in
+    let same = c.checked.ensures.value in
+    let is = c.schedule.ensures.value in
+    of_plan (λ g s. HaveRoomFor s (lists_of c.take_part.new.buffers)) p graph schedule same is c.take_part.ensures.room
+
+pub returns-clause-loaded : goal.returns-clause-loaded
+returns-clause-loaded c =
+    let p = c.args.plan.now in
+    let graph = c.checked.result.now in
+    let schedule = c.schedule.result.now in
+    let same = c.checked.ensures.value in
+    let is = c.schedule.ensures.value in
+    of_plan (λ g s. (rows : List Row) → AreLoaded g rows (node_at s c.args.step) (row_of c.args.hull.now c.args.number) c.args.row.now
+    → HaveLoadedRows g s rows c.args.step c.args.number c.args.windows.now (lists_of c.args.buffers.now)
+    → HaveLoadedRows g s rows c.args.step (c.args.number + 1) c.args.windows.now (lists_of c.take_part.new.buffers)) p graph schedule same is c.take_part.ensures.loaded

@@ -1,0 +1,196 @@
+// The steps of a plan: those of its schedule.
+ghost use Rattle.std.specs.Prelude.{◌≡◌, ◌<◌, ◌≤◌, ◌+◌, ℕ, List, false, true, Some, OnOk, length, take};
+ghost use Rattle.oe_engine.specs.Benches.{AreCells, AreOfChunk, AreOfKind, EachLive, EachLoad, HaveRoomFor, OfResult, buffer_cells_at, is_load_at, node_at};
+ghost use Rattle.oe_engine.specs.Hulls.{HaveLoadedRows};
+ghost use Rattle.oe_engine.specs.Loads.{IsLoadedAt};
+ghost use Rattle.oe_ops.specs.Needs.{plane_window};
+ghost use Rattle.oe_plan.specs.Figures.{largest_window, scratch_of, shape_of_node};
+ghost use Rattle.oe_plan.specs.Plans.{IsPlan};
+ghost use Rattle.oe_plan.specs.Windows.{window_at};
+ghost use Rattle.oe_shape.specs.Checked.{collection_of_node};
+ghost use Rattle.oe_shape.specs.Graphs.{Collections};
+ghost use Rattle.oe_shape.specs.Laws.{AreCollectionsOf};
+ghost use Rattle.oe_sources.specs.Catalogue.{Row};
+ghost use Rattle.oe_sources.specs.CatalogueRows.{rows_of};
+ghost use Rattle.oe_steps.specs.Buffers.{lists_of};
+ghost use Rattle.oe_steps.specs.Collections.{AreRead, HasCollections, IsMountedAt};
+ghost use Rattle.oe_steps.specs.Loads.{AreLoaded, HasRead};
+ghost use Rattle.oe_steps.specs.Strips.{IsStripOf};
+ghost use Rattle.oe_window.specs.Parts.{row_count, row_of};
+ghost use Rattle.oe_window.specs.Windows.{Holds, position_count, span_length, whole_window};
+
+use oe_cell::Cell;
+use oe_plan::Plan;
+use oe_sources::Catalogue;
+use oe_steps::RunFail;
+use oe_window::Window;
+
+/// The cells of a step: the front of the buffer of its slot.
+pub(crate) fn front<'a>(
+    plan: &Plan,
+    step: u32,
+    windows: &[Window],
+    buffers: &'a [Vec<Cell>],
+) -> &'a [Cell]
+    requires step { step < length plan.now.order.steps }
+    requires windows { AreOfChunk plan.now windows.now }
+    requires room { HaveRoomFor plan.now (lists_of buffers.now) }
+    ensures { result.now ≡ buffer_cells_at plan.now windows.now (lists_of buffers.now) step }
+{
+    oe_steps::front(plan.checked(), plan.schedule(), step, windows, buffers)
+}
+
+/// The step of the result.
+pub(crate) fn step_of_result(plan: &Plan) -> u32
+    ensures within { result < length plan.now.order.steps }
+    ensures is { node_at plan.now result ≡ plan.now.graph.result }
+    ensures valid { IsPlan plan.now }
+{
+    oe_steps::step_of_last(plan.checked(), plan.schedule())
+}
+
+/// How many steps load a collection: they are the first ones.
+pub(crate) fn loads(plan: &Plan) -> u32
+    ensures most { result ≤ length plan.now.order.steps }
+    ensures load { (step : ℕ) → step < result → is_load_at plan.now step ≡ true }
+    ensures work { (step : ℕ) → result ≤ step → step < length plan.now.order.steps
+        → is_load_at plan.now step ≡ false }
+    ensures valid { IsPlan plan.now }
+{
+    oe_steps::loads(plan.checked(), plan.schedule())
+}
+
+/// Evaluates each step that loads no collection, in order.
+pub(crate) fn evaluate_steps(
+    plan: &Plan,
+    windows: &[Window],
+    buffers: &mut [Vec<Cell>],
+    scratch: &mut [Cell],
+)
+    requires windows { AreOfChunk plan.now windows.now }
+    requires room { HaveRoomFor plan.now (lists_of buffers.old) }
+    requires scratch { length scratch.old ≡ scratch_of plan.now.graph }
+    requires kinds { EachLoad plan.now (AreOfKind plan.now windows.now (lists_of buffers.old)) }
+    ensures plan { IsPlan plan.now }
+    ensures room { HaveRoomFor plan.now (lists_of buffers.new) }
+    ensures kinds { OfResult plan.now (AreOfKind plan.now windows.now (lists_of buffers.new)) }
+    ensures value { (collections : Collections) → AreCollectionsOf plan.now.graph collections
+        → EachLoad plan.now (AreCells collections plan.now windows.now (lists_of buffers.old))
+        → OfResult plan.now (AreCells collections plan.now windows.now (lists_of buffers.new)) }
+{
+    oe_steps::evaluate_steps(plan.checked(), plan.schedule(), windows, buffers, scratch);
+}
+
+/// Reads the cells of a step that loads a collection, on its window, into the buffer of its slot.
+///
+/// Refuses: where a read of a collection is refused.
+pub(crate) fn load_slot(
+    plan: &Plan,
+    catalogue: &mut Catalogue,
+    step: u32,
+    windows: &[Window],
+    buffers: &mut [Vec<Cell>],
+) -> Result<(), RunFail>
+    requires step { step < length plan.now.order.steps }
+    requires load { is_load_at plan.now step ≡ true }
+    requires mounted { HasCollections plan.now.graph (rows_of seen catalogue.old) }
+    requires windows { AreOfChunk plan.now windows.now }
+    requires room { HaveRoomFor plan.now (lists_of buffers.old) }
+    ensures room { HaveRoomFor plan.now (lists_of buffers.new) }
+    ensures loaded { (rows : List Row) → AreRead rows (rows_of seen catalogue.old)
+        → EachLive plan.now step (IsLoadedAt plan.now rows windows.now (lists_of buffers.old))
+        → OnOk result (EachLive plan.now (step + 1)
+        (IsLoadedAt plan.now rows windows.now (lists_of buffers.new))) }
+    ensures read { HasRead plan.now.graph (largest_window plan.now.graph plan.now.size)
+        (rows_of seen catalogue.old) (rows_of seen catalogue.new) result }
+{
+    oe_steps::load_slot(
+        plan.checked(),
+        plan.schedule(),
+        catalogue,
+        step,
+        windows,
+        buffers,
+    )
+}
+
+/// The row of the collection that the node of a step loads.
+pub(crate) fn place_of(plan: &Plan, catalogue: &Catalogue, step: u32) -> u32
+    requires step { step < length plan.now.order.steps }
+    requires load { is_load_at plan.now step ≡ true }
+    requires mounted { HasCollections plan.now.graph (rows_of seen catalogue.now) }
+    ensures { (id : List ℕ) × (collection_of_node plan.now.graph (node_at plan.now step) ≡ Some id)
+        × IsMountedAt plan.now.graph (rows_of seen catalogue.now) id result }
+{
+    oe_steps::place_of(plan.checked(), plan.schedule(), catalogue, step)
+}
+
+/// Reads the cells of the node of a step on one row of a window into the front of some cells.
+pub(crate) fn load_front(
+    plan: &Plan,
+    catalogue: &mut Catalogue,
+    step: u32,
+    place: u32,
+    row: &Window,
+    cells: &mut [Cell],
+) -> Result<(), RunFail>
+    requires step { step < length plan.now.order.steps }
+    requires load { is_load_at plan.now step ≡ true }
+    requires mounted { (id : List ℕ)
+        → collection_of_node plan.now.graph (node_at plan.now step) ≡ Some id
+        → IsMountedAt plan.now.graph (rows_of seen catalogue.old) id place }
+    requires within { Holds (whole_window (shape_of_node plan.now.graph (node_at plan.now step)))
+        row.now }
+    requires one { row.now ≡ plane_window row.now row.now.t.from row.now.bands.from }
+    requires count { position_count row.now ≡ span_length row.now.x }
+    requires room { span_length row.now.x ≤ length cells.old }
+    ensures loaded { OnOk result (AreLoaded plan.now.graph (rows_of seen catalogue.old)
+        (node_at plan.now step) row.now (take (span_length row.now.x) cells.new)) }
+    ensures read { HasRead plan.now.graph (span_length row.now.x)
+        (rows_of seen catalogue.old) (rows_of seen catalogue.new) result }
+{
+    oe_steps::load_front(
+        plan.checked(),
+        plan.schedule(),
+        catalogue,
+        step,
+        place,
+        row,
+        cells,
+    )
+}
+
+/// Writes what the window of a step takes of a hull's row behind the rows before it, into the buffer of the step's
+/// slot.
+pub(crate) fn take_part(
+    plan: &Plan,
+    step: u32,
+    hull: &Window,
+    number: u64,
+    row: &[Cell],
+    windows: &[Window],
+    buffers: &mut [Vec<Cell>],
+)
+    requires step { step < length plan.now.order.steps }
+    requires windows { AreOfChunk plan.now windows.now }
+    requires room { HaveRoomFor plan.now (lists_of buffers.old) }
+    requires strip { IsStripOf hull.now (window_at windows.now step) }
+    requires number { number < row_count hull.now }
+    requires row { length row.now ≡ span_length hull.now.x }
+    ensures room { HaveRoomFor plan.now (lists_of buffers.new) }
+    ensures loaded { (rows : List Row)
+        → AreLoaded plan.now.graph rows (node_at plan.now step) (row_of hull.now number) row.now
+        → HaveLoadedRows plan.now rows step number windows.now (lists_of buffers.old)
+        → HaveLoadedRows plan.now rows step (number + 1) windows.now (lists_of buffers.new) }
+{
+    oe_steps::take_part(
+        plan.checked(),
+        plan.schedule(),
+        step,
+        hull,
+        number,
+        row,
+        windows,
+        buffers,
+    );
+}

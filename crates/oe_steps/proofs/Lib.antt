@@ -1,0 +1,15 @@
+pub mod BufferLemmas
+pub mod NodeLemmas
+pub mod InputLemmas
+pub mod StepLemmas
+pub mod ScheduleLemmas
+pub mod FigureLemmas
+pub mod EvalLemmas
+pub mod LiveLemmas
+pub mod LoadLemmas
+pub mod ReadLemmas
+pub mod PlaneLemmas
+pub mod StepLoadLemmas
+pub mod StripLemmas
+pub mod RowLemmas
+pub mod RunLemmas

@@ -1,0 +1,290 @@
+-- One plane of what a node loads, from a box of its collection.
+use Rattle.std.proofs.Common.{◌≡◌, ℕ, zero, suc, ◌<◌, Bool, true, false, ◌&&◌, List, [], ◌∷◌, length, get_or, replicate, Option, Some, None, IfSome, refl, sym, ap, ◌∙◌, subst, arith, Result, Ok, Err, OnOk}
+use Rattle.std.specs.List.{All, list_all}
+use Rattle.std.specs.Option.{option_map}
+use Rattle.std.specs.Result.{IfErr, IsErrOf}
+use Rattle.std.proofs.lemmas.List.{get_or_default}
+use Rattle.std.proofs.lemmas.List.Elements.{All-cons, All-nil}
+use Rattle.std.proofs.lemmas.Option.{same_Some}
+use Rattle.oe_cell.specs.declared.cell.Cell.TheVariants.{Empty, Flag, Number, Over}
+use Rattle.oe_cell.specs.declared.cell.Cell.{Cell}
+use Rattle.oe_cube.specs.Collections.{Collection, IsCollection}
+use Rattle.oe_cube.specs.Kinds.{IsOfKind, is_null_or_of}
+use Rattle.oe_dims.proofs.CubeLemmas.{length-tuples}
+use Rattle.oe_dims.specs.Cube.{Cube, IsCube}
+use Rattle.oe_dims.specs.Dimensions.{Dimensions}
+use Rattle.oe_dims.specs.declared.kind.CellKind.TheVariants.{Numbers, Flags}
+use Rattle.oe_dims.specs.declared.kind.CellKind.{CellKind}
+use Rattle.oe_ops.specs.Loads.{GivesPlane}
+use Rattle.oe_plan.specs.Figures.{steps_of, shape_of_node}
+use Rattle.oe_plan.specs.Schedules.{node_at, ScheduleOf, IsSchedule}
+use Rattle.oe_shape.proofs.CheckedLemmas.{give_cubes}
+use Rattle.oe_shape.specs.Checked.{collection_of_node, CheckedGraph}
+use Rattle.oe_shape.specs.Extents.{kept_shape, Restriction}
+use Rattle.oe_shape.specs.Graphs.{Collections, collection_named, datacube_of}
+use Rattle.oe_shape.specs.Laws.{AreCollectionsOf}
+use Rattle.oe_shape.specs.Meaning.{Datacube, restricted_cube, operated}
+use Rattle.oe_shape.specs.Operations.{Outline, keep}
+use Rattle.oe_sources.proofs.CatalogueLawLemmas.{ask_no_more}
+use Rattle.oe_sources.specs.Catalogue.{ReadsRow, Row, row_index, source_at}
+use Rattle.oe_sources.specs.Source.{AreCellsOf, Contents, collection_of, collection_with}
+use Rattle.oe_sources.specs.declared.source.SourceFail.TheVariants.{Failed, Damaged}
+use Rattle.oe_sources.specs.declared.source.SourceFail.{SourceFail}
+use Rattle.oe_window.proofs.WholeLemmas.{in_whole, position_in}
+use Rattle.oe_window.specs.Cells.{cells_on}
+use Rattle.oe_window.specs.Windows.{Holds, IsEmpty, position_count, whole_window}
+use Rattle.oe_window.specs.declared.window.Window.{Window}
+use Rattle.oe_steps.proofs.LoadLemmas.{LoadsBy, id_of_load, loads_by}
+use Rattle.oe_steps.proofs.ScheduleLemmas.{node_within}
+use Rattle.oe_steps.proofs.ReadLemmas.{read_row}
+use Rattle.oe_steps.specs.Collections.{HasCollections, IsLoadedBy, IsMountedAt, LoadRose, Shows}
+use Rattle.oe_steps.specs.Loads.{AreLoaded, HasRead, ReadsBox, refusal_for}
+use Rattle.oe_steps.specs.Refusals.{IsOfSource, RefusalSays}
+use Rattle.oe_steps.specs.Steps.{loads_at, cell_kind_at, node_cells}
+use Rattle.oe_steps.specs.declared.fail.RunFail.TheVariants.{SourceFailed}
+use Rattle.oe_steps.specs.declared.fail.RunFail.{RunFail}
+
+-- ---- kinds of cells
+
+cell_of_kind : (kind : CellKind) (c : Cell) → is_null_or_of kind c ≡ true → IsOfKind kind c
+cell_of_kind Numbers Empty h = tt
+cell_of_kind Flags Empty h = tt
+cell_of_kind Numbers (Flag b) h = absurd cc
+cell_of_kind Numbers (Number q) h = tt
+cell_of_kind Flags (Flag b) h = tt
+cell_of_kind Flags (Number q) h = absurd cc
+cell_of_kind Numbers Over h = absurd cc
+cell_of_kind Flags Over h = absurd cc
+
+both : (a b : Bool) → (a && b) ≡ true → (a ≡ true) × (b ≡ true)
+both true b h = (refl, h)
+both false b h = absurd cc
+
+cells_of_kind : (kind : CellKind) (cells : List Cell) → list_all (is_null_or_of kind) cells ≡ true → All (IsOfKind kind) cells
+cells_of_kind kind [] h = All-nil (IsOfKind kind)
+cells_of_kind kind (c ∷ cells) h =
+    let two = both (is_null_or_of kind c) (list_all (is_null_or_of kind) cells) h in
+    All-cons (IsOfKind kind) c cells (cell_of_kind kind c two.0) (cells_of_kind kind cells two.1)
+
+nulls_of_kind : (kind : CellKind) (n : ℕ) → All (IsOfKind kind) (replicate n Empty)
+nulls_of_kind kind zero k d l = absurd (omega arith)
+nulls_of_kind Numbers (suc n) zero d l = tt
+nulls_of_kind Flags (suc n) zero d l = tt
+nulls_of_kind kind (suc n) (suc k) d l = nulls_of_kind kind n k d (omega arith)
+
+-- ---- where a collection is mounted
+
+-- the step of the run at which the node of a step stands
+pub record IsInRunAt (graph : CheckedGraph) (schedule : ScheduleOf) (step : ℕ) : Type 0 where
+  pub run_step : ℕ
+  pub below : run_step < length (steps_of graph)
+  pub same : get_or (steps_of graph) run_step 0 ≡ node_at schedule step
+
+in_run : (graph : CheckedGraph) (schedule : ScheduleOf) → IsSchedule graph schedule → (step : ℕ) → step < length schedule.order.steps
+    → IsInRunAt graph schedule step
+in_run graph schedule is step within =
+    let stands = is.of_run step within in
+    record {
+      run_step = stands.0;
+      below = stands.1;
+      same = get_or_default (steps_of graph) stands.0 0 (node_at schedule step) stands.1 ∙ stands.2;
+    }
+
+step_is_loaded : (graph : CheckedGraph) (schedule : ScheduleOf) → (step : ℕ) (at : IsInRunAt graph schedule step) → (id : List ℕ)
+    → collection_of_node graph (node_at schedule step) ≡ Some id → IsLoadedBy graph at.run_step id
+step_is_loaded graph schedule step at id e = record {
+  within = at.below;
+  loads = ap (collection_of_node graph) at.same ∙ e;
+}
+
+module _ (graph : CheckedGraph) (schedule : ScheduleOf) (is : IsSchedule graph schedule) (rows : List Row) (has : HasCollections graph rows) (step : ℕ) (within : step < length schedule.order.steps)
+    (id : List ℕ) (e : collection_of_node graph (node_at schedule step) ≡ Some id) where
+  pub place_is : (place : ℕ) → row_index rows id ≡ Some place → IsMountedAt graph rows id place
+  place_is place at =
+      let run = in_run graph schedule is step within in
+      let m = has run.run_step id (step_is_loaded graph schedule step run id e) in
+      subst (IsMountedAt graph rows id) (same_Some m.0 place (sym m.1.index_is ∙ at)) m.1
+
+  pub some_place : row_index rows id ≡ None → ⊥
+  some_place none =
+      let run = in_run graph schedule is step within in
+      let m = has run.run_step id (step_is_loaded graph schedule step run id e) in
+      let wrong : None ≡ Some m.0 = sym none ∙ m.1.index_is in
+      absurd cc
+
+-- ---- a plane
+
+-- what a plane is given, by equal shapes and planes
+pub gives_at : (d e f g : Dimensions) (plane w box : Window) → d ≡ f → e ≡ g → plane ≡ w
+    → ((r : Restriction) → kept_shape r d ≡ e → GivesPlane d e r w box) → (r : Restriction) → kept_shape r f ≡ g → GivesPlane f g r plane box
+gives_at d e f g plane w box same_d same_e same_w gives r is =
+    subst (λ x. GivesPlane f g r x box) (sym same_w)
+    (subst (λ x. GivesPlane x g r w box) same_d
+    (subst (λ x. GivesPlane d x r w box) same_e (gives r (ap (kept_shape r) same_d ∙ (is ∙ sym same_e)))))
+
+module _ (graph : CheckedGraph) (schedule : ScheduleOf) (is : IsSchedule graph schedule) (rows : List Row) (step : ℕ) (within : step < length schedule.order.steps) (loads : loads_at graph schedule step ≡ true)
+    (place : ℕ) (mounted : (id : List ℕ) → collection_of_node graph (node_at schedule step) ≡ Some id → IsMountedAt graph rows id place) where
+  pub id : (name : List ℕ) × (collection_of_node graph (node_at schedule step) ≡ Some name)
+  id = id_of_load graph schedule is step within loads
+
+  pub at : IsMountedAt graph rows id.0 place
+  at = mounted id.0 id.1
+
+  keeps : LoadsBy graph (node_at schedule step) id.0
+  keeps = loads_by graph is.faultless (node_at schedule step) (node_within graph schedule is step within) id.0 id.1
+
+  run : IsInRunAt graph schedule step
+  run = in_run graph schedule is step within
+
+  step_loads : IsLoadedBy graph run.run_step id.0
+  step_loads = step_is_loaded graph schedule step run id.0 id.1
+
+  shape_is : kept_shape keeps.r (source_at rows place).shape ≡ shape_of_node graph (node_at schedule step)
+  shape_is = ap (kept_shape keeps.r) at.shape_is ∙ sym (ap (λ (o : Outline). o.shape) keeps.outline_is)
+
+  kind_is : cell_kind_at graph schedule step ≡ (source_at rows place).kind
+  kind_is = ap (λ (o : Outline). o.kind) keeps.outline_is ∙ sym at.kind_is
+
+  pub of_kind : (cells : List Cell) → list_all (is_null_or_of (source_at rows place).kind) cells ≡ true → All (IsOfKind (cell_kind_at graph schedule step)) cells
+  of_kind cells h = cells_of_kind (cell_kind_at graph schedule step) cells (subst (λ (k : CellKind). list_all (is_null_or_of k) cells ≡ true) (sym kind_is) h)
+
+  module _ (plane box : Window)
+      (gives : (r : Restriction) → kept_shape r (source_at rows place).shape ≡ shape_of_node graph (node_at schedule step)
+      → GivesPlane (source_at rows place).shape (shape_of_node graph (node_at schedule step)) r plane box)
+      (inner : Holds (whole_window (shape_of_node graph (node_at schedule step))) plane) where
+    plane_is : GivesPlane (source_at rows place).shape (shape_of_node graph (node_at schedule step)) keeps.r plane box
+    plane_is = gives keeps.r shape_is
+
+    -- its box lies in the collection, and has as many positions
+    pub box_inside : Holds (whole_window (source_at rows place).shape) box
+    box_inside q in' = in_whole (source_at rows place).shape q (plane_is.needed q in').2.is_position
+
+    pub box_count : ¬ IsEmpty box → position_count box ≡ position_count plane
+    box_count some = plane_is.counted some
+
+    -- ---- its cells
+
+    module _ (sound : IfSome (collection_of (source_at rows place)) IsCollection) (collections : Collections)
+        (has : AreCollectionsOf graph collections) (shows : Shows graph rows collections) where
+      shown : (collection : Collection) × (collection_of (source_at rows place) ≡ Some collection)
+          × (collection_named collections id.0 ≡ datacube_of collection)
+      shown = shows run.run_step id.0 place step_loads at
+
+      abbrev cube : Contents → Cube Cell
+      cube contents = record { shape = (source_at rows place).shape; cells = contents.cells }
+
+      abbrev with_contents : Contents → Collection
+      with_contents contents = collection_with (source_at rows place).shape (source_at rows place).kind contents
+
+      whole : (contents : Contents) → (source_at rows place).contents ≡ Some contents → with_contents contents ≡ shown.0
+      whole contents e =
+          let some : Some (with_contents contents) ≡ Some shown.0 = sym (ap (option_map with_contents) e) ∙ shown.1 in
+          cc
+
+      is_cube : (contents : Contents) → (source_at rows place).contents ≡ Some contents → IsCube (cube contents)
+      is_cube contents e =
+          let c : IsCollection (with_contents contents) = subst (λ o. IfSome o IsCollection) (ap (option_map with_contents) e) sound in
+          c.counted ∙ sym (length-tuples (source_at rows place).shape)
+
+      means : (contents : Contents) → (source_at rows place).contents ≡ Some contents
+          → node_cells collections graph (node_at schedule step) plane ≡ cells_on Empty (restricted_cube keeps.r (cube contents)) plane
+      means contents e =
+          ap (λ (d : Datacube). cells_on Empty d.cube plane)
+          (give_cubes.loaded graph is.faultless collections has (node_at schedule step) (node_within graph schedule is step within) (keep keeps.r) keeps.operates id.0 id.1
+          ∙ ap (λ (d : Datacube). operated (keep keeps.r) (d ∷ [])) (shown.2 ∙ ap datacube_of (sym (whole contents e))))
+
+      by_contents : (A : Type 0) → ((contents : Contents) → (source_at rows place).contents ≡ Some contents → A) → A
+      by_contents A some = by (source_at rows place).contents refl
+        where
+          by : (o : Option Contents) → (source_at rows place).contents ≡ o → A
+          by None e =
+              let none : None ≡ Some shown.0 = sym (ap (option_map with_contents) e) ∙ shown.1 in
+              absurd cc
+          by (Some contents) e = some contents e
+
+      given_cells : (cells : List Cell) → ¬ IsEmpty box
+          → IfSome (source_at rows place).contents (λ c. AreCellsOf (source_at rows place).shape c box cells)
+          → cells ≡ node_cells collections graph (node_at schedule step) plane
+      given_cells cells some given = by_contents (cells ≡ node_cells collections graph (node_at schedule step) plane) (λ contents e.
+          let are : AreCellsOf (source_at rows place).shape contents box cells =
+          subst (λ o. IfSome o (λ c. AreCellsOf (source_at rows place).shape c box cells)) e given in
+          are.cells_are ∙ (plane_is.cells (cube contents) (is_cube contents e) refl some ∙ sym (means contents e)))
+
+      null_cells : IsEmpty box → replicate (position_count plane) Empty ≡ node_cells collections graph (node_at schedule step) plane
+      null_cells empty = by_contents (replicate (position_count plane) Empty ≡ node_cells collections graph (node_at schedule step) plane)
+          (λ contents e. sym (plane_is.nulls (cube contents) (is_cube contents e) refl empty) ∙ sym (means contents e))
+
+    module _ (sound : IfSome (collection_of (source_at rows place)) IsCollection) where
+      pub nulls_loaded : (cells : List Cell) → IsEmpty box → cells ≡ replicate (position_count plane) Empty
+          → AreLoaded graph rows (node_at schedule step) plane cells
+      nulls_loaded cells empty are = record {
+        values = λ collections has shows. are ∙ null_cells sound collections has shows empty;
+        kinds = subst (All (IsOfKind (cell_kind_at graph schedule step))) (sym are) (nulls_of_kind (cell_kind_at graph schedule step) (position_count plane));
+      }
+
+      loaded_by_answer : (cells : List Cell) (after : List Row) (answer : Result (Unit {0}) SourceFail) (node : ℕ) → ¬ IsEmpty box
+          → ReadsRow rows place box cells after answer → OnOk (refusal_for node answer) (AreLoaded graph rows (node_at schedule step) plane cells)
+      loaded_by_answer cells after (Ok u) node some reads = record {
+        values = λ collections has shows. given_cells sound collections has shows cells some reads.read.given;
+        kinds = of_kind cells reads.read.of_kind;
+      }
+      loaded_by_answer cells after (Err Failed) node some reads = tt
+      loaded_by_answer cells after (Err (Damaged number)) node some reads = tt
+
+      pub box_loaded : (cells : List Cell) (after : List Row) (result : Result (Unit {0}) RunFail) (node : ℕ) → ¬ IsEmpty box
+          → ReadsBox rows node place box cells after result → OnOk result (AreLoaded graph rows (node_at schedule step) plane cells)
+      box_loaded cells after result node some reads =
+          subst (λ r. OnOk r (AreLoaded graph rows (node_at schedule step) plane cells)) (sym reads.refusal)
+          (loaded_by_answer cells after reads.answer node some reads.read)
+
+    -- ---- what was read
+
+    rose_by_answer : (cells : List Cell) (after : List Row) (answer : Result (Unit {0}) SourceFail) → ReadsRow rows place box cells after answer
+        → IsErrOf (refusal_for (node_at schedule step) answer) SourceFailed → LoadRose graph rows after
+    rose_by_answer cells after (Ok u) reads err = absurd cc
+    rose_by_answer cells after (Err Failed) reads err = record {
+      step = run.run_step;
+      id = id.0;
+      index = place;
+      loaded = step_loads;
+      mounted = at;
+      rose = reads.read.cause.failed refl;
+    }
+    rose_by_answer cells after (Err (Damaged number)) reads err = absurd cc
+
+    says_by_answer : (cells : List Cell) (after : List Row) (answer : Result (Unit {0}) SourceFail)
+        → ReadsRow rows place box cells after answer
+        → IfErr (refusal_for (node_at schedule step) answer) (λ refusal. IsOfSource refusal × RefusalSays graph rows refusal)
+    says_by_answer cells after (Ok u) reads = tt
+    says_by_answer cells after (Err Failed) reads = (tt, tt)
+    says_by_answer cells after (Err (Damaged number)) reads =
+        let damage = reads.read.damage in
+        let needed = plane_is.needed damage.position damage.inside in (
+          tt,
+          record {
+            step = run.run_step;
+            id = id.0;
+            index = place;
+            loaded = step_loads;
+            node_is = run.same;
+            mounted = at;
+            position = damage.position;
+            inside = position_in (source_at rows place).shape damage.position (box_inside damage.position damage.inside);
+            number_is = damage.numbered;
+            damaged = damage.damaged;
+            kept = (needed.0, position_in (shape_of_node graph (node_at schedule step)) needed.0 (inner needed.0 needed.1), needed.2);
+          },
+        )
+
+    pub box_read : (cells : List Cell) (after : List Row) (result : Result (Unit {0}) RunFail) → ¬ IsEmpty box
+        → ReadsBox rows (node_at schedule step) place box cells after result → HasRead graph (position_count plane) rows after result
+    box_read cells after result some reads =
+        let asked = ask_no_more rows place box cells after reads.answer at.within reads.read in
+        let counted = plane_is.counted some in
+        record {
+          read = read_row rows place box cells after reads.answer reads.read;
+          asked = omega arith;
+          cause = subst (λ r. IsErrOf r SourceFailed → LoadRose graph rows after) (sym reads.refusal) (rose_by_answer cells after reads.answer reads.read);
+          says = subst (λ r. IfErr r (λ refusal. IsOfSource refusal × RefusalSays graph rows refusal)) (sym reads.refusal)
+              (says_by_answer cells after reads.answer reads.read);
+        }

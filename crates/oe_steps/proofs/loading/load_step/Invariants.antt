@@ -1,0 +1,19 @@
+use Rattle.std.proofs.Common.{◌≡◌, ◌*◌, ◌≤◌, length, Ok}
+use Rattle.oe_plan.specs.Schedules.{node_at}
+use Rattle.oe_sources.specs.CatalogueRows.{rows_of}
+use Rattle.oe_window.specs.Parts.{plane_size}
+use Rattle.oe_window.specs.Windows.{position_count}
+use Rattle.oe_steps.specs.Loads.{HasLoadedTo, HasRead}
+use Rattle.oe_steps.proofs.loading.load_step.Given as goal
+
+abbrev pub invariant-loop-number : goal.invariant-loop-number
+invariant-loop-number g l =
+    let before = rows_of (λ z. (goal.CubeSource-dyn g z).seen z.1) l.fn.catalogue in
+    let now = rows_of (λ z. (goal.CubeSource-dyn g z).seen z.1) l.catalogue in
+    record {
+      done_is : l.done ≡ l.number * plane_size l.window;
+      within : l.done ≤ length l.buffer;
+      room : position_count l.window ≤ length l.buffer;
+      read : HasRead l.checked l.done before now (Ok tt);
+      loaded : HasLoadedTo l.checked before (node_at l.schedule l.step) l.window l.done l.buffer;
+    }

@@ -1,0 +1,240 @@
+// The cells of collections that windows need, read into buffers.
+ghost use Rattle.std.specs.Prelude.{◌≡◌, ◌≢◌, slice_index, ◌<◌, ◌≤◌, ◌+◌, ◌^◌, ℕ, List, true, Some, IfSome, OnOk, length, replicate, take};
+ghost use Rattle.oe_cell.specs.declared.cell.Cell.TheVariants.{Empty};
+ghost use Rattle.oe_cube.specs.Collections.{IsCollection};
+ghost use Rattle.oe_dims.specs.Dimensions.{IsShape};
+ghost use Rattle.oe_steps.specs.Steps.{EachLive, HaveRoomFor, loads_at};
+ghost use Rattle.oe_steps.specs.Buffers.{buffer_at, lists_of};
+ghost use Rattle.oe_steps.specs.Collections.{AreRead, HasCollections, IsMountedAt};
+ghost use Rattle.oe_steps.specs.Loads.{AreLoaded, HasRead, IsLoadedAt, ReadsBox};
+ghost use Rattle.oe_ops.specs.Needs.{plane_window};
+ghost use Rattle.oe_plan.specs.Figures.{shape_of_node};
+ghost use Rattle.oe_plan.specs.Schedules.{AreWindowsFor, IsSchedule, node_at};
+ghost use Rattle.oe_shape.specs.Checked.{collection_of_node};
+ghost use Rattle.oe_sources.specs.Catalogue.{Row, source_at};
+ghost use Rattle.oe_sources.specs.CatalogueRows.{rows_of};
+ghost use Rattle.oe_sources.specs.Source.{collection_of};
+ghost use Rattle.oe_window.specs.Windows.{Holds, position_count, span_length, whole_window};
+
+use crate::fail::RunFail;
+use oe_cell::Cell;
+use oe_dims::{Kind, Shape};
+use oe_ops::source_window;
+use oe_plan::Schedule;
+use oe_shape::Checked;
+use oe_sources::{Catalogue, SourceFail};
+use oe_window::{Window, size};
+
+/// Reads the cells of a step that loads a collection, on its window, into the buffer of its slot. The buffers of the
+/// other slots stay as they are.
+///
+/// Refuses: where a read of a collection is refused.
+pub fn load_slot(
+    checked: &Checked,
+    schedule: &Schedule,
+    catalogue: &mut Catalogue,
+    step: u32,
+    windows: &[Window],
+    buffers: &mut [Vec<Cell>],
+) -> Result<(), RunFail>
+    requires schedule { IsSchedule checked.now schedule.now }
+    requires step { step < length schedule.now.order.steps }
+    requires load { loads_at checked.now schedule.now step ≡ true }
+    requires mounted { HasCollections checked.now (rows_of seen catalogue.old) }
+    requires windows { AreWindowsFor checked.now schedule.now windows.now }
+    requires room { HaveRoomFor schedule.now (lists_of buffers.old) }
+    ensures room { HaveRoomFor schedule.now (lists_of buffers.new) }
+    ensures others { (slot : ℕ) → slot ≢ slice_index schedule.now.order.slots step
+        → buffer_at (lists_of buffers.new) slot ≡ buffer_at (lists_of buffers.old) slot }
+    ensures loaded { (rows : List Row) → AreRead rows (rows_of seen catalogue.old)
+        → EachLive checked.now schedule.now step
+        (IsLoadedAt checked.now schedule.now rows windows.now (lists_of buffers.old))
+        → OnOk result (EachLive checked.now schedule.now (step + 1)
+        (IsLoadedAt checked.now schedule.now rows windows.now (lists_of buffers.new))) }
+    ensures read { HasRead checked.now schedule.now.largest
+        (rows_of seen catalogue.old) (rows_of seen catalogue.new) result }
+{
+    let slot = schedule.slot(step);
+    let window = windows[step as usize];
+    let buffer = buffers[slot as usize].as_mut_slice();
+    load_step(checked, schedule, catalogue, step, &window, buffer)
+}
+
+/// Reads the cells of the node of a step on its window into the front of a buffer, plane by plane.
+fn load_step(
+    checked: &Checked,
+    schedule: &Schedule,
+    catalogue: &mut Catalogue,
+    step: u32,
+    window: &Window,
+    buffer: &mut [Cell],
+) -> Result<(), RunFail>
+    requires schedule { IsSchedule checked.now schedule.now }
+    requires step { step < length schedule.now.order.steps }
+    requires load { loads_at checked.now schedule.now step ≡ true }
+    requires mounted { HasCollections checked.now (rows_of seen catalogue.old) }
+    requires within { Holds (whole_window (shape_of_node checked.now (node_at schedule.now step)))
+        window.now }
+    requires few { position_count window.now < 2 ^ 64 }
+    requires room { position_count window.now ≤ length buffer.old }
+    ensures loaded { OnOk result (AreLoaded checked.now (rows_of seen catalogue.old)
+        (node_at schedule.now step) window.now (take (position_count window.now) buffer.new)) }
+    ensures read { HasRead checked.now (position_count window.now)
+        (rows_of seen catalogue.old) (rows_of seen catalogue.new) result }
+{
+    let place = place_of(checked, schedule, catalogue, step);
+    let mut done = 0;
+    for number in 0..window.planes() {
+        let plane = window.plane(number);
+        let count = size(&plane) as usize;
+        let piece = &mut buffer[done..done + count];
+        load_plane(checked, schedule, catalogue, step, place, &plane, piece)?;
+        done += count;
+    }
+    Ok(())
+}
+
+/// The row of the collection that the node of a step loads.
+pub fn place_of(checked: &Checked, schedule: &Schedule, catalogue: &Catalogue, step: u32) -> u32
+    requires schedule { IsSchedule checked.now schedule.now }
+    requires step { step < length schedule.now.order.steps }
+    requires load { loads_at checked.now schedule.now step ≡ true }
+    requires mounted { HasCollections checked.now (rows_of seen catalogue.now) }
+    ensures { (id : List ℕ) × (collection_of_node checked.now (node_at schedule.now step) ≡ Some id)
+        × IsMountedAt checked.now (rows_of seen catalogue.now) id result }
+{
+    let node = schedule.node(step);
+    match checked.collection(node) {
+        Some(id) => match catalogue.place(id.as_str()) {
+            Some(place) => place,
+            None => unreachable!(),
+        },
+        None => unreachable!(),
+    }
+}
+
+/// Makes each cell null.
+fn clear(cells: &mut [Cell])
+    ensures { cells.new ≡ replicate (length cells.old) Empty }
+{
+    cells.fill(Cell::Empty);
+}
+
+/// Reads the cells of the node of a step on one plane, from the collection of a row.
+fn load_plane(
+    checked: &Checked,
+    schedule: &Schedule,
+    catalogue: &mut Catalogue,
+    step: u32,
+    place: u32,
+    plane: &Window,
+    into: &mut [Cell],
+) -> Result<(), RunFail>
+    requires schedule { IsSchedule checked.now schedule.now }
+    requires step { step < length schedule.now.order.steps }
+    requires load { loads_at checked.now schedule.now step ≡ true }
+    requires mounted { (id : List ℕ)
+        → collection_of_node checked.now (node_at schedule.now step) ≡ Some id
+        → IsMountedAt checked.now (rows_of seen catalogue.old) id place }
+    requires within { Holds (whole_window (shape_of_node checked.now (node_at schedule.now step)))
+        plane.now }
+    requires one { plane.now ≡ plane_window plane.now plane.now.t.from plane.now.bands.from }
+    requires room { length into.old ≡ position_count plane.now }
+    ensures loaded { OnOk result (AreLoaded checked.now (rows_of seen catalogue.old)
+        (node_at schedule.now step) plane.now into.new) }
+    ensures read { HasRead checked.now (position_count plane.now)
+        (rows_of seen catalogue.old) (rows_of seen catalogue.new) result }
+{
+    let node = schedule.node(step);
+    let shape = checked.shape(node);
+    let source = source_window(
+        shape,
+        shape_of(catalogue, place),
+        plane.t.from,
+        plane.bands.from,
+        plane,
+    );
+    if source.is_empty() {
+        clear(into);
+        return Ok(());
+    }
+    read_box(catalogue, node, place, &source, into)
+}
+
+/// Reads the cells of the node of a step on one row of a window into the front of some cells.
+///
+/// Refuses: where the read of the collection is refused.
+pub fn load_front(
+    checked: &Checked,
+    schedule: &Schedule,
+    catalogue: &mut Catalogue,
+    step: u32,
+    place: u32,
+    row: &Window,
+    cells: &mut [Cell],
+) -> Result<(), RunFail>
+    requires schedule { IsSchedule checked.now schedule.now }
+    requires step { step < length schedule.now.order.steps }
+    requires load { loads_at checked.now schedule.now step ≡ true }
+    requires mounted { (id : List ℕ)
+        → collection_of_node checked.now (node_at schedule.now step) ≡ Some id
+        → IsMountedAt checked.now (rows_of seen catalogue.old) id place }
+    requires within { Holds (whole_window (shape_of_node checked.now (node_at schedule.now step)))
+        row.now }
+    requires one { row.now ≡ plane_window row.now row.now.t.from row.now.bands.from }
+    requires count { position_count row.now ≡ span_length row.now.x }
+    requires room { span_length row.now.x ≤ length cells.old }
+    ensures loaded { OnOk result (AreLoaded checked.now (rows_of seen catalogue.old)
+        (node_at schedule.now step) row.now (take (span_length row.now.x) cells.new)) }
+    ensures read { HasRead checked.now (span_length row.now.x)
+        (rows_of seen catalogue.old) (rows_of seen catalogue.new) result }
+{
+    let count = row.x.to.saturating_sub(row.x.from) as usize;
+    load_plane(
+        checked,
+        schedule,
+        catalogue,
+        step,
+        place,
+        row,
+        &mut cells[..count],
+    )
+}
+
+/// The shape of the collection of a row, of which the reading of a dimension says that it is valid.
+fn shape_of(catalogue: &Catalogue, place: u32) -> &Shape
+    requires { place < length (rows_of seen catalogue.now) }
+    ensures value { result.now ≡ (source_at (rows_of seen catalogue.now) place).shape }
+    ensures valid { IsShape result.now }
+    ensures sound { IfSome (collection_of (source_at (rows_of seen catalogue.now) place))
+        IsCollection }
+{
+    let shape = catalogue.shape(place);
+    let _count = shape.count(Kind::Time);
+    shape
+}
+
+/// Reads a box of the collection of a row, for a node.
+fn read_box(
+    catalogue: &mut Catalogue,
+    node: u32,
+    place: u32,
+    source: &Window,
+    into: &mut [Cell],
+) -> Result<(), RunFail>
+    requires mounted { place < length (rows_of seen catalogue.old) }
+    requires inside { Holds (whole_window (source_at (rows_of seen catalogue.old) place).shape)
+        source.now }
+    requires room { length into.old ≡ position_count source.now }
+    ensures { ReadsBox (rows_of seen catalogue.old) node place source.now into.new
+        (rows_of seen catalogue.new) result }
+{
+    match catalogue.read(place, source, into) {
+        Ok(()) => Ok(()),
+        Err(SourceFail::Failed) => Err(RunFail::SourceFailed),
+        Err(SourceFail::Damaged(position)) => Err(RunFail::SourceDamaged {
+            load: node,
+            position,
+        }),
+    }
+}
