@@ -30,22 +30,22 @@ module _ (c : CheckedGraph) (steps : List ℕ) (listing : IsListing (links_of c.
   -- no node needs all dates
   pub none_whole : ((i : ℕ) → i < length steps → whole_of_node c (slice_index steps i) Time ≡ Some false) → HasNoTimeCut c
   none_whole all fold cut =
-      let at = stands_at steps fold ((listing.members fold).1 cut.of_run) in
-      let e : Some false ≡ Some true = sym (all at.0 at.1) ∙ (ap (λ n. whole_of_node c n Time) at.2 ∙ cut.whole) in
+      let at = stands_at steps fold ((listing.members fold).1 cut.lone.of_run) in
+      let e : Some false ≡ Some true = sym (all at.0 at.1) ∙ (ap (λ n. whole_of_node c n Time) at.2 ∙ cut.lone.whole) in
       false≢true (same_Some false true e)
 
   -- the one that does does not reduce them date by date
   pub none_folds : (fold : ℕ) → IsOfRun c fold → whole_of_node c fold Time ≡ Some true → time_fold_of_node c fold ≡ None → HasNoTimeCut c
   none_folds fold of whole none other cut =
-      let same : fold ≡ other = cut.only fold of whole in
-      let e : ◌≡◌ {A = Option (Reducer × Bool)} None (Some (cut.reducer, cut.ignores_nulls)) = sym none ∙ (ap (λ n. time_fold_of_node c n) same ∙ cut.folds) in
+      let same : fold ≡ other = cut.lone.only fold of whole in
+      let e : ◌≡◌ {A = Option (Reducer × Bool)} None (Some (cut.lone.reducer, cut.lone.ignores_nulls)) = sym none ∙ (ap (λ n. time_fold_of_node c n) same ∙ cut.lone.folds) in
       cc
 
   -- another does too
   pub none_alone : (fold : ℕ) → IsOfRun c fold → whole_of_node c fold Time ≡ Some true
       → (((i : ℕ) → i < length steps → whole_of_node c (slice_index steps i) Time ≡ Some true → slice_index steps i ≡ fold) → ⊥) → HasNoTimeCut c
   none_alone fold of whole apart other cut =
-      apart (λ i below is. cut.only (slice_index steps i) (of_run i (slice_index steps i) below refl) is ∙ sym (cut.only fold of whole))
+      apart (λ i below is. cut.lone.only (slice_index steps i) (of_run i (slice_index steps i) below refl) is ∙ sym (cut.lone.only fold of whole))
 
   -- it is the one
   pub lone : (fold : ℕ) (x : Reducer × Bool) → fold < node_count c.nodes → IsOfRun c fold → time_fold_of_node c fold ≡ Some x
@@ -68,12 +68,7 @@ module _ (c : CheckedGraph) (steps : List ℕ) (listing : IsListing (links_of c.
 module _ (c : CheckedGraph) (fold : ℕ) (lone : IsLoneFold c fold) (steps : List ℕ) (listing : IsListing (links_behind c fold) c.result steps) where
   pub cut_there : ((i : ℕ) → i < length steps → is_load (links_of c.nodes) (slice_index steps i) ≡ false) → IsTimeCut c fold
   cut_there loads = record {
-    of_run = lone.of_run;
-    reducer = lone.reducer;
-    ignores_nulls = lone.ignores_nulls;
-    folds = lone.folds;
-    whole = lone.whole;
-    only = lone.only;
+    lone = lone;
     through = λ node inside.
         let at = stands_at steps node ((listing.members node).1 inside) in
         subst (λ n. is_load (links_of c.nodes) n ≡ false) at.2 (loads at.0 at.1);
@@ -82,7 +77,7 @@ module _ (c : CheckedGraph) (fold : ℕ) (lone : IsLoneFold c fold) (steps : Lis
   -- it loads something
   pub none_through : (((i : ℕ) → i < length steps → is_load (links_of c.nodes) (slice_index steps i) ≡ false) → ⊥) → HasNoTimeCut c
   none_through loads other cut =
-      let same : fold ≡ other = cut.only fold lone.of_run lone.whole in
+      let same : fold ≡ other = cut.lone.only fold lone.of_run lone.whole in
       let here : IsTimeCut c fold = subst (IsTimeCut c) (sym same) cut in
       loads (λ i below. here.through (slice_index steps i) ((listing.members (slice_index steps i)).0 (Contains-get_or steps i 0 below)))
 

@@ -28,7 +28,7 @@ use Rattle.oe_window.specs.declared.grid.ChunkSize.{ChunkSize}
 use Rattle.oe_slab.specs.Figures.{largest_plane, largest_slab, slab_bound, taken_by, width_before, width_behind}
 
 -- a reduction
-folds_reduce : (operation : Operation) (x : Reducer × Bool) → time_fold operation ≡ Some x
+pub folds_reduce : (operation : Operation) (x : Reducer × Bool) → time_fold operation ≡ Some x
     → (callback : Callback) × (operation ≡ reduce Time callback)
 folds_reduce (keep restriction) x e = absurd cc
 folds_reduce (each_cell callback) x e = absurd cc

@@ -18,8 +18,10 @@ IsOfRun c node = IsInRun (links_of c.nodes) c.result node
 abbrev pub links_behind : CheckedGraph → ℕ → List Node
 links_behind c node = as_load (links_of c.nodes) node
 
--- the node is the time cut of the run
-pub record IsTimeCut (c : CheckedGraph) (fold : ℕ) : Type 0 where
+-- the node alone needs all dates, and reduces them date by date
+pub record IsLoneFold (c : CheckedGraph) (fold : ℕ) : Type 0 where
+  -- (a node of the run is one of the graph)
+  pub within : fold < node_count c.nodes
   pub of_run : IsOfRun c fold
   -- it reduces t date by date
   pub reducer : Reducer
@@ -28,21 +30,13 @@ pub record IsTimeCut (c : CheckedGraph) (fold : ℕ) : Type 0 where
   -- it needs all dates, and no other node of the run does
   pub whole : whole_of_node c fold Time ≡ Some true
   pub only : (node : ℕ) → IsOfRun c node → whole_of_node c node Time ≡ Some true → node ≡ fold
+
+-- the node is the time cut of the run
+pub record IsTimeCut (c : CheckedGraph) (fold : ℕ) : Type 0 where
+  pub lone : IsLoneFold c fold
   -- each path of references from the result to a node that loads goes through it: the part behind it loads nothing else
   pub through : (node : ℕ) → IsInRun (links_behind c fold) c.result node → is_load (links_of c.nodes) node ≡ false
 
 -- the run has no time cut
 abbrev pub HasNoTimeCut : CheckedGraph → Type 0
 HasNoTimeCut c = (fold : ℕ) → ¬ IsTimeCut c fold
-
--- ---- for private functions
-
--- the same but for the last part, which the part behind decides
-pub record IsLoneFold (c : CheckedGraph) (fold : ℕ) : Type 0 where
-  pub within : fold < node_count c.nodes
-  pub of_run : IsOfRun c fold
-  pub reducer : Reducer
-  pub ignores_nulls : Bool
-  pub folds : time_fold_of_node c fold ≡ Some (reducer, ignores_nulls)
-  pub whole : whole_of_node c fold Time ≡ Some true
-  pub only : (node : ℕ) → IsOfRun c node → whole_of_node c node Time ≡ Some true → node ≡ fold

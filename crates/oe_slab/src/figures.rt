@@ -43,7 +43,7 @@ impl From<OutOfMemory> for SlabNumbersFail {
 
 /// How many cells the windows of a run have that is folded slab by slab.
 #[derive(Clone, Copy, Debug, PartialEq, Eq)]
-struct SlabSizes {
+pub(crate) struct SlabSizes {
     /// The most cells of a window without t.
     pub plane: u128,
     /// The most cells of a window of a slab.
@@ -74,7 +74,7 @@ fn slab_of(plane: u128, dates: u32) -> u128
 }
 
 /// How many cells the windows of a run of these steps have.
-fn sizes_of(checked: &Checked, steps: &[u32], size: ChunkSize) -> SlabSizes
+pub(crate) fn sizes_of(checked: &Checked, steps: &[u32], size: ChunkSize) -> SlabSizes
     requires steps { AreStepsOf checked.now steps.now }
     requires sides { AreSlabSides size }
     ensures plane { result.plane ≡ largest_plane checked.now size }

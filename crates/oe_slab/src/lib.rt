@@ -8,9 +8,14 @@
 
 mod cut;
 mod figures;
+mod fold;
+mod laws;
 mod links;
 mod parts;
 mod plan;
+mod workspace;
 
 pub use figures::{SlabNumbers, SlabNumbersFail, slab_figures};
+pub use laws::{cuts_fold_by_date, cuts_part_their_runs};
 pub use plan::{SlabPlan, SlabPlanFail};
+pub use workspace::SlabWorkspace;

@@ -2,12 +2,12 @@
 ghost use Rattle.std.specs.Prelude.{◌≡◌, ◌≤◌, ◌^◌, ℕ, IfOk, IsErrOf};
 ghost use Rattle.oe_plan.specs.Figures as plan;
 ghost use Rattle.oe_slab.specs.Cuts.{HasNoTimeCut};
-ghost use Rattle.oe_slab.specs.Figures.{AreSlabSides, slab_bound};
+ghost use Rattle.oe_slab.specs.Figures.{AreSlabSides, largest_plane, largest_slab, slab_bound, width_before, width_behind};
 ghost use Rattle.oe_slab.specs.Plans.{IsSlabPlan, IsTooLarge};
 ghost use Rattle.oe_slab.specs.declared.plan.SlabPlanFail.{SlabPlanFail};
 
-use crate::cut::time_cut;
-use crate::figures::{bound_at, chunks_of};
+use crate::cut::{TimeCut, time_cut};
+use crate::figures::{SlabSizes, bound_at, chunks_of, sizes_of};
 use oe_memory::OutOfMemory;
 use oe_plan::order_of;
 use oe_shape::Checked;
@@ -40,7 +40,8 @@ impl From<OutOfMemory> for SlabPlanFail {
 pub struct SlabPlan {
     checked: Checked,
     size: ChunkSize,
-    fold: u32,
+    cut: TimeCut,
+    sizes: SlabSizes,
     bound: u128,
     chunks: u64,
 }
@@ -54,10 +55,11 @@ impl Model for SlabPlan {
 
     ghost coded = { Prim.hlevel (codes, nodes_code (Prim.hlevel codes)) };
 
-    ghost view = { λ p. record { graph = p.checked; size = p.size; fold = p.fold } };
+    ghost view = { λ p. record { graph = p.checked; size = p.size; fold = p.cut.fold } };
 
     ghost invariant = { λ p. IsKeptSlabPlan
-        (record { graph = p.checked; size = p.size; fold = p.fold }) p.bound p.chunks };
+        (record { graph = p.checked; size = p.size; fold = p.cut.fold })
+        p.cut p.sizes p.bound p.chunks };
 }
 
 impl SlabPlan {
@@ -81,6 +83,7 @@ impl SlabPlan {
             Some(cut) => cut,
             None => return Err(SlabPlanFail::NoTimeFold),
         };
+        let sizes = sizes_of(&checked, order.steps(), size);
         let bound = bound_at(&checked, order.steps(), size, cut);
         if bound > 67108864 {
             return Err(SlabPlanFail::TooLarge(bound));
@@ -91,7 +94,8 @@ impl SlabPlan {
         Ok(SlabPlan {
             checked,
             size,
-            fold: cut.fold,
+            cut,
+            sizes,
             bound,
             chunks,
         })
@@ -119,5 +123,40 @@ impl SlabPlan {
         ensures valid { IsSlabPlan self.now }
     {
         self.chunks
+    }
+
+    /// How many slabs are kept at once before the cut.
+    pub(crate) fn width_before(&self) -> usize
+        ensures { result ≡ width_before self.now.graph self.now.fold }
+    {
+        self.cut.width_before as usize
+    }
+
+    /// How many planes are kept at once behind the cut.
+    pub(crate) fn width_behind(&self) -> usize
+        ensures { result ≡ width_behind self.now.graph self.now.fold }
+    {
+        self.cut.width_behind as usize
+    }
+
+    /// The most cells of a slab.
+    pub(crate) fn slab(&self) -> usize
+        ensures { result ≡ largest_slab self.now.graph self.now.size }
+    {
+        self.sizes.slab as usize
+    }
+
+    /// The most cells of a plane.
+    pub(crate) fn plane(&self) -> usize
+        ensures { result ≡ largest_plane self.now.graph self.now.size }
+    {
+        self.sizes.plane as usize
+    }
+
+    /// How many cells an evaluation needs besides.
+    pub(crate) fn scratch(&self) -> usize
+        ensures { result ≡ plan.scratch_of self.now.graph }
+    {
+        self.sizes.scratch as usize
     }
 }

@@ -1,0 +1,5 @@
+use Rattle.oe_slab.specs.Workspaces.{AreOfSize, lists_of}
+use Rattle.oe_slab.proofs.workspace.buffers_of.Given as goal
+
+abbrev pub invariant-loop : goal.invariant-loop
+invariant-loop l = AreOfSize (lists_of l.buffers.items) l.counter l.cells
