@@ -2,6 +2,12 @@
 use Rattle.std.specs.Prelude.{◌≡◌, ℕ, ◌/◌, ◌%◌, ◌==◌, ◌&&◌, nat_le, if◌then◌else◌, List, [], ◌∷◌, ◌++◌, ◌⊎◌, codes}
 use Rattle.std.specs.List.{flat_map}
 use Rattle.std.specs.Char.{digit_char}
+use Rattle.oe_mosaic.specs.declared.mosaic.MosaicFail.{MosaicFail}
+use Rattle.oe_mosaic.specs.declared.mosaic.MosaicFail.TheVariants as mosaics
+use Rattle.oe_mosaic.specs.declared.parts.PartFail.{PartFail}
+use Rattle.oe_mosaic.specs.declared.parts.PartFail.TheVariants as parts
+use Rattle.oe_mosaic.specs.declared.text.MosaicTextFail.{MosaicTextFail}
+use Rattle.oe_mosaic.specs.declared.text.MosaicTextFail.TheVariants as texts
 use Rattle.oe_sources.specs.declared.catalogue.MountFail.{MountFail}
 use Rattle.oe_sources.specs.declared.catalogue.MountFail.TheVariants as mount
 use Rattle.oe_sources.specs.declared.file_source.OpenFail.{OpenFail}
@@ -58,3 +64,21 @@ HasMountFault name (mount.OutOfMemory cube) fault = fault ≡ OutOfMemory
 HasMountFault name (mount.IdInvalid cube) fault = IsSetupFault name fault
 HasMountFault name (mount.IdTaken cube) fault = IsSetupFault name fault
 HasMountFault name (mount.Full cube) fault = IsSetupFault name fault
+
+-- the same of a mosaic's file that is not valid
+abbrev pub HasTextFault : List ℕ → MosaicTextFail → Fault → Type 0
+HasTextFault name (texts.Invalid line) fault = IsSetupFault name fault
+HasTextFault name texts.OutOfMemory fault = fault ≡ OutOfMemory
+
+-- of one that names a file which is no part beside those before it
+abbrev pub HasPartFault : {S : Type 0} → List ℕ → PartFail S → Fault → Type 0
+HasPartFault name (parts.KindDiffers part) fault = IsSetupFault name fault
+HasPartFault name (parts.DimensionsDiffer part) fault = IsSetupFault name fault
+HasPartFault name (parts.Full part) fault = IsSetupFault name fault
+HasPartFault name (parts.OutOfMemory part) fault = fault ≡ OutOfMemory
+
+-- and of one whose files are no mosaic
+abbrev pub HasMosaicFault : {S : Type 0} → List ℕ → MosaicFail S → Fault → Type 0
+HasMosaicFault name (mosaics.NoParts handed) fault = IsSetupFault name fault
+HasMosaicFault name (mosaics.TooLarge handed) fault = IsSetupFault name fault
+HasMosaicFault name (mosaics.OutOfMemory handed) fault = fault ≡ OutOfMemory

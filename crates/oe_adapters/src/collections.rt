@@ -1,9 +1,11 @@
-// The cube files of the folder `collections`.
+// The cube files and the mosaics of the folder `collections`.
 ghost use Rattle.std.specs.Prelude.{◌↔◌, ◌⊎◌, IfErr, IsOk, codes};
 ghost use Rattle.oe_adapters.specs.Setup.{HasMountFault, HasOpenFault, IsSetupFault};
 
+use crate::cube_or_mosaic::CubeOrMosaic;
 use crate::fault::Fault;
 use crate::files::FileStore;
+use crate::mosaics::open_mosaic;
 use crate::streams::read_again;
 use oe_dims::Text;
 use oe_outside::Store;
@@ -16,10 +18,17 @@ use std::os::unix::fs::FileExt;
 /// The folder's name, by which a file is named whose own name is not UTF-8.
 const FOLDER: &[u8] = b"collections";
 
-/// The names in the folder that end in `.cube`, in byte order; none where there is no such folder.
+/// How the name of a mosaic's file ends.
+const MOSAIC: &[u8] = b".mosaic";
+
+/// A cube file of the system as a collection.
+pub(crate) type CubeFile<F> = FileSource<FileStore<F>>;
+
+/// The names in the folder that end in `.cube`, in byte order, and behind them those that end in `.mosaic`, in byte
+/// order too; none where there is no such folder.
 ///
 /// Refuses: the set-up fault of the folder where it could not be read; out of memory.
-pub fn cube_files<R: Files>(alloc: Global, files: &R) -> Result<Vec<Vec<u8>>, Fault>
+pub fn collection_files<R: Files>(alloc: Global, files: &R) -> Result<Vec<Vec<u8>>, Fault>
     ensures { IfErr result (IsSetupFault (codes "collections")) }
 {
     let mut folder = match files.open_dir("collections/") {
@@ -31,8 +40,12 @@ pub fn cube_files<R: Files>(alloc: Global, files: &R) -> Result<Vec<Vec<u8>>, Fa
             return Err(Fault::of_error(alloc, &error, FOLDER));
         }
     };
-    let mut names = cube_names(alloc, &read_names(alloc, &mut folder)?)?;
+    let all = read_names(alloc, &mut folder)?;
+    let mut names = names_ending(alloc, &all, b".cube")?;
     names.sort()?;
+    let mut mosaics = names_ending(alloc, &all, MOSAIC)?;
+    mosaics.sort()?;
+    names.append(&mut mosaics)?;
     Ok(names)
 }
 
@@ -55,8 +68,8 @@ fn read_names<D: Read>(alloc: Global, folder: &mut D) -> Result<Vec<u8>, Fault>
     Err(Fault::setup(alloc, FOLDER))
 }
 
-/// Those of the names that end in `.cube`.
-fn cube_names(alloc: Global, names: &[u8]) -> Result<Vec<Vec<u8>>, Fault>
+/// Those of the names that have this ending.
+fn names_ending(alloc: Global, names: &[u8], ending: &[u8]) -> Result<Vec<Vec<u8>>, Fault>
     ensures { IfErr result (IsSetupFault (codes "collections")) }
 {
     let mut found = Vec::new(alloc);
@@ -64,7 +77,7 @@ fn cube_names(alloc: Global, names: &[u8]) -> Result<Vec<Vec<u8>>, Fault>
     for end in 0..names.len() {
         if names[end] == 0 {
             let name = &names[start..end];
-            if name.ends_with(b".cube") {
+            if name.ends_with(ending) {
                 push(&mut found, Vec::from_slice(alloc, name)?)?;
             }
             start = end + 1;
@@ -82,16 +95,18 @@ fn push(names: &mut Vec<Vec<u8>>, name: Vec<u8>) -> Result<(), Fault>
     }
 }
 
-/// The id that a cube file of the folder has, and the file as a collection. Only a plain file is opened: opening a pipe
-/// would wait for what is never written.
+/// The id that a file of the folder gives, and what it has as a collection: a mosaic of the cube files that it names
+/// where its name ends in `.mosaic`, and else the cube that it is. Only a plain file is opened: opening a pipe would wait
+/// for what is never written.
 ///
-/// Refuses: the set-up fault of the file where it is no plain file, could not be opened or is no cube file, and that of
-/// the folder where its name is not UTF-8; out of memory.
+/// Refuses: the set-up fault of the file where it, or a file that it names, is no plain file, could not be opened or is
+/// not valid, or where the files that it names are no mosaic; that of the folder where its name is not UTF-8; out of
+/// memory.
 pub fn open_collection<R: Files>(
     alloc: Global,
     files: &R,
     name: &[u8],
-) -> Result<(Text, FileSource<FileStore<R::File>>), Fault>
+) -> Result<(Text, CubeOrMosaic<FileSource<FileStore<R::File>>>), Fault>
 where
     R::File: FileExt,
     ensures { IfErr result (λ fault. IsSetupFault name.now fault
@@ -100,11 +115,35 @@ where
     let Ok(text) = std::str::from_utf8(name) else {
         return Err(Fault::setup(alloc, FOLDER));
     };
-    let path = format!(in alloc; "collections/{text}")?;
+    let file = open_in_folder(alloc, files, text, name)?;
+    if name.ends_with(MOSAIC) {
+        let (id, mosaic) = open_mosaic(alloc, files, file, name)?;
+        return Ok((id, CubeOrMosaic::Mosaic(mosaic)));
+    }
+    let cube = open_cube(alloc, file, name)?;
+    Ok((
+        Text::of(alloc, cube.id().as_str())?,
+        CubeOrMosaic::Cube(cube),
+    ))
+}
+
+/// A plain file of the folder, opened to be read.
+///
+/// Refuses: the set-up fault of the name that is to be said, where it is no plain file or could not be opened; out of
+/// memory.
+pub(crate) fn open_in_folder<R: Files>(
+    alloc: Global,
+    files: &R,
+    name: &str,
+    said: &[u8],
+) -> Result<R::File, Fault>
+    ensures { IfErr result (IsSetupFault said.now) }
+{
+    let path = format!(in alloc; "collections/{name}")?;
     match open_plain(files, path.as_str()) {
-        Ok(Some(file)) => open_cube(alloc, file, name),
-        Ok(None) => Err(Fault::setup(alloc, name)),
-        Err(error) => Err(Fault::of_error(alloc, &error, name)),
+        Ok(Some(file)) => Ok(file),
+        Ok(None) => Err(Fault::setup(alloc, said)),
+        Err(error) => Err(Fault::of_error(alloc, &error, said)),
     }
 }
 
@@ -117,17 +156,19 @@ fn open_plain<R: Files>(files: &R, path: &str) -> IoResult<Option<R::File>> {
     }
 }
 
-/// The id that an opened cube file has, and the file as a collection.
-fn open_cube<F: FileExt + Seek + Drop>(
+/// An opened cube file as a collection.
+///
+/// Refuses: the set-up fault of the name that is to be said, where it is no cube file or could not be read; out of memory.
+pub(crate) fn open_cube<F: FileExt + Seek + Drop>(
     alloc: Global,
     file: F,
-    name: &[u8],
-) -> Result<(Text, FileSource<FileStore<F>>), Fault>
-    ensures { IfErr result (IsSetupFault name.now) }
+    said: &[u8],
+) -> Result<CubeFile<F>, Fault>
+    ensures { IfErr result (IsSetupFault said.now) }
 {
     match FileSource::open(alloc, FileStore::new(file)) {
-        Ok(source) => Ok((Text::of(alloc, source.id().as_str())?, source)),
-        Err(fail) => Err(open_fault(alloc, name, &fail)),
+        Ok(source) => Ok(source),
+        Err(fail) => Err(open_fault(alloc, said, &fail)),
     }
 }
 

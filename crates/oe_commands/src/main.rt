@@ -6,8 +6,8 @@
 #![tactic(auto)]
 
 use oe_adapters::{
-    Fault, ProgressGate, Reader, Writer, cube_files, hold_standard, mount_outcome, open_collection,
-    open_spool, words_of,
+    Fault, ProgressGate, Reader, Writer, collection_files, hold_standard, mount_outcome,
+    open_collection, open_spool, words_of,
 };
 use oe_dims::Text;
 use oe_outside::Sink;
@@ -59,7 +59,7 @@ fn main(rt: HostRuntime) -> ExitCode {
     ExitCode::from(status)
 }
 
-/// What a command starts from: its words, the names of the cube files to mount, and three files that stand in for
+/// What a command starts from: its words, the names of the files to mount, and three files that stand in for
 /// standard streams that are closed.
 struct Start<F: Drop> {
     words: Vec<Text>,
@@ -78,7 +78,7 @@ impl<F: Drop> Drop for Start<F> {
     }
 }
 
-/// Looks for what a command works on. Refuses: as the words were; as [`hold_standard`] and [`cube_files`] do.
+/// Looks for what a command works on. Refuses: as the words were; as [`hold_standard`] and [`collection_files`] do.
 fn set_up<R: Files>(
     alloc: Global,
     files: &R,
@@ -88,7 +88,7 @@ fn set_up<R: Files>(
     let standard = hold_standard(alloc, files)?;
     Ok(Start {
         words,
-        names: cube_files(alloc, files)?,
+        names: collection_files(alloc, files)?,
         _standard: standard,
     })
 }

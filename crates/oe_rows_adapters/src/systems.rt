@@ -2,7 +2,9 @@
 use crate::fake_files::FakeFiles;
 use crate::fault::Fault;
 use crate::spelling::{end_line, spell_bytes, spell_fault, spell_word};
-use oe_adapters::{Fault as ProgramFault, cube_files, hold_standard, open_collection, open_spool};
+use oe_adapters::{
+    Fault as ProgramFault, collection_files, hold_standard, open_collection, open_spool,
+};
 use std::alloc::Global;
 
 pub(crate) fn answer_names(
@@ -11,7 +13,7 @@ pub(crate) fn answer_names(
     answers: &mut Vec<u8>,
 ) -> Result<(), Fault> {
     let files = FakeFiles::new(alloc, system);
-    match cube_files(alloc, &files) {
+    match collection_files(alloc, &files) {
         Ok(names) => {
             spell_word("ok", answers)?;
             for index in 0..names.len() {

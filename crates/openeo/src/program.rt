@@ -4,13 +4,13 @@ ghost use Rattle.oe_top.specs.Lines.{error_output};
 ghost use Rattle.openeo.specs.Ends.{AsksForText, EndsByFault};
 
 use crate::help::text_of;
-use oe_adapters::{Fault, cube_files, hold_standard};
+use oe_adapters::{Fault, collection_files, hold_standard};
 use oe_dims::Text;
 use oe_outside::Sink;
 use std::alloc::Global;
 use std::fs::Files;
 
-/// What a command starts from: its words, the names of the cube files to mount, and three files that stand in for
+/// What a command starts from: its words, the names of the files to mount, and three files that stand in for
 /// standard streams that are closed.
 #[derive(Drop)]
 pub struct Start<F> {
@@ -21,7 +21,7 @@ pub struct Start<F> {
 
 /// Prints the text that the words ask for, and answers `None`; else looks for what a command works on.
 ///
-/// Refuses: as the words were; as [`hold_standard`] and [`cube_files`] do; `Write` only where the output failed.
+/// Refuses: as the words were; as [`hold_standard`] and [`collection_files`] do; `Write` only where the output failed.
 pub fn set_up<R: Files, O: Sink>(
     alloc: Global,
     files: &R,
@@ -37,7 +37,7 @@ pub fn set_up<R: Files, O: Sink>(
         return Ok(None);
     }
     let standard = hold_standard(alloc, files)?;
-    let names = cube_files(alloc, files)?;
+    let names = collection_files(alloc, files)?;
     Ok(Some(Start {
         words,
         names,

@@ -1,0 +1,40 @@
+// What a file of the folder `collections` is mounted as.
+use oe_cell::Cell;
+use oe_dims::{CellKind, Shape};
+use oe_mosaic::Mosaic;
+use oe_sources::{CubeSource, SourceFail};
+use oe_window::Window;
+
+/// One collection, or a mosaic of several.
+#[derive(Drop)]
+pub enum CubeOrMosaic<S: CubeSource> {
+    Cube(S),
+    Mosaic(Mosaic<S>),
+}
+
+impl<S: CubeSource> CubeSource for CubeOrMosaic<S> {
+    ghost use Rattle.oe_adapters.specs.Mounted.{source_of};
+
+    ghost seen = { λ c. source_of S.seen c };
+
+    fn shape(&self) -> &Shape {
+        match self {
+            CubeOrMosaic::Cube(cube) => cube.shape(),
+            CubeOrMosaic::Mosaic(mosaic) => mosaic.shape(),
+        }
+    }
+
+    fn kind(&self) -> CellKind {
+        match self {
+            CubeOrMosaic::Cube(cube) => cube.kind(),
+            CubeOrMosaic::Mosaic(mosaic) => mosaic.kind(),
+        }
+    }
+
+    fn read(&mut self, window: &Window, into: &mut [Cell]) -> Result<(), SourceFail> {
+        match self {
+            CubeOrMosaic::Cube(cube) => cube.read(window, into),
+            CubeOrMosaic::Mosaic(mosaic) => mosaic.read(window, into),
+        }
+    }
+}
