@@ -12,6 +12,9 @@ use std::io::{Error, ErrorKind, Read, Result as IoResult};
 const CUBE: &[u8] =
     b"OEOCUBE2\0\0\0\x38{\"id\":\"A\",\"cells\":\"number\",\"widths\":[1],\"dimensions\":[]}\0";
 
+/// The file of a mosaic `M` of the files `a` and `b`.
+const MOSAIC: &[u8] = b"M\na\nb\n";
+
 /// The calls that are expected, and how many there have been.
 #[derive(Drop)]
 pub(crate) struct FakeFiles<'a> {
@@ -70,14 +73,24 @@ fn file_of(alloc: Global, answer: &str) -> IoResult<FakeFile> {
     let bytes: &[u8] = match answer {
         "cube" | "failing" => CUBE,
         "cut" => &CUBE[1..],
+        "mosaic" | "unreadable" => MOSAIC,
         _ => b"",
     };
     let mut failing = Vec::new(alloc);
-    if answer == "failing" && failing.push((1, ErrorKind::BrokenPipe)).is_err() {
-        return Err(Error::from(ErrorKind::OutOfMemory));
+    if let Some(call) = failing_call(answer) {
+        failing.push((call, ErrorKind::BrokenPipe))?;
     }
     let bytes = Vec::from_slice(alloc, bytes)?;
     Ok(FakeFile::new(bytes, Script::new(failing)))
+}
+
+/// The number of the call that fails, of a file that an answer names.
+fn failing_call(answer: &str) -> Option<u64> {
+    match answer {
+        "failing" => Some(1),
+        "unreadable" => Some(0),
+        _ => None,
+    }
 }
 
 /// The word of a way to open a file.

@@ -11,8 +11,8 @@
 //! | `reader CALLS` | `read N`, from a stream of the letter `a` |
 //! | `writer ROOM CALLS` | `write BYTES`, to a stream with ROOM; flushing it is a call too |
 //! | `store BYTES CALLS` | `read AT N`, `write AT BYTES`, `length`, of a file |
-//! | `names SYSTEM` | the cube files of the folder |
-//! | `open NAME SYSTEM` | a cube file as a collection |
+//! | `names SYSTEM` | the cube files and the mosaics of the folder |
+//! | `open NAME SYSTEM` | a cube file or a mosaic as a collection |
 //! | `spool SYSTEM` | the file of a run's records |
 //! | `standard SYSTEM` | the files that stand in for closed standard streams |
 //!
@@ -25,8 +25,10 @@
 //! (to read), `create` (to read and write, where there is no file), `write` (in any other way), `remove` or `list`. An
 //! ANSWER is `!KIND`; of `about` `file`, `folder` or `link`; of `open` and `create` `cube`, which is the file of a
 //! single null under the id `A`, `cut`, which is the same without its first byte, `failing`, which is the same with a
-//! second call that fails, or `empty`; of `list` the names that each read gives, with commas between the reads and `+`
-//! between the names, where `?` stands for the byte 255. NAME is a name, and `?.cube` the byte 255 before `.cube`.
+//! second call that fails, `mosaic`, which is the file of a mosaic `M` of the files `a` and `b`, `unreadable`, which is
+//! the same with a first call that fails, or `empty`; of `list` the names that each read gives, with commas between the
+//! reads and `+` between the names, where `?` stands for the byte 255. NAME is a name, and `?.cube` the byte 255 before
+//! `.cube`.
 //!
 //! An answer is `ok` or `Failed` with the bytes of the buffer of a read, which is full of `-` before, and behind a bar
 //! what the stream took, and how many calls failed; of a SYSTEM `ok`, what was found and behind a bar how many calls
