@@ -31,9 +31,11 @@ W           the number of workers, from 1 to 64; neither these nor the sides hav
 SEED, SIDE  what a generated collection is made from, from 0 to 1000000000, and its pixels a side, from 1 to 1024
 ID          the id of a collection: 1 to 64 letters, digits, '_', '-' and '.'
 
-Collections are the files collections/*.cube below the working directory, 64 at most; each is loaded by the id that
-stands in the file. A run keeps its cells in a file of its own, which is made beside that folder as openeo.spool and has
-no name from then on.
+Collections are the files collections/*.cube below the working directory, each by the id that stands in the file, and
+behind them the mosaics collections/*.mosaic; there are 64 at most. The lines of a mosaic's file are an id and 1 to 16
+names of cube files of that folder, of which together it makes one collection: it has all their labels, and where they
+overlap the cells of the earlier file. A run keeps its cells in a file of its own, which is made beside that folder as
+openeo.spool and has no name from then on.
 
 Exit status, and the line on standard error:
   0   the whole text was written
@@ -59,7 +61,7 @@ Exit status, and the line on standard error:
 const RUN: &str = "\
 openeo run CX CY CT W < GRAPH
 
-Reads a process graph from standard input, evaluates it over the files collections/*.cube and writes its result text.
+Reads a process graph from standard input, evaluates it over the files of collections and writes its result text.
 CX, CY and CT are the sides of a chunk along x, y and t, from 1 to 4096, and W is the number of workers, from 1 to 64.
 None of the four has an effect on the text. All four cost memory: a run holds 2 W chunks at once, with the pixels around
 them that kernels need; 'openeo plan' with the same words says how many cells, of 24 bytes each. Small sides cost time,
@@ -151,7 +153,8 @@ one step of a job; after so many turns the server ends.
 
 What it works on lies in the working directory:
 
-  collections/*.cube  the collections
+  collections/*.cube, collections/*.mosaic
+                      the collections
   tokens.txt          the users: lines of a name, one blank and a token, 8 at most. Without this file there are none. A
                       request of theirs has the field 'Authorization: Bearer basic//TOKEN'
   openeo.db           jobs, their results, and stored processes. It is made where it is missing; one server has it
