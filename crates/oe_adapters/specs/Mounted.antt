@@ -5,6 +5,6 @@ use Rattle.oe_mosaic.specs.MosaicStates as mosaics
 use Rattle.oe_sources.specs.Source.{Source}
 
 -- the source of a cube is its own, and that of a mosaic the one that its parts make; `seen` is what contracts see of a cube
-abbrev pub source_of : {S : Type 0} → (S → Source) → CubeOrMosaic S → Source
-source_of seen (Cube cube) = seen cube
-source_of seen (Mosaic mosaic) = mosaics.source_of seen mosaic
+abbrev pub mounted_source : {S : Type 0} → (S → Source) → CubeOrMosaic S → Source
+mounted_source seen (Cube cube) = seen cube
+mounted_source seen (Mosaic mosaic) = mosaics.source_of seen mosaic

@@ -65,6 +65,8 @@ HasMountFault name (mount.IdInvalid cube) fault = IsSetupFault name fault
 HasMountFault name (mount.IdTaken cube) fault = IsSetupFault name fault
 HasMountFault name (mount.Full cube) fault = IsSetupFault name fault
 
+-- ---- for private functions
+
 -- the same of a mosaic's file that is not valid
 abbrev pub HasTextFault : List ℕ → MosaicTextFail → Fault → Type 0
 HasTextFault name (texts.Invalid line) fault = IsSetupFault name fault
@@ -77,7 +79,7 @@ HasPartFault name (parts.DimensionsDiffer part) fault = IsSetupFault name fault
 HasPartFault name (parts.Full part) fault = IsSetupFault name fault
 HasPartFault name (parts.OutOfMemory part) fault = fault ≡ OutOfMemory
 
--- and of one whose files are no mosaic
+-- and of one whose files are no mosaic; one file at least is named, so that there is a part
 abbrev pub HasMosaicFault : {S : Type 0} → List ℕ → MosaicFail S → Fault → Type 0
 HasMosaicFault name (mosaics.NoParts handed) fault = IsSetupFault name fault
 HasMosaicFault name (mosaics.TooLarge handed) fault = IsSetupFault name fault

@@ -13,9 +13,9 @@ pub enum CubeOrMosaic<S: CubeSource> {
 }
 
 impl<S: CubeSource> CubeSource for CubeOrMosaic<S> {
-    ghost use Rattle.oe_adapters.specs.Mounted.{source_of};
+    ghost use Rattle.oe_adapters.specs.Mounted.{mounted_source};
 
-    ghost seen = { λ c. source_of S.seen c };
+    ghost seen = { λ c. mounted_source S.seen c };
 
     fn shape(&self) -> &Shape {
         match self {

@@ -2,8 +2,8 @@
 //!
 //! `main` makes a text of each word and prints a text about the program where they ask for one. Else it sets up what a
 //! command works on, the cube files and mosaics of the folder `collections`, the users of `tokens.txt` and a file for the
-//! cells of runs, and calls `oe_serve` where the words are those of a server, `oe_dial` where they are those of a client, and
-//! else `oe_top`, whose answer is the exit status. Only a server opens the database. The boxed collections are made in
+//! cells of runs, and calls `oe_serve` where the words are those of a server, `oe_dial` where they are those of a client,
+//! and else `oe_top`, whose answer is the exit status. Only a server opens the database. The boxed collections are made in
 //! `main` itself; all else runs over traits, so that it can be made to fail. The bytes that pass the adapters and the
 //! database are hidden, so over them the causes by fault counters hold; what the calls write is their own contract.
 #![tactic(auto)]
