@@ -365,6 +365,18 @@ apart_lies d own window s h is p in_ =
       ]
     ])
 
+-- the same where the rows alone are known
+pub apart_along_y : (d own : Dimensions) (window : Window) (a : Along) → LiesAlong same_number d.y own.y window.y a → is_apart a ≡ true → HasNoTupleOf d own window
+unfolding steps
+apart_along_y d own window a h is p in_ =
+    let tuple = tuple_of d p in
+    let t = index_along same_number own.t tuple.t in
+    let b = index_along same_name own.bands tuple.band in
+    let x = index_along same_number own.x tuple.x in
+    row_major_steps own tuple
+    ∙ ap (λ (o : Option ℕ). steps t b o x (extent own.bands) (extent own.y) (extent own.x)) (no_label same_number d.y own.y window.y a h is p.y in_.y)
+    ∙ no_y t b x (extent own.bands) (extent own.y) (extent own.x)
+
 -- ---- a span that lies across has several indices
 
 several : {L : Type 0} (same : L → L → Bool) (labels own : Option (List L)) (span : Span) (a : Along) → LiesAlong same labels own span a → is_across a ≡ true → 1 < span_length span

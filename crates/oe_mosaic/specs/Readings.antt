@@ -36,7 +36,7 @@ abbrev pub Finds : List Part → Dimensions → Window → Found → Type 0
 Finds parts d window found.Nowhere = AreApart parts d window (length parts)
 Finds parts d window (found.In place box) =
     (place < length parts) × AreApart parts d window place × IsFoundIn parts d window place box
-Finds parts d window found.Across = 4 < side_sum window
+Finds parts d window (found.Across seam) = 4 < side_sum window
 
 -- these are the cells of a window of a mosaic
 pub record IsRead (parts : List Part) (d : Dimensions) (window : Window) (cells : List Cell) : Type 0 where
@@ -61,7 +61,7 @@ IsAnswer parts d window cells before after (Err (fail.Damaged number)) = IsDamag
 -- the same of a try, which leaves what is to be read in two halves
 abbrev pub IsTried : List Part → Dimensions → Window → List Cell → ℕ → ℕ → Tried → Type 0
 IsTried parts d window cells before after (tried.Done result) = IsAnswer parts d window cells before after result
-IsTried parts d window cells before after tried.Cut = 4 < side_sum window
+IsTried parts d window cells before after (tried.Cut seam) = 4 < side_sum window
 
 -- reading changes the counters of the parts alone
 pub record OnlyReads {S : Type 0} (seen : S → Source) (before after : List S) : Type 0 where

@@ -14,6 +14,7 @@ mod mosaic;
 mod parts;
 mod place;
 mod reading;
+mod seam;
 mod text;
 
 pub use laws::mosaics_have_all_labels;

@@ -6,7 +6,7 @@ ghost use Rattle.oe_dims.specs.Indices.{is_inside, same_number};
 ghost use Rattle.oe_dims.specs.Names.{same_name};
 ghost use Rattle.oe_dims.specs.Rules.{IsInOrder};
 ghost use Rattle.oe_mosaic.specs.Labels.{numbers_along};
-ghost use Rattle.oe_mosaic.specs.Places.{IsOfNumbers, LieAlong, LieAmong, LiesAlong, LiesIn, first_index, has_across, has_apart, is_across, is_apart, span_in_part};
+ghost use Rattle.oe_mosaic.specs.Places.{HasNoTupleOf, IsOfNumbers, LieAlong, LieAmong, LiesAlong, LiesIn, first_index, has_across, has_apart, is_across, is_apart, span_in_part};
 ghost use Rattle.oe_window.specs.Windows.{Holds, IsEmpty, span_length, whole_window};
 
 use oe_dims::{Kind, Shape, Text};
@@ -247,6 +247,16 @@ fn span_in_part(along: Along, span: Span) -> Span
     }
 }
 
+/// The part has none of the rows of a window. This is looked at first: most tiles of a mosaic lie beside a window.
+#[tactic(auto, using(crate::proofs::PlaceLemmas::apart_along_y))]
+fn is_beside(shape: &Shape, part: &Shape, window: &Window) -> bool
+    requires inside { Holds (whole_window shape.now) window.now }
+    requires filled { ¬ IsEmpty window.now }
+    ensures { result ≡ true → HasNoTupleOf shape.now part.now window.now }
+{
+    is_apart(numbers_along(shape, part, Kind::Y, window.y))
+}
+
 /// How a window of a cube lies in a part.
 #[tactic(auto, using(crate::proofs::PlaceLemmas::across_lies, crate::proofs::PlaceLemmas::box_lies))]
 pub fn place_of(shape: &Shape, part: &Shape, window: &Window) -> Place
@@ -254,6 +264,9 @@ pub fn place_of(shape: &Shape, part: &Shape, window: &Window) -> Place
     requires filled { ¬ IsEmpty window.now }
     ensures { LiesIn shape.now part.now window.now result }
 {
+    if is_beside(shape, part, window) {
+        return Place::Apart;
+    }
     let sides = sides_of(shape, part, window);
     if has_apart(sides) {
         return Place::Apart;

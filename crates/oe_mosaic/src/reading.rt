@@ -10,6 +10,7 @@ ghost use Rattle.oe_window.specs.Windows.{Holds, IsEmpty, extent_along, position
 
 use crate::halves::{halves, is_single};
 use crate::place::{Place, place_of};
+use crate::seam::seam;
 use oe_cell::Cell;
 use oe_dims::{Kind, Shape};
 use oe_sources::{CubeSource, SourceFail};
@@ -22,8 +23,8 @@ pub enum Found {
     Nowhere,
     /// The part of this place has all of them in a box, and none before it has any.
     In(usize, Window),
-    /// Not one part alone.
-    Across,
+    /// Not one part alone. To be cut behind so many indices of the outermost dimension with several, or in the middle.
+    Across(usize),
 }
 
 /// What came of reading a window at once.
@@ -31,8 +32,9 @@ pub enum Found {
 pub enum Tried {
     /// This is the answer.
     Done(Result<(), SourceFail>),
-    /// It is to be read in two halves.
-    Cut,
+    /// It is to be read in two halves, cut behind so many indices of the outermost dimension with several, or in the
+    /// middle.
+    Cut(usize),
 }
 
 /// The part that decides about the tuples of a window, if it is one.
@@ -46,7 +48,7 @@ fn find<S: CubeSource>(items: &[S], shape: &Shape, window: &Window) -> Found
         match place_of(shape, items[index].shape(), window) {
             Place::Apart => {}
             Place::Box(part) => return Found::In(index, part),
-            Place::Across => return Found::Across,
+            Place::Across => return Found::Across(seam(shape, items[index].shape(), window)),
         }
     }
     Found::Nowhere
@@ -124,7 +126,7 @@ fn try_window<S: CubeSource>(
             fill_null(into);
             Tried::Done(Ok(()))
         }
-        Found::Across => Tried::Cut,
+        Found::Across(seam) => Tried::Cut(seam),
         Found::In(index, part) => match items[index].read(&part, into) {
             Ok(()) => Tried::Done(Ok(())),
             Err(SourceFail::Failed) => Tried::Done(Err(SourceFail::Failed)),
@@ -132,7 +134,7 @@ fn try_window<S: CubeSource>(
                 if is_single(window) {
                     Tried::Done(Err(SourceFail::Damaged(first_number(shape, window))))
                 } else {
-                    Tried::Cut
+                    Tried::Cut(0)
                 }
             }
         },
@@ -157,9 +159,9 @@ fn read_window<S: CubeSource>(
 {
     match try_window(items, shape, window, into) {
         Tried::Done(result) => result,
-        Tried::Cut => {
+        Tried::Cut(seam) => {
             let _epsg = shape.epsg();
-            let (front, back) = halves(window);
+            let (front, back) = halves(window, seam);
             let (first, second) = into.split_at_mut(size(&front) as usize);
             match read_window(items, shape, &front, first) {
                 Ok(()) => read_window(items, shape, &back, second),
