@@ -132,7 +132,7 @@ class Program(InFolder):
 
 class Tables(InFolder):
     def test_exact_tables_come_back(self):
-        for name in sorted(os.listdir(COLLECTIONS)):
+        for name in sorted(name for name in os.listdir(COLLECTIONS) if name.endswith(".cube")):
             table = self.cubes("to-csv", "--exact", f"{COLLECTIONS}/{name}")
             # A table has no EPSG code: the one of the text is given again.
             code = "4326" if name == "ONE.cube" else "32633"
