@@ -63,7 +63,11 @@ fn push_text_of(job: &Job, asset: usize, answers: &mut Answers) {
     }
 }
 
-fn push_response(response: &Response, answers: &mut Answers) {
+/// Appends a status, a location and an identifier, `-` for none, and a body.
+pub(crate) fn push_response(response: &Response, answers: &mut Answers) {
+    if response.json == response.body.is_empty() {
+        push("mistyped ", answers);
+    }
     push_number("", response.status, answers);
     push(" ", answers);
     push_field(&response.location, answers);

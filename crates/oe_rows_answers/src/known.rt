@@ -52,6 +52,12 @@ pub(crate) fn set_tokens(alloc: Global, text: &str, known: &mut Known) -> Result
     Ok(())
 }
 
+/// Sets where the service stands.
+pub(crate) fn set_base(alloc: Global, text: &str, known: &mut Known) -> Result<(), Fault> {
+    known.site.base = Text::of(alloc, text)?;
+    Ok(())
+}
+
 /// Sets the moment.
 pub(crate) fn set_now(text: &str, known: &mut Known) -> Result<(), Fault> {
     known.now = number_of(text)?;

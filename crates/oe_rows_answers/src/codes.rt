@@ -1,6 +1,6 @@
-// All codes.
-use crate::fault::Fault;
+// The codes of refusals.
 use oe_graph::Code;
+use oe_lines::Fault;
 use oe_replies::ReplyCode;
 
 /// The codes that are none of a graph's.
@@ -42,30 +42,20 @@ pub(crate) static CODES: [ReplyCode; 34] = [
 ];
 
 /// Some codes of graphs, one a phase and that of a collection.
-static GRAPH_CODES: [Code; 6] = [
-    Code::InputTooLong,
-    Code::ResultNodeCount,
-    Code::ProcessRecursive,
-    Code::GraphTooLarge,
-    Code::GraphCycle,
-    Code::CollectionNotFound,
+pub(crate) static GRAPH_CODES: [ReplyCode; 6] = [
+    ReplyCode::Graph(Code::InputTooLong),
+    ReplyCode::Graph(Code::ResultNodeCount),
+    ReplyCode::Graph(Code::ProcessRecursive),
+    ReplyCode::Graph(Code::GraphTooLarge),
+    ReplyCode::Graph(Code::GraphCycle),
+    ReplyCode::Graph(Code::CollectionNotFound),
 ];
 
-/// The code of a word that is none of a graph's.
-pub(crate) fn plain_code(word: &str) -> Result<ReplyCode, Fault> {
-    for code in CODES {
+/// The one of these codes that a word spells.
+pub(crate) fn code_among(codes: &[ReplyCode], word: &str) -> Result<ReplyCode, Fault> {
+    for code in codes {
         if code.as_str() == word {
-            return Ok(code);
-        }
-    }
-    Err(Fault::Line)
-}
-
-/// The code of a graph of a word.
-pub(crate) fn graph_code(word: &str) -> Result<Code, Fault> {
-    for code in GRAPH_CODES {
-        if code.as_str() == word {
-            return Ok(code);
+            return Ok(*code);
         }
     }
     Err(Fault::Line)
