@@ -6,13 +6,13 @@ use oe_jobs::Book;
 use oe_keeper::MemoryKeeper;
 use oe_lines::{Answers, Fault, first_word, number_of, numbers_of};
 use oe_routes::{Site, Tokens};
-use oe_sources::{Catalogue, MountFail};
+use oe_sources::{Catalogue, CubeSource, MountFail};
 use std::alloc::Global;
 use std::thread::Threads;
 
 /// What the lines so far have set: the moment, which calls of the next life fail, the call in which its keeper stops and
-/// whether it keeps what that call commits, and the lines of its connections; and a keeper of the book that the last life
-/// left.
+/// whether it keeps what that call commits, whether the chunks of its runs are told, and the lines of its connections; and
+/// a keeper of the book that the last life left.
 #[derive(Drop)]
 pub(crate) struct Known {
     pub(crate) site: Site,
@@ -22,6 +22,7 @@ pub(crate) struct Known {
     pub(crate) keeper_calls: Vec<u64>,
     pub(crate) stop: Option<(u64, bool)>,
     pub(crate) door_calls: Vec<u64>,
+    pub(crate) tells_chunks: bool,
     pub(crate) links: String,
     pub(crate) keeper: MemoryKeeper,
 }
@@ -33,36 +34,30 @@ pub(crate) fn answer_script<R: Threads + Sync>(
     lines: &[&str],
     answers: &mut Answers,
 ) -> Result<(), Fault> {
-    // The boxes of collections stay in this function, which drops them.
-    let mut catalogue = Catalogue::new(alloc);
-    for line in lines {
-        let (verb, rest) = first_word(line);
-        let (id, rest) = first_word(rest);
-        if verb == "cube" {
-            mounted(catalogue.mount(id, Box::new(alloc, cube_of(alloc, rest)?)?))?;
-        }
-        if verb == "file" {
-            mounted(catalogue.mount(id, Box::new(alloc, file_of(alloc, rest)?)?))?;
-        }
-    }
-    answer_lines(rt, alloc, &mut catalogue, lines, answers)
+    let mut known = nothing(alloc)?;
+    answer_lines(rt, alloc, lines, &mut known, answers)
 }
 
-/// Appends the answers of the lines of a script over a catalogue.
+// Boxes for collections are made, taken out and dropped here, where their catalogue is: a function that is lent a catalogue
+// and takes a box out may hand it on.
+/// Appends the answers of lines that begin with an empty catalogue.
 fn answer_lines<R: Threads + Sync>(
     rt: &R,
     alloc: Global,
-    catalogue: &mut Catalogue,
     lines: &[&str],
+    known: &mut Known,
     answers: &mut Answers,
 ) -> Result<(), Fault> {
-    let mut known = nothing(alloc)?;
+    let mut catalogue = Catalogue::new(alloc);
     for line in lines {
         let (verb, rest) = first_word(line);
-        if verb == "serve" {
-            live(rt, alloc, rest, &mut known, catalogue, answers)?;
-        } else {
-            set(alloc, line, &mut known)?;
+        let (id, text) = first_word(rest);
+        match verb {
+            "cube" => mounted(catalogue.mount(id, Box::new(alloc, cube_of(alloc, text)?)?))?,
+            "file" => mounted(catalogue.mount(id, Box::new(alloc, file_of(alloc, text)?)?))?,
+            "gone" => taken_out(catalogue.detach(id))?,
+            "serve" => live(rt, alloc, rest, known, &mut catalogue, answers)?,
+            _ => set(alloc, line, known)?,
         }
     }
     Ok(())
@@ -72,6 +67,14 @@ fn mounted(outcome: Result<(), MountFail>) -> Result<(), Fault> {
     match outcome {
         Ok(()) => Ok(()),
         Err(_) => Err(Fault::Line),
+    }
+}
+
+/// Where a collection was taken out, it is dropped here.
+fn taken_out(outcome: Option<Box<dyn CubeSource>>) -> Result<(), Fault> {
+    match outcome {
+        Some(_) => Ok(()),
+        None => Err(Fault::Line),
     }
 }
 
@@ -85,6 +88,7 @@ fn nothing(alloc: Global) -> Result<Known, Fault> {
         keeper_calls: Vec::new(alloc),
         stop: None,
         door_calls: Vec::new(alloc),
+        tells_chunks: false,
         links: String::new(alloc),
         keeper: MemoryKeeper::new(Book::empty(alloc), Vec::new(alloc), None),
     })
@@ -105,7 +109,6 @@ fn set(alloc: Global, line: &str, known: &mut Known) -> Result<(), Fault> {
     let (verb, rest) = first_word(line);
     let (first, behind) = first_word(rest);
     match verb {
-        "cube" | "file" => {}
         "now" => known.now = number_of(first)?,
         "spool" => {
             known.room = number_of(first)?;
@@ -116,6 +119,7 @@ fn set(alloc: Global, line: &str, known: &mut Known) -> Result<(), Fault> {
             known.stop = stop_of(behind)?;
         }
         "door" => known.door_calls = numbers_of(alloc, first)?,
+        "gate" => known.tells_chunks = true,
         _ => push_line(line, &mut known.links)?,
     }
     Ok(())

@@ -2,13 +2,14 @@
 ghost use Rattle.std.specs.Prelude.{◌≤◌, IfOk};
 ghost use Rattle.oe_plan.specs.Ranges.{IsWithinRanges};
 
+use crate::gate::CountGate;
 use crate::known::Known;
 use crate::links::door_of;
-use crate::spell::{ending_word, spell_faults, spell_jobs, spell_links};
+use crate::spell::{ending_word, spell_count, spell_jobs, spell_links};
 use oe_jobs::Book;
 use oe_keeper::MemoryKeeper;
 use oe_lines::{Answers, Fault, end_line, number_of, push, words_of};
-use oe_outside::{FixedClock, MemoryStore, NoGate, ScriptDoor};
+use oe_outside::{FixedClock, MemoryStore, ScriptDoor};
 use oe_routes::Site;
 use oe_serve::{ServeCommand, ServeFail, Setup, serve};
 use oe_sources::Catalogue;
@@ -43,8 +44,17 @@ pub(crate) fn live<R: Threads + Sync>(
 ) -> Result<(), Fault> {
     let command = command_of(line)?;
     let mut objects = objects_of(alloc, known)?;
-    let ended = serve_over(rt, alloc, &known.site, command, &mut objects, catalogue);
-    end_life(alloc, ended, objects, known, answers);
+    let gate = CountGate::new();
+    let ended = serve_over(
+        rt,
+        alloc,
+        &known.site,
+        &gate,
+        command,
+        &mut objects,
+        catalogue,
+    );
+    end_life(alloc, ended, gate.entered(), objects, known, answers);
     Ok(())
 }
 
@@ -84,6 +94,7 @@ fn serve_over<R: Threads + Sync>(
     rt: &R,
     alloc: Global,
     site: &Site,
+    gate: &CountGate,
     command: ServeCommand,
     objects: &mut Objects,
     catalogue: &mut Catalogue,
@@ -94,7 +105,7 @@ fn serve_over<R: Threads + Sync>(
         rt,
         alloc,
         site,
-        gate: &NoGate,
+        gate,
     };
     serve(
         &setup,
@@ -111,6 +122,7 @@ fn serve_over<R: Threads + Sync>(
 fn end_life(
     alloc: Global,
     ended: Result<(), ServeFail>,
+    chunks: u64,
     objects: Objects,
     known: &mut Known,
     answers: &mut Answers,
@@ -118,9 +130,12 @@ fn end_life(
     let Objects { keeper, door, .. } = objects;
     spell_links(door.given_back(), answers);
     push(ending_word(ended), answers);
-    spell_faults(" door faults ", door.faults(), answers);
-    spell_faults(" link faults ", door.link_faults(), answers);
-    spell_faults(" keeper faults ", keeper.faults(), answers);
+    spell_count(" door faults ", door.faults(), answers);
+    spell_count(" link faults ", door.link_faults(), answers);
+    spell_count(" keeper faults ", keeper.faults(), answers);
+    if known.tells_chunks {
+        spell_count(" chunks ", chunks, answers);
+    }
     let book = keeper.stopped();
     spell_jobs(&book, answers);
     known.keeper = MemoryKeeper::new(book, Vec::new(alloc), None);

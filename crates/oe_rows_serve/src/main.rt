@@ -9,8 +9,10 @@
 //! |---|---|
 //! | `cube ID CALLS TEXT` | mounts the collection of this cube text, whose reads of these numbers fail |
 //! | `file ID DIGITS` | mounts the collection of a cube file of these bytes |
+//! | `gone ID` | takes out the collection of this id, which no later life has |
 //! | `now SECONDS` | sets the clock, which stands at 0 without this line |
 //! | `spool ROOM CALLS`, `door CALLS` | of each later life the spool has this room, 65536 without this line, and these calls fail |
+//! | `gate` | tells of each later life how many chunks of runs were evaluated, where some were |
 //! | `keeper CALLS`, `keeper CALLS N kept`, `keeper CALLS N lost` | of each later life these calls of the keeper fail, and it stops in the call N, where it keeps or loses what is committed |
 //! | `ask METHOD TARGET TOKEN BODY` | a connection to come, with this request; the token is `-` for none |
 //! | `broken CALLS METHOD TARGET TOKEN BODY` | the same, and these calls of the connection fail |
@@ -22,6 +24,7 @@
 #![tactic(auto)]
 
 mod cubes;
+mod gate;
 mod known;
 mod life;
 mod links;

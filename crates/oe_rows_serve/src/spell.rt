@@ -9,7 +9,7 @@ use oe_serve::ServeFail;
 pub(crate) fn spell_links(links: &[MemoryLink], answers: &mut Answers) {
     for link in links {
         spell_written(link.written(), answers);
-        spell_faults(" faults ", link.faults(), answers);
+        spell_count(" faults ", link.faults(), answers);
         end_line(answers);
     }
 }
@@ -25,8 +25,8 @@ fn spell_written(written: &[u8], answers: &mut Answers) {
     }
 }
 
-/// Appends how many calls failed, where some did.
-pub(crate) fn spell_faults(words: &str, count: u64, answers: &mut Answers) {
+/// Appends how many calls failed, or chunks were evaluated, where some were.
+pub(crate) fn spell_count(words: &str, count: u64, answers: &mut Answers) {
     if count > 0 {
         push_number(words, count, answers);
     }
