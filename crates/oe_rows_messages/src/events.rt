@@ -1,7 +1,6 @@
 // Events, from a line, and where they may come.
 ghost use Rattle.std.specs.Prelude.{◌≡◌, ℤ, Bool, IfOk, IsTrue, true};
 ghost use Rattle.std.specs.Option.{option_map};
-ghost use Rattle.oe_dims.specs.Names.{same_name};
 ghost use Rattle.oe_jobs.specs.Events as spec;
 ghost use Rattle.oe_jobs.specs.Events.{IsFree, MayCome, event_of};
 ghost use Rattle.oe_jobs.specs.Machine.{may_come, step_of};
@@ -9,7 +8,7 @@ ghost use Rattle.oe_jobs.specs.Plain.{plain_book, plain_job};
 
 use crate::jobs::asset_of;
 use oe_dims::Text;
-use oe_jobs::{Book, Change, Job, JobEvent, Status, reopen, step};
+use oe_jobs::{Book, Change, Job, JobEvent, Status, is_same, reopen, step};
 use oe_lines::{Fault, first_word};
 use std::alloc::Global;
 
@@ -73,13 +72,6 @@ fn job_named<'a>(book: &'a Book, id: &Text) -> Option<&'a Job>
         }
     }
     None
-}
-
-/// The two texts have the same bytes.
-fn is_same(a: &Text, b: &Text) -> bool
-    ensures { result ≡ same_name a.now b.now }
-{
-    a.as_str() == b.as_str()
 }
 
 /// Whether an event comes to a job in a status.

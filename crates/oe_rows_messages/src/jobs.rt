@@ -80,23 +80,15 @@ pub(crate) fn asset_of(alloc: Global, name: &str) -> Result<Asset, Fault> {
 }
 
 fn status_of(word: &str) -> Result<Status, Fault> {
-    match word {
-        "created" => Ok(Status::Created),
-        "queued" => Ok(Status::Queued),
-        "running" => Ok(Status::Running),
-        "canceled" => Ok(Status::Canceled),
-        "finished" => Ok(Status::Finished),
-        "error" => Ok(Status::Error),
-        _ => Err(Fault::Line),
+    match Status::of(word) {
+        Some(status) => Ok(status),
+        None => Err(Fault::Line),
     }
 }
 
 pub(crate) fn level_of(word: &str) -> Result<Level, Fault> {
-    match word {
-        "error" => Ok(Level::Error),
-        "warning" => Ok(Level::Warning),
-        "info" => Ok(Level::Info),
-        "debug" => Ok(Level::Debug),
-        _ => Err(Fault::Line),
+    match Level::of(word) {
+        Some(level) => Ok(level),
+        None => Err(Fault::Line),
     }
 }

@@ -1,6 +1,6 @@
 // Books, jobs, changes and verdicts in words.
 use oe_dims::Text;
-use oe_jobs::{Asset, Book, Change, Job, JobFault, Level, LogEntry, Outcome, Owned, Ran, Status};
+use oe_jobs::{Asset, Book, Change, Job, JobFault, LogEntry, Outcome, Owned, Ran};
 use oe_lines::{Answers, end_line, push, push_all, push_number};
 
 /// What a command is answered.
@@ -65,7 +65,7 @@ fn spell_processes(processes: &[Owned], answers: &mut Answers) {
 pub(crate) fn spell_job(job: &Job, answers: &mut Answers) {
     push_all(&[job.id.as_str(), " ", job.user.as_str()], answers);
     push_all(
-        &[" ", status_word(job.status), " ", level_word(job.level)],
+        &[" ", job.status.as_str(), " ", job.level.as_str()],
         answers,
     );
     push_number(" ", job.created, answers);
@@ -76,26 +76,6 @@ pub(crate) fn spell_job(job: &Job, answers: &mut Answers) {
     spell_text(" description ", &job.description, answers);
     spell_assets(&job.assets, answers);
     spell_logs(&job.logs, answers);
-}
-
-fn status_word(status: Status) -> &'static str {
-    match status {
-        Status::Created => "created",
-        Status::Queued => "queued",
-        Status::Running => "running",
-        Status::Canceled => "canceled",
-        Status::Finished => "finished",
-        Status::Error => "error",
-    }
-}
-
-fn level_word(level: Level) -> &'static str {
-    match level {
-        Level::Error => "error",
-        Level::Warning => "warning",
-        Level::Info => "info",
-        Level::Debug => "debug",
-    }
 }
 
 fn spell_ran(ran: &Option<Ran>, answers: &mut Answers) {
@@ -120,7 +100,7 @@ fn spell_assets(assets: &[Asset], answers: &mut Answers) {
 /// Appends log entries: their levels, their codes where they have them, and their messages.
 fn spell_logs(logs: &[LogEntry], answers: &mut Answers) {
     for entry in logs {
-        push_all(&[" ", level_word(entry.level)], answers);
+        push_all(&[" ", entry.level.as_str()], answers);
         spell_text("=", &entry.code, answers);
         push_all(&[":", entry.message.as_str()], answers);
     }
