@@ -31,19 +31,26 @@ fn put_of(alloc: Global, line: &str) -> Result<Change, Fault> {
 /// The job of an id and an entry, with an asset of a length but where that is 0.
 fn job_of(alloc: Global, line: &str, length: usize) -> Result<Job, Fault> {
     let (id, entry) = first_word(line);
+    let assets = assets_of(alloc, length)?;
     let id = Text::of(alloc, id)?;
     match read_job(alloc, &id, entry.as_bytes())? {
-        Some(job) => with_asset(alloc, job, length),
+        Some(job) => Ok(with_assets(job, assets)),
         None => Err(Fault::Line),
     }
 }
 
-fn with_asset(alloc: Global, mut job: Job, length: usize) -> Result<Job, Fault> {
+fn with_assets(mut job: Job, assets: Vec<Asset>) -> Job {
+    job.assets = assets;
+    job
+}
+
+fn assets_of(alloc: Global, length: usize) -> Result<Vec<Asset>, Fault> {
+    let mut assets = Vec::new(alloc);
     if length > 0 {
         let asset = asset_of(alloc, length)?;
-        job.assets.push(asset)?;
+        assets.push(asset)?;
     }
-    Ok(job)
+    Ok(assets)
 }
 
 fn asset_of(alloc: Global, length: usize) -> Result<Asset, Fault> {
