@@ -10,6 +10,7 @@ use itoa::Buffer;
 use oe_adapters::{Fault, Writer, open_spool};
 use oe_database::SqliteKeeper;
 use oe_dims::Text;
+use oe_jobs::Keeper;
 use oe_memory::OutOfMemory;
 use oe_outside::{NoGate, Sink};
 use oe_routes::{Site, Tokens, TokensFail};
@@ -71,7 +72,7 @@ fn say<E: Sink>(fail: ServeFail, err: &mut E) -> u8
     fail.status()
 }
 
-/// Opens the database and the file for the cells of runs, and serves.
+/// Opens the database, serves over it, and closes it.
 ///
 /// Refuses: the set-up fault of the file that could not be opened or made; out of memory.
 fn served<R: Threads + Sync>(
@@ -85,6 +86,26 @@ fn served<R: Threads + Sync>(
     requires { IsWithinRanges command.size command.workers }
 {
     let mut keeper = open_database(alloc, rt)?;
+    let ended = serve_over(alloc, rt, threads, command, tokens, catalogue, &mut keeper);
+    // The log goes over into the file. Where it can't, what was committed stays in the log.
+    let _ = keeper.into_connection().close();
+    ended
+}
+
+/// Opens the file for the cells of runs, and serves over a keeper. It is lent, so that no end of this call drops it.
+///
+/// Refuses: the set-up fault of the file that could not be made; out of memory.
+fn serve_over<R: Threads + Sync, K: Keeper>(
+    alloc: Global,
+    rt: &HostRuntime,
+    threads: &R,
+    command: ServeCommand,
+    tokens: Tokens,
+    catalogue: &mut Catalogue,
+    keeper: &mut K,
+) -> Result<Result<(), ServeFail>, Fault>
+    requires { IsWithinRanges command.size command.workers }
+{
     let mut spool = open_spool(alloc, rt)?;
     let site = site_at(alloc, command.port, tokens)?;
     let door = TcpDoor::new(alloc, *rt, command.port, Patience::of_server())?;
@@ -97,13 +118,7 @@ fn served<R: Threads + Sync>(
         gate: &NoGate,
     };
     Ok(serve(
-        &setup,
-        command,
-        catalogue,
-        &mut spool,
-        &mut keeper,
-        &mut door,
-        &mut clock,
+        &setup, command, catalogue, &mut spool, keeper, &mut door, &mut clock,
     ))
 }
 
