@@ -65,6 +65,7 @@ perform_alike s f user r a b ops.CreateJob h = refl
 perform_alike s f user r a b ops.DeleteJob h = refl
 perform_alike s f user r a b ops.ShowJob h = refl
 perform_alike s f user r a b ops.PatchJob h = refl
+perform_alike s f user r a b ops.EstimateJob h = absurd cc
 perform_alike s f user r a b ops.ShowLogs h = refl
 perform_alike s f user r a b ops.CancelJob h = refl
 perform_alike s f user r a b ops.ShowResults h = refl

@@ -1,5 +1,6 @@
 mod AskedLemmas
 mod CommandLemmas
+mod EstimateLemmas
 mod FormLemmas
 mod FoundLemmas
 mod ListLemmas

@@ -18,7 +18,7 @@ methods_rise : list_all (λ (r : Route). names_rise (map (λ (m : Method). m.nam
 methods_rise = refl
 
 -- each of them is in the router: none is no route, and no two conflict
-router_is_whole : length (router_of routes) ≡ 16
+router_is_whole : length (router_of routes) ≡ 17
 unfolding matchit_on_literals
 router_is_whole = refl
 

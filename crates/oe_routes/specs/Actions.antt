@@ -1,5 +1,5 @@
 -- What is to be done for a request.
-use Rattle.std.specs.Prelude.{◌≡◌, ℕ, ℤ, Bool, true, List, Option, option_and_then, IsSome}
+use Rattle.std.specs.Prelude.{◌≡◌, ℕ, ℤ, Bool, true, List, Option, option_and_then, IsSome, ⊤}
 use Rattle.std.specs.List.{slice_get}
 use Rattle.std.specs.Option.{option_map}
 use Rattle.http.specs.StatusCode.{reason_phrase}
@@ -13,6 +13,7 @@ use Rattle.oe_jobs.specs.declared.job.Asset.{Asset}
 use Rattle.oe_routes.specs.Scenes.{PlainScene}
 use Rattle.oe_routes.specs.declared.action.Action.{Action}
 use Rattle.oe_routes.specs.declared.action.Action.TheVariants as action
+use Rattle.oe_routes.specs.declared.action.EstimateGraph.{EstimateGraph}
 use Rattle.oe_shape.specs.Checked.{CheckedGraph}
 
 pub data PlainAction : Type 0 where
@@ -23,6 +24,8 @@ pub data PlainAction : Type 0 where
   run_now : CheckedGraph → PlainAction
   -- answered with the text of an asset
   send_asset : Option (List ℕ) → PlainAction
+  -- answered with what these assets of a job need
+  estimate : List EstimateGraph → PlainAction
 
 -- the text of an asset, by the indices of its job in the book and of the asset in the job
 abbrev pub text_at : PlainBook → ℕ → ℕ → Option (List ℕ)
@@ -36,6 +39,7 @@ plain_action book (action.Answer response) = answer (plain_response response)
 plain_action book (action.Commit change response) = commit (plain_change change) (plain_response response)
 plain_action book (action.RunNow checked) = run_now checked
 plain_action book (action.SendAsset job asset) = send_asset (text_at book job asset)
+plain_action book (action.Estimate graphs) = estimate graphs.items
 
 -- its status has a standard phrase, with which its first line is written
 abbrev pub HasPhrase : Response → Type 0
@@ -57,3 +61,4 @@ MayBeDone s asks (action.Commit change response) =
     × MakesChange s.book s.moment (plain_change change)
 MayBeDone s asks (action.RunNow checked) = (asks ≡ true) × (checked.rows ≡ s.rows)
 MayBeDone s asks (action.SendAsset job asset) = IsSome (text_at s.book job asset)
+MayBeDone s asks (action.Estimate graphs) = ⊤

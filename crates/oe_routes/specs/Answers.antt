@@ -5,7 +5,7 @@ use Rattle.std.specs.List.{slice_get}
 use Rattle.serde_json.specs.Data.{Data, null}
 use Rattle.serde_json.specs.Read.{read}
 use Rattle.serde_json.specs.Written.{compact_text}
-use Rattle.oe_book.specs.Assets.{asset_nodes}
+use Rattle.oe_book.specs.Assets.{asset_name, asset_nodes, id_at}
 use Rattle.oe_dims.specs.declared.dims.DimsRow.{DimsRow}
 use Rattle.oe_graph.specs.Catalogue.{processes_data}
 use Rattle.oe_graph.specs.Tree.{PlainGraph}
@@ -22,7 +22,7 @@ use Rattle.oe_jobs.specs.declared.job.Asset.{Asset}
 use Rattle.oe_jobs.specs.declared.job.LogEntry.{LogEntry}
 use Rattle.oe_jobs.specs.declared.status.Status.{Status}
 use Rattle.oe_jobs.specs.declared.status.Status.TheVariants as status
-use Rattle.oe_judge.specs.Judged.{checked_over}
+use Rattle.oe_judge.specs.Judged.{checked_over, having_result}
 use Rattle.oe_pages.specs.Pages.{paged_text}
 use Rattle.oe_replies.specs.Answers.{created_reply, empty_reply, failed_reply, refused_reply, stored_reply}
 use Rattle.oe_replies.specs.Bodies.{capabilities_data, conformance_data, file_formats_data, validation_data, versions_data}
@@ -31,7 +31,7 @@ use Rattle.oe_replies.specs.Jobs.{job_data, jobs_data, results_data, stored_list
 use Rattle.oe_replies.specs.Logs.{logs_data}
 use Rattle.oe_replies.specs.declared.code.ReplyCode.{ReplyCode}
 use Rattle.oe_replies.specs.declared.code.ReplyCode.TheVariants as code
-use Rattle.oe_routes.specs.Actions.{PlainAction, answer, commit, run_now, send_asset}
+use Rattle.oe_routes.specs.Actions.{PlainAction, answer, commit, estimate, run_now, send_asset}
 use Rattle.oe_routes.specs.Asks.{asked_method}
 use Rattle.oe_routes.specs.Codes.{code_of_fault}
 use Rattle.oe_routes.specs.Forms.{faultless, graph_in}
@@ -43,6 +43,7 @@ use Rattle.oe_routes.specs.Scenes.{PlainScene}
 use Rattle.oe_routes.specs.Sent.{changes_sent, graph_sent, job_sent, process_sent, validated}
 use Rattle.oe_routes.specs.Table.{endpoint_of, routes}
 use Rattle.oe_routes.specs.Users.{user_of}
+use Rattle.oe_routes.specs.declared.action.EstimateGraph.{EstimateGraph}
 use Rattle.oe_routes.specs.declared.table.Operation.{Operation}
 use Rattle.oe_routes.specs.declared.table.Operation.TheVariants as ops
 
@@ -150,6 +151,20 @@ may_queue s f user job =
     sound s f user (graph_of_text job.process) >>= λ is_sound.
     few_assets (graph_of_text job.process))
 
+-- the asset of a node of a graph, with the graph whose result it is; it may call the user's stored processes
+abbrev pub estimate_graph : PlainScene → List ℕ → PlainGraph → ℕ → EstimateGraph
+estimate_graph s user g node = record {
+  name = asset_name (id_at g.nodes node);
+  checked = checked_over s.rows (stored_of user s.book) (having_result node g);
+}
+
+-- all assets of a graph that could be queued, in their order
+abbrev pub estimated : PlainScene → Found → List ℕ → PlainGraph → Result PlainAction Rejected
+estimated s f user g =
+    sound s f user g >>= λ is_sound.
+    few_assets g >>= λ are_few.
+    Ok (estimate (map (estimate_graph s user g) (asset_nodes g)))
+
 -- ---- what each operation does for a user: the form of the body or the query, the named object, the command
 
 abbrev pub perform : PlainScene → Found → List ℕ → PlainRequest → Operation → Result PlainAction Rejected
@@ -180,6 +195,9 @@ perform s f user r ops.PatchJob =
     changes_sent f r.body >>= λ new.
     commanded s user (patch (id_in r.path) new.fields.title new.fields.description new.process new.fields.level)
 perform s f user r ops.DeleteJob = commanded s user (delete (id_in r.path))
+perform s f user r ops.EstimateJob =
+    named_job s.book user (id_in r.path) >>= λ job.
+    estimated s f user (graph_of_text job.process)
 perform s f user r ops.ShowLogs =
     plainly (logs_asked r.query) >>= λ asked.
     named_job s.book user (id_in r.path) >>= λ job.

@@ -28,6 +28,7 @@ needs_rows ops.CreateJob = false
 needs_rows ops.DeleteJob = false
 needs_rows ops.ShowJob = false
 needs_rows ops.PatchJob = false
+needs_rows ops.EstimateJob = true
 needs_rows ops.ShowLogs = false
 needs_rows ops.CancelJob = false
 needs_rows ops.ShowResults = false

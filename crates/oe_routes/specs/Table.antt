@@ -68,6 +68,7 @@ routes =
     ∷ by_user (codes "GET") operations.ShowJob
     ∷ by_user (codes "PATCH") operations.PatchJob
     ∷ [])
+    ∷ route_of_parts (codes "/jobs/{id}/estimate") (by_user (codes "GET") operations.EstimateJob ∷ [])
     ∷ route_of_parts (codes "/jobs/{id}/logs") (by_user (codes "GET") operations.ShowLogs ∷ [])
     ∷ route_of_parts (codes "/jobs/{id}/results") (
     by_user (codes "DELETE") operations.CancelJob

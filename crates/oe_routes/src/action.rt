@@ -39,6 +39,15 @@ pub enum Action {
     RunNow(Checked),
     /// Answered with the text of an asset, by the indices of its job in the book and of the asset in the job.
     SendAsset { job: usize, asset: usize },
+    /// Answered with what the assets of a job need, in their order.
+    Estimate(Vec<EstimateGraph>),
+}
+
+/// An asset of a job before it runs: its name, and the graph whose result it is.
+#[derive(Drop)]
+pub struct EstimateGraph {
+    pub name: Text,
+    pub checked: Checked,
 }
 
 /// What a request is about, beside itself. The moment is in seconds since 1970-01-01T00:00:00Z.

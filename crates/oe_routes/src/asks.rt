@@ -46,6 +46,7 @@ fn needs_rows(operation: Operation) -> bool
         | Operation::ShowCollection
         | Operation::Validate
         | Operation::RunNow
+        | Operation::EstimateJob
         | Operation::QueueJob => true,
         _ => false,
     }

@@ -1,5 +1,5 @@
 // Graphs that are judged with the stored processes of a user.
-ghost use Rattle.std.specs.Prelude.{◌≡◌, IfOk, Option, Some, true, unwrap_or};
+ghost use Rattle.std.specs.Prelude.{◌≡◌, IfOk, OnOk, Option, Some, true, unwrap_or};
 ghost use Rattle.serde_json.specs.Data.{null};
 ghost use Rattle.oe_dims.specs.Instant.{IsInstant};
 ghost use Rattle.oe_dims.specs.Plain.{plain_rows};
@@ -15,7 +15,7 @@ ghost use Rattle.oe_routes.specs.Actions.{HasPhrase, MayBeDone, answer};
 ghost use Rattle.oe_routes.specs.Answers as spec;
 ghost use Rattle.oe_routes.specs.Forms.{graph_in};
 ghost use Rattle.oe_routes.specs.Found.{Found, IsFound, IsJudged, IsLeastOf};
-ghost use Rattle.oe_routes.specs.Performs.{Performs};
+ghost use Rattle.oe_routes.specs.Performs.{IsSound, Performs};
 ghost use Rattle.oe_routes.specs.Rejections.{Settles};
 ghost use Rattle.oe_routes.specs.Scenes.{plain_scene};
 ghost use Rattle.oe_routes.specs.Sent as sent;
@@ -46,7 +46,12 @@ const MOST_ASSETS: usize = 4;
 ///
 /// Refuses: the least fault; out of memory.
 #[tactic(auto, using(crate::proofs::FoundLemmas::users_stored, crate::proofs::FoundLemmas::judged_passes, crate::proofs::FoundLemmas::judged_refused))]
-fn judged(alloc: Global, graph: &Graph, user: &Text, scene: Scene) -> Result<Checked, Rejection>
+pub(crate) fn judged(
+    alloc: Global,
+    graph: &Graph,
+    user: &Text,
+    scene: Scene,
+) -> Result<Checked, Rejection>
     requires book { IsBook (plain_book scene.book.now) }
     requires graph { IsValidGraph (plain_graph graph.now) }
     ensures sound { (f : Found) → IsJudged (plain_rows scene.entry.dims.now) f
@@ -55,6 +60,8 @@ fn judged(alloc: Global, graph: &Graph, user: &Text, scene: Scene) -> Result<Che
     ensures checked { IfOk result (λ c. c ≡ checked_over (plain_rows scene.entry.dims.now)
         (stored_of user.now (plain_book scene.entry.book.now)) (plain_graph graph.now)) }
     ensures rows { IfOk result (λ c. c.rows ≡ plain_rows scene.entry.dims.now) }
+    ensures none { OnOk result
+        (IsSound (plain_scene scene.entry) user.now (plain_graph graph.now)) }
 {
     stored_is_valid();
     let stored = scene.book.stored_of(alloc, user)?;
@@ -191,7 +198,7 @@ fn may_queue(alloc: Global, job: &Job, user: &Text, scene: Scene) -> Result<(), 
 
 /// The graph of the text of a process.
 #[tactic(auto, using(crate::proofs::NamedLemmas::text_graph, crate::proofs::NamedLemmas::no_fault))]
-fn read_process(alloc: Global, text: &Text) -> Result<Graph, OutOfMemory>
+pub(crate) fn read_process(alloc: Global, text: &Text) -> Result<Graph, OutOfMemory>
     requires { IsProcessText text.now }
     ensures graph { IfOk result (λ graph. plain_graph graph ≡ spec.graph_of_text text.now) }
     ensures valid { IfOk result (λ graph. IsValidGraph (plain_graph graph)) }
@@ -203,7 +210,8 @@ fn read_process(alloc: Global, text: &Text) -> Result<Graph, OutOfMemory>
     }
 }
 
-fn few_assets(alloc: Global, graph: &Graph) -> Result<(), Rejection>
+/// Refuses: `AssetLimit` where a graph has over 4 assets; out of memory.
+pub(crate) fn few_assets(alloc: Global, graph: &Graph) -> Result<(), Rejection>
     ensures { Settles (λ u. u) result (spec.few_assets (plain_graph graph.now)) }
 {
     if assets_of(alloc, graph)?.len() > MOST_ASSETS {

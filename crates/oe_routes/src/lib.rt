@@ -10,6 +10,7 @@ mod action;
 mod asks;
 mod code;
 mod command;
+mod estimate;
 mod fields;
 mod form;
 mod judged;
@@ -29,7 +30,7 @@ mod table;
 mod tokens;
 mod user;
 
-pub use action::{Action, route};
+pub use action::{Action, EstimateGraph, route};
 pub use asks::asks_for_rows;
 pub use code::{code_of_fault, code_of_refusal};
 pub use fields::{Fields, fields_in, level_in, words_in};

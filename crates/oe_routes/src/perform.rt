@@ -18,6 +18,7 @@ use crate::action::{Action, Scene};
 use crate::command::{
     cancel_action, create_action, delete_action, forget_action, patch_action, store_action,
 };
+use crate::estimate::estimate_action;
 use crate::judged::{queue_action, run_action, validation_reply};
 use crate::lists::{list_collections, list_jobs, list_processes, list_stored};
 use crate::refusal::Rejection;
@@ -62,6 +63,7 @@ pub(crate) fn perform(
         Operation::ShowJob => action_of(job_reply(alloc, request, user, scene)),
         Operation::PatchJob => patch_action(alloc, request, user, scene),
         Operation::DeleteJob => delete_action(alloc, request, user, scene),
+        Operation::EstimateJob => estimate_action(alloc, request, user, scene),
         Operation::ShowLogs => action_of(logs_reply(alloc, request, user, scene)),
         Operation::QueueJob => queue_action(alloc, request, user, scene),
         Operation::CancelJob => cancel_action(alloc, request, user, scene),

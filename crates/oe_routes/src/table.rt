@@ -28,6 +28,7 @@ pub enum Operation {
     DeleteJob,
     ShowJob,
     PatchJob,
+    EstimateJob,
     ShowLogs,
     CancelJob,
     ShowResults,
@@ -49,7 +50,7 @@ pub type MethodEntry = (&'static str, Operation, bool);
 pub type RouteEntry = (&'static str, &'static [MethodEntry]);
 
 /// All paths in byte order, each with its methods in byte order (openEO API; that of an asset is this profile's own).
-pub static ROUTES: [RouteEntry; 16] = [
+pub static ROUTES: [RouteEntry; 17] = [
     ("/", &[("GET", Operation::ShowCapabilities, false)]),
     (
         "/.well-known/openeo",
@@ -85,6 +86,10 @@ pub static ROUTES: [RouteEntry; 16] = [
             ("GET", Operation::ShowJob, true),
             ("PATCH", Operation::PatchJob, true),
         ],
+    ),
+    (
+        "/jobs/{id}/estimate",
+        &[("GET", Operation::EstimateJob, true)],
     ),
     ("/jobs/{id}/logs", &[("GET", Operation::ShowLogs, true)]),
     (

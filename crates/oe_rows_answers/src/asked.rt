@@ -6,7 +6,7 @@ use oe_dims::{Text, is_instant};
 use oe_http::{Request, Response};
 use oe_jobs::{Book, Job};
 use oe_lines::{Answers, Fault, end_line, push, push_number};
-use oe_routes::{Action, route};
+use oe_routes::{Action, EstimateGraph, route};
 use std::alloc::Global;
 
 /// Appends what a request is answered: `METHOD TARGET [AUTHORIZATION,BODY,COUNT]`.
@@ -44,6 +44,16 @@ fn carry_out(action: Action, known: &mut Known, answers: &mut Answers) {
         }
         Action::RunNow(_) => push("run", answers),
         Action::SendAsset { job, asset } => push_asset(&known.book, job, asset, answers),
+        Action::Estimate(graphs) => push_graphs(&graphs, answers),
+    }
+}
+
+/// Appends the names of the assets of a job, in their order.
+fn push_graphs(graphs: &[EstimateGraph], answers: &mut Answers) {
+    push("estimate", answers);
+    for graph in graphs {
+        push(" ", answers);
+        push(graph.name.as_str(), answers);
     }
 }
 

@@ -9,7 +9,7 @@
 //! | `now SECONDS` | sets the moment, in seconds since 1970-01-01T00:00:00Z |
 //! | `collection ID KIND EPSG T BANDS Y X` | mounts a collection of these labels, with commas between them: `-` where it has no dimension, `=` where it has no labels |
 //! | `event ID start`, `event ID asset NAME TEXT`, `event ID finish`, `event ID fail CODE` | the event of a run comes to a job |
-//! | `ask METHOD TARGET [AUTHORIZATION,BODY,COUNT]` | routes a request, whose authorization and body are JSON texts or null, with so many letters `a` in place of each `~` of the body, and makes its change; answers `changed` where there is one, and status, location, identifier (`-` for none) and body, or `run` where a graph is to be run; `mistyped` stands in front of a reply that has a body and does not say that it is JSON, or the other way round |
+//! | `ask METHOD TARGET [AUTHORIZATION,BODY,COUNT]` | routes a request, whose authorization and body are JSON texts or null, with so many letters `a` in place of each `~` of the body, and makes its change; answers `changed` where there is one, and status, location, identifier (`-` for none) and body, or `run` where a graph is to be run, or `estimate` and the names of the assets to be estimated; `mistyped` stands in front of a reply that has a body and does not say that it is JSON, or the other way round |
 //! | `rows METHOD TARGET [AUTHORIZATION,BODY,COUNT]` | answers `yes` where a request asks for the rows of the collections: it lists or shows them, or has a graph judged; else `no` |
 //! | `refused CODE DETAIL`, `fault CODE DETAIL` | answers a refusal as `ask` does, with a code of requests, or of graphs |
 //! | `error CODE DETAIL` | answers the body of an error |

@@ -56,9 +56,11 @@ module _ (s : PlainScene) (r : PlainRequest) (given : List DimsRow) (given_is : 
       let are : checked.rows ≡ dims_of rows = may.1 ∙ given_all may.0 ∙ same in
       record { rows_are = are; found = subst (AreDimsOf rows) (sym are) (found may.0); given = collections may.0 }
   may_act rows (actions.SendAsset job asset) same found collections may = may
+  may_act rows (actions.Estimate graphs) same found collections may = tt
 
   pub decides : (action : Action) → MayBeDone (over s given) (asks_for_rows r) action → DecidesChange s.book s.moment action
   decides (actions.Answer response) may = tt
   decides (actions.Commit made response) may = may.2
   decides (actions.RunNow checked) may = tt
   decides (actions.SendAsset job asset) may = tt
+  decides (actions.Estimate graphs) may = tt

@@ -1,5 +1,5 @@
 -- What a request asks for, as what a service does.
-use Rattle.std.proofs.Common.{◌≡◌, ℕ, ℤ, Bool, true, false, List, [], Option, Some, None, Result, Ok, Err, refl, sym, ap, subst}
+use Rattle.std.proofs.Common.{◌≡◌, ℕ, ℤ, Bool, true, false, List, [], Option, Some, None, Result, Ok, Err, refl, sym, ap, subst, inl, inr}
 use Rattle.std.specs.Prelude.{IfSome}
 use Rattle.oe_engine.proofs.LawLemmas.{stay_after_reads}
 use Rattle.oe_engine.specs.Runs.{RunOf}
@@ -14,14 +14,16 @@ use Rattle.oe_jobs.specs.declared.keeper.KeeperFail.TheVariants as fail
 use Rattle.oe_outside.proofs.Causes.{NeverFalls-refl}
 use Rattle.oe_replies.specs.Answers.{refused_reply}
 use Rattle.oe_replies.specs.declared.code.ReplyCode.TheVariants as code
-use Rattle.oe_routes.specs.Actions.{PlainAction, commit, send_asset}
+use Rattle.oe_routes.specs.Actions.{PlainAction, commit, estimate, send_asset}
+use Rattle.oe_routes.specs.declared.action.EstimateGraph.{EstimateGraph}
 use Rattle.oe_service.specs.Calls.{CommitsOne, Goes, IsKept, Obeys, is_done}
 use Rattle.oe_service.specs.Causes.{Outside, outside}
 use Rattle.oe_service.specs.GoesOn.{GoesOn, HasSizesOf, IsService, state_of}
 use Rattle.oe_service.specs.States.{Event, Setting, command, no_command}
 use Rattle.oe_service.specs.declared.service.Service.{Service}
 use Rattle.oe_sources.specs.Catalogue.{Row}
-use Rattle.oe_serve.specs.Answers.{IsEventOf, IsReplyOf, change, out_of_memory, reply, store_fault}
+use Rattle.oe_window.specs.declared.grid.ChunkSize.{ChunkSize}
+use Rattle.oe_serve.specs.Answers.{IsEventOf, IsReplyOf, SendsEstimate, change, estimate_text, out_of_memory, reply, store_fault}
 use Rattle.oe_serve.specs.Links.{LinkOf, SendsReply}
 use Rattle.oe_serve.specs.Serves.{Acts, KeepsService}
 use Rattle.oe_serve.specs.declared.served.Served.{Served}
@@ -43,7 +45,7 @@ module _ (s : Service) (rows : List Row) (store : Option (List ℕ)) (faults : �
   -- ---- a reply, with which nothing changes
 
   pub acts_reply : (action : PlainAction) (response : PlainResponse) → IsService s → IsKept kept (plain_book s.book)
-      → GoesOn s.run rows store → IsReplyOf action response
+      → GoesOn s.run rows store → IsReplyOf s.size s.workers action response
       → SendsReply response.status (reply_bytes response) link link_after served
       → Acts action s s now now link link_after has_failed served
   acts_reply action response is is_kept going reply_is sends = record {
@@ -64,6 +66,44 @@ module _ (s : Service) (rows : List Row) (store : Option (List ℕ)) (faults : �
       keeper_count = NeverFalls-refl keeper_faults;
     };
   }
+
+  -- nothing changes with that of out of memory either
+  pub acts_without_memory : (action : PlainAction) → IsService s → IsKept kept (plain_book s.book) → GoesOn s.run rows store
+      → SendsReply 503 (reply_bytes (refused_reply code.OutOfMemory [])) link link_after served
+      → Acts action s s now now link link_after has_failed served
+  acts_without_memory action is is_kept going sends = record {
+    answer = out_of_memory;
+    is_answer = tt;
+    sends = sends;
+    goes = λ at e is_event. stays _ e false (state_of s) kept is_event;
+    idle = λ nothing. refl;
+    keeps = record {
+      service = is;
+      sizes = record { size = refl; workers = refl };
+      is_kept = is_kept;
+      run = itself s.run;
+      going = going;
+      read = stay_after_reads.none rows;
+      visible = λ shown. shown;
+      spool_count = NeverFalls-refl faults;
+      keeper_count = NeverFalls-refl keeper_faults;
+    };
+  }
+
+  -- an estimate, or that of out of memory
+  pub acts_estimate : (sizes : ChunkSize × ℕ) (graphs given : List EstimateGraph) → IsService s
+      → IsKept kept (plain_book s.book) → GoesOn s.run rows store → sizes ≡ (s.size, s.workers) → given ≡ graphs
+      → SendsEstimate sizes.0 sizes.1 given link link_after served
+      → Acts (estimate graphs) s s now now link link_after has_failed served
+  acts_estimate sizes graphs given is is_kept going same same_graphs sends =
+      by (subst (λ (gs : List EstimateGraph). SendsEstimate s.size s.workers gs link link_after served) same_graphs
+      (subst (λ (p : ChunkSize × ℕ). SendsEstimate p.0 p.1 given link link_after served) same sends))
+    where
+      by : SendsEstimate s.size s.workers graphs link link_after served
+          → Acts (estimate graphs) s s now now link link_after has_failed served
+      by (inl sends) =
+          acts_reply (estimate graphs) (json_reply 200 (estimate_text s.size s.workers graphs)) is is_kept going refl sends
+      by (inr sends) = acts_without_memory (estimate graphs) is is_kept going sends
 
   -- ---- a change, committed or not
 
@@ -150,6 +190,7 @@ module _ (s : Service) (rows : List Row) (store : Option (List ℕ)) (faults : �
 -- ---- the text of an asset
 
 -- the reply with it
-pub reply_of_text : (o : Option (List ℕ)) (text : List ℕ) → o ≡ Some text
-    → IsReplyOf (send_asset o) (json_reply 200 text)
-reply_of_text o text is = subst (λ (x : Option (List ℕ)). IsReplyOf (send_asset x) (json_reply 200 text)) (sym is) refl
+pub reply_of_text : (size : ChunkSize) (workers : ℕ) (o : Option (List ℕ)) (text : List ℕ) → o ≡ Some text
+    → IsReplyOf size workers (send_asset o) (json_reply 200 text)
+reply_of_text size workers o text is =
+    subst (λ (x : Option (List ℕ)). IsReplyOf size workers (send_asset x) (json_reply 200 text)) (sym is) refl

@@ -39,6 +39,7 @@ decided_of book now (actions.Commit own given) made response is decides =
     let same : plain_change own ≡ made = cc in subst (MakesChange book now) same decides
 decided_of book now (actions.RunNow checked) made response is decides = absurd cc
 decided_of book now (actions.SendAsset job asset) made response is decides = absurd cc
+decided_of book now (actions.Estimate graphs) made response is decides = absurd cc
 
 module _ (size : ChunkSize) (workers : ℕ) (book : PlainBook) (before after : Outside) (has_failed : Bool) (now : ℤ)
     (action : Action) (decides : DecidesChange book now action) where

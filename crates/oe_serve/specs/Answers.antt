@@ -1,5 +1,6 @@
 -- What is answered to a connection: one row for each answer, with its reply, its cause, and the event that it is.
-use Rattle.std.specs.Prelude.{◌≡◌, ⊤, ℕ, ℤ, ◌⊎◌, Bool, true, false, List, [], ◌++◌, None, Some}
+use Rattle.std.specs.Prelude.{◌≡◌, ⊤, ℕ, ℤ, ◌⊎◌, Bool, true, false, List, [], ◌++◌, map, None, Some}
+use Rattle.serde_json.specs.Written.{compact_text}
 use Rattle.oe_http.specs.Laws.{json_reply}
 use Rattle.oe_http.specs.Plain.{PlainRequest}
 use Rattle.oe_http.specs.Replies.{PlainResponse, reply_bytes}
@@ -7,11 +8,14 @@ use Rattle.oe_http.specs.Requests.{IsOfBytes}
 use Rattle.oe_http.specs.declared.request.RequestRefusal.{RequestRefusal}
 use Rattle.oe_jobs.specs.Changes.{changed}
 use Rattle.oe_jobs.specs.Plain.{PlainBook, PlainChange, plain_change}
+use Rattle.oe_pages.specs.Estimates.{estimate_data}
+use Rattle.oe_pages.specs.declared.estimate.EstimateRow.{EstimateRow}
+use Rattle.oe_plan.specs.Figures.{bound_of, chunks_of}
 use Rattle.oe_replies.specs.Answers.{refused_reply}
 use Rattle.oe_replies.specs.Codes.{status_of as status_of_code}
 use Rattle.oe_replies.specs.declared.code.ReplyCode.{ReplyCode}
 use Rattle.oe_replies.specs.declared.code.ReplyCode.TheVariants as code
-use Rattle.oe_routes.specs.Actions.{MakesChange, PlainAction, answer, commit, plain_action, run_now, send_asset}
+use Rattle.oe_routes.specs.Actions.{MakesChange, PlainAction, answer, commit, estimate, plain_action, run_now, send_asset}
 use Rattle.oe_routes.specs.Answers.{answer_of}
 use Rattle.oe_routes.specs.Asks.{asks_for_rows}
 use Rattle.oe_routes.specs.Codes.{code_of_refusal}
@@ -19,6 +23,7 @@ use Rattle.oe_routes.specs.Found.{Found, IsFoundFor}
 use Rattle.oe_routes.specs.Scenes.{PlainScene}
 use Rattle.oe_routes.specs.declared.action.Action.{Action}
 use Rattle.oe_routes.specs.declared.action.Action.TheVariants as actions
+use Rattle.oe_routes.specs.declared.action.EstimateGraph.{EstimateGraph}
 use Rattle.oe_service.specs.Calls.{Failed}
 use Rattle.oe_service.specs.Causes.{Outside}
 use Rattle.oe_service.specs.States.{Event, command, no_command}
@@ -75,13 +80,26 @@ Asks s r action = (f : Found) → IsFoundFor s.rows (asks_for_rows r) f → answ
 abbrev pub AsksAction : PlainScene → PlainRequest → Action → Type 0
 AsksAction s r action = Asks s r (plain_action s.book action)
 
+-- what an asset needs in a run with chunks of these sides and so many workers
+abbrev pub row_of : ChunkSize → ℕ → EstimateGraph → EstimateRow
+row_of size workers graph = record {
+  name = graph.name;
+  bound = bound_of graph.checked size workers;
+  chunks = chunks_of graph.checked size;
+}
+
+-- the text that says so of some assets, in their order
+abbrev pub estimate_text : ChunkSize → ℕ → List EstimateGraph → List ℕ
+estimate_text size workers graphs = compact_text (estimate_data (map (row_of size workers) graphs))
+
 -- an action is answered with this reply, and changes nothing
-abbrev pub IsReplyOf : PlainAction → PlainResponse → Type 0
-IsReplyOf (answer response) given = given ≡ response
-IsReplyOf (commit made response) given = ⊥
-IsReplyOf (run_now c) given = ⊥
-IsReplyOf (send_asset None) given = ⊥
-IsReplyOf (send_asset (Some text)) given = given ≡ json_reply 200 text
+abbrev pub IsReplyOf : ChunkSize → ℕ → PlainAction → PlainResponse → Type 0
+IsReplyOf size workers (answer response) given = given ≡ response
+IsReplyOf size workers (commit made response) given = ⊥
+IsReplyOf size workers (run_now c) given = ⊥
+IsReplyOf size workers (send_asset None) given = ⊥
+IsReplyOf size workers (send_asset (Some text)) given = given ≡ json_reply 200 text
+IsReplyOf size workers (estimate graphs) given = given ≡ json_reply 200 (estimate_text size workers graphs)
 
 module _ (size : ChunkSize) (workers : ℕ) (book : PlainBook) (before after : Outside) (has_failed : Bool) where
   -- the change that an action commits was not kept: the keeper failed
@@ -93,7 +111,7 @@ module _ (size : ChunkSize) (workers : ℕ) (book : PlainBook) (before after : O
   -- an action has this answer; out of memory, which any may have, alone has no cause
   abbrev pub IsAnswerTo : PlainAction → Answer → Type 0
   IsAnswerTo action (unreadable broken_rule) = ⊥
-  IsAnswerTo action (reply response) = IsReplyOf action response
+  IsAnswerTo action (reply response) = IsReplyOf size workers action response
   IsAnswerTo action (change made response) = action ≡ commit made response
   IsAnswerTo action (store_fault made) = FailsToKeep action made
   IsAnswerTo action (result c count text) = (action ≡ run_now c) × IsResult c size workers before after count text
@@ -132,6 +150,14 @@ SendsAnswer before after (no_result c refusal) link link_after served =
 SendsAnswer before after out_of_memory link link_after served =
     SendsReply (status_of out_of_memory) (bytes_of out_of_memory) link link_after served
 
+-- ---- for private functions
+
+-- the estimate of these assets goes out, or that an allocation was refused
+abbrev pub SendsEstimate : ChunkSize → ℕ → List EstimateGraph → LinkOf → LinkOf → Served → Type 0
+SendsEstimate size workers graphs link link_after served =
+    SendsReply 200 (reply_bytes (json_reply 200 (estimate_text size workers graphs))) link link_after served
+    ⊎ SendsReply 503 (reply_bytes (refused_reply code.OutOfMemory [])) link link_after served
+
 -- ---- the event
 
 -- the event is a command of some user that makes this change of the book, as the request's own does
@@ -144,6 +170,7 @@ DecidesChange book now (actions.Answer response) = ⊤
 DecidesChange book now (actions.Commit made response) = MakesChange book now (plain_change made)
 DecidesChange book now (actions.RunNow checked) = ⊤
 DecidesChange book now (actions.SendAsset job asset) = ⊤
+DecidesChange book now (actions.Estimate graphs) = ⊤
 
 -- the event of an answer: the command whose change it is, and no command of every other one
 abbrev pub IsEventOf : PlainBook → ℤ → Answer → Event → Type 0

@@ -1,5 +1,5 @@
 -- How one connection is served.
-use Rattle.std.specs.Prelude.{◌≡◌, ◌≢◌, ℕ, ◌+◌, ℤ, Bool, true, false, List, IfSome, IsSome}
+use Rattle.std.specs.Prelude.{◌≡◌, ◌≢◌, ℕ, ◌+◌, ℤ, Bool, true, false, List, IfSome, IsSome, ⊤}
 use Rattle.oe_steps.specs.Collections.{AreRead}
 use Rattle.oe_engine.specs.Laws.{GivesCollections}
 use Rattle.oe_engine.specs.Runs.{RunOf}
@@ -136,6 +136,7 @@ MayAct book rows (actions.Commit made response) =
     × IsDecided book (changed book (plain_change made))
 MayAct book rows (actions.RunNow checked) = IsRunnable rows checked
 MayAct book rows (actions.SendAsset job asset) = IsSome (text_at book job asset)
+MayAct book rows (actions.Estimate graphs) = ⊤
 
 -- A service does what is asked for and answers it, as the event of the answer, or as none.
 pub record Acts (action : PlainAction) (s s_after : Service) (before after : Outside)

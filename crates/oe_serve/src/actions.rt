@@ -14,6 +14,7 @@ ghost use Rattle.oe_sources.specs.CatalogueRows.{rows_of};
 ghost use Rattle.oe_serve.specs.Links.{link_of};
 ghost use Rattle.oe_serve.specs.Serves.{Acts, MayAct};
 
+use crate::estimate::answer_estimate;
 use crate::links::{answer, answer_out_of_memory, answer_store_fault, answer_text};
 use crate::results::answer_result;
 use crate::served::Served;
@@ -57,6 +58,7 @@ pub(crate) fn act<R: Threads + Sync, L: Link, P: Store, K: Keeper, G: Gate>(
             let text = text_of(service.book(), job, asset);
             answer_text(link, 200, text.as_str().as_bytes())
         }
+        Action::Estimate(graphs) => answer_estimate(setup.alloc, link, &graphs, service.sizes()),
     }
 }
 

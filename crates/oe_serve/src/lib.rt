@@ -9,6 +9,7 @@
 mod actions;
 mod command;
 mod connections;
+mod estimate;
 mod evaluation;
 mod laws;
 mod links;

@@ -75,6 +75,16 @@ returns-in-QueueJob-clause-valid c =
     may_at (plain_scene c.args.scene) c.args.operation ops.QueueJob c.queue_action.result c.in-QueueJob.is
     c.queue_action.ensures.valid
 
+pub returns-in-EstimateJob-clause-answer : goal.returns-in-EstimateJob-clause-answer
+returns-in-EstimateJob-clause-answer c =
+    at (plain_scene c.args.scene) c.args.user.now (plain_request c.args.request.now) c.args.operation ops.EstimateJob c.estimate_action.result
+    c.in-EstimateJob.is c.estimate_action.ensures.answer
+
+pub returns-in-EstimateJob-clause-valid : goal.returns-in-EstimateJob-clause-valid
+returns-in-EstimateJob-clause-valid c =
+    may_at (plain_scene c.args.scene) c.args.operation ops.EstimateJob c.estimate_action.result c.in-EstimateJob.is
+    (c.estimate_action.ensures.valid (plain_scene c.args.scene) (needs_rows ops.EstimateJob))
+
 pub returns-in-CancelJob-clause-answer : goal.returns-in-CancelJob-clause-answer
 returns-in-CancelJob-clause-answer c =
     at (plain_scene c.args.scene) c.args.user.now (plain_request c.args.request.now) c.args.operation ops.CancelJob c.cancel_action.result
