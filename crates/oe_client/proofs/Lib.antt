@@ -1,4 +1,6 @@
 pub mod Deliveries
 pub mod Offsets
+mod FollowLemmas
+mod PageLemmas
 mod Worked
 mod Writable

@@ -7,8 +7,8 @@ use Rattle.oe_client.specs.Verbs.{Verb, verb_named, verbs}
 words_rise : names_rise (map (λ (v : Verb). v.word) verbs) ≡ true
 words_rise = refl
 
-number_of_verbs : length verbs ≡ 17
+number_of_verbs : length verbs ≡ 18
 number_of_verbs = refl
 
-no_such_verb : verb_named (codes "all") ≡ None
+no_such_verb : verb_named (codes "every") ≡ None
 no_such_verb = refl

@@ -1,11 +1,13 @@
 -- The request of a verb is one that is read again, where the parts of the call have their forms.
-use Rattle.std.proofs.Common.{◌≡◌, ℕ, ◌+◌, ◌<◌, ◌≤◌, ◌==◌, ◌&&◌, Bool, true, false, zero, suc, List, [], ◌∷◌, ◌++◌, length, reverse, Option, Some, None, Result, Ok, Err, IfOk, codes, decimal, nat_le, refl, sym, ap, subst, ◌∙◌, true≢false, arith}
+use Rattle.std.proofs.Common.{◌≡◌, ℕ, ◌+◌, ◌^◌, ◌<◌, ◌≤◌, ◌==◌, ◌&&◌, Bool, true, false, zero, suc, List, [], ◌∷◌, ◌++◌, length, reverse, Option, Some, None, Result, Ok, Err, IfOk, codes, decimal, nat_le, refl, sym, ap, subst, ◌∙◌, true≢false, arith}
 use Rattle.std.specs.Prelude.{IfSome, slice_index, take, drop, unwrap_or, if◌then◌else◌, ◌||◌}
 use Rattle.std.specs.List.{list_all, position_or_len}
+use Rattle.std.specs.Char.{digit_value}
 use Rattle.std.specs.Option.{option_map, option_map_or}
+use Rattle.std.specs.Str.Parse.{AllDigits}
 use Rattle.std.proofs.lemmas.Bool.{and_from, and_parts, cond-false, cond-true, eqb-true, leb-true, ltb-true}
 use Rattle.std.proofs.lemmas.Bool.Decides.{nat_tests}
-use Rattle.std.proofs.lemmas.Fmt.{length-decimal-le}
+use Rattle.std.proofs.lemmas.Fmt.{decimal_is_IsNumeral, length-decimal-le}
 use Rattle.std.proofs.lemmas.List.{append_assoc, append-nil, length-append, length-reverse, length-drop, length-take, reverse-append, reverse-reverse}
 use Rattle.std.proofs.lemmas.List.Folds.{list_all-append}
 use Rattle.std.proofs.lemmas.List.Sums.{AllPass-from_list_all}
@@ -19,11 +21,13 @@ use Rattle.oe_http.specs.Replies.{field_line, line_end}
 use Rattle.oe_http.specs.Requests.{most_body}
 use Rattle.oe_http.specs.Written.{host_line, last_lines, mark_before, query_part, target_line}
 use Rattle.oe_client.specs.Arguments.{IsArgumentOf, id_part, is_argument, is_argument_byte, rest_part}
-use Rattle.oe_client.specs.Commands.{AreCallParts, credentials, is_token, path_with, plain_command, query_with, request_of}
+use Rattle.oe_client.specs.Commands.{AreCallParts, credentials, is_token, page_request, path_with, plain_command, query_with, request_of}
+use Rattle.oe_pages.specs.Pages.{page_query}
+use Rattle.oe_client.specs.Pages.{page_limit}
 use Rattle.oe_client.specs.Verbs.{Verb, first_named, method_name, verbs}
 use Rattle.oe_client.specs.declared.command.ClientCommand.{ClientCommand}
 use Rattle.oe_client.specs.declared.verbs.Argument.{Argument}
-use Rattle.oe_client.specs.declared.verbs.Argument.TheVariants.{Missing, Id, JobAndAsset, JobAndOffset}
+use Rattle.oe_client.specs.declared.verbs.Argument.TheVariants.{Missing, Id, JobAndAsset, JobAndOffset, ListName}
 
 -- ---- the table
 
@@ -205,6 +209,44 @@ path_in_form JobAndOffset before (Some text) behind b is =
       bytes = all_both is_path_byte (id_part text) behind id.bytes b.bytes;
       short = omega (arith, length-append (id_part text) behind, id.short, b.short);
     }
+path_in_form ListName before None behind b is = absurd is
+path_in_form ListName before (Some text) behind b is =
+    let whole = whole_part text is.0 in
+    record {
+      rest = text ++ behind;
+      follows = append_assoc before text behind;
+      bytes = all_both is_path_byte text behind whole.bytes b.bytes;
+      short = omega (arith, length-append text behind, whole.short, b.short);
+    }
+
+-- the query for a page
+digit_in_path : (b : ℕ) → digit_value b < 10 → is_path_byte b ≡ true
+digit_in_path b is = grind (arith, nat_tests)
+
+digits_in_path : (digits : List ℕ) → AllDigits 10 digits → list_all is_path_byte digits ≡ true
+digits_in_path [] all = refl
+digits_in_path (d ∷ digits) all =
+    and_from (is_path_byte d) (list_all is_path_byte digits) (digit_in_path d all.0) (digits_in_path digits all.1)
+
+page_in_form : (offset : ℕ) → offset < 2 ^ 64 → IsPart (page_query page_limit offset) 207
+page_in_form offset below =
+    let front : List ℕ = codes "limit=" ++ decimal 100 ++ codes "&offset=" in
+    let hundred : List ℕ = codes "limit=" ++ decimal 100 in
+    let small : 100 < 2 ^ 64 = omega arith in
+    let limited : length hundred ≡ 6 + length (decimal 100) = length-append (codes "limit=") (decimal 100) in
+    let behind : length front ≡ length hundred + 8 = length-append hundred (codes "&offset=") in
+    let whole : length (front ++ decimal offset) ≡ length front + length (decimal offset) =
+    length-append front (decimal offset) in
+    let few : length (decimal 100) ≤ 20 = length-decimal-le 20 100 (omega arith) (omega arith) small in
+    let digits : length (decimal offset) ≤ 20 = length-decimal-le 20 offset (omega arith) (omega (arith, below)) below in
+    record {
+      bytes = all_both is_path_byte front (decimal offset)
+          (all_both is_path_byte hundred (codes "&offset=")
+          (all_both is_path_byte (codes "limit=") (decimal 100) refl
+          (digits_in_path (decimal 100) (decimal_is_IsNumeral 100 small).0.1)) refl)
+          (digits_in_path (decimal offset) (decimal_is_IsNumeral offset below).0.1);
+      short = omega (arith, limited, behind, whole, few, digits);
+    }
 
 query_in_form : (kind : Argument) (argument : Option (List ℕ)) → IsArgumentOf kind argument
     → IsPart (query_with kind (unwrap_or argument [])) 207
@@ -220,6 +262,7 @@ query_in_form JobAndOffset (Some text) is =
       bytes = all_both is_path_byte (codes "offset=") (rest_part text) refl number.bytes;
       short = omega (arith, named, number.short);
     }
+query_in_form ListName argument is = page_in_form 0 (omega arith)
 
 -- a text behind one that begins with a slash
 slash_first : (before rest : List ℕ) → begins_with_slash before ≡ true → slice_index (before ++ rest) 0 ≡ slash
@@ -364,13 +407,14 @@ head_short method path query host field number m p q h f n =
       f,
     )
 
-writable : (v : Verb) (argument token : Option (List ℕ)) (host input : List ℕ)
-    → AreCallParts v argument token host input → IsWritable (request_of v argument token input) host
-writable v argument token host input parts =
+-- with a query in form
+writable_asking : (v : Verb) (argument token : Option (List ℕ)) (host input query : List ℕ)
+    → AreCallParts v argument token host input → IsPart query 207
+    → IsWritable (record (request_of v argument token input) { query = query }) host
+writable_asking v argument token host input query_text parts query =
     let plain = plain_parts v (found_plain parts.word verbs v parts.named verbs_plain) in
     let path = path_in_form v.argument v.before argument v.behind
     (record { bytes = plain.behind; short = plain.behind_short }) parts.argument_valid in
-    let query = query_in_form v.argument argument parts.argument_valid in
     let held = and_parts _ _ parts.host_valid in
     let whole = path_with v.argument v.before (unwrap_or argument []) v.behind in
     let bytes : list_all is_path_byte whole ≡ true =
@@ -384,16 +428,35 @@ writable v argument token host input parts =
       method = (ltb-true _ _ method.0, AllPass-from_list_all grammar.is_token_byte (method_name v.method) method.1);
       slash = subst (λ p. slice_index p 0 ≡ slash) (sym path.follows) (slash_first v.before path.rest plain.begins);
       path = AllPass-from_list_all is_path_byte whole bytes;
-      query = AllPass-from_list_all is_visible (query_with v.argument (unwrap_or argument []))
-          (all_weaker is_path_byte is_visible path_visible (query_with v.argument (unwrap_or argument [])) query.bytes);
+      query = AllPass-from_list_all is_visible query_text
+          (all_weaker is_path_byte is_visible path_visible query_text query.bytes);
       host_text = AllPass-from_list_all is_visible host held.1;
       authorization = credentials_in_form token parts.token_valid;
-      head = head_short (method_name v.method) whole (query_with v.argument (unwrap_or argument [])) host
+      head = head_short (method_name v.method) whole query_text host
           (field_line (codes "Authorization: ") (option_map credentials token))
           (length (if v.sends_input then input else []))
           plain.method_short short query.short (leb-true _ _ held.0) (field_short token parts.token_valid) body;
       body = body;
     }
+
+writable : (v : Verb) (argument token : Option (List ℕ)) (host input : List ℕ)
+    → AreCallParts v argument token host input → IsWritable (request_of v argument token input) host
+writable v argument token host input parts =
+    writable_asking v argument token host input (query_with v.argument (unwrap_or argument [])) parts
+    (query_in_form v.argument argument parts.argument_valid)
+
+-- of the command for a page that was made
+pub page_writable : {E : Type 0} (result : Result ClientCommand E) (v : Verb) (argument token : Option (List ℕ))
+    (host : List ℕ) (offset : ℕ) → offset < 2 ^ 64
+    → IfOk result (λ c. (plain_command c).request ≡ page_request v argument token offset) → IfOk result (λ c. c.host ≡ host)
+    → IfOk result
+    (λ c. AreCallParts v argument token host [] → IsWritable (plain_command c).request c.host)
+page_writable (Ok c) v argument token host offset below request host_is = λ parts.
+    let P : PlainRequest → Type 0 = λ r. IsWritable r c.host in
+    let Q : List ℕ → Type 0 = λ h. IsWritable (page_request v argument token offset) h in
+    subst P (sym request) (subst Q (sym host_is)
+    (writable_asking v argument token host [] (page_query page_limit offset) parts (page_in_form offset below)))
+page_writable (Err e) v argument token host offset below request host_is = tt
 
 -- of a command that was made
 pub command_writable : {E : Type 0} (result : Result ClientCommand E) (v : Verb) (argument token : Option (List ℕ))

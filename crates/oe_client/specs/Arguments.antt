@@ -1,9 +1,9 @@
 -- What may stand behind a verb.
-use Rattle.std.specs.Prelude.{◌≡◌, ℕ, ◌<◌, ◌≤◌, ◌^◌, ◌==◌, ◌&&◌, ◌||◌, not, nat_le, Bool, true, List, length, Option, Some, None, decimal, ⊤}
+use Rattle.std.specs.Prelude.{◌≡◌, ℕ, ◌<◌, ◌≤◌, ◌^◌, ◌==◌, ◌&&◌, ◌||◌, not, nat_le, Bool, true, bytes_eq, List, codes, length, Option, Some, None, decimal, ⊤}
 use Rattle.std.specs.List.{after_first, before_first, list_all}
 use Rattle.oe_dims.specs.Names.{is_name_byte}
 use Rattle.oe_client.specs.declared.verbs.Argument.{Argument}
-use Rattle.oe_client.specs.declared.verbs.Argument.TheVariants.{Missing, Id, JobAndAsset, JobAndOffset}
+use Rattle.oe_client.specs.declared.verbs.Argument.TheVariants.{Missing, Id, JobAndAsset, JobAndOffset, ListName}
 
 abbrev pub slash : ℕ
 slash = 47
@@ -36,6 +36,16 @@ pub record SpellsOffset (text : List ℕ) (number : ℕ) : Type 0 where
 abbrev pub IsOffset : List ℕ → Type 0
 IsOffset text = (number : ℕ) × SpellsOffset text number
 
+-- the name of a list that is asked for page by page: one that all see, or one of a user
+abbrev pub is_open_list : List ℕ → Bool
+is_open_list text = bytes_eq text (codes "collections") || bytes_eq text (codes "processes")
+
+abbrev pub is_own_list : List ℕ → Bool
+is_own_list text = bytes_eq text (codes "jobs") || bytes_eq text (codes "process_graphs")
+
+abbrev pub is_list : List ℕ → Bool
+is_list text = is_open_list text || is_own_list text
+
 -- this may stand behind a verb, or nothing may
 abbrev pub IsArgumentOf : Argument → Option (List ℕ) → Type 0
 IsArgumentOf Missing None = ⊤
@@ -48,3 +58,5 @@ IsArgumentOf JobAndAsset (Some text) =
 IsArgumentOf JobAndOffset None = ⊥
 IsArgumentOf JobAndOffset (Some text) =
     (is_argument text ≡ true) × (is_segment (id_part text) ≡ true) × IsOffset (rest_part text)
+IsArgumentOf ListName None = ⊥
+IsArgumentOf ListName (Some text) = (is_argument text ≡ true) × (is_list text ≡ true)

@@ -6,10 +6,12 @@ use Rattle.oe_client.specs.Arguments.{IsArgumentOf, id_part, rest_part}
 use Rattle.oe_client.specs.Verbs.{Verb, method_name, verb_named}
 use Rattle.oe_client.specs.declared.command.ClientCommand.{ClientCommand}
 use Rattle.oe_client.specs.declared.verbs.Argument.{Argument}
-use Rattle.oe_client.specs.declared.verbs.Argument.TheVariants.{Missing, Id, JobAndAsset, JobAndOffset}
+use Rattle.oe_client.specs.declared.verbs.Argument.TheVariants.{Missing, Id, JobAndAsset, JobAndOffset, ListName}
 use Rattle.oe_http.specs.Again.{is_visible}
 use Rattle.oe_http.specs.Plain.{PlainRequest, plain_request}
 use Rattle.oe_http.specs.Requests.{most_body}
+use Rattle.oe_pages.specs.Pages.{page_query}
+use Rattle.oe_client.specs.Pages.{page_limit}
 
 -- what contracts compare of a call: the request, and the host that it is written to
 pub record PlainCommand : Type 0 where
@@ -25,13 +27,16 @@ path_with Missing before argument behind = before
 path_with Id before argument behind = before ++ argument ++ behind
 path_with JobAndAsset before argument behind = before ++ id_part argument ++ behind ++ rest_part argument
 path_with JobAndOffset before argument behind = before ++ id_part argument ++ behind
+path_with ListName before argument behind = before ++ argument ++ behind
 
--- the query: with an id and a number, that the log entries up to the number are left out
+-- the query: with an id and a number, that the log entries up to the number are left out; of a list, that for its first
+-- page
 abbrev pub query_with : Argument → List ℕ → List ℕ
 query_with Missing argument = []
 query_with Id argument = []
 query_with JobAndAsset argument = []
 query_with JobAndOffset argument = codes "offset=" ++ rest_part argument
+query_with ListName argument = page_query page_limit 0
 
 -- the value of the field `Authorization` for a token
 abbrev pub credentials : List ℕ → List ℕ
@@ -46,6 +51,10 @@ request_of v argument token input = record {
   authorization = option_map credentials token;
   body = if v.sends_input then input else [];
 }
+
+-- the request for the page at an offset
+abbrev pub page_request : Verb → Option (List ℕ) → Option (List ℕ) → ℕ → PlainRequest
+page_request v argument token offset = record (request_of v argument token []) { query = page_query page_limit offset }
 
 -- a token: 1 to 128 visible bytes of ASCII
 abbrev pub is_token : List ℕ → Bool

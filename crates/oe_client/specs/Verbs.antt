@@ -3,7 +3,7 @@ use Rattle.std.specs.Prelude.{ℕ, Bool, true, false, List, [], ◌∷◌, Optio
 use denote.Bor.{Bor}
 use Rattle.oe_dims.specs.Names.{same_name}
 use Rattle.oe_client.specs.declared.verbs.Argument.{Argument}
-use Rattle.oe_client.specs.declared.verbs.Argument.TheVariants.{Missing, Id, JobAndAsset, JobAndOffset}
+use Rattle.oe_client.specs.declared.verbs.Argument.TheVariants.{Missing, Id, JobAndAsset, JobAndOffset, ListName}
 use Rattle.oe_client.specs.declared.verbs.VerbMethod.{VerbMethod}
 use Rattle.oe_client.specs.declared.verbs.VerbMethod.TheVariants.{Delete, Get, Post, Put}
 
@@ -37,7 +37,8 @@ verb_of row = verb_from row.0.now row.1 row.2.now row.3 row.4.now row.5
 -- all verbs, in byte order of their words
 abbrev pub verbs : List Verb
 verbs =
-    verb_from (codes "asset") Get (codes "/jobs/") JobAndAsset (codes "/results/") false
+    verb_from (codes "all") Get (codes "/") ListName (codes "") false
+    ∷ verb_from (codes "asset") Get (codes "/jobs/") JobAndAsset (codes "/results/") false
     ∷ verb_from (codes "cancel") Delete (codes "/jobs/") Id (codes "/results") false
     ∷ verb_from (codes "collections") Get (codes "/collections") Missing (codes "") false
     ∷ verb_from (codes "create") Post (codes "/jobs") Missing (codes "") true

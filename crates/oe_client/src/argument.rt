@@ -13,7 +13,7 @@ const MOST_ARGUMENT: usize = 200;
 
 /// Whether this may stand behind a verb that takes such an argument: nothing, or 1 to 200 bytes of letters, digits, `_`,
 /// `-`, `.` and `/`; of `ID/NAME` with one slash and bytes on both sides of it; of `ID/N` with an id without a slash
-/// before it and a number from 1 to 2^64 − 1 behind it, in decimal without leading zeros.
+/// before it and a number from 1 to 2^64 − 1 behind it, in decimal without leading zeros; the name of a list.
 pub fn is_argument_of(argument: Argument, text: Option<&Text>) -> bool
     ensures { IsTrue result ↔ spec.IsArgumentOf argument (option_map (λ t. t.now) text.entry) }
 {
@@ -26,6 +26,7 @@ pub fn is_argument_of(argument: Argument, text: Option<&Text>) -> bool
         (Argument::JobAndOffset, Some(text)) => {
             is_path(text.as_str()) && is_job_and_offset(text.as_str())
         }
+        (Argument::ListName, Some(text)) => is_path(text.as_str()) && is_list(text.as_str()),
         _ => false,
     }
 }
@@ -79,6 +80,25 @@ fn is_job_and_offset(text: &str) -> bool
 {
     let (id, number) = split_at_slash(text);
     is_segment(id) && is_offset(number)
+}
+
+/// The name of a list.
+fn is_list(text: &str) -> bool
+    ensures { result ≡ spec.is_list text.now }
+{
+    is_open_list(text) || is_own_list(text)
+}
+
+fn is_open_list(text: &str) -> bool
+    ensures { result ≡ spec.is_open_list text.now }
+{
+    text == "collections" || text == "processes"
+}
+
+fn is_own_list(text: &str) -> bool
+    ensures { result ≡ spec.is_own_list text.now }
+{
+    text == "jobs" || text == "process_graphs"
 }
 
 /// Some bytes, none of them a slash.

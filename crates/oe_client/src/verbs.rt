@@ -25,6 +25,8 @@ pub enum Argument {
     JobAndAsset,
     /// `ID/N`: the id of a job and how many of its log entries are left out.
     JobAndOffset,
+    /// The name of a list that is asked for page by page: `collections`, `jobs`, `process_graphs` or `processes`.
+    ListName,
 }
 
 /// A verb: its word, the method of its request, its path up to the argument, what the argument is, what follows the
@@ -39,7 +41,8 @@ pub type VerbEntry = (
 );
 
 /// All verbs, in byte order of their words.
-pub static VERBS: [VerbEntry; 17] = [
+pub static VERBS: [VerbEntry; 18] = [
+    ("all", VerbMethod::Get, "/", Argument::ListName, "", false),
     (
         "asset",
         VerbMethod::Get,

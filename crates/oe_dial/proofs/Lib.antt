@@ -1,6 +1,7 @@
-mod Inputs
 mod Endings
 mod Hosts
+mod Inputs
+mod ListLemmas
 mod Ports
 mod Sayings
 mod Spellings

@@ -1,4 +1,5 @@
 pub mod Words
 pub mod Lines
 pub mod Ends
+pub mod Lists
 pub mod Answer

@@ -70,7 +70,7 @@ fn command_of(
 }
 
 /// Dials the host and the port once, makes the call, and gives the connection back.
-fn dial_and_call<O: Sink, D: Door>(
+pub(crate) fn dial_and_call<O: Sink, D: Door>(
     alloc: Global,
     call: &ClientCall<'_>,
     command: &ClientCommand,
@@ -137,7 +137,7 @@ fn ending_of(ended: Result<(), ClientFail>) -> Result<(), CallRefusal>
 }
 
 /// A host and a port, with a colon between them.
-fn host_with_port(alloc: Global, host: &str, port: u16) -> Result<Text, OutOfMemory>
+pub(crate) fn host_with_port(alloc: Global, host: &str, port: u16) -> Result<Text, OutOfMemory>
     ensures { IfOk result (λ text. text ≡ host_text host.now port) }
 {
     join(alloc, host, ":", Buffer::new().format(port))

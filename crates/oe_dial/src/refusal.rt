@@ -20,7 +20,7 @@ pub enum CallRefusal {
     OutOfMemory,
     /// No connection came, or one failed.
     LinkFault,
-    /// What the peer sent is no response.
+    /// What the peer sent is no response, or, where a page of a list is asked for, no page.
     PeerInvalid,
     /// The peer's response has another status than 200 to 299, this one, and this body.
     Refused { status: u16, body: Vec<u8> },
@@ -98,7 +98,7 @@ fn say_body<E: Sink>(err: &mut E, body: &[u8]) -> Result<(), Failed>
 
 /// Writes two pieces, one behind the other.
 #[tactic(auto, using(crate::proofs::Sayings::first_stopped, crate::proofs::Sayings::second_stopped, crate::proofs::Sayings::both_written))]
-fn write_two<E: Sink>(err: &mut E, first: &[u8], second: &[u8]) -> Result<(), Failed>
+pub(crate) fn write_two<E: Sink>(err: &mut E, first: &[u8], second: &[u8]) -> Result<(), Failed>
     ensures appended { OnOk result
         (Appends (E.written err.old) (first.now ++ second.now) (E.written err.new)) }
     ensures prefix { OnErr result

@@ -20,7 +20,7 @@ Usage:
   openeo serve PORT CX CY CT W TURNS
                                    answer the openEO API by HTTP at 127.0.0.1:PORT, and run its batch jobs
   openeo client HOST PORT TOKEN VERB [ARG]
-                                   make one call of an openEO back end and write what it answers
+                                   call an openEO back end and write what it answers
   openeo --help                    print this text; after a command, the text about that command
   openeo --version                 print the version
 
@@ -52,7 +52,7 @@ Exit status, and the line on standard error:
   9   OutOfMemory: an allocation was refused
   10  KeeperFault: the database of serve could not be read or written
   11  LinkFault: no connection came, or it broke, or the back end took too long; serve could not have its port
-  12  PeerInvalid: what the back end answered is no response that client reads
+  12  PeerInvalid: what the back end answered is no response that client reads, or to all no page of the list
   13  Refused STATUS: the back end refused the call; its own words are on the next line
   14  Setup NAME: this file could not be opened, made or mounted; bytes that do not print are \\x and two digits
   15  SpoolDamaged POSITION: the file of the run's cells gave back what was not written
@@ -169,11 +169,13 @@ Exit status: 0, 1 Usage, 9 OutOfMemory, 10 KeeperFault, 11 LinkFault, 14 Setup.
 const CLIENT: &str = "\
 openeo client HOST PORT TOKEN VERB [ARG]
 
-Makes one call of an openEO back end by HTTP and writes the body of its response. Where the back end refuses the call,
-the line 'openeo: Refused STATUS' is written on standard error, and the back end's own words on the next.
+Makes one call of an openEO back end by HTTP, or by all one a page, and writes the body of its response. Where the back
+end refuses the call, the line 'openeo: Refused STATUS' is written on standard error, and its own words on the next.
 HOST is a name or an address, of IPv6 without brackets; PORT is from 1 to 65535; TOKEN is the user's token, and '-'
-sends none. ID is the id of a job or of a stored process. Verbs:
+sends none. ID is the id of a job or of a stored process, and LIST is collections, processes, jobs or process_graphs,
+which all asks for by pages of 100, one call a page, and of which it writes each page with a line feed. Verbs:
 
+  all LIST           all pages of a list               openeo client localhost 8080 abc all jobs
   collections        all collections                   openeo client localhost 8080 - collections
   processes          all processes                     openeo client localhost 8080 - processes
   validate           faults of a graph, from stdin     openeo client localhost 8080 - validate < GRAPH
