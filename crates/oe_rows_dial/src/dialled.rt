@@ -3,7 +3,7 @@ ghost use Rattle.std.specs.Prelude.{◌≡◌, ℕ, All, IfOk, List};
 ghost use Rattle.oe_dial.specs.Words.{SpellsCall, plain_call};
 ghost use Rattle.oe_outside.specs.ScriptDoors.{IsSound};
 
-use crate::setting::Setting;
+use crate::setting::{Setting, Spelled};
 use oe_dial::{ClientCall, client, read_call};
 use oe_dims::Text;
 use oe_lines::{
@@ -122,7 +122,7 @@ fn input_of(alloc: Global, setting: Setting<'_>) -> Result<MemorySource, Fault> 
     Ok(MemorySource::new(bytes, numbers_of(alloc, setting.fails.input)?)?)
 }
 
-/// A door that dials one peer.
+/// A door that dials these peers.
 fn door_of(alloc: Global, setting: Setting<'_>) -> Result<ScriptDoor, Fault> {
     let peers = peers_of(alloc, setting)?;
     Ok(ScriptDoor::new(
@@ -137,14 +137,16 @@ fn peers_of(alloc: Global, setting: Setting<'_>) -> Result<Vec<MemoryLink>, Faul
     ensures { IfOk result (λ peers. All IsSound peers.items) }
 {
     let mut peers = Vec::new(alloc);
-    peers.push(peer_of(alloc, setting)?)?;
+    for peer in setting.peers {
+        peers.push(peer_of(alloc, *peer, setting)?)?;
+    }
     Ok(peers)
 }
 
-fn peer_of(alloc: Global, setting: Setting<'_>) -> Result<MemoryLink, Fault>
+fn peer_of(alloc: Global, peer: Spelled<'_>, setting: Setting<'_>) -> Result<MemoryLink, Fault>
     ensures { IfOk result (λ peer. peer.faults ≡ 0) }
 {
-    let bytes = escaped_bytes(alloc, setting.peer.text)?;
+    let bytes = escaped_bytes(alloc, peer.text)?;
     let piece: usize = number_of(setting.piece.text)?;
     let calls = numbers_of(alloc, setting.fails.link)?;
     Ok(MemoryLink::new(alloc, bytes, piece.max(1), SENT_ROOM, calls)?)

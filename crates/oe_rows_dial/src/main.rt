@@ -7,6 +7,7 @@
 //! |---|---|
 //! | `# WORDS` | says what the next lines show |
 //! | `peer BYTES` | the peer gives these bytes, and ends |
+//! | `more BYTES` | so does the peer that is dialled behind those before it |
 //! | `input BYTES` | the input has these bytes |
 //! | `piece N` | a read of the connection gives at most so many bytes |
 //! | `fails DIAL LINK INPUT OUT ERR` | which calls fail of `dial`, of a connection, of the input and of both outputs: their numbers, counted from 0 and with commas between them, `-` for none |
@@ -26,8 +27,8 @@ mod dialled;
 mod setting;
 
 use dialled::answer_client;
-use oe_lines::{Answers, first_word};
-use setting::{Setting, fails_of, spelling};
+use oe_lines::{Answers, Fault, first_word};
+use setting::{Setting, Spelled, fails_of, spelling};
 use std::alloc::Global;
 use std::io::{Read, Write};
 use std::process::ExitCode;
@@ -51,7 +52,7 @@ fn main(rt: HostRuntime) -> ExitCode {
 
 /// Appends the answers to all lines.
 fn answer_lines(alloc: Global, text: &str, answers: &mut Answers) {
-    let mut peer = spelling("");
+    let mut peers = Vec::new(alloc);
     let mut input = spelling("");
     let mut piece = spelling("65536");
     let mut fails = fails_of("- - - - -");
@@ -59,13 +60,17 @@ fn answer_lines(alloc: Global, text: &str, answers: &mut Answers) {
         let (word, rest) = first_word(line);
         match word {
             "#" => {}
-            "peer" => peer = spelling(rest),
+            "peer" => {
+                peers.clear();
+                add_peer(&mut peers, rest, answers);
+            }
+            "more" => add_peer(&mut peers, rest, answers),
             "input" => input = spelling(rest),
             "piece" => piece = spelling(rest),
             "fails" => fails = fails_of(rest),
             _ => {
                 let setting = Setting {
-                    peer,
+                    peers: peers.as_slice(),
                     input,
                     piece,
                     fails,
@@ -74,5 +79,12 @@ fn answer_lines(alloc: Global, text: &str, answers: &mut Answers) {
                 answers.settle(outcome);
             }
         }
+    }
+}
+
+/// Adds the bytes of one more peer.
+fn add_peer<'a>(peers: &mut Vec<Spelled<'a>>, bytes: &'a str, answers: &mut Answers) {
+    if peers.push(spelling(bytes)).is_err() {
+        answers.note(Fault::OutOfMemory);
     }
 }

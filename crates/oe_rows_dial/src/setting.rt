@@ -14,7 +14,8 @@ pub(crate) fn spelling(text: &str) -> Spelled<'_> {
 /// What a call works on.
 #[derive(Clone, Copy)]
 pub(crate) struct Setting<'a> {
-    pub(crate) peer: Spelled<'a>,
+    /// The peers in the order in which they are dialled.
+    pub(crate) peers: &'a [Spelled<'a>],
     pub(crate) input: Spelled<'a>,
     /// How many bytes a read of the connection gives at most.
     pub(crate) piece: Spelled<'a>,
