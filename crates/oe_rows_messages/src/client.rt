@@ -3,10 +3,13 @@ use crate::links::{Links, peer_link, spell_end};
 use crate::streams::sink_of;
 use crate::writing::{body_in, text_in};
 use oe_client::{
-    ClientCommand, ClientFail, client_call, client_command, find_verb, is_argument_of,
+    ClientCommand, ClientFail, PageFail, client_call, client_command, find_verb, is_argument_of,
+    next_offset,
 };
 use oe_dims::Text;
-use oe_lines::{Answers, Fault, escaped_bytes, first_word, push, push_number, push_quoted};
+use oe_lines::{
+    Answers, Fault, end_line, escaped_bytes, first_word, number_of, push, push_number, push_quoted,
+};
 use oe_outside::{MemoryLink, MemorySink};
 use std::alloc::Global;
 
@@ -45,6 +48,25 @@ pub(crate) fn answer_call(
             Ok(())
         }
     }
+}
+
+/// Appends where the next page of a list begins, by the body of the page at an offset, which `LIST OFFSET BODY` spell.
+pub(crate) fn answer_next(alloc: Global, rest: &str, answers: &mut Answers) -> Result<(), Fault> {
+    let (list, rest) = first_word(rest);
+    let (offset, body) = first_word(rest);
+    let offset: u64 = number_of(offset)?;
+    if offset > 100000 {
+        return Err(Fault::Line);
+    }
+    let body = escaped_bytes(alloc, body)?;
+    match next_offset(alloc, list, &body, offset) {
+        Ok(Some(next)) => push_number("", next, answers),
+        Ok(None) => push("none", answers),
+        Err(PageFail::Invalid) => push("invalid", answers),
+        Err(PageFail::OutOfMemory) => return Err(Fault::OutOfMemory),
+    }
+    end_line(answers);
+    Ok(())
 }
 
 fn call_of(rest: &str) -> Call<'_> {

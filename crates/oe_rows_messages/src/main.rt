@@ -16,6 +16,7 @@
 //! | `head STATUS LENGTH` | writes the head of a reply whose body of so many bytes follows |
 //! | `written HOST METHOD PATH QUERY AUTHORIZATION BODY` | writes a request to a host |
 //! | `call FAILING VERB ARGUMENT TOKEN INPUT RESPONSE` | sends the request of a client's verb to a peer that gives this response, to an output whose writes of these numbers fail |
+//! | `next LIST OFFSET BODY` | where the next page of a list begins, by the body of the page at an offset |
 //!
 //! Bytes are spelled as they are, with `\r` and `\n` for the bytes of a line end, `\HH` for any byte in two hexadecimal
 //! digits, and bars between parts, of which one as `N*BYTES` has its bytes N times. In the lines that write, the words

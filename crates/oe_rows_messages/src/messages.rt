@@ -1,5 +1,5 @@
 // HTTP messages that are read from links in memory and written to them, and calls of a client.
-use crate::client::answer_call;
+use crate::client::{answer_call, answer_next};
 use crate::links::{Links, links_of};
 use crate::reading::{Message, answer_read, answer_texts};
 use crate::writing::answer_written;
@@ -37,6 +37,7 @@ fn answer_line(
         "request" => answer_read(alloc, links, Message::Request, rest, answers),
         "response" => answer_read(alloc, links, Message::Response, rest, answers),
         "call" => answer_call(alloc, links, rest, answers),
+        "next" => answer_next(alloc, rest, answers),
         _ => answer_written(alloc, links, word, rest, answers),
     }
 }
