@@ -15,15 +15,13 @@ use Rattle.oe_engine.specs.Laws.{AreMounted, AreShown, BeginAndEnd, StayAfterRea
 use Rattle.oe_engine.specs.Runs.{RunOf, chunks_from, result_cube}
 use Rattle.oe_engine.proofs.CatalogueLemmas.{same_meaning, visible_at}
 use Rattle.oe_engine.proofs.GridLemmas.{all_inside, chunks_inside}
-use Rattle.oe_engine.proofs.MountLemmas.{has_collections}
+use Rattle.oe_steps.proofs.MountLemmas.{has_collections}
 use Rattle.oe_steps.proofs.ReadLemmas.{AreRead-refl, AreRead-trans, has_same, rose_first, rose_later, says_same, shows_same}
 use Rattle.oe_engine.proofs.ReadLemmas.{dims_same, given_same}
 use Rattle.oe_engine.proofs.RenderLemmas.{result_shape_is, result_whole}
 
 pub are_mounted : AreMounted
-are_mounted p rows is are =
-    has_collections p.graph is.faultless rows are
-    (subst (λ (steps : List ℕ). (step : ℕ) → step < length steps → get_or steps step 0 < node_count p.graph.nodes) is.steps_are is.within)
+are_mounted p rows is are = has_collections p.graph is.faultless rows are
 
 pub are_shown : AreShown
 are_shown = record {

@@ -15,7 +15,6 @@ pub mod DoneLemmas
 pub mod NextChunkLemmas
 pub mod WrittenLemmas
 pub mod RenderLemmas
-pub mod MountLemmas
 pub mod CatalogueLemmas
 pub mod LawLemmas
 pub mod GoingLemmas

@@ -13,3 +13,4 @@ pub mod StepLoadLemmas
 pub mod StripLemmas
 pub mod RowLemmas
 pub mod RunLemmas
+pub mod MountLemmas

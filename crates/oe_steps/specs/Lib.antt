@@ -5,3 +5,4 @@ pub mod Collections
 pub mod Refusals
 pub mod Loads
 pub mod Strips
+pub mod Laws

@@ -9,12 +9,14 @@
 #![tactic(auto)]
 
 mod fail;
+mod laws;
 mod loading;
 mod run;
 mod step;
 mod strips;
 
 pub use fail::RunFail;
+pub use laws::loads_are_mounted;
 pub use loading::{load_front, load_slot, place_of};
 pub use run::{evaluate_steps, loads, step_of_last};
 pub use step::{evaluate_step, front};

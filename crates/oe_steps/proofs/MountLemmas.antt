@@ -1,12 +1,14 @@
 -- What a check has seen of the collections that a graph loads holds of the catalogue that it was checked over.
 use Rattle.std.proofs.Common.{◌≡◌, ℕ, suc, ◌+◌, ◌<◌, true, cond, if◌then◌else◌, is_none, List, [], ◌∷◌, length, get_or, drop, Option, Some, None, refl, sym, ap, ◌∙◌, inl, inr, arith}
 use Rattle.std.proofs.lemmas.Bool.{cases_Bool}
-use Rattle.std.proofs.lemmas.Option.{same_Some}
+use Rattle.std.proofs.lemmas.Option.{same_Some, slice_get_within}
+use Rattle.std.specs.Prelude.{slice_get}
 use Rattle.std.specs.List.{find}
 use Rattle.std.specs.Option.{option_and_then, option_map, option_map_or}
 use Rattle.oe_dims.specs.Names.{same_name}
 use Rattle.oe_dims.specs.declared.dims.DimsRow.{DimsRow}
 use Rattle.oe_graph.specs.Printed.{node_count}
+use Rattle.oe_graph.specs.References.{each_node}
 use Rattle.oe_graph.specs.declared.code.Code.TheVariants.{CollectionNotFound}
 use Rattle.oe_graph.proofs.ResolvedLemmas.{SomeNode, node_below}
 use Rattle.oe_expr.specs.Rows.{first_row}
@@ -18,12 +20,13 @@ use Rattle.oe_shape.specs.Operations.{Outline, no_outline}
 use Rattle.oe_shape.specs.Requests as request
 use Rattle.oe_shape.specs.Requests.{CubeRequest, cube_request_at}
 use Rattle.oe_shape.specs.Stands.{IsSound, cubes_of, early, early_rows, sound}
-use Rattle.oe_shape.proofs.LinkLemmas.{one_node}
+use Rattle.oe_shape.proofs.LinkLemmas.{each_count, one_node}
 use Rattle.oe_shape.proofs.RequestLemmas.{found}
 use Rattle.oe_sources.specs.Catalogue.{Row, row_index, row_of, source_at}
 use Rattle.oe_sources.specs.CatalogueDims.{AreDimsOf, dims_row}
 use Rattle.oe_plan.specs.Figures.{steps_of}
 use Rattle.oe_steps.specs.Collections.{HasCollections, IsMountedAt}
+use Rattle.oe_steps.specs.Laws.{AreMounted}
 
 -- the row of an id, by its index
 pub record IsRowAt (rows : List Row) (id : List ℕ) (row : Row) : Type 0 where
@@ -117,10 +120,19 @@ module _ (c : CheckedGraph) (f : AreFaultless c) (index : ℕ) (below : index < 
           absurd (missing r.0 r.1 r.2 e (f.sound there.node (contains_node c.nodes index there.node there.is_there)))
       by (Some row) e = (row, e)
 
+-- a node that loads a collection is one of the graph
+loads_within : (c : CheckedGraph) (node : ℕ) (id : List ℕ) → collection_of_node c node ≡ Some id → node < node_count c.nodes
+loads_within c node id is =
+    let n = found loaded_collection (slice_get (each_node c.nodes) node) id is in
+    let below = slice_get_within (each_node c.nodes) node n.0 n.1 in
+    omega (arith, below, each_count c.nodes)
+
 -- A graph that was checked over the rows of a catalogue has its collections mounted there.
-pub has_collections : (c : CheckedGraph) → AreFaultless c → (rows : List Row) → AreDimsOf rows c.rows
-    → ((step : ℕ) → step < length (steps_of c) → get_or (steps_of c) step 0 < node_count c.nodes) → HasCollections c rows
-has_collections c f rows are within step id loaded =
+pub has_collections : (c : CheckedGraph) → AreFaultless c → (rows : List Row) → AreDimsOf rows c.rows → HasCollections c rows
+has_collections c f rows are step id loaded =
     let node = get_or (steps_of c) step 0 in
-    let row = seen_row c f node (within step loaded.within) id loaded.loads in
+    let row = seen_row c f node (loads_within c node id loaded.loads) id loaded.loads in
     mounted_so c rows are id row.0 row.1
+
+pub are_mounted : AreMounted
+are_mounted c rows f are = has_collections c f rows are
