@@ -3,7 +3,7 @@ use Rattle.std.proofs.Common.{◌≡◌, ◌≢◌, ◌⊎◌, ◌↔◌, ℕ, z
 use Rattle.std.proofs.lemmas.Bool.{cases_eq, true≢false}
 use Rattle.std.specs.Prelude.{Contains}
 use Rattle.oe_order.specs.Graph.{Node, IsAcyclic, IsInRun, Reaches, arguments, is_load, onwards, refers}
-use Rattle.oe_slab.specs.Parts.{as_load}
+use Rattle.oe_plan.specs.Schedules.{as_load}
 
 -- ---- a node that takes one other
 

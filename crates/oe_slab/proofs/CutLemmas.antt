@@ -16,7 +16,7 @@ use Rattle.oe_shape.specs.Links.{links_of}
 use Rattle.oe_shape.specs.Reach.{time_fold_of_node, whole_of_node}
 use Rattle.oe_slab.specs.Cuts.{HasNoTimeCut, IsLoneFold, IsOfRun, IsTimeCut, links_behind}
 use Rattle.oe_slab.specs.Figures.{width_behind}
-use Rattle.oe_slab.specs.Parts.{as_load}
+use Rattle.oe_plan.specs.Schedules.{as_load}
 
 stands_at : (steps : List ℕ) (n : ℕ) → Contains steps n → (i : ℕ) × (i < length steps) × (slice_index steps i ≡ n)
 stands_at steps n has = contains-index steps n (contains-from steps n has)

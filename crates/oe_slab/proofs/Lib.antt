@@ -10,7 +10,7 @@ pub mod FoldedLemmas
 pub mod SlabLemmas
 pub mod PlaneLemmas
 pub mod MeaningLemmas
-pub mod BufferLemmas
+pub mod WorkspaceLemmas
 pub mod MedianLemmas
 pub mod SlabWindowLemmas
 mod Worked

@@ -3,7 +3,7 @@ use Rattle.std.proofs.Common.{◌≡◌, ℕ, zero, suc, ◌+◌, ◌<◌, true,
 use Rattle.std.specs.Prelude.{slice_set}
 use Rattle.oe_order.specs.Graph.{Node, graph_of}
 use Rattle.oe_order.specs.declared.Links.{Links}
-use Rattle.oe_slab.specs.Parts.{as_load}
+use Rattle.oe_plan.specs.Schedules.{as_load}
 
 abbrev node_of : Links → Node
 node_of x = record { load = x.load; arguments = x.arguments.items }

@@ -6,7 +6,7 @@ use Rattle.oe_order.specs.Graph.{Node, arguments, Reaches, refers, onwards, IsAc
 use Rattle.oe_order.specs.Live.{Steps}
 use Rattle.oe_order.specs.Order.{IsListing}
 use Rattle.oe_order.proofs.Reach.{IsInRun-within}
-use Rattle.oe_slab.specs.Parts.{as_load}
+use Rattle.oe_plan.specs.Schedules.{as_load}
 
 pub length-as_load : (nodes : List Node) (f : ℕ) → length (as_load nodes f) ≡ length nodes
 length-as_load [] f = refl

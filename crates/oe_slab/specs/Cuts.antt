@@ -8,7 +8,7 @@ use Rattle.oe_order.specs.Graph.{Node, IsInRun, is_load}
 use Rattle.oe_shape.specs.Checked.{CheckedGraph}
 use Rattle.oe_shape.specs.Links.{links_of}
 use Rattle.oe_shape.specs.Reach.{time_fold_of_node, whole_of_node}
-use Rattle.oe_slab.specs.Parts.{as_load}
+use Rattle.oe_plan.specs.Schedules.{as_load}
 
 -- a node of the run: the result, or one that it reaches by references
 abbrev pub IsOfRun : CheckedGraph → ℕ → Type 0

@@ -1,10 +1,10 @@
 -- What a run is evaluated in that is folded slab by slab.
-use Rattle.std.specs.Prelude.{◌≡◌, ◌+◌, ◌*◌, ◌<◌, ℕ, List, [], length, map, slice_index_or, sum_by, Vec}
-use Rattle.std.specs.declared.alloc.Global.{Global}
+use Rattle.std.specs.Prelude.{◌≡◌, ◌+◌, ◌*◌, ℕ, List, length, sum_by}
 use Rattle.oe_cell.specs.declared.cell.Cell.{Cell}
 use Rattle.oe_fold.specs.declared.pass.Pass.{Pass}
 use Rattle.oe_graph.specs.Printed.{node_count}
 use Rattle.oe_plan.specs.Figures.{scratch_of}
+use Rattle.oe_steps.specs.Buffers.{AreOfSize}
 use Rattle.oe_window.specs.declared.window.Window.{Window}
 use Rattle.oe_slab.specs.Figures.{largest_plane, largest_slab, width_before, width_behind}
 use Rattle.oe_slab.specs.Plans.{SlabPlanOf}
@@ -25,11 +25,6 @@ held_cells w =
     sum_by (λ (cells : List Cell). length cells) w.before + 2 * length w.folds
     + sum_by (λ (cells : List Cell). length cells) w.behind + length w.scratch
 
--- so many buffers of so many cells each
-pub record AreOfSize (buffers : List (List Cell)) (count cells : ℕ) : Type 0 where
-  pub as_many : length buffers ≡ count
-  pub each : (slot : ℕ) → slot < count → length (slice_index_or buffers slot []) ≡ cells
-
 -- it has room for each slab and each plane of a plan
 pub record IsWorkspaceFor (p : SlabPlanOf) (w : SlabWorkspaceOf) : Type 0 where
   pub before : AreOfSize w.before (width_before p.graph p.fold) (largest_slab p.graph p.size)
@@ -38,9 +33,3 @@ pub record IsWorkspaceFor (p : SlabPlanOf) (w : SlabWorkspaceOf) : Type 0 where
   pub scratch : length w.scratch ≡ scratch_of p.graph
   pub windows : length w.windows ≡ node_count p.graph.nodes
   pub windows_before : length w.windows_before ≡ node_count p.graph.nodes
-
--- ---- for private functions
-
--- the cells of each buffer
-abbrev pub lists_of : List (Vec Cell Global) → List (List Cell)
-lists_of buffers = map (λ (buffer : Vec Cell Global). buffer.items) buffers

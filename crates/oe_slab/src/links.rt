@@ -1,7 +1,7 @@
 // The links of the part of a run behind a node.
 ghost use Rattle.std.specs.Prelude.{◌≡◌, ◌<◌, IfOk, length};
 ghost use Rattle.oe_order.specs.Graph.{graph_of};
-ghost use Rattle.oe_slab.specs.Parts.{as_load};
+ghost use Rattle.oe_plan.specs.Schedules.{as_load};
 
 use oe_memory::OutOfMemory;
 use oe_order::Links;

@@ -4,7 +4,7 @@ ghost use Rattle.oe_order.specs.Evaluation.{IsEvaluationOrder};
 ghost use Rattle.oe_order.specs.Graph.{graph_of, is_load, IsAcyclic, RefersWithin};
 ghost use Rattle.oe_order.specs.Live.{IsSlotted, width_of};
 ghost use Rattle.oe_order.specs.Order.{IsListing, order_of};
-ghost use Rattle.oe_slab.specs.Parts.{as_load};
+ghost use Rattle.oe_plan.specs.Schedules.{as_load};
 
 use crate::links::with_load_at;
 use oe_memory::OutOfMemory;

@@ -1,7 +1,8 @@
 // What a run is evaluated in that is folded slab by slab.
 ghost use Rattle.std.specs.Prelude.{◌≡◌, IfOk, length};
 ghost use Rattle.oe_slab.specs.Figures.{slab_bound};
-ghost use Rattle.oe_slab.specs.Workspaces.{AreOfSize, IsWorkspaceFor, held_cells, lists_of};
+ghost use Rattle.oe_slab.specs.Workspaces.{IsWorkspaceFor, held_cells};
+ghost use Rattle.oe_steps.specs.Buffers.{AreOfSize, lists_of};
 
 use crate::plan::SlabPlan;
 use oe_cell::Cell;
@@ -26,7 +27,8 @@ pub struct SlabWorkspace {
 
 impl Model for SlabWorkspace {
     ghost use Rattle.std.specs.Prelude.{◌≡◌};
-    ghost use Rattle.oe_slab.specs.Workspaces.{SlabWorkspaceOf, held_cells, lists_of};
+    ghost use Rattle.oe_slab.specs.Workspaces.{SlabWorkspaceOf, held_cells};
+    ghost use Rattle.oe_steps.specs.Buffers.{lists_of};
 
     ghost Value = { SlabWorkspaceOf };
 
@@ -61,7 +63,7 @@ fn no_window() -> Window {
 }
 
 /// So many buffers of so many cells each.
-#[tactic(auto, using(crate::proofs::BufferLemmas::one_more, crate::proofs::BufferLemmas::none_of_size))]
+#[tactic(auto, using(crate::proofs::WorkspaceLemmas::buffer_more, crate::proofs::WorkspaceLemmas::no_buffer))]
 fn buffers_of(alloc: Global, count: usize, cells: usize) -> Result<Vec<Vec<Cell>>, OutOfMemory>
     ensures { IfOk result (λ buffers. AreOfSize (lists_of buffers.items) count cells) }
 {

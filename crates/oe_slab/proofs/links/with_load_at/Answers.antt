@@ -1,5 +1,5 @@
 use Rattle.std.proofs.Common.{true, refl, ap, ◌∙◌}
-use Rattle.oe_slab.specs.Parts.{as_load}
+use Rattle.oe_plan.specs.Schedules.{as_load}
 use Rattle.oe_slab.proofs.LinkLemmas.{replaced}
 use Rattle.oe_slab.proofs.links.with_load_at.Goals as goal
 

@@ -2,7 +2,7 @@ use Rattle.std.proofs.Common.{◌≡◌, ◌<◌, List, length, sym, ap, ◌∙�
 use Rattle.oe_order.proofs.Graphs.{length-graph_of}
 use Rattle.oe_order.specs.Graph.{graph_of, IsAcyclic, RefersWithin}
 use Rattle.oe_order.specs.declared.Links.{Links}
-use Rattle.oe_slab.specs.Parts.{as_load}
+use Rattle.oe_plan.specs.Schedules.{as_load}
 use Rattle.oe_slab.proofs.PartLemmas.{refers_within, still_acyclic, steps_within}
 use Rattle.oe_slab.proofs.parts.order_behind.Goals as goal
 

@@ -1,4 +1,4 @@
-use Rattle.oe_slab.specs.Workspaces.{AreOfSize, lists_of}
+use Rattle.oe_steps.specs.Buffers.{AreOfSize, lists_of}
 use Rattle.oe_slab.proofs.workspace.buffers_of.Given as goal
 
 abbrev pub invariant-loop : goal.invariant-loop

@@ -1,6 +1,6 @@
 use Rattle.std.proofs.Common.{◌≡◌, ◌∙◌, length, sym, arith}
-use Rattle.oe_slab.specs.Workspaces.{lists_of}
-use Rattle.oe_slab.proofs.BufferLemmas.{held_parts}
+use Rattle.oe_steps.specs.Buffers.{lists_of}
+use Rattle.oe_slab.proofs.WorkspaceLemmas.{held_parts}
 use Rattle.oe_slab.proofs.workspace.SlabWorkspace.new.Goals as goal
 
 pub invariant_of-result : goal.invariant_of-result
