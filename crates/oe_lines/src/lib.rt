@@ -23,6 +23,7 @@ mod bytes;
 mod cells;
 mod fault;
 mod labels;
+mod line;
 mod windows;
 mod words;
 
@@ -34,5 +35,6 @@ pub use bytes::{escaped_bytes, escaped_text, push_quoted};
 pub use cells::{cell_of, cells_of, cells_of_kind, frac_of, fraction_of};
 pub use fault::Fault;
 pub use labels::{labels_of, names_of, shape_of, valid_shape_of};
+pub use line::Line;
 pub use windows::{push_window, side_of, window_of};
 pub use words::{bytes_of, first_word, number_of, numbers_of, pair_of, parts_of, words_of};
