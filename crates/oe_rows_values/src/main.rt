@@ -68,11 +68,26 @@ mod windows;
 mod written;
 
 use oe_dims::Shape;
-use oe_lines::{Answers, Fault, bytes_of, end_line, first_word, valid_shape_of};
-use rendering::{Lent, text_of_size};
+use oe_lines::{Answers, Fault, Line, end_line};
+use rendering::Lent;
 use std::alloc::Global;
 use std::io::{Read, Write};
 use std::process::ExitCode;
+
+/// What lines refer to: the shapes so far and what renderings are lent.
+#[derive(Drop)]
+struct Kept {
+    shapes: Vec<Shape>,
+    lent: Lent,
+}
+
+impl Kept {
+    fn new(alloc: Global) -> Result<Kept, Fault> {
+        let lent = Lent::new(alloc)?;
+        let shapes = Vec::new(alloc);
+        Ok(Kept { shapes, lent })
+    }
+}
 
 fn main(rt: HostRuntime) -> ExitCode {
     let alloc = rt.alloc();
@@ -81,8 +96,10 @@ fn main(rt: HostRuntime) -> ExitCode {
         return ExitCode::from(5);
     }
     let mut answers = Answers::new(alloc);
-    let outcome = answer_lines(alloc, &text, &mut answers);
-    answers.settle(outcome);
+    match Kept::new(alloc) {
+        Ok(mut kept) => answer_lines(alloc, &text, &mut kept, &mut answers),
+        Err(fault) => answers.note(fault),
+    }
     if let Some(fault) = answers.fault() {
         return ExitCode::from(fault.status());
     }
@@ -93,136 +110,102 @@ fn main(rt: HostRuntime) -> ExitCode {
 }
 
 /// Appends the answers to all lines, of which the first ones refer to no shape.
-fn answer_lines(alloc: Global, text: &str, answers: &mut Answers) -> Result<(), Fault> {
-    let mut lent = Lent::new(alloc)?;
-    let mut shapes = Vec::new(alloc);
+fn answer_lines(alloc: Global, text: &str, kept: &mut Kept, answers: &mut Answers) {
     for line in text.lines() {
-        let (verb, rest) = first_word(line);
-        match verb {
-            "#" => {}
-            "given" => shapes.push(valid_shape_of(alloc, rest)?)?,
-            _ => answer_line(alloc, verb, rest, &mut shapes, &mut lent, answers)?,
-        }
+        let mut line = Line::new(alloc, line);
+        answer_line(&mut line, kept, answers);
+        line.report(answers);
     }
-    Ok(())
 }
 
-/// Appends the answer to a line that begins with this verb, which refers to the last of the shapes.
-fn answer_line(
-    alloc: Global,
-    verb: &str,
-    rest: &str,
-    shapes: &mut Vec<Shape>,
-    lent: &mut Lent,
-    answers: &mut Answers,
-) -> Result<(), Fault> {
-    match verb {
-        "shape" => shapes::shape(alloc, rest, shapes, answers)?,
-        "same" => shapes::same(shapes, answers)?,
-        "text" => rendering::read_text(alloc, rest.as_bytes(), lent, answers)?,
-        "bytes" => rendering::read_text(alloc, &bytes_of(alloc, rest)?, lent, answers)?,
-        "pad" => rendering::read_text(alloc, &text_of_size(alloc, rest)?, lent, answers)?,
-        _ => match shapes.last() {
-            Some(shape) => answer_of(alloc, verb, rest, shape, lent, answers)?,
-            None => answer_to(alloc, verb, rest, answers)?,
+/// Appends the answer to a line.
+fn answer_line(line: &mut Line, kept: &mut Kept, answers: &mut Answers) {
+    match line.word() {
+        "#" => return,
+        "given" => return shapes::given(line, &mut kept.shapes, answers),
+        "shape" => shapes::shape(line, &mut kept.shapes, answers),
+        "same" => shapes::same(&kept.shapes, answers),
+        "text" => rendering::text(line, &mut kept.lent, answers),
+        "bytes" => rendering::bytes(line, &mut kept.lent, answers),
+        "pad" => rendering::padded(line, &mut kept.lent, answers),
+        verb => match kept.shapes.last() {
+            Some(shape) => answer_of(verb, line, shape, &mut kept.lent, answers),
+            None => answer_to(verb, line, answers),
         },
     }
     end_line(answers);
-    Ok(())
 }
 
 /// Appends what a shape answers to a line that begins with this verb.
-fn answer_of(
-    alloc: Global,
-    verb: &str,
-    rest: &str,
-    shape: &Shape,
-    lent: &mut Lent,
-    answers: &mut Answers,
-) -> Result<(), Fault> {
+fn answer_of(verb: &str, line: &mut Line, shape: &Shape, lent: &mut Lent, answers: &mut Answers) {
     match verb {
-        "render" => rendering::render_row(alloc, rest, shape, lent, answers),
-        "write" => written::write_row(alloc, rest, shape, answers),
-        "chunks" => written::chunks_row(alloc, rest, shape, answers),
-        _ => answer_window(alloc, verb, rest, shape, answers),
-    }
-}
-
-/// Appends what the windows of a shape answer.
-fn answer_window(
-    alloc: Global,
-    verb: &str,
-    rest: &str,
-    shape: &Shape,
-    answers: &mut Answers,
-) -> Result<(), Fault> {
-    match verb {
-        "chunk" => windows::chunk(rest, shape, answers),
-        "runs" => windows::list_runs(rest, shape, answers),
-        "cells" => windows::cells(alloc, rest, shape, answers),
-        "parts" => windows::parts(rest, shape, answers),
-        _ => answer_labels(alloc, verb, rest, shape, answers),
+        "render" => rendering::render_row(line, shape, lent, answers),
+        "write" => written::write_row(line, shape, answers),
+        "chunks" => written::chunks_row(line, shape, answers),
+        "chunk" => windows::chunk(line, shape, answers),
+        "runs" => windows::list_runs(line, shape, answers),
+        "cells" => windows::cells(line, shape, answers),
+        "parts" => windows::parts(line, shape, answers),
+        _ => answer_labels(verb, line, shape, answers),
     }
 }
 
 /// Appends what the labels of a shape answer.
-fn answer_labels(
-    alloc: Global,
-    verb: &str,
-    rest: &str,
-    shape: &Shape,
-    answers: &mut Answers,
-) -> Result<(), Fault> {
+fn answer_labels(verb: &str, line: &mut Line, shape: &Shape, answers: &mut Answers) {
     match verb {
-        "label" => shapes::label(rest, shape, answers),
-        "range" => shapes::range(rest, shape, answers),
-        "band" => shapes::band(alloc, rest, shape, answers),
+        "label" => shapes::label(line, shape, answers),
+        "range" => shapes::range(line, shape, answers),
+        "band" => shapes::band(line, shape, answers),
         "counts" => shapes::counts(shape, answers),
-        "cube" => shapes::cube(alloc, rest, shape, answers),
-        "row" => shapes::row(alloc, rest, shape, answers),
-        _ => answer_to(alloc, verb, rest, answers),
+        "cube" => shapes::cube(line, shape, answers),
+        "row" => shapes::row(line, shape, answers),
+        _ => answer_to(verb, line, answers),
     }
 }
 
 /// Appends the answer to a line that refers to no shape.
-fn answer_to(alloc: Global, verb: &str, rest: &str, answers: &mut Answers) -> Result<(), Fault> {
+fn answer_to(verb: &str, line: &mut Line, answers: &mut Answers) {
     match verb {
-        "bands" => shapes::bands(alloc, rest, answers),
-        "texts" => shapes::texts(alloc, rest, answers),
-        "instant" => shapes::instant(rest, answers),
-        "print" => shapes::print(rest, answers),
-        "two" => windows::two(rest, answers),
-        "order" => orders::order(alloc, rest, answers),
-        "lesser" => written::lesser_row(rest, answers),
-        _ => answer_cells(alloc, verb, rest, answers),
+        "list" => reducers::list(line, answers),
+        "convolution" => planes::convolution(line, answers),
+        "bands" => shapes::bands(line, answers),
+        "texts" => shapes::texts(line, answers),
+        "instant" => shapes::instant(line, answers),
+        "print" => shapes::print(line, answers),
+        "two" => windows::two(line, answers),
+        "order" => orders::order(line, answers),
+        "lesser" => written::lesser_row(line, answers),
+        _ => answer_cells(verb, line, answers),
     }
 }
 
-/// Appends the answer to a line about cells.
-fn answer_cells(alloc: Global, verb: &str, rest: &str, answers: &mut Answers) -> Result<(), Fault> {
+/// Appends the answer to a line about reducers, kernels or records.
+fn answer_cells(verb: &str, line: &mut Line, answers: &mut Answers) {
     match verb {
-        "list" => reducers::list(alloc, rest, answers),
-        "columns" => reducers::columns(alloc, rest, answers),
-        "kernel" => kernels::kernel(alloc, rest, answers),
-        "index" => kernels::index(rest, answers),
-        "need" => kernels::need(alloc, rest, answers),
-        "convolution" => planes::convolution(alloc, rest, answers),
-        _ => answer_records(alloc, verb, rest, answers),
+        "columns" => reducers::columns(line, answers),
+        "kernel" => kernels::kernel(line, answers),
+        "index" => kernels::index(line, answers),
+        "need" => kernels::need(line, answers),
+        "record" => records::write_one(line, answers),
+        "records" => records::write_three(line, answers),
+        "of_record" => records::read_one(line, answers),
+        "of_records" => records::read_three(line, answers),
+        _ => answer_operations(verb, line, answers),
     }
 }
 
-/// Appends the answer to a line about records, or to one about operations.
-fn answer_records(
-    alloc: Global,
-    verb: &str,
-    rest: &str,
-    answers: &mut Answers,
-) -> Result<(), Fault> {
+/// Appends the answer to a line about operations.
+fn answer_operations(verb: &str, line: &mut Line, answers: &mut Answers) {
     match verb {
-        "record" => records::write_one(alloc, rest, answers),
-        "records" => records::write_three(alloc, rest, answers),
-        "of_record" => records::read_one(rest, answers),
-        "of_records" => records::read_three(alloc, rest, answers),
-        _ => operations::answer_to(verb, rest, answers),
+        "kinds" => operations::kinds(line, answers),
+        "arithmetic" => operations::arithmetic(line, answers),
+        "rounding" => operations::rounding(line, answers),
+        "comparison" => operations::comparison(line, answers),
+        "logic" => operations::logic(line, answers),
+        "choice" => operations::choice(line, answers),
+        "compare" => operations::order(line, answers),
+        "fraction" => operations::fraction(line, answers),
+        "whole" => operations::whole(line, answers),
+        _ => line.note(Fault::Line),
     }
 }

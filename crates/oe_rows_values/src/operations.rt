@@ -3,44 +3,20 @@ use oe_cell::{
     Cell, Frac, absolute, add, and, ceil, choose, compare, divide, eq, floor, gt, gte, int, lt,
     lte, modulo, multiply, neq, not, or, sgn, subtract, whole_cell, xor,
 };
-use oe_lines::{
-    Answers, Fault, cell_of, first_word, frac_of, fraction_of, number_of, parts_of, push_cell,
-    push_cells, push_flag, push_word,
-};
+use oe_lines::{Answers, Fault, Line, push_cell, push_cells, push_flag, push_word};
 use std::cmp::Ordering;
 
-/// Appends the answer to a line that begins with this verb.
-pub(crate) fn answer_to(verb: &str, rest: &str, answer: &mut Answers) -> Result<(), Fault> {
-    match verb {
-        "kinds" => kinds(rest, answer),
-        "arithmetic" => arithmetic(rest, answer),
-        "rounding" => rounding(rest, answer),
-        "comparison" => comparison(rest, answer),
-        "logic" => logic(rest, answer),
-        "choice" => choice(rest, answer),
-        "compare" => order(rest, answer),
-        "fraction" => fraction(rest, answer),
-        "whole" => whole(rest, answer),
-        _ => Err(Fault::Line),
-    }
+pub(crate) fn kinds(line: &mut Line, answers: &mut Answers) {
+    let cell = line.cell();
+    push_flag(cell.is_empty(), answers);
+    push_flag(cell.is_number(), answers);
+    push_flag(cell.is_over(), answers);
+    push_cell(cell, answers);
 }
 
-fn two_cells(words: &str) -> Result<[Cell; 2], Fault> {
-    let (one, two) = parts_of(words, " ")?;
-    Ok([cell_of(one)?, cell_of(two)?])
-}
-
-fn kinds(word: &str, answer: &mut Answers) -> Result<(), Fault> {
-    let cell = cell_of(word)?;
-    push_flag(cell.is_empty(), answer);
-    push_flag(cell.is_number(), answer);
-    push_flag(cell.is_over(), answer);
-    push_cell(cell, answer);
-    Ok(())
-}
-
-fn arithmetic(words: &str, answer: &mut Answers) -> Result<(), Fault> {
-    let [x, y] = &two_cells(words)?;
+pub(crate) fn arithmetic(line: &mut Line, answers: &mut Answers) {
+    let x = &line.cell();
+    let y = &line.cell();
     push_cells(
         &[
             add(*x, *y),
@@ -49,22 +25,21 @@ fn arithmetic(words: &str, answer: &mut Answers) -> Result<(), Fault> {
             divide(*x, *y),
             modulo(*x, *y),
         ],
-        answer,
+        answers,
     );
-    Ok(())
 }
 
-fn rounding(word: &str, answer: &mut Answers) -> Result<(), Fault> {
-    let x = &cell_of(word)?;
+pub(crate) fn rounding(line: &mut Line, answers: &mut Answers) {
+    let x = &line.cell();
     push_cells(
         &[floor(*x), ceil(*x), int(*x), absolute(*x), sgn(*x)],
-        answer,
+        answers,
     );
-    Ok(())
 }
 
-fn comparison(words: &str, answer: &mut Answers) -> Result<(), Fault> {
-    let [x, y] = &two_cells(words)?;
+pub(crate) fn comparison(line: &mut Line, answers: &mut Answers) {
+    let x = &line.cell();
+    let y = &line.cell();
     push_cells(
         &[
             eq(*x, *y),
@@ -74,49 +49,50 @@ fn comparison(words: &str, answer: &mut Answers) -> Result<(), Fault> {
             lt(*x, *y),
             lte(*x, *y),
         ],
-        answer,
+        answers,
     );
-    Ok(())
 }
 
-fn logic(words: &str, answer: &mut Answers) -> Result<(), Fault> {
-    let [x, y] = &two_cells(words)?;
-    push_cells(&[and(*x, *y), or(*x, *y), xor(*x, *y), not(*x)], answer);
-    Ok(())
+pub(crate) fn logic(line: &mut Line, answers: &mut Answers) {
+    let x = &line.cell();
+    let y = &line.cell();
+    push_cells(&[and(*x, *y), or(*x, *y), xor(*x, *y), not(*x)], answers);
 }
 
-fn choice(words: &str, answer: &mut Answers) -> Result<(), Fault> {
-    let (value, rest) = first_word(words);
-    let [accept, reject] = &two_cells(rest)?;
-    push_cell(choose(cell_of(value)?, *accept, *reject), answer);
-    Ok(())
+pub(crate) fn choice(line: &mut Line, answers: &mut Answers) {
+    let value = line.cell();
+    let accept = line.cell();
+    let reject = line.cell();
+    push_cell(choose(value, accept, reject), answers);
 }
 
 /// How two numbers stand to one another.
-fn order(words: &str, answer: &mut Answers) -> Result<(), Fault> {
-    let (x, y) = parts_of(words, " ")?;
-    match compare(frac_of(x)?, frac_of(y)?) {
-        Ordering::Less => push_word("less", answer),
-        Ordering::Equal => push_word("equal", answer),
-        Ordering::Greater => push_word("greater", answer),
-    }
-    Ok(())
+pub(crate) fn order(line: &mut Line, answers: &mut Answers) {
+    let x = line.frac();
+    let y = line.frac();
+    push_word(order_word(compare(x, y)), answers);
 }
 
-fn fraction(word: &str, answer: &mut Answers) -> Result<(), Fault> {
-    match fraction_of(word)? {
-        Some(number) => push_cell(Cell::Number(number), answer),
-        None => push_word("none", answer),
+fn order_word(order: Ordering) -> &'static str {
+    match order {
+        Ordering::Less => "less",
+        Ordering::Equal => "equal",
+        Ordering::Greater => "greater",
     }
-    Ok(())
+}
+
+pub(crate) fn fraction(line: &mut Line, answers: &mut Answers) {
+    match line.fraction() {
+        Some(number) => push_cell(Cell::Number(number), answers),
+        None => push_word("none", answers),
+    }
 }
 
 /// A whole number as a number and as a cell.
-fn whole(word: &str, answer: &mut Answers) -> Result<(), Fault> {
-    let num = number_of(word)?;
+pub(crate) fn whole(line: &mut Line, answers: &mut Answers) {
+    let num = line.number::<i64>();
     if num == i64::MIN {
-        return Err(Fault::Line);
+        return line.note(Fault::Line);
     }
-    push_cells(&[Cell::Number(Frac::whole(num)), whole_cell(num)], answer);
-    Ok(())
+    push_cells(&[Cell::Number(Frac::whole(num)), whole_cell(num)], answers);
 }

@@ -1,32 +1,21 @@
 // The order of a run.
 use crate::windows::push_list;
-use oe_lines::{Answers, Fault, first_word, number_of, numbers_of, push, push_number};
+use oe_lines::{Answers, Fault, Line, numbers_of, push, push_number};
 use oe_order::{Links, NodeOrder, is_ranked, leads_back, order as order_of};
 use std::alloc::Global;
 
 /// Appends the order of the nodes that a result needs, how many slots it takes, and the step of each node. The ranks
 /// show that there is no cycle: they fall along each reference.
-pub(crate) fn order(alloc: Global, line: &str, answers: &mut Answers) -> Result<(), Fault> {
-    let (last, rest) = first_word(line);
-    let (nodes, ranks) = first_word(rest);
-    let last = number_of(last)?;
-    let nodes = nodes_of(alloc, nodes)?;
-    answer_order(alloc, nodes.as_slice(), ranks, last, answers)
-}
-
-fn answer_order(
-    alloc: Global,
-    nodes: &[Links],
-    ranks: &str,
-    last: u32,
-    answers: &mut Answers,
-) -> Result<(), Fault> {
-    let ranks = numbers_of(alloc, ranks)?;
-    match order_ranked(alloc, nodes, ranks.as_slice(), last)? {
-        Some(found) => return spell(&found, nodes.len(), answers),
-        None => push("refused", answers),
+pub(crate) fn order(line: &mut Line, answers: &mut Answers) {
+    let last = line.number();
+    let nodes = nodes_of(line.alloc(), line.word());
+    let nodes = line.value_or(nodes, Vec::new(line.alloc()));
+    let ranks = line.numbers::<u32>();
+    match order_ranked(line.alloc(), &nodes, &ranks, last) {
+        Ok(Some(found)) => spell(&found, nodes.len(), answers),
+        Ok(None) => push("refused", answers),
+        Err(fault) => line.note(fault),
     }
-    Ok(())
 }
 
 /// The order of a graph whose ranks show that it has no cycle.
@@ -45,15 +34,14 @@ fn order_ranked(
     Ok(Some(order_of(alloc, nodes, last)?))
 }
 
-fn spell(found: &NodeOrder, count: usize, answers: &mut Answers) -> Result<(), Fault> {
+fn spell(found: &NodeOrder, count: usize, answers: &mut Answers) {
     push_list(found.steps(), answers);
     push_number(" ", found.width(), answers);
     push_number(" ", found.slots(), answers);
     push(" |", answers);
-    for node in 0..u32::try_from(count).or(Err(Fault::Line))? {
+    for node in 0..u32::try_from(count).unwrap_or(0) {
         push_step(found.step_of(node), answers);
     }
-    Ok(())
 }
 
 fn push_step(step: Option<u32>, answers: &mut Answers) {

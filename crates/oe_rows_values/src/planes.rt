@@ -5,9 +5,7 @@ ghost use Rattle.oe_kernel.specs.Convolution.{CoversWindow, IsPlane, IsPositionI
 use crate::kernels::{border_of, kernel_of};
 use oe_cell::{Cell, Frac};
 use oe_kernel::{Border, Kernel, Plane, convolve_at, convolve_block, convolve_row};
-use oe_lines::{
-    Answers, Fault, cells_of, first_word, frac_of, pair_of, parts_of, push_cells, push_word,
-};
+use oe_lines::{Answers, Fault, Line, push_cells, push_word};
 use std::alloc::Global;
 
 /// The longest side of a plane.
@@ -24,55 +22,44 @@ struct Weights {
 
 /// The part that a word as `2..6,1..4` names, or the whole plane for `-`: its columns, from a first one to before an
 /// end, and its rows.
-fn part_of(word: &str, side_x: u32, side_y: u32) -> Result<[u32; 4], Fault> {
-    match word {
-        "-" => Ok([0, side_x, 0, side_y]),
-        _ => spans_of(word),
+fn part_of(line: &mut Line, side_x: u32, side_y: u32) -> [u32; 4] {
+    if line.takes("-") {
+        return [0, side_x, 0, side_y];
     }
-}
-
-fn spans_of(word: &str) -> Result<[u32; 4], Fault> {
-    let (columns, rows) = parts_of(word, ",")?;
-    let (from_x, to_x) = pair_of(columns, "..")?;
-    let (from_y, to_y) = pair_of(rows, "..")?;
-    Ok([from_x, to_x, from_y, to_y])
+    let from_x = line.number_before("..");
+    let to_x = line.number_before(",");
+    let from_y = line.number_before("..");
+    let to_y = line.number();
+    [from_x, to_x, from_y, to_y]
 }
 
 /// The cells of a part of a plane, by each of the three calls.
-pub(crate) fn convolution(alloc: Global, words: &str, answer: &mut Answers) -> Result<(), Fault> {
-    let (kernel, rest) = first_word(words);
-    match kernel_of(alloc, kernel)? {
-        Ok(kernel) => weigh(alloc, kernel, rest, answer),
-        Err(_) => Err(Fault::Line),
+pub(crate) fn convolution(line: &mut Line, answers: &mut Answers) {
+    match kernel_of(line) {
+        Ok(kernel) => weigh(kernel, line, answers),
+        Err(_) => line.note(Fault::Line),
     }
 }
 
-fn weigh(alloc: Global, kernel: Kernel, words: &str, answer: &mut Answers) -> Result<(), Fault> {
-    let (border, rest) = first_word(words);
-    let (factor, rest) = first_word(rest);
-    let (border, factor, replace) = (border_of(border)?, frac_of(factor)?, Frac::whole(5));
+fn weigh(kernel: Kernel, line: &mut Line, answers: &mut Answers) {
+    let border = border_of(line);
+    let factor = line.frac();
+    let replace = Frac::whole(5);
     let weights = Weights {
         kernel,
         border,
         factor,
         replace,
     };
-    weigh_plane(alloc, &weights, rest, answer)
+    weigh_plane(&weights, line, answers);
 }
 
-fn weigh_plane(
-    alloc: Global,
-    weights: &Weights,
-    words: &str,
-    answer: &mut Answers,
-) -> Result<(), Fault> {
-    let (sides, rest) = first_word(words);
-    let (held, rest) = first_word(rest);
-    let (part, cells) = first_word(rest);
-    let (side_x, side_y) = pair_of(sides, "x")?;
-    let held = part_of(held, side_x, side_y)?;
-    let part = part_of(part, side_x, side_y)?;
-    let cells = cells_of(alloc, cells)?;
+fn weigh_plane(weights: &Weights, line: &mut Line, answers: &mut Answers) {
+    let side_x = line.number_before("x");
+    let side_y = line.number();
+    let held = part_of(line, side_x, side_y);
+    let part = part_of(line, side_x, side_y);
+    let cells = line.cells();
     let plane = Plane {
         cells: &cells,
         from_x: held[0],
@@ -82,9 +69,17 @@ fn weigh_plane(
         side_x,
         side_y,
     };
-    push_part(
-        alloc, weights, &plane, part[0], part[1], part[2], part[3], answer,
-    )
+    let outcome = push_part(
+        line.alloc(),
+        weights,
+        &plane,
+        part[0],
+        part[1],
+        part[2],
+        part[3],
+        answers,
+    );
+    line.settle(outcome);
 }
 
 fn push_part(
@@ -95,18 +90,18 @@ fn push_part(
     to_x: u32,
     from_y: u32,
     to_y: u32,
-    answer: &mut Answers,
+    answers: &mut Answers,
 ) -> Result<(), Fault> {
     push_cells(
         &by_cell(alloc, weights, plane, from_x, to_x, from_y, to_y)?,
-        answer,
+        answers,
     );
-    push_word("|", answer);
-    push_rows(alloc, weights, plane, from_x, to_x, from_y, to_y, answer)?;
-    push_word("|", answer);
+    push_word("|", answers);
+    push_rows(alloc, weights, plane, from_x, to_x, from_y, to_y, answers)?;
+    push_word("|", answers);
     push_cells(
         &at_once(alloc, weights, plane, from_x, to_x, from_y, to_y)?,
-        answer,
+        answers,
     );
     Ok(())
 }
@@ -182,7 +177,7 @@ fn push_rows(
     to_x: u32,
     from_y: u32,
     to_y: u32,
-    answer: &mut Answers,
+    answers: &mut Answers,
 ) -> Result<(), Fault> {
     let (kernel, border) = (&weights.kernel, &weights.border);
     if !plane.is_valid()
@@ -203,7 +198,7 @@ fn push_rows(
             y,
             &mut row,
         );
-        push_cells(&row, answer);
+        push_cells(&row, answers);
     }
     Ok(())
 }

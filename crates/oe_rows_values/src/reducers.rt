@@ -4,45 +4,46 @@ ghost use Rattle.oe_fold.specs.declared.reducer.Reducer.{Reducer};
 
 use oe_cell::Cell;
 use oe_fold::{Pass, Reducer, fold, fold_columns};
-use oe_lines::{
-    Answers, Fault, cells_of, first_word, number_of, pair_of, parts_of, push_cell, push_cells,
-};
+use oe_lines::{Answers, Fault, Line, push_cell, push_cells};
 use std::alloc::Global;
 
-fn reducer_of(word: &str) -> Result<Reducer, Fault> {
-    match word {
-        "sum" => Ok(Reducer::Sum),
-        "product" => Ok(Reducer::Product),
-        "mean" => Ok(Reducer::Mean),
-        "min" => Ok(Reducer::Min),
-        "max" => Ok(Reducer::Max),
-        "median" => Ok(Reducer::Median),
-        "first" => Ok(Reducer::First),
-        "last" => Ok(Reducer::Last),
-        "any" => Ok(Reducer::Any),
-        "all" => Ok(Reducer::All),
-        "count" => Ok(Reducer::Count),
-        "count_all" => Ok(Reducer::CountAll),
-        _ => Err(Fault::Line),
+fn reducer_of(line: &mut Line) -> Reducer {
+    match line.word() {
+        "sum" => Reducer::Sum,
+        "product" => Reducer::Product,
+        "mean" => Reducer::Mean,
+        "min" => Reducer::Min,
+        "max" => Reducer::Max,
+        "median" => Reducer::Median,
+        "first" => Reducer::First,
+        "last" => Reducer::Last,
+        "any" => Reducer::Any,
+        "all" => Reducer::All,
+        "count" => Reducer::Count,
+        "count_all" => Reducer::CountAll,
+        _ => {
+            line.note(Fault::Line);
+            Reducer::Sum
+        }
     }
 }
 
-/// Whether nulls are left out.
-fn ignore_of(word: &str) -> Result<bool, Fault> {
-    match word {
-        "ignore" => Ok(true),
-        "keep" => Ok(false),
-        _ => Err(Fault::Line),
+/// Whether nulls are left out: `ignore` or `keep`.
+fn ignore_of(line: &mut Line) -> bool {
+    let ignore = line.takes("ignore");
+    if !ignore && !line.takes("keep") {
+        line.note(Fault::Line);
     }
+    ignore
 }
 
 /// The reduction of a list, of the middle one of three columns, and cell by cell.
-pub(crate) fn list(alloc: Global, words: &str, answer: &mut Answers) -> Result<(), Fault> {
-    let (reducer, rest) = first_word(words);
-    let (ignore, cells) = first_word(rest);
-    let reducer = reducer_of(reducer)?;
-    let ignore = ignore_of(ignore)?;
-    push_three(alloc, reducer, ignore, &cells_of(alloc, cells)?, answer)
+pub(crate) fn list(line: &mut Line, answers: &mut Answers) {
+    let reducer = &reducer_of(line);
+    let ignore = ignore_of(line);
+    let cells = line.cells();
+    let outcome = push_three(line.alloc(), *reducer, ignore, &cells, answers);
+    line.settle(outcome);
 }
 
 fn push_three(
@@ -50,13 +51,13 @@ fn push_three(
     reducer: Reducer,
     ignore: bool,
     cells: &[Cell],
-    answer: &mut Answers,
+    answers: &mut Answers,
 ) -> Result<(), Fault> {
-    push_list(alloc, reducer, ignore, cells, answer)?;
-    push_column(alloc, reducer, ignore, cells, answer)?;
+    push_list(alloc, reducer, ignore, cells, answers)?;
+    push_column(alloc, reducer, ignore, cells, answers)?;
     match reducer {
         Reducer::Median => {}
-        _ => push_cell(cell_by_cell(reducer, ignore, cells), answer),
+        _ => push_cell(cell_by_cell(reducer, ignore, cells), answers),
     }
     Ok(())
 }
@@ -66,12 +67,12 @@ fn push_list(
     reducer: Reducer,
     ignore: bool,
     cells: &[Cell],
-    answer: &mut Answers,
+    answers: &mut Answers,
 ) -> Result<(), Fault> {
     // It holds none of the cells, and one more than they are.
     let mut scratch = vec![in alloc; Cell::Empty; cells.len()]?;
     scratch.push(Cell::Empty)?;
-    push_cell(fold(reducer, ignore, cells, &mut scratch), answer);
+    push_cell(fold(reducer, ignore, cells, &mut scratch), answers);
     Ok(())
 }
 
@@ -81,7 +82,7 @@ fn push_column(
     reducer: Reducer,
     ignore: bool,
     cells: &[Cell],
-    answer: &mut Answers,
+    answers: &mut Answers,
 ) -> Result<(), Fault> {
     let mut rows = Vec::new(alloc);
     for cell in cells {
@@ -98,7 +99,7 @@ fn push_column(
         &mut out,
         &mut scratch,
     )?;
-    push_cell(out[1], answer);
+    push_cell(out[1], answers);
     Ok(())
 }
 
@@ -132,35 +133,29 @@ fn reduce_columns(
     Ok(())
 }
 
-/// The reductions of columns.
-pub(crate) fn columns(alloc: Global, words: &str, answer: &mut Answers) -> Result<(), Fault> {
-    let (reducer, rest) = first_word(words);
-    let (ignore, rest) = first_word(rest);
-    let (sizes, cells) = first_word(rest);
-    let reducer = reducer_of(reducer)?;
-    let ignore = ignore_of(ignore)?;
-    push_columns(
-        alloc,
-        reducer,
-        ignore,
-        &cells_of(alloc, cells)?,
-        sizes,
-        answer,
-    )
+/// The reductions of columns, by the sizes `STRIDE,ROWS,COLUMNS`.
+pub(crate) fn columns(line: &mut Line, answers: &mut Answers) {
+    let reducer = &reducer_of(line);
+    let ignore = ignore_of(line);
+    let stride = line.number_before::<u32>(",");
+    let count = line.number_before::<u32>(",");
+    let columns = line.number::<u32>();
+    let cells = line.cells();
+    let sizes = [stride, count, columns];
+    let outcome = push_columns(line.alloc(), *reducer, ignore, &cells, sizes, answers);
+    line.settle(outcome);
 }
 
-/// Appends the reductions of columns, by the sizes `STRIDE,ROWS,COLUMNS`.
+/// Appends the reductions of so many columns of `count` cells each.
 fn push_columns(
     alloc: Global,
     reducer: Reducer,
     ignore: bool,
     cells: &[Cell],
-    sizes: &str,
-    answer: &mut Answers,
+    [stride, count, columns]: [u32; 3],
+    answers: &mut Answers,
 ) -> Result<(), Fault> {
-    let (stride, rest) = parts_of(sizes, ",")?;
-    let (count, columns) = pair_of(rest, ",")?;
-    let (stride, count) = (number_of::<u32>(stride)? as usize, count as usize);
+    let (stride, count) = (stride as usize, count as usize);
     let mut out = vec![in alloc; Cell::Over; columns as usize]?;
     let mut scratch = vec![in alloc; Cell::Empty; 2 * count]?;
     reduce_columns(
@@ -172,6 +167,6 @@ fn push_columns(
         &mut out,
         &mut scratch,
     )?;
-    push_cells(&out, answer);
+    push_cells(&out, answers);
     Ok(())
 }

@@ -2,7 +2,7 @@
 use crate::store::{HiddenStore, hidden_store, push_bytes, record_bytes, stored_bytes};
 use oe_cell::Cell;
 use oe_dims::{CellKind, Shape};
-use oe_lines::{Answers, Fault, number_of, numbers_of, parts_of, push, push_number, words_of};
+use oe_lines::{Answers, Fault, Line, push, push_number};
 use oe_outside::{MemorySink, Pending};
 use oe_render::{CubeText, CubeTextFail, RenderFail, read_cube_text, render};
 use std::alloc::Global;
@@ -34,18 +34,34 @@ impl Lent {
 }
 
 /// Reads a text, and answers what it says.
-pub(crate) fn read_text(
-    alloc: Global,
-    bytes: &[u8],
-    lent: &mut Lent,
-    answers: &mut Answers,
-) -> Result<(), Fault> {
+pub(crate) fn text(line: &mut Line, lent: &mut Lent, answers: &mut Answers) {
+    let text = line.rest();
+    read_text(line.alloc(), text.as_bytes(), lent, answers);
+}
+
+/// Reads the bytes of a line likewise.
+pub(crate) fn bytes(line: &mut Line, lent: &mut Lent, answers: &mut Answers) {
+    read_text(line.alloc(), &line.bytes(), lent, answers);
+}
+
+/// Reads a text with blanks behind it up to a size likewise.
+pub(crate) fn padded(line: &mut Line, lent: &mut Lent, answers: &mut Answers) {
+    let size = line.number();
+    match padded_bytes(line.alloc(), line.rest(), size) {
+        Ok(bytes) => read_text(line.alloc(), &bytes, lent, answers),
+        Err(fault) => line.note(fault),
+    }
+}
+
+fn read_text(alloc: Global, bytes: &[u8], lent: &mut Lent, answers: &mut Answers) {
     match read_cube_text(alloc, bytes) {
-        Ok(cube) => return answer_cube(alloc, &cube, lent, answers),
+        Ok(cube) => {
+            let outcome = answer_cube(alloc, &cube, lent, answers);
+            answers.settle(outcome);
+        }
         Err(CubeTextFail::Invalid) => push("invalid", answers),
         Err(CubeTextFail::OutOfMemory) => answers.note(Fault::OutOfMemory),
     }
-    Ok(())
 }
 
 /// Answers the kind of the cells, and the cube as it is rendered from their records.
@@ -80,28 +96,37 @@ fn kind_word(kind: CellKind) -> &'static str {
 }
 
 /// Renders what a line says, and answers the outcome.
-pub(crate) fn render_row(
-    alloc: Global,
-    line: &str,
-    shape: &Shape,
-    lent: &mut Lent,
-    answers: &mut Answers,
-) -> Result<(), Fault> {
-    let [base, read, write, room, cells, digits, ..] = words_of(line);
-    let base = number_of(base)?;
-    let bytes = stored_bytes(alloc, base, cells, digits)?;
-    let mut store = hidden_store(bytes, numbers_of(alloc, read)?)?;
-    let out = MemorySink::new(alloc, OUT_ROOM, numbers_of(alloc, write)?)?;
-    render_store(
-        alloc,
+pub(crate) fn render_row(line: &mut Line, shape: &Shape, lent: &mut Lent, answers: &mut Answers) {
+    let base = line.number();
+    let read = line.numbers();
+    let write = line.numbers();
+    let room = line.number();
+    let bytes = stored_bytes(line.alloc(), base, &line.cells(), &line.bytes());
+    let bytes = line.value_or(bytes, Vec::new(line.alloc()));
+    let outcome = render_bytes(
+        line.alloc(),
         shape,
-        &mut store,
-        base,
-        number_of(room)?,
-        out,
+        (bytes, read, write),
+        (base, room),
         lent,
         answers,
     );
+    line.settle(outcome);
+}
+
+/// Renders what a store of these bytes has from a base on, through so many cells, while these reads of the store and
+/// these writes of the output fail.
+fn render_bytes(
+    alloc: Global,
+    shape: &Shape,
+    (bytes, read, write): (Vec<u8>, Vec<u64>, Vec<u64>),
+    (base, room): (u16, usize),
+    lent: &mut Lent,
+    answers: &mut Answers,
+) -> Result<(), Fault> {
+    let mut store = hidden_store(bytes, read)?;
+    let out = MemorySink::new(alloc, OUT_ROOM, write)?;
+    render_store(alloc, shape, &mut store, base, room, out, lent, answers);
     Ok(())
 }
 
@@ -141,10 +166,9 @@ fn spell_outcome(outcome: Result<(), RenderFail>, answers: &mut Answers) {
 }
 
 /// The bytes of a text, with blanks behind it up to a size.
-pub(crate) fn text_of_size(alloc: Global, line: &str) -> Result<Vec<u8>, Fault> {
-    let (size, text) = parts_of(line, " ")?;
+fn padded_bytes(alloc: Global, text: &str, size: usize) -> Result<Vec<u8>, Fault> {
     let mut bytes = text.as_bytes().to_vec(alloc)?;
-    for _index in bytes.len()..number_of(size)? {
+    for _index in bytes.len()..size {
         bytes.push(b' ')?;
     }
     Ok(bytes)

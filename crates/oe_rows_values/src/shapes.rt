@@ -4,7 +4,7 @@ use oe_dims::{
     read_instant,
 };
 use oe_lines::{
-    Answers, Fault, first_word, names_of, number_of, push, push_all, push_number, shape_of,
+    Answers, Fault, Line, names_of, push, push_all, push_number, shape_of, valid_shape_of,
 };
 use std::alloc::Global;
 
@@ -14,36 +14,44 @@ const FIRST: i64 = -62135596800;
 const LAST: i64 = 253402300799;
 
 /// Appends how many cells a shape has, which is kept, or its fault.
-pub(crate) fn shape(
-    alloc: Global,
-    line: &str,
-    shapes: &mut Vec<Shape>,
-    answers: &mut Answers,
-) -> Result<(), Fault> {
-    match shape_of(alloc, line)? {
-        Ok(shape) => {
+pub(crate) fn shape(line: &mut Line, shapes: &mut Vec<Shape>, answers: &mut Answers) {
+    match shape_of(line.alloc(), line.rest()) {
+        Ok(Ok(shape)) => {
             push_number("", shape.cells(), answers);
-            shapes.push(shape)?;
+            keep(shape, shapes, answers);
         }
-        Err(fault) => push_fault(fault, answers),
+        Ok(Err(fault)) => push_fault(fault, answers),
+        Err(fault) => line.note(fault),
     }
-    Ok(())
+}
+
+/// Appends nothing, and keeps a shape.
+pub(crate) fn given(line: &mut Line, shapes: &mut Vec<Shape>, answers: &mut Answers) {
+    match valid_shape_of(line.alloc(), line.rest()) {
+        Ok(shape) => keep(shape, shapes, answers),
+        Err(fault) => line.note(fault),
+    }
+}
+
+fn keep(shape: Shape, shapes: &mut Vec<Shape>, answers: &mut Answers) {
+    if shapes.push(shape).is_err() {
+        answers.note(Fault::OutOfMemory);
+    }
 }
 
 /// Appends how many bands a shape of these names alone has, or its fault.
-pub(crate) fn bands(alloc: Global, line: &str, answers: &mut Answers) -> Result<(), Fault> {
-    match Shape::new(0, None, names_of(alloc, line)?, None, None) {
+pub(crate) fn bands(line: &mut Line, answers: &mut Answers) {
+    let names = names_of(line.alloc(), line.rest());
+    match Shape::new(0, None, line.value_or(names, None), None, None) {
         Ok(shape) => push_number("", shape.bands().len(), answers),
         Err(fault) => push_fault(fault, answers),
     }
-    Ok(())
 }
 
 /// Appends the index of a label, and the label that stands there.
-pub(crate) fn label(line: &str, shape: &Shape, answers: &mut Answers) -> Result<(), Fault> {
-    let (kind, label) = first_word(line);
-    answer_label(kind_of(kind)?, number_of(label)?, shape, answers);
-    Ok(())
+pub(crate) fn label(line: &mut Line, shape: &Shape, answers: &mut Answers) {
+    let kind = kind_of(line);
+    answer_label(kind, line.number(), shape, answers);
 }
 
 fn answer_label(kind: Kind, label: i64, shape: &Shape, answers: &mut Answers) {
@@ -56,22 +64,22 @@ fn answer_label(kind: Kind, label: i64, shape: &Shape, answers: &mut Answers) {
     }
 }
 
-pub(crate) fn range(line: &str, shape: &Shape, answers: &mut Answers) -> Result<(), Fault> {
-    let (kind, rest) = first_word(line);
-    let (from, to) = first_word(rest);
-    let (first, end) = shape.range_of(kind_of(kind)?, number_of(from)?, number_of(to)?);
+pub(crate) fn range(line: &mut Line, shape: &Shape, answers: &mut Answers) {
+    let kind = kind_of(line);
+    let from = line.number();
+    let to = line.number();
+    let (first, end) = shape.range_of(kind, from, to);
     push_number("", first, answers);
     push_number("..", end, answers);
-    Ok(())
 }
 
 /// Appends the index of a band by a walk, by an index of the bands, and the name that stands there.
-pub(crate) fn band(
-    alloc: Global,
-    name: &str,
-    shape: &Shape,
-    answers: &mut Answers,
-) -> Result<(), Fault> {
+pub(crate) fn band(line: &mut Line, shape: &Shape, answers: &mut Answers) {
+    let outcome = find_band(line.alloc(), line.rest(), shape, answers);
+    line.settle(outcome);
+}
+
+fn find_band(alloc: Global, name: &str, shape: &Shape, answers: &mut Answers) -> Result<(), Fault> {
     let name = Text::of(alloc, name)?;
     answer_band(shape, &name, index_of(alloc, shape, &name)?, answers);
     Ok(())
@@ -95,23 +103,24 @@ fn answer_band(shape: &Shape, name: &Text, found: Option<u32>, answers: &mut Ans
 }
 
 /// Appends the reference system and how many labels each dimension has.
-pub(crate) fn counts(shape: &Shape, answers: &mut Answers) -> Result<(), Fault> {
+pub(crate) fn counts(shape: &Shape, answers: &mut Answers) {
     push_number("", shape.epsg(), answers);
     for kind in [Kind::Time, Kind::Bands, Kind::Y, Kind::X] {
         push_option(" ", shape.count(kind), answers);
     }
-    Ok(())
 }
 
 /// Appends along which dimensions the last two shapes have the same labels, and that a copy has all of the last.
-pub(crate) fn same(shapes: &[Shape], answers: &mut Answers) -> Result<(), Fault> {
+pub(crate) fn same(shapes: &[Shape], answers: &mut Answers) {
     let count = shapes.len();
     if count < 2 {
-        return Err(Fault::Line);
+        return answers.note(Fault::Line);
     }
     let shape = &shapes[count - 1];
-    answer_same(shape, &shapes[count - 2], &shape.copy()?, answers);
-    Ok(())
+    match shape.copy() {
+        Ok(copy) => answer_same(shape, &shapes[count - 2], &copy, answers),
+        Err(_) => answers.note(Fault::OutOfMemory),
+    }
 }
 
 fn answer_same(shape: &Shape, other: &Shape, copy: &Shape, answers: &mut Answers) {
@@ -123,23 +132,21 @@ fn answer_same(shape: &Shape, other: &Shape, copy: &Shape, answers: &mut Answers
 }
 
 /// Appends whether so many cells make a cube of the shape.
-pub(crate) fn cube(
-    alloc: Global,
-    word: &str,
-    shape: &Shape,
-    answers: &mut Answers,
-) -> Result<(), Fault> {
-    let cells = vec![in alloc; 0u8; usize::from(number_of::<u16>(word)?)]?;
-    push(flag_word(shape.is_cube(&cells)), answers);
-    Ok(())
+pub(crate) fn cube(line: &mut Line, shape: &Shape, answers: &mut Answers) {
+    let count = usize::from(line.number::<u16>());
+    match vec![in line.alloc(); 0u8; count] {
+        Ok(cells) => push(flag_word(shape.is_cube(&cells)), answers),
+        Err(_) => line.note(Fault::OutOfMemory),
+    }
 }
 
-pub(crate) fn texts(alloc: Global, line: &str, answers: &mut Answers) -> Result<(), Fault> {
-    let (one, two) = first_word(line);
-    let one = Text::of(alloc, one)?;
-    let two = Text::of(alloc, two)?;
-    push(sign_of(&one, &two), answers);
-    Ok(())
+pub(crate) fn texts(line: &mut Line, answers: &mut Answers) {
+    let one = Text::of(line.alloc(), line.word());
+    let two = Text::of(line.alloc(), line.rest());
+    match (one, two) {
+        (Ok(one), Ok(two)) => push(sign_of(&one, &two), answers),
+        _ => line.note(Fault::OutOfMemory),
+    }
 }
 
 fn sign_of(one: &Text, two: &Text) -> &'static str {
@@ -153,15 +160,15 @@ fn sign_of(one: &Text, two: &Text) -> &'static str {
 }
 
 /// Appends the row of a collection of this id and the shape, copied: how many rows there are, its id and its kind.
-pub(crate) fn row(
-    alloc: Global,
-    id: &str,
-    shape: &Shape,
-    answers: &mut Answers,
-) -> Result<(), Fault> {
-    let copy = rows_of(alloc, row_of(alloc, id, shape)?)?;
-    answer_rows(&copy.rows, answers);
-    Ok(())
+pub(crate) fn row(line: &mut Line, shape: &Shape, answers: &mut Answers) {
+    match copied_row(line.alloc(), line.rest(), shape) {
+        Ok(copy) => answer_rows(&copy.rows, answers),
+        Err(fault) => line.note(fault),
+    }
+}
+
+fn copied_row(alloc: Global, id: &str, shape: &Shape) -> Result<Dims, Fault> {
+    rows_of(alloc, row_of(alloc, id, shape)?)
 }
 
 fn row_of(alloc: Global, id: &str, shape: &Shape) -> Result<DimsRow, Fault> {
@@ -202,13 +209,16 @@ pub(crate) fn flag_word(flag: bool) -> &'static str {
     if flag { "true" } else { "false" }
 }
 
-fn kind_of(word: &str) -> Result<Kind, Fault> {
-    match word {
-        "t" => Ok(Kind::Time),
-        "bands" => Ok(Kind::Bands),
-        "y" => Ok(Kind::Y),
-        "x" => Ok(Kind::X),
-        _ => Err(Fault::Line),
+fn kind_of(line: &mut Line) -> Kind {
+    match line.word() {
+        "t" => Kind::Time,
+        "bands" => Kind::Bands,
+        "y" => Kind::Y,
+        "x" => Kind::X,
+        _ => {
+            line.note(Fault::Line);
+            Kind::X
+        }
     }
 }
 
@@ -239,21 +249,19 @@ fn cell_word(kind: CellKind) -> &'static str {
 }
 
 /// Appends the seconds of an instant that is read, or its fault.
-pub(crate) fn instant(text: &str, answers: &mut Answers) -> Result<(), Fault> {
-    match read_instant(text) {
+pub(crate) fn instant(line: &mut Line, answers: &mut Answers) {
+    match read_instant(line.rest()) {
         Ok(seconds) => push_number("", seconds, answers),
         Err(InstantFault::Spelling) => push("Spelling", answers),
         Err(InstantFault::NoSuchDay) => push("NoSuchDay", answers),
     }
-    Ok(())
 }
 
 /// Appends the long spelling of an instant.
-pub(crate) fn print(word: &str, answers: &mut Answers) -> Result<(), Fault> {
-    let seconds = number_of(word)?;
+pub(crate) fn print(line: &mut Line, answers: &mut Answers) {
+    let seconds = line.number();
     if seconds < FIRST || seconds > LAST {
-        return Err(Fault::Line);
+        return line.note(Fault::Line);
     }
     answers.extend(&print_instant(seconds));
-    Ok(())
 }

@@ -3,7 +3,7 @@ ghost use Rattle.std.specs.Prelude.{None};
 
 use md5::{Digest, Md5};
 use oe_cell::{Cell, write_records};
-use oe_lines::{Answers, Fault, bytes_of, cells_of, push, push_digits, push_number};
+use oe_lines::{Answers, Fault, push, push_digits, push_number};
 use oe_outside::{Failed, MemoryStore, Store};
 use std::alloc::Global;
 
@@ -55,15 +55,15 @@ pub(crate) fn plain_store(
     Ok(MemoryStore::new(bytes, count, calls)?)
 }
 
-/// So many bytes 9, the records of the cells of a word, and bytes in hexadecimal digits behind them.
+/// So many bytes 9, the records of cells, and bytes behind them.
 pub(crate) fn stored_bytes(
     alloc: Global,
     base: u16,
-    cells: &str,
-    digits: &str,
+    cells: &[Cell],
+    behind: &[u8],
 ) -> Result<Vec<u8>, Fault> {
-    let mut bytes = record_bytes(alloc, base, &cells_of(alloc, cells)?)?;
-    bytes.extend_from_slice(&bytes_of(alloc, digits)?)?;
+    let mut bytes = record_bytes(alloc, base, cells)?;
+    bytes.extend_from_slice(behind)?;
     Ok(bytes)
 }
 

@@ -1,41 +1,33 @@
 // Windows, chunks and runs of the shape.
-ghost use Rattle.std.specs.Prelude.{◌<◌, ◌^◌, IfOk, IsTrue};
+ghost use Rattle.std.specs.Prelude.{◌<◌, ◌^◌, IsTrue};
 ghost use Rattle.oe_window.specs.Chunks.{IsSide};
 ghost use Rattle.oe_window.specs.Windows.{Holds, position_count, whole_window};
 
-use crate::shapes::flag_word;
 use itoa::Integer;
 use oe_dims::Shape;
-use oe_lines::{
-    Answers, Fault, number_of, parts_of, push, push_all, push_number, push_window, side_of,
-    window_of, words_of,
-};
+use oe_lines::{Answers, Fault, Line, push, push_flag, push_number, push_window};
 use oe_window::{ChunkSize, Grid, Window, copy_window, holds, hull, meet, runs, size, whole};
 use std::alloc::Global;
 
 /// How many cells the shape has whose windows are listed.
 const CELLS: u64 = 48;
 
-/// The sides of chunks.
-fn sides_of(t: &str, y: &str, x: &str) -> Result<ChunkSize, Fault>
-    ensures x { IfOk result (λ size. IsSide size.x) }
-    ensures y { IfOk result (λ size. IsSide size.y) }
-    ensures t { IfOk result (λ size. IsSide size.t) }
+/// The sides of chunks along t, y and x.
+pub(crate) fn sides_of(line: &mut Line) -> ChunkSize
+    ensures x { IsSide result.x }
+    ensures y { IsSide result.y }
+    ensures t { IsSide result.t }
 {
-    let x = side_of(x)?;
-    let y = side_of(y)?;
-    let t = side_of(t)?;
-    Ok(ChunkSize { x, y, t })
+    let t = line.side();
+    let y = line.side();
+    let x = line.side();
+    ChunkSize { x, y, t }
 }
 
 /// Appends how many chunks the shape has, and the one of a number.
-pub(crate) fn chunk(line: &str, shape: &Shape, answers: &mut Answers) -> Result<(), Fault> {
-    let [t, y, x, number, ..] = words_of(line);
-    answer_chunk(
-        chunk_of(shape, sides_of(t, y, x)?, number_of(number)?),
-        answers,
-    );
-    Ok(())
+pub(crate) fn chunk(line: &mut Line, shape: &Shape, answers: &mut Answers) {
+    let size = sides_of(line);
+    answer_chunk(chunk_of(shape, size, line.number()), answers);
 }
 
 fn answer_chunk(found: (u64, Option<Window>), answers: &mut Answers) {
@@ -65,10 +57,8 @@ fn chunk_of(shape: &Shape, size: ChunkSize, number: u64) -> (u64, Option<Window>
 }
 
 /// Appends the runs of a window: the first number of each and how many follow one another.
-pub(crate) fn list_runs(line: &str, shape: &Shape, answers: &mut Answers) -> Result<(), Fault> {
-    let window = window_of(line)?;
-    answer_runs(shape, &window, answers);
-    Ok(())
+pub(crate) fn list_runs(line: &mut Line, shape: &Shape, answers: &mut Answers) {
+    answer_runs(shape, &line.window(), answers);
 }
 
 fn answer_runs(shape: &Shape, window: &Window, answers: &mut Answers) {
@@ -83,18 +73,13 @@ fn answer_runs(shape: &Shape, window: &Window, answers: &mut Answers) {
 }
 
 /// Appends the numbers of the positions of a window, copied out of a cube whose cells are their own numbers.
-pub(crate) fn cells(
-    alloc: Global,
-    line: &str,
-    shape: &Shape,
-    answers: &mut Answers,
-) -> Result<(), Fault> {
-    let window = window_of(line)?;
-    match counts(shape, &window) {
-        Some(found) => return answer_cells(alloc, found[0], shape, &window, answers),
-        None => push("outside", answers),
-    }
-    Ok(())
+pub(crate) fn cells(line: &mut Line, shape: &Shape, answers: &mut Answers) {
+    let window = line.window();
+    let Some(found) = counts(shape, &window) else {
+        return push("outside", answers);
+    };
+    let outcome = answer_cells(line.alloc(), found[0], shape, &window, answers);
+    line.settle(outcome);
 }
 
 fn answer_cells(
@@ -157,16 +142,14 @@ fn lies_within(shape: &Shape, window: &Window) -> bool
 }
 
 /// Appends how many positions, planes and rows a window has, and the plane and the row of two numbers.
-pub(crate) fn parts(line: &str, shape: &Shape, answers: &mut Answers) -> Result<(), Fault> {
-    let window = window_of(line)?;
-    let [_, _, _, _, plane, row, ..] = words_of(line);
-    let plane = plane_at(shape, &window, number_of(plane)?);
-    let row = row_at(shape, &window, number_of(row)?);
+pub(crate) fn parts(line: &mut Line, shape: &Shape, answers: &mut Answers) {
+    let window = line.window();
+    let plane = plane_at(shape, &window, line.number());
+    let row = row_at(shape, &window, line.number());
     match counts(shape, &window) {
         Some(found) => answer_parts(found, plane, row, answers),
         None => push("outside", answers),
     }
-    Ok(())
 }
 
 fn answer_parts(
@@ -220,14 +203,15 @@ fn row_at(shape: &Shape, window: &Window, number: u64) -> Option<Window> {
 }
 
 /// Appends the hull and the meet of two windows, and whether the first holds the second and the second the first.
-pub(crate) fn two(line: &str, answers: &mut Answers) -> Result<(), Fault> {
-    let (one, two) = parts_of(line, " | ")?;
-    let (one, two) = (window_of(one)?, window_of(two)?);
-    push_window("", &hull(&one, &two), answers);
-    push_meet(&meet(&one, &two), answers);
-    let (first, second) = (holds(&one, &two), holds(&two, &one));
-    push_all(&[" | ", flag_word(first), " ", flag_word(second)], answers);
-    Ok(())
+pub(crate) fn two(line: &mut Line, answers: &mut Answers) {
+    let one = &line.window();
+    line.pass("|");
+    let two = &line.window();
+    push_window("", &hull(one, two), answers);
+    push_meet(&meet(one, two), answers);
+    push(" |", answers);
+    push_flag(holds(one, two), answers);
+    push_flag(holds(two, one), answers);
 }
 
 fn push_meet(window: &Window, answers: &mut Answers) {

@@ -2,12 +2,10 @@
 ghost use Rattle.oe_window.specs.Chunks.{IsSide};
 
 use crate::store::{plain_store, push_bytes};
+use crate::windows::sides_of;
 use oe_cell::Cell;
 use oe_dims::Shape;
-use oe_lines::{
-    Answers, Fault, cells_of, number_of, numbers_of, parts_of, push, push_number, side_of,
-    window_of, words_of,
-};
+use oe_lines::{Answers, Fault, Line, push, push_number};
 use oe_outside::MemoryStore;
 use oe_spool::{least_over, lesser, write_window};
 use oe_window::{ChunkSize, Grid, Window, copy_window, holds, size, whole};
@@ -17,18 +15,39 @@ use std::alloc::Global;
 const MOST_CELLS: u64 = 1000000;
 
 /// Writes the cells of a line to a window.
-pub(crate) fn write_row(
+pub(crate) fn write_row(line: &mut Line, shape: &Shape, answers: &mut Answers) {
+    let base = line.number();
+    let room = line.number();
+    let calls = line.numbers();
+    let cells = line.cells();
+    line.pass("|");
+    let window = line.window();
+    let outcome = write_plain(
+        line.alloc(),
+        room,
+        calls,
+        base,
+        shape,
+        &window,
+        &cells,
+        answers,
+    );
+    line.settle(outcome);
+}
+
+/// Writes cells to a window of a store of so many bytes 9, of which these calls fail.
+fn write_plain(
     alloc: Global,
-    line: &str,
+    room: usize,
+    calls: Vec<u64>,
+    base: u16,
     shape: &Shape,
+    window: &Window,
+    cells: &[Cell],
     answers: &mut Answers,
 ) -> Result<(), Fault> {
-    let [base, room, call, cells, ..] = words_of(line);
-    let (_, window) = parts_of(line, " | ")?;
-    let window = window_of(window)?;
-    let cells = cells_of(alloc, cells)?;
-    let mut store = plain_store(alloc, number_of(room)?, numbers_of(alloc, call)?)?;
-    let (done, over) = write_cells(&mut store, number_of(base)?, shape, &window, &cells)?;
+    let mut store = plain_store(alloc, room, calls)?;
+    let (done, over) = write_cells(&mut store, base, shape, window, cells)?;
     push(if done { "written" } else { "failed" }, answers);
     spell_store(alloc, &store, over, answers);
     Ok(())
@@ -62,21 +81,31 @@ fn spell_store(alloc: Global, store: &MemoryStore, over: Option<u64>, answers: &
 }
 
 /// Writes the cells of a line chunk by chunk.
-pub(crate) fn chunks_row(
+pub(crate) fn chunks_row(line: &mut Line, shape: &Shape, answers: &mut Answers) {
+    let base = line.number();
+    let room = line.number();
+    let sides = sides_of(line);
+    let cells = line.cells();
+    let outcome = write_sides(line.alloc(), room, base, shape, sides, &cells, answers);
+    line.settle(outcome);
+}
+
+/// Writes cells in chunks of these sides to a store of so many bytes 9.
+fn write_sides(
     alloc: Global,
-    line: &str,
+    room: usize,
+    base: u16,
     shape: &Shape,
+    sides: ChunkSize,
+    cells: &[Cell],
     answers: &mut Answers,
-) -> Result<(), Fault> {
-    let [base, room, t, y, x, cells, ..] = words_of(line);
-    let sides = ChunkSize {
-        x: side_of(x)?,
-        y: side_of(y)?,
-        t: side_of(t)?,
-    };
-    let cells = cells_of(alloc, cells)?;
-    let mut store = plain_store(alloc, number_of(room)?, Vec::new(alloc))?;
-    let over = write_chunks(alloc, &mut store, number_of(base)?, shape, sides, &cells)?;
+) -> Result<(), Fault>
+    requires x { IsSide sides.x }
+    requires y { IsSide sides.y }
+    requires t { IsSide sides.t }
+{
+    let mut store = plain_store(alloc, room, Vec::new(alloc))?;
+    let over = write_chunks(alloc, &mut store, base, shape, sides, cells)?;
     push("written", answers);
     spell_store(alloc, &store, over, answers);
     Ok(())
@@ -129,11 +158,11 @@ fn cells_on(
 }
 
 /// Answers the lesser of two numbers, of which either may be missing.
-pub(crate) fn lesser_row(line: &str, answers: &mut Answers) -> Result<(), Fault> {
-    let [a, b, ..] = words_of(line);
+pub(crate) fn lesser_row(line: &mut Line, answers: &mut Answers) {
+    let a = found_of(line);
+    let b = found_of(line);
     push("lesser", answers);
-    push_found(lesser(found_of(a)?, found_of(b)?), answers);
-    Ok(())
+    push_found(lesser(a, b), answers);
 }
 
 /// Appends a number or `none`.
@@ -144,9 +173,10 @@ fn push_found(found: Option<u64>, answers: &mut Answers) {
     }
 }
 
-fn found_of(word: &str) -> Result<Option<u64>, Fault> {
-    match word {
-        "-" => Ok(None),
-        _ => Ok(Some(number_of(word)?)),
+fn found_of(line: &mut Line) -> Option<u64> {
+    if line.takes("-") {
+        None
+    } else {
+        Some(line.number())
     }
 }
