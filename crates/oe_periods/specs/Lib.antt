@@ -1,0 +1,3 @@
+pub mod Calendar
+pub mod Periods
+pub mod Sums
