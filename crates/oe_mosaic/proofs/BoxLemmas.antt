@@ -1,16 +1,15 @@
 -- A window whose tuples stand in a box of a part.
-use Rattle.std.proofs.Common.{◌≡◌, ℕ, ◌+◌, ◌-◌, ◌*◌, ◌<◌, ◌≤◌, Bool, true, false, List, length, is_some, Option, Some, None, IfSome, refl, sym, ap, ◌∙◌, subst, arith, unwrap_or, ◌==◌}
+use Rattle.std.proofs.Common.{◌≡◌, ℕ, ◌+◌, ◌-◌, ◌*◌, ◌<◌, true, false, List, length, Option, Some, None, IfSome, sym, ap, ◌∙◌, arith, unwrap_or, ◌==◌}
 use Rattle.std.specs.List.{Contains, list_any, slice_get}
 use Rattle.std.specs.Option.{option_map_or}
 use Rattle.oe_cell.specs.declared.cell.Cell.{Cell}
 use Rattle.oe_cell.specs.declared.cell.Cell.TheVariants.{Empty}
 use Rattle.oe_cube.specs.Collections.{IsCollection}
 use Rattle.oe_dims.specs.Cube.{Cube, Tuple, at, row_major, tabulate}
-use Rattle.oe_dims.specs.Dimensions.{Dimensions, IsShape, cell_count}
+use Rattle.oe_dims.specs.Dimensions.{Dimensions, IsShape}
 use Rattle.oe_dims.specs.Positions.{IsPosition, Position, number_of, tuple_of}
 use Rattle.oe_dims.proofs.CubeLemmas.{row_major-tuple_of}
-use Rattle.oe_mosaic.specs.Mosaics.{Part, are_visible, cell_in, deciding_part, is_damaged_at, is_damaged_in, mosaic_cell}
-use Rattle.oe_mosaic.specs.Parts.{IsSound}
+use Rattle.oe_mosaic.specs.Mosaics.{Part, cell_in, deciding_part, is_damaged_at, is_damaged_in, mosaic_cell}
 use Rattle.oe_mosaic.specs.Places.{HasBox, index_from, moved}
 use Rattle.oe_mosaic.specs.Readings.{AreApart}
 use Rattle.oe_mosaic.proofs.DecideLemmas.{cell_some, damage_some, first_decides, is_listed, not_listed}

@@ -1,14 +1,12 @@
 -- Which part decides about a tuple, and its cells and its damage there.
-use Rattle.std.proofs.Common.{◌≡◌, ℕ, zero, suc, ◌+◌, ◌-◌, ◌<◌, ◌≤◌, ◌==◌, ◌||◌, Bool, true, false, cond, List, [], ◌∷◌, length, is_some, Option, Some, None, IfSome, refl, sym, ap, ◌∙◌, subst, arith, inl, inr, unwrap_or}
-use Rattle.std.specs.List.{Contains, find, list_all, list_any, slice_get}
+use Rattle.std.proofs.Common.{◌≡◌, ℕ, zero, suc, ◌<◌, ◌==◌, ◌||◌, Bool, true, false, cond, List, [], ◌∷◌, length, is_some, Option, Some, None, IfSome, refl, sym, ap, ◌∙◌, arith}
+use Rattle.std.specs.List.{Contains, find, list_any, slice_get}
 use Rattle.std.specs.Option.{option_map_or}
 use Rattle.std.proofs.lemmas.Bool.Decides.{nat_tests}
 use Rattle.std.proofs.lemmas.Bool.{and_parts}
-use Rattle.oe_cell.specs.declared.cell.Cell.{Cell}
 use Rattle.oe_cell.specs.declared.cell.Cell.TheVariants.{Empty}
 use Rattle.oe_dims.specs.Cube.{Tuple, row_major}
 use Rattle.oe_mosaic.specs.Mosaics.{Part, are_visible, cell_in, deciding_part, has_tuple, is_damaged_at, is_damaged_in, mosaic_cell}
-use Rattle.oe_sources.specs.Source.{Contents}
 
 -- no part has the tuple
 pub none_decides : (parts : List Part) (tuple : Tuple)

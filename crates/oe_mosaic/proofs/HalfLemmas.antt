@@ -1,15 +1,15 @@
 -- A window cut in two: its positions are those of the first half, and then those of the second.
-use Rattle.std.proofs.Common.{◌≡◌, ℕ, suc, ◌+◌, ◌-◌, ◌<◌, ◌≤◌, List, [], ◌∷◌, ◌++◌, map, refl, sym, ap, ◌∙◌, subst, arith, append_assoc, inl, inr, ◌⊎◌}
+use Rattle.std.proofs.Common.{◌≡◌, ℕ, ◌+◌, ◌<◌, ◌≤◌, List, [], ◌∷◌, ◌++◌, map, refl, sym, ap, ◌∙◌, subst, arith, append_assoc, inl, inr, ◌⊎◌}
 use Rattle.std.specs.List.{flat_map, range_with_len}
 use Rattle.std.proofs.lemmas.Bool.{cases_lt}
 use Rattle.std.proofs.lemmas.List.{append-nil, map-append}
 use Rattle.oe_dims.specs.Positions.{Position}
-use Rattle.oe_mosaic.specs.Places.{AreHalves, AreHalvesOfSpan, side_sum}
-use Rattle.oe_window.specs.Windows.{Holds, IsAlong, IsEmpty, IsIn, positions, span_indices, span_length}
+use Rattle.oe_mosaic.specs.Places.{AreHalves, AreHalvesOfSpan}
+use Rattle.oe_window.specs.Windows.{IsAlong, IsEmpty, positions, span_indices, span_length}
 use Rattle.oe_window.specs.declared.window.Span.{Span}
 use Rattle.oe_window.specs.declared.window.Window.{Window}
 use Rattle.oe_window.proofs.RunLemmas.{range-append}
-use Rattle.oe_window.proofs.WindowLemmas.{IsFilled, filled_unless_empty, not_empty}
+use Rattle.oe_window.proofs.WindowLemmas.{filled_unless_empty, not_empty}
 
 flat_map-append : {A B : Type 0} (f : A → List B) (xs ys : List A) → flat_map f (xs ++ ys) ≡ flat_map f xs ++ flat_map f ys
 flat_map-append f [] ys = refl

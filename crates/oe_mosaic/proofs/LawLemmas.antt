@@ -24,16 +24,16 @@ use Rattle.oe_mosaic.proofs.LabelLemmas.{takes_both, takes_first, takes_second}
 
 -- ---- an element of a list, by cases on the list
 
-abbrev Has : {L : Type 0} → List L → L → Type 0
+abbrev pub Has : {L : Type 0} → List L → L → Type 0
 Has [] x = ⊥
 Has (a ∷ items) x = (a ≡ x) ⊎ Has items x
 
-has_at : {L : Type 0} (items : List L) (k : ℕ) (x : L) → slice_get items k ≡ Some x → Has items x
+pub has_at : {L : Type 0} (items : List L) (k : ℕ) (x : L) → slice_get items k ≡ Some x → Has items x
 has_at [] k x e = cc
 has_at (a ∷ items) zero x e = inl (same_Some a x e)
 has_at (a ∷ items) (suc k) x e = inr (has_at items k x e)
 
-at_has : {L : Type 0} (items : List L) (x : L) → Has items x → (k : ℕ) × (slice_get items k ≡ Some x)
+pub at_has : {L : Type 0} (items : List L) (x : L) → Has items x → (k : ℕ) × (slice_get items k ≡ Some x)
 at_has [] x h = absurd h
 at_has (a ∷ items) x (inl e) = (0, ap Some e)
 at_has (a ∷ items) x (inr h) = let rest = at_has items x h in (suc rest.0, rest.1)
@@ -43,10 +43,10 @@ has_index [] x k lt e = absurd (omega arith)
 has_index (a ∷ items) x zero lt e = inl e
 has_index (a ∷ items) x (suc k) lt e = inr (has_index items x k (omega arith) e)
 
-has : {L : Type 0} (items : List L) (x : L) → Contains items x → Has items x
+pub has : {L : Type 0} (items : List L) (x : L) → Contains items x → Has items x
 has items x c = has_index items x c.0 c.1 c.2
 
-contains : {L : Type 0} (items : List L) (x : L) → Has items x → Contains items x
+pub contains : {L : Type 0} (items : List L) (x : L) → Has items x → Contains items x
 contains [] x h = absurd h
 contains (a ∷ items) x (inl e) = (0, omega arith, e)
 contains (a ∷ items) x (inr h) = let rest = contains items x h in (suc rest.0, omega (arith, rest.1), rest.2)
@@ -456,7 +456,7 @@ order_of_kind X parts h = in_order X _ (later_ordered X _ (all_ordered X None pa
 
 -- ---- which dimensions are there
 
-counted : {L : Type 0} (labels : Option (List L)) → is_some (option_map length labels) ≡ is_some labels
+pub counted : {L : Type 0} (labels : Option (List L)) → is_some (option_map length labels) ≡ is_some labels
 counted None = refl
 counted (Some labels) = refl
 

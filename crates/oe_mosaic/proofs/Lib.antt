@@ -1,9 +1,11 @@
 mod BoxLemmas
 mod DecideLemmas
+mod FaultLemmas
 mod FindLemmas
 mod HalfLemmas
 mod LabelLemmas
 mod LawLemmas
+mod LimitLemmas
 mod MosaicLemmas
 mod PartLemmas
 mod PlaceLemmas

@@ -1,5 +1,5 @@
 -- A mosaic as a source: its collection, and what a read of it answers.
-use Rattle.std.proofs.Common.{◌≡◌, ℕ, zero, suc, ◌+◌, ◌<◌, ◌≤◌, Bool, true, false, if◌then◌else◌, List, [], ◌∷◌, length, map, is_some, Option, Some, None, IfSome, Result, Ok, Err, refl, sym, ap, ◌∙◌, subst, arith, cond, unwrap_or}
+use Rattle.std.proofs.Common.{◌≡◌, ℕ, zero, suc, ◌+◌, Bool, true, false, if◌then◌else◌, List, [], ◌∷◌, length, Option, Some, None, IfSome, Result, Ok, Err, IsErrOf, refl, sym, ap, ◌∙◌, subst, arith, cond, unwrap_or}
 use Rattle.std.specs.List.{Contains, filter, find, list_all, range_with_len, slice_get}
 use Rattle.std.specs.Option.{option_and_then, option_map_or}
 use Rattle.std.proofs.lemmas.Bool.{and_parts}
@@ -17,15 +17,15 @@ use Rattle.oe_dims.specs.Positions.{IsPosition, Position, number_of, tuple_of}
 use Rattle.oe_dims.specs.declared.kind.CellKind.{CellKind}
 use Rattle.oe_dims.specs.declared.kind.CellKind.TheVariants.{Numbers, Flags}
 use Rattle.oe_dims.proofs.CubeLemmas.{length-tuples, number_below, slice_get-tuples}
-use Rattle.oe_mosaic.specs.Mosaics.{Part, are_visible, cell_in, contents_of_parts, deciding_part, fault_count, first_kind, has_tuple, is_damaged_at, mosaic_cell, mosaic_contents, mosaic_shape, mosaic_source, numbers_where, part_of, parts_of}
+use Rattle.oe_mosaic.specs.Mosaics.{Part, are_visible, cell_in, contents_of_parts, deciding_part, fault_counts, first_kind, has_tuple, is_damaged_at, mosaic_cell, mosaic_contents, mosaic_shape, mosaic_source, numbers_where, parts_of}
+use Rattle.oe_mosaic.specs.PartFaults.{SomeRose}
 use Rattle.oe_mosaic.specs.Parts.{ArePartsOfOne, IsSound}
 use Rattle.oe_mosaic.specs.Readings.{IsAnswer, IsDamagedThere, IsRead, OnlyReads}
-use Rattle.oe_outside.specs.Faults.{HasCauseOf, NeverFalls, Rose}
+use Rattle.oe_mosaic.proofs.FaultLemmas.{count_falls, count_rose}
 use Rattle.oe_sources.specs.Source.{AreCellsOf, Contents, IsDamagedIn, Reads, Source, asked_after, collection_with}
 use Rattle.oe_sources.specs.declared.source.SourceFail.{SourceFail}
 use Rattle.oe_sources.specs.declared.source.SourceFail.TheVariants.{Failed, Damaged}
-use Rattle.oe_sources.proofs.SourceLemmas.{one_of_kind}
-use Rattle.oe_window.specs.Windows.{Holds, IsEmpty, IsIn, position_count, whole_window}
+use Rattle.oe_window.specs.Windows.{Holds, IsEmpty, position_count, whole_window}
 use Rattle.oe_window.specs.declared.window.Window.{Window}
 use Rattle.oe_window.proofs.CellLemmas.{is_cells_on}
 use Rattle.oe_window.proofs.RangeLemmas.{slice_get-range}
@@ -65,7 +65,7 @@ got_of_kind kind (cell ∷ cells) (Some zero) all = (and_parts (is_null_or_of ki
 got_of_kind kind (cell ∷ cells) (Some (suc k)) all = got_of_kind kind cells (Some k) (and_parts (is_null_or_of kind cell) (list_all (is_null_or_of kind) cells) all).1
 
 cell_in_kind : (tuple : Tuple) (part : Part) → IsSound part → is_null_or_of part.kind (cell_in tuple part) ≡ true
-cell_in_kind tuple part sound = each part.contents sound
+cell_in_kind tuple part sound = each part.contents sound.collection
   where
     each : (o : Option Contents) → IfSome o (λ c. IsCollection (collection_with part.shape part.kind c))
         → is_null_or_of part.kind (option_map_or (λ (c : Contents). unwrap_or (option_and_then (slice_get c.cells) (row_major part.shape tuple)) Empty) o Empty) ≡ true
@@ -165,13 +165,13 @@ damaged parts window n holds h = record {
 
 pub reads : {S : Type 0} (seen : S → Source) (items after : List S) (window : Window) (cells : List Cell) (asked : ℕ) (result : Result (Unit {0}) SourceFail)
     → Holds (whole_window (mosaic_shape (parts_of seen items))) window → OnlyReads seen items after
-    → IsAnswer (parts_of seen items) (mosaic_shape (parts_of seen items)) window cells (fault_count seen items) (fault_count seen after) result
+    → IsAnswer (parts_of seen items) (mosaic_shape (parts_of seen items)) window cells (fault_counts seen items) (fault_counts seen after) result
     → Reads (mosaic_source seen items asked) window cells (mosaic_source seen after (asked_after asked (position_count window))) result
 reads seen items after window cells asked (Ok done) holds only h = record {
   given = given (parts_of seen items) window cells holds h;
   of_kind = h.of_kind;
   damage = tt;
-  cause = record { count = only.falls; failed = λ err. cc };
+  cause = record { count = count_falls seen items after only.falls; failed = λ err. cc };
   asked = refl;
   shape = ap mosaic_shape only.same;
   kind = ap first_kind only.same;
@@ -181,7 +181,7 @@ reads seen items after window cells asked (Err Failed) holds only h = record {
   given = tt;
   of_kind = tt;
   damage = tt;
-  cause = record { count = only.falls; failed = λ err. h };
+  cause = record { count = count_falls seen items after only.falls; failed = λ err. count_rose seen items after only.falls h };
   asked = refl;
   shape = ap mosaic_shape only.same;
   kind = ap first_kind only.same;
@@ -191,12 +191,19 @@ reads seen items after window cells asked (Err (Damaged n)) holds only h = recor
   given = tt;
   of_kind = tt;
   damage = damaged (parts_of seen items) window n holds h;
-  cause = record { count = only.falls; failed = λ err. cc };
+  cause = record { count = count_falls seen items after only.falls; failed = λ err. cc };
   asked = refl;
   shape = ap mosaic_shape only.same;
   kind = ap first_kind only.same;
   contents = ap mosaic_contents only.same;
 }
+
+-- a read fails only where the counter of a part rose
+pub failed_rose : (parts : List Part) (d : Dimensions) (window : Window) (cells : List Cell) (before after : List ℕ) (result : Result (Unit {0}) SourceFail)
+    → IsAnswer parts d window cells before after result → IsErrOf result Failed → SomeRose before after
+failed_rose parts d window cells before after (Ok done) h err = cc
+failed_rose parts d window cells before after (Err Failed) h err = h
+failed_rose parts d window cells before after (Err (Damaged n)) h err = cc
 
 -- a window without positions
 pub empty_read : (parts : List Part) (d : Dimensions) (window : Window) (cells : List Cell) → IsEmpty window → length cells ≡ position_count window → IsRead parts d window cells
@@ -209,8 +216,8 @@ empty_read parts d window cells empty long = record {
 -- the same where the shape and the number of cells asked are known by equations
 pub reads_at : {S : Type 0} (seen : S → Source) (items after : List S) (d : Dimensions) (window : Window) (cells : List Cell) (asked asked_then : ℕ) (result : Result (Unit {0}) SourceFail)
     → d ≡ mosaic_shape (parts_of seen items) → asked_then ≡ asked_after asked (position_count window) → Holds (whole_window (mosaic_shape (parts_of seen items))) window → OnlyReads seen items after
-    → IsAnswer (parts_of seen items) d window cells (fault_count seen items) (fault_count seen after) result
+    → IsAnswer (parts_of seen items) d window cells (fault_counts seen items) (fault_counts seen after) result
     → Reads (mosaic_source seen items asked) window cells (mosaic_source seen after asked_then) result
 reads_at seen items after d window cells asked asked_then result shape counted holds only h =
     subst (λ (n : ℕ). Reads (mosaic_source seen items asked) window cells (mosaic_source seen after n) result) (sym counted)
-    (reads seen items after window cells asked result holds only (subst (λ (e : Dimensions). IsAnswer (parts_of seen items) e window cells (fault_count seen items) (fault_count seen after) result) shape h))
+    (reads seen items after window cells asked result holds only (subst (λ (e : Dimensions). IsAnswer (parts_of seen items) e window cells (fault_counts seen items) (fault_counts seen after) result) shape h))

@@ -1,12 +1,12 @@
 -- Parts that may stand in one mosaic, and what pushing, replacing and removing one keeps.
-use Rattle.std.proofs.Common.{◌≡◌, ℕ, zero, suc, ◌+◌, ◌<◌, ◌≤◌, ◌⊎◌, ◌==◌, ◌&&◌, Bool, true, false, List, [], ◌∷◌, ◌++◌, length, length-append, map, take, drop, get_or, is_some, Option, Some, None, OnErr, OnOk, Result, Ok, Err, refl, sym, ap, ◌∙◌, subst, arith, inl, inr, not, nat_le}
+use Rattle.std.proofs.Common.{◌≡◌, ℕ, zero, suc, ◌+◌, ◌<◌, ◌≤◌, ◌⊎◌, ◌==◌, ◌&&◌, Bool, true, false, List, [], ◌∷◌, ◌++◌, length, length-append, take, drop, get_or, is_some, Option, Some, None, OnErr, OnOk, Result, Ok, Err, refl, sym, ap, ◌∙◌, subst, arith, inl, inr, not, nat_le}
 use Rattle.std.specs.List.{Contains, list_all, slice_get}
 use Rattle.std.specs.Option.{option_map}
 use Rattle.std.proofs.lemmas.Bool.Decides.{nat_tests}
 use Rattle.std.proofs.lemmas.Bool.{and_parts}
 use Rattle.std.proofs.lemmas.List.{length-drop, length-map, length-take, map-append}
 use Rattle.std.proofs.lemmas.List.Elements.{Contains-append_cases, Contains-append_left, Contains-append_right, Contains-push_cases}
-use Rattle.oe_dims.specs.Dimensions.{Dimensions, label_count}
+use Rattle.oe_dims.specs.Dimensions.{label_count}
 use Rattle.oe_dims.specs.declared.kind.CellKind.{CellKind}
 use Rattle.oe_dims.specs.declared.kind.CellKind.TheVariants.{Numbers, Flags}
 use Rattle.oe_dims.specs.declared.kind.Kind.TheVariants.{Time, Bands, Y, X}

@@ -1,30 +1,31 @@
 -- How labels and windows lie in a part.
-use Rattle.std.proofs.Common.{◌≡◌, ◌≤ℤ◌, ℕ, ◌*◌, zero, suc, ◌+◌, ◌-◌, ◌<◌, ◌≤◌, ◌||◌, Bool, true, false, ℤ, List, [], ◌∷◌, length, take, drop, get_or, Option, Some, None, IfSome, refl, sym, ap, ◌∙◌, subst, arith, inl, inr, unwrap_or}
+use Rattle.std.proofs.Common.{◌≡◌, ◌≤ℤ◌, ◌<ℤ◌, ℕ, ◌*◌, zero, suc, ◌+◌, ◌-◌, ◌<◌, ◌≤◌, ◌||◌, Bool, true, false, ℤ, List, [], ◌∷◌, length, take, drop, get_or, Option, Some, None, IfSome, refl, sym, ap, ◌∙◌, subst, arith, inl, inr, unwrap_or}
+use Rattle.std.specs.Int.Signed.{lt_z}
 use Rattle.std.specs.List.{slice_get, slice_range}
 use Rattle.std.specs.Option.{option_and_then, option_map}
 use Rattle.std.proofs.lemmas.Bool.{cases_lt, or_cases, or_parts}
 use Rattle.std.proofs.lemmas.Int.{ints}
-use Rattle.std.proofs.lemmas.List.{drop_more, length-drop, length-take}
+use Rattle.std.proofs.lemmas.List.{length-drop, length-take}
 use Rattle.oe_dims.specs.Cube.{Tuple, index_along, row_major}
 use Rattle.oe_dims.specs.Dimensions.{Dimensions, IsShape, band_names, extent, label_count, number_labels}
 use Rattle.oe_dims.specs.Indices.{IsIndexRange, index_where, is_inside, same_number}
 use Rattle.oe_dims.specs.Names.{same_name}
-use Rattle.oe_dims.specs.Positions.{Position, label_of, tuple_of}
+use Rattle.oe_dims.specs.Positions.{tuple_of}
 use Rattle.oe_dims.specs.Rules.{IsFalling, IsInOrder, IsRising}
 use Rattle.oe_dims.specs.declared.kind.Kind.{Kind}
 use Rattle.oe_dims.specs.declared.kind.Kind.TheVariants.{Time, Bands, Y, X}
 use Rattle.oe_dims.proofs.IndexLemmas.{index_where_passes, same_number_is}
 use Rattle.oe_dims.proofs.ShapeLemmas.{extents_of_shape}
 use Rattle.oe_mosaic.specs.Labels.{numbers_along}
-use Rattle.oe_mosaic.specs.Places.{HasBox, HasLabelsFrom, HasNoLabelOf, HasNoTupleOf, IsOfNumbers, LieAlong, LieAmong, LiesAlong, LiesIn, box_of, first_index, has_across, has_apart, index_from, is_across, is_apart, moved, side_sum, span_in_part}
+use Rattle.oe_mosaic.specs.Places.{HasBox, HasLabelsFrom, HasNoLabelOf, HasNoTupleOf, IsOfNumbers, LieAlong, LieAmong, LiesAlong, box_of, first_index, has_across, has_apart, is_across, is_apart, side_sum}
 use Rattle.oe_mosaic.proofs.PartLemmas.{get_there}
 use Rattle.oe_mosaic.specs.declared.place.Along.{Along}
 use Rattle.oe_mosaic.specs.declared.place.Along.TheVariants.{Apart, From, Across}
 use Rattle.oe_mosaic.specs.declared.place.Sides.{Sides}
-use Rattle.oe_window.specs.Windows.{Holds, IsAlong, IsEmpty, IsIn, span_length, whole_window}
+use Rattle.oe_window.specs.Windows.{IsEmpty, span_length}
 use Rattle.oe_window.specs.declared.window.Span.{Span}
 use Rattle.oe_window.specs.declared.window.Window.{Window}
-use Rattle.oe_window.proofs.WindowLemmas.{IsFilled, filled_unless_empty}
+use Rattle.oe_window.proofs.WindowLemmas.{filled_unless_empty}
 
 -- ---- pieces of lists
 
@@ -153,6 +154,48 @@ ends_falling labels d falling some k below =
       | inr past ↦ let same : k ≡ last = omega (arith, past, below) in subst (λ (i : ℕ). get_or labels i d ≤ℤ get_or labels k d) same (omega (arith, ints))
     ] in
     subst (λ (o : Option ℤ). IfSome o (λ label. is_inside (get_or labels last d) (get_or labels 0 d) label ≡ true)) (sym here) (inside_from _ _ _ low high)
+
+-- ---- labels that all stand before those of a part, or all behind them
+
+inside_parts : (from to label : ℤ) → is_inside from to label ≡ true → (from ≤ℤ label) × (label ≤ℤ to)
+inside_parts from to label h = (grind (arith, ints, h), grind (arith, ints, h))
+
+-- labels between two numbers, and those of a part between two others, where no number is between both
+elsewhere : (labels own : List ℤ) (least greatest own_least own_greatest : ℤ)
+    → ((k : ℕ) → k < length labels → IfSome (slice_get labels k) (λ label. is_inside least greatest label ≡ true))
+    → ((k : ℕ) → k < length own → IfSome (slice_get own k) (λ label. is_inside own_least own_greatest label ≡ true))
+    → ((label : ℤ) → least ≤ℤ label → label ≤ℤ greatest → own_least ≤ℤ label → label ≤ℤ own_greatest → ⊥)
+    → LieAmong same_number labels own Apart
+elsewhere labels own least greatest own_least own_greatest inside inside_own nowhere k below =
+    each (slice_get labels k) (inside k below)
+  where
+    each : (o : Option ℤ) → IfSome o (λ label. is_inside least greatest label ≡ true) → IfSome o (λ label. index_where (same_number label) own ≡ None)
+    each None h = tt
+    each (Some label) h = none_unless (index_where (same_number label) own) (λ j found.
+        let p = index_where_passes (same_number label) own j found in
+        let is : p.0 ≡ label = same_number_is label p.0 p.2 in
+        let there : is_inside own_least own_greatest p.0 ≡ true =
+        subst (λ (o : Option ℤ). IfSome o (λ l. is_inside own_least own_greatest l ≡ true)) p.1 (inside_own j p.3) in
+        let one = inside_parts least greatest label h in
+        let two = inside_parts own_least own_greatest label (ap (is_inside own_least own_greatest) (sym is) ∙ there) in
+        nowhere label one.0 one.1 two.0 two.1)
+
+is_less : (a b : ℤ) → lt_z a b ≡ true → a <ℤ b
+is_less a b h = grind (arith, ints, h)
+
+pub below_apart : (labels own : List ℤ) (least greatest own_least own_greatest : ℤ)
+    → ((k : ℕ) → k < length labels → IfSome (slice_get labels k) (λ label. is_inside least greatest label ≡ true))
+    → ((k : ℕ) → k < length own → IfSome (slice_get own k) (λ label. is_inside own_least own_greatest label ≡ true))
+    → lt_z greatest own_least ≡ true → LieAmong same_number labels own Apart
+below_apart labels own least greatest own_least own_greatest inside inside_own before =
+    elsewhere labels own least greatest own_least own_greatest inside inside_own (λ label a b c d. omega (arith, ints, b, c, is_less greatest own_least before))
+
+pub above_apart : (labels own : List ℤ) (least greatest own_least own_greatest : ℤ)
+    → ((k : ℕ) → k < length labels → IfSome (slice_get labels k) (λ label. is_inside least greatest label ≡ true))
+    → ((k : ℕ) → k < length own → IfSome (slice_get own k) (λ label. is_inside own_least own_greatest label ≡ true))
+    → lt_z own_greatest least ≡ true → LieAmong same_number labels own Apart
+above_apart labels own least greatest own_least own_greatest inside inside_own behind =
+    elsewhere labels own least greatest own_least own_greatest inside inside_own (λ label a b c d. omega (arith, ints, a, d, is_less own_greatest least behind))
 
 -- ---- a span of a dimension
 
@@ -365,17 +408,38 @@ apart_lies d own window s h is p in_ =
       ]
     ])
 
--- the same where the rows alone are known
-pub apart_along_y : (d own : Dimensions) (window : Window) (a : Along) → LiesAlong same_number d.y own.y window.y a → is_apart a ≡ true → HasNoTupleOf d own window
+-- the same where one dimension alone is known
+pub apart_along_t : (d own : Dimensions) (window : Window) → LiesAlong same_number d.t own.t window.t Apart → HasNoTupleOf d own window
 unfolding steps
-apart_along_y d own window a h is p in_ =
+apart_along_t d own window h p in_ =
+    let tuple = tuple_of d p in
+    let b = index_along same_name own.bands tuple.band in
+    let y = index_along same_number own.y tuple.y in
+    let x = index_along same_number own.x tuple.x in
+    row_major_steps own tuple
+    ∙ ap (λ (o : Option ℕ). steps o b y x (extent own.bands) (extent own.y) (extent own.x)) (h p.t in_.t)
+
+pub apart_along_y : (d own : Dimensions) (window : Window) → LiesAlong same_number d.y own.y window.y Apart → HasNoTupleOf d own window
+unfolding steps
+apart_along_y d own window h p in_ =
     let tuple = tuple_of d p in
     let t = index_along same_number own.t tuple.t in
     let b = index_along same_name own.bands tuple.band in
     let x = index_along same_number own.x tuple.x in
     row_major_steps own tuple
-    ∙ ap (λ (o : Option ℕ). steps t b o x (extent own.bands) (extent own.y) (extent own.x)) (no_label same_number d.y own.y window.y a h is p.y in_.y)
+    ∙ ap (λ (o : Option ℕ). steps t b o x (extent own.bands) (extent own.y) (extent own.x)) (h p.y in_.y)
     ∙ no_y t b x (extent own.bands) (extent own.y) (extent own.x)
+
+pub apart_along_x : (d own : Dimensions) (window : Window) → LiesAlong same_number d.x own.x window.x Apart → HasNoTupleOf d own window
+unfolding steps
+apart_along_x d own window h p in_ =
+    let tuple = tuple_of d p in
+    let t = index_along same_number own.t tuple.t in
+    let b = index_along same_name own.bands tuple.band in
+    let y = index_along same_number own.y tuple.y in
+    row_major_steps own tuple
+    ∙ ap (λ (o : Option ℕ). steps t b y o (extent own.bands) (extent own.y) (extent own.x)) (h p.x in_.x)
+    ∙ no_x t b y (extent own.bands) (extent own.y) (extent own.x)
 
 -- ---- a span that lies across has several indices
 

@@ -1,9 +1,8 @@
 -- One part that is read among the parts, and a window that is read in two halves.
-use Rattle.std.proofs.Common.{◌≡◌, ℕ, zero, suc, ◌+◌, ◌<◌, ◌≤◌, ◌-◌, ◌&&◌, Bool, true, false, List, [], ◌∷◌, ◌++◌, ◌^◌, length, length-append, map, get_or, set, is_some, Option, Some, None, IfSome, Result, Ok, Err, refl, sym, ap, ◌∙◌, subst, arith, inl, inr}
-use Rattle.std.specs.List.{Contains, list_all, slice_get, sum_by}
-use Rattle.std.proofs.lemmas.Bool.{and_parts, cases_lt}
+use Rattle.std.proofs.Common.{◌≡◌, ℕ, zero, suc, ◌+◌, ◌<◌, ◌≤◌, ◌-◌, Bool, true, List, [], ◌∷◌, ◌++◌, ◌^◌, length, length-append, map, get_or, set, is_some, Option, Some, None, IfSome, Result, Ok, Err, refl, sym, ap, ◌∙◌, subst, arith, inl, inr}
+use Rattle.std.specs.List.{Contains, list_all, slice_get}
+use Rattle.std.proofs.lemmas.Bool.{and_parts}
 use Rattle.std.proofs.lemmas.List.{length-map, map-append}
-use Rattle.std.proofs.lemmas.List.Sums.{sum_by-cons}
 use Rattle.std.proofs.lemmas.Option.{same_Some}
 use Rattle.oe_cell.specs.declared.cell.Cell.{Cell}
 use Rattle.oe_cell.specs.declared.cell.Cell.TheVariants.{Empty}
@@ -14,17 +13,18 @@ use Rattle.oe_dims.specs.Dimensions.{Dimensions, IsShape}
 use Rattle.oe_dims.specs.Positions.{Position, number_of, tuple_of}
 use Rattle.oe_dims.specs.declared.kind.CellKind.{CellKind}
 use Rattle.oe_dims.proofs.ShapeLemmas.{cell_count_within}
-use Rattle.oe_mosaic.specs.Mosaics.{Part, are_visible, deciding_part, fault_count, first_kind, is_damaged_at, mosaic_cell, part_of, parts_of}
-use Rattle.oe_mosaic.specs.Parts.{ArePartsOfOne, IsSound}
+use Rattle.oe_mosaic.specs.Mosaics.{Part, deciding_part, fault_counts, first_kind, is_damaged_at, mosaic_cell, part_of, parts_of}
+use Rattle.oe_mosaic.specs.PartFaults.{NoneFalls, SomeRose}
+use Rattle.oe_mosaic.specs.Parts.{ArePartsOfOne}
 use Rattle.oe_mosaic.specs.Places.{AreHalves, HasBox, IsSingle, first_of, moved}
 use Rattle.oe_mosaic.specs.Readings.{AreApart, IsAnswer, IsDamagedThere, IsFoundIn, IsRead, OnlyReads}
-use Rattle.oe_mosaic.proofs.BoxLemmas.{box_cells, box_damaged, box_undamaged, moved_in}
+use Rattle.oe_mosaic.proofs.BoxLemmas.{box_cells, box_damaged, box_undamaged}
 use Rattle.oe_mosaic.proofs.DecideLemmas.{cell_none, damage_none, none_decides, one_visible}
+use Rattle.oe_mosaic.proofs.FaultLemmas.{none_refl, none_trans, rose_later, set_falls, set_rose}
 use Rattle.oe_mosaic.proofs.FindLemmas.{part_at}
 use Rattle.oe_mosaic.proofs.MosaicLemmas.{kind_of_each, null_fits}
 use Rattle.oe_mosaic.proofs.PartLemmas.{get_there}
-use Rattle.oe_outside.specs.Faults.{NeverFalls, Rose, last_count}
-use Rattle.oe_outside.proofs.Causes.{NeverFalls-refl, NeverFalls-trans, then-Rose}
+use Rattle.oe_outside.specs.Faults.{NeverFalls, Rose}
 use Rattle.oe_sources.specs.Source.{AreCellsOf, Contents, IsDamagedIn, Reads, Source, collection_with}
 use Rattle.oe_sources.specs.declared.source.SourceFail.{SourceFail}
 use Rattle.oe_sources.specs.declared.source.SourceFail.TheVariants.{Failed, Damaged}
@@ -38,14 +38,6 @@ use Rattle.oe_window.proofs.WindowLemmas.{filled_unless_empty, length-positions}
 
 -- ---- counters and parts, where one part was read
 
-sum_set : {S : Type 0} (f : S → ℕ) (items : List S) (k : ℕ) (old new : S) → slice_get items k ≡ Some old → sum_by f (set items k new) + f old ≡ sum_by f items + f new
-sum_set f [] k old new h = cc
-sum_set f (item ∷ items) zero old new h =
-    let same : f item ≡ f old = ap f (same_Some item old h) in
-    omega (arith, sum_by-cons f item items, sum_by-cons f new items, same)
-sum_set f (item ∷ items) (suc k) old new h =
-    omega (arith, sum_by-cons f item items, sum_by-cons f item (set items k new), sum_set f items k old new h)
-
 parts_set : {S : Type 0} (seen : S → Source) (items : List S) (k : ℕ) (old new : S) → slice_get items k ≡ Some old → part_of (seen new) ≡ part_of (seen old) → parts_of seen (set items k new) ≡ parts_of seen items
 parts_set seen [] k old new h same = refl
 parts_set seen (item ∷ items) zero old new h same =
@@ -54,35 +46,15 @@ parts_set seen (item ∷ items) (suc k) old new h same = ap (λ ps. part_of (see
 
 pub one_read : {S : Type 0} (seen : S → Source) (items after : List S) (k : ℕ) (old new : S) → slice_get items k ≡ Some old → after ≡ set items k new
     → NeverFalls (seen old).faults (seen new).faults → part_of (seen new) ≡ part_of (seen old) → OnlyReads seen items after
-one_read seen items after k old new h is falls same =
-    let sum = sum_set (λ s. (seen s).faults) items k old new h in
-    let total : sum_by (λ s. (seen s).faults) after + (seen old).faults ≡ sum_by (λ s. (seen s).faults) items + (seen new).faults =
-    ap (λ (l : List _). sum_by (λ s. (seen s).faults) l + (seen old).faults) is ∙ sum in
-    record {
-      falls = record { later = omega (arith, total, falls.later); bounded = λ _. omega arith };
-      same = ap (parts_of seen) is ∙ parts_set seen items k old new h same;
-    }
-
-at_least : {S : Type 0} (f : S → ℕ) (items : List S) (k : ℕ) (old : S) → slice_get items k ≡ Some old → f old ≤ sum_by f items
-at_least f [] k old h = cc
-at_least f (item ∷ items) zero old h =
-    let same : f item ≡ f old = ap f (same_Some item old h) in
-    omega (arith, sum_by-cons f item items, same)
-at_least f (item ∷ items) (suc k) old h = omega (arith, sum_by-cons f item items, at_least f items k old h)
+one_read seen items after k old new h is falls same = record {
+  falls = subst (λ (l : List _). NoneFalls (fault_counts seen items) (fault_counts seen l)) (sym is) (set_falls (λ s. (seen s).faults) items k old new h falls);
+  same = ap (parts_of seen) is ∙ parts_set seen items k old new h same;
+}
 
 pub one_rose : {S : Type 0} (seen : S → Source) (items after : List S) (k : ℕ) (old new : S) → slice_get items k ≡ Some old → after ≡ set items k new
-    → Rose (seen old).faults (seen new).faults → Rose (fault_count seen items) (fault_count seen after)
+    → Rose (seen old).faults (seen new).faults → SomeRose (fault_counts seen items) (fault_counts seen after)
 one_rose seen items after k old new h is rose =
-    let sum = sum_set (λ s. (seen s).faults) items k old new h in
-    let total : sum_by (λ s. (seen s).faults) after + (seen old).faults ≡ sum_by (λ s. (seen s).faults) items + (seen new).faults =
-    ap (λ (l : List _). sum_by (λ s. (seen s).faults) l + (seen old).faults) is ∙ sum in
-    elim rose [
-      | inl higher ↦ elim (cases_lt (sum_by (λ s. (seen s).faults) after) last_count) [
-        | inl below ↦ inl (omega (arith, total, higher, below))
-        | inr above ↦ inr (omega (arith, above))
-      ]
-      | inr last ↦ inr (omega (arith, total, last, at_least (λ s. (seen s).faults) items k old h))
-    ]
+    subst (λ (l : List _). SomeRose (fault_counts seen items) (fault_counts seen l)) (sym is) (set_rose (λ s. (seen s).faults) items k old new h rose)
 
 pub part_there : {S : Type 0} (seen : S → Source) (items : List S) (k : ℕ) (item : S) → slice_get items k ≡ Some item → slice_get (parts_of seen items) k ≡ Some (part_of (seen item))
 part_there seen [] k item h = cc
@@ -141,7 +113,7 @@ part_read parts d window box k part cells h there apart has holds long given kin
 }
   where
     sound : (c : Contents) → part.contents ≡ Some c → IsCollection (collection_with part.shape part.kind c)
-    sound c shown = subst (λ (o : Option Contents). IfSome o (λ c. IsCollection (collection_with part.shape part.kind c))) shown (h.sound part (contained parts k part there))
+    sound c shown = subst (λ (o : Option Contents). IfSome o (λ c. IsCollection (collection_with part.shape part.kind c))) shown (h.sound part (contained parts k part there)).collection
 
     given_by : (c : Contents) → part.contents ≡ Some c → AreCellsOf part.shape c box cells
     given_by c shown = subst (λ (o : Option Contents). IfSome o (λ c. AreCellsOf part.shape c box cells)) shown given
@@ -184,7 +156,7 @@ single_damaged parts d window box k n part h there apart has single some damaged
         → is_damaged_at parts (tuple_of d (first_of window)) ≡ true
     each None e is in_ same = cc
     each (Some c) e is in_ same =
-        let sound : IsCollection (collection_with part.shape part.kind c) = subst (λ (o : Option Contents). IfSome o (λ c. IsCollection (collection_with part.shape part.kind c))) e (h.sound part (contained parts k part there)) in
+        let sound : IsCollection (collection_with part.shape part.kind c) = subst (λ (o : Option Contents). IfSome o (λ c. IsCollection (collection_with part.shape part.kind c))) e (h.sound part (contained parts k part there)).collection in
         let listed : Contains c.damaged n = subst (λ (o : Option Contents). IfSome o (λ c. Contains c.damaged n)) e damaged.damaged in
         box_damaged parts k part d window box c (first_of window) there apart has sound.valid e (subst (λ (m : ℕ). Contains c.damaged m) same listed) in_
 
@@ -215,22 +187,22 @@ two_read parts d window front back one two halves first second = record {
 pub wider : (parts : List Part) (d : Dimensions) (window part : Window) (n : ℕ) → Holds window part → IsDamagedThere parts d part n → IsDamagedThere parts d window n
 wider parts d window part n holds h = record { position = h.position; inside = holds h.position h.inside; numbered = h.numbered; damaged = h.damaged }
 
-pub front_fails : (parts : List Part) (d : Dimensions) (window front back : Window) (one cells : List Cell) (before mid : ℕ) (fail : SourceFail) → AreHalves window front back
+pub front_fails : (parts : List Part) (d : Dimensions) (window front back : Window) (one cells : List Cell) (before mid : List ℕ) (fail : SourceFail) → AreHalves window front back
     → IsAnswer parts d front one before mid (Err fail) → IsAnswer parts d window cells before mid (Err fail)
 front_fails parts d window front back one cells before mid Failed halves h = h
 front_fails parts d window front back one cells before mid (Damaged n) halves h = wider parts d window front n halves.front_within h
 
-pub back_answers : (parts : List Part) (d : Dimensions) (window front back : Window) (one two : List Cell) (before mid after : ℕ) (result : Result (Unit {0}) SourceFail) → AreHalves window front back
-    → IsRead parts d front one → NeverFalls before mid → IsAnswer parts d back two mid after result → IsAnswer parts d window (one ++ two) before after result
+pub back_answers : (parts : List Part) (d : Dimensions) (window front back : Window) (one two : List Cell) (before mid after : List ℕ) (result : Result (Unit {0}) SourceFail) → AreHalves window front back
+    → IsRead parts d front one → NoneFalls before mid → IsAnswer parts d back two mid after result → IsAnswer parts d window (one ++ two) before after result
 back_answers parts d window front back one two before mid after (Ok done) halves first falls h = two_read parts d window front back one two halves first h
-back_answers parts d window front back one two before mid after (Err Failed) halves first falls h = then-Rose falls h
+back_answers parts d window front back one two before mid after (Err Failed) halves first falls h = rose_later before mid after falls h
 back_answers parts d window front back one two before mid after (Err (Damaged n)) halves first falls h = wider parts d window back n halves.back_within h
 
 pub only_trans : {S : Type 0} (seen : S → Source) (a b c : List S) → OnlyReads seen a b → OnlyReads seen b c → OnlyReads seen a c
-only_trans seen a b c h k = record { falls = NeverFalls-trans h.falls k.falls; same = k.same ∙ h.same }
+only_trans seen a b c h k = record { falls = none_trans (fault_counts seen a) (fault_counts seen b) (fault_counts seen c) h.falls k.falls; same = k.same ∙ h.same }
 
 pub only_refl : {S : Type 0} (seen : S → Source) (a : List S) → OnlyReads seen a a
-only_refl seen a = record { falls = NeverFalls-refl (fault_count seen a); same = refl }
+only_refl seen a = record { falls = none_refl (fault_counts seen a); same = refl }
 
 -- ---- the part of a place, read in its box
 
@@ -264,7 +236,7 @@ part_ok seen items d window box k old new cells done h below is apart found hold
     part_read (parts_of seen items) d window box k (part_of (seen old)) cells h (part_at seen items k old below is) apart (item_box seen items d window box k old below is found) holds long reads.given reads.of_kind
 
 pub part_failed : {S : Type 0} (seen : S → Source) (items after : List S) (box : Window) (k : ℕ) (old new : S) (cells : List Cell)
-    → k < length items → old ≡ get_or items k old → after ≡ set items k new → Reads (seen old) box cells (seen new) (Err Failed) → Rose (fault_count seen items) (fault_count seen after)
+    → k < length items → old ≡ get_or items k old → after ≡ set items k new → Reads (seen old) box cells (seen new) (Err Failed) → SomeRose (fault_counts seen items) (fault_counts seen after)
 part_failed seen items after box k old new cells below is set_is reads =
     one_rose seen items after k old new (get_there items k old below ∙ ap Some (sym is)) set_is (reads.cause.failed refl)
 
@@ -296,7 +268,7 @@ parts_after seen items after only h = subst ArePartsOfOne (sym only.same) h
 pub old_item : {S : Type 0} (items : List S) (k : ℕ) (item : S) → get_or items k item ≡ item → get_or items k item ≡ get_or items k (get_or items k item)
 old_item items k item is = sym (ap (get_or items k) is)
 
-pub fails_earlier : (parts : List Part) (d : Dimensions) (window : Window) (cells : List Cell) (start before after : ℕ) (fail : SourceFail) → NeverFalls start before
+pub fails_earlier : (parts : List Part) (d : Dimensions) (window : Window) (cells : List Cell) (start before after : List ℕ) (fail : SourceFail) → NoneFalls start before
     → IsAnswer parts d window cells before after (Err fail) → IsAnswer parts d window cells start after (Err fail)
-fails_earlier parts d window cells start before after Failed falls h = then-Rose falls h
+fails_earlier parts d window cells start before after Failed falls h = rose_later start before after falls h
 fails_earlier parts d window cells start before after (Damaged n) falls h = h

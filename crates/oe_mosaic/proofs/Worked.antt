@@ -1,14 +1,14 @@
 -- Worked values of the definitions.
-use Rattle.std.specs.Prelude.{◌≡◌, ℕ, ℤ, true, false, pos, neg_ℤ, List, [], ◌∷◌, ◌++◌, codes, Some, None, Ok, Err, refl}
+use Rattle.std.specs.Prelude.{◌≡◌, ℕ, ℤ, true, false, pos, neg_ℤ, List, [], ◌∷◌, codes, Some, None, Ok, Err, refl}
 use Rattle.oe_cell.specs.declared.cell.Cell.{Cell}
 use Rattle.oe_cell.specs.declared.cell.Cell.TheVariants.{Empty, Number}
 use Rattle.oe_dims.specs.Dimensions.{Dimensions}
 use Rattle.oe_dims.specs.declared.kind.CellKind.TheVariants.{Numbers, Flags}
-use Rattle.oe_dims.specs.declared.kind.Kind.TheVariants.{X, Y}
+use Rattle.oe_dims.specs.declared.kind.Kind.TheVariants.{Y}
 use Rattle.oe_mosaic.specs.Labels.{join_bands, merge_labels}
 use Rattle.oe_mosaic.specs.Mosaics.{Part, mosaic_contents, mosaic_shape}
 use Rattle.oe_mosaic.specs.MosaicText.{names_in}
-use Rattle.oe_mosaic.specs.Parts.{PartRefusal, may_replace, part_refusal, without}
+use Rattle.oe_mosaic.specs.Parts.{may_replace, part_refusal, without}
 use Rattle.oe_mosaic.specs.Parts.PartRefusal.{kind_differs}
 
 abbrev row : List ℤ → Dimensions

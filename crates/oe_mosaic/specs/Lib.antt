@@ -3,6 +3,7 @@ pub mod MosaicLaws
 pub mod Mosaics
 pub mod MosaicStates
 pub mod MosaicText
+pub mod PartFaults
 pub mod PartRefusals
 pub mod Parts
 pub mod Places

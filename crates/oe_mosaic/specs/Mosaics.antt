@@ -104,7 +104,11 @@ mosaic_contents parts = if are_visible parts then Some (contents_of_parts parts)
 abbrev pub parts_of : {S : Type 0} → (S → Source) → List S → List Part
 parts_of seen items = map (λ s. part_of (seen s)) items
 
--- the fault counter: the sum of those of the parts, which stays at its last value
+-- the fault counters of the parts
+abbrev pub fault_counts : {S : Type 0} → (S → Source) → List S → List ℕ
+fault_counts seen items = map (λ s. (seen s).faults) items
+
+-- the fault counter of the mosaic: the sum of those of the parts, which stays at its last value
 abbrev pub fault_count : {S : Type 0} → (S → Source) → List S → ℕ
 fault_count seen items = min (sum_by (λ s. (seen s).faults) items) last_count
 

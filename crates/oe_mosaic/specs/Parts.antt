@@ -1,8 +1,8 @@
 -- Which collections may be the parts of one mosaic.
-use Rattle.std.specs.Prelude.{◌≡◌, ℕ, ◌≤◌, ◌==◌, ◌&&◌, not, nat_le, Bool, true, false, List, [], ◌∷◌, ◌++◌, length, map, take, drop, suc, Option, Some, None, is_some, if◌then◌else◌, IfSome}
-use Rattle.std.specs.List.{Contains, list_all, All}
+use Rattle.std.specs.Prelude.{◌≡◌, ℕ, ◌≤◌, ◌==◌, ◌&&◌, not, nat_le, Bool, true, false, List, [], ◌∷◌, ◌++◌, length, take, drop, suc, Option, Some, None, is_some, if◌then◌else◌, IfSome}
+use Rattle.std.specs.List.{Contains, list_all}
 use Rattle.oe_cube.specs.Collections.{IsCollection}
-use Rattle.oe_dims.specs.Dimensions.{Dimensions, label_count}
+use Rattle.oe_dims.specs.Dimensions.{Dimensions, IsShape, label_count}
 use Rattle.oe_dims.specs.declared.kind.CellKind.{CellKind}
 use Rattle.oe_dims.specs.declared.kind.CellKind.TheVariants.{Numbers, Flags}
 use Rattle.oe_dims.specs.declared.kind.Kind.TheVariants.{Time, Bands, Y, X}
@@ -71,9 +71,10 @@ put_at place part items = take place items ++ part ∷ drop (suc place) items
 abbrev pub without : {S : Type 0} → ℕ → List S → List S
 without place items = take place items ++ drop (suc place) items
 
--- where the contents are visible they are those of a collection
-abbrev pub IsSound : Part → Type 0
-IsSound part = IfSome part.contents (λ c. IsCollection (collection_with part.shape part.kind c))
+-- what each part keeps: its shape is valid, and its contents, where they are visible, are those of a collection
+pub record IsSound (part : Part) : Type 0 where
+  pub valid : IsShape part.shape
+  pub collection : IfSome part.contents (λ c. IsCollection (collection_with part.shape part.kind c))
 
 -- two parts have one kind, the same dimensions and one reference system
 pub record IsAlike (a b : Part) : Type 0 where

@@ -1,5 +1,5 @@
 -- For private functions. How the positions of a window lie in a part, and how a window is cut.
-use Rattle.std.specs.Prelude.{◌≡◌, ◌⊎◌, ⊤, ℕ, ◌+◌, ◌-◌, ◌<◌, ◌≤◌, Bool, true, false, ◌||◌, ◌++◌, List, length, slice_get, Option, Some, None, IfSome}
+use Rattle.std.specs.Prelude.{◌≡◌, ◌⊎◌, ⊤, ℕ, ◌+◌, ◌-◌, ◌<◌, ◌≤◌, Bool, true, false, ◌||◌, ◌++◌, List, length, slice_get, Option, None, IfSome}
 use Rattle.std.specs.List.{slice_range}
 use Rattle.oe_dims.specs.Cube.{index_along, row_major}
 use Rattle.oe_dims.specs.Dimensions.{Dimensions, extent}

@@ -52,7 +52,12 @@ impl<S: CubeSource> Model for Mosaic<S> {
 }
 
 impl<S: CubeSource> Mosaic<S> {
-    ghost use Rattle.oe_mosaic.specs.MosaicStates.{TellsWhy, parts_handed};
+    ghost use Rattle.std.specs.Prelude.{IsErrOf};
+    ghost use Rattle.oe_mosaic.specs.Mosaics.{fault_counts};
+    ghost use Rattle.oe_mosaic.specs.MosaicStates.{TellsWhy, parts_handed, source_of};
+    ghost use Rattle.oe_mosaic.specs.PartFaults.{SomeRose};
+    ghost use Rattle.oe_sources.specs.Source.{Reads};
+    ghost use Rattle.oe_window.specs.Windows.{Holds, position_count, whole_window};
 
     /// The mosaic of these parts, of which nothing was asked yet.
     ///
@@ -77,6 +82,22 @@ impl<S: CubeSource> Mosaic<S> {
             Ok(None) => Err(MosaicFail::TooLarge(parts)),
             Err(_) => Err(MosaicFail::OutOfMemory(parts)),
         }
+    }
+
+    /// Reads the cells of a window in row-major order, as [`CubeSource::read`] does. It takes no memory, and asks a part
+    /// only for windows that the part has.
+    ///
+    /// Refuses: as that; and `Failed` only where the fault counter of a part rose.
+    pub fn read_parts(&mut self, window: &Window, into: &mut [Cell]) -> Result<(), SourceFail>
+        requires inside { Holds (whole_window (source_of S.seen self.old).shape) window.now }
+        requires room { length into.old ≡ position_count window.now }
+        ensures reads { Reads (source_of S.seen self.old) window.now into.new
+            (source_of S.seen self.new) result }
+        ensures failed { IsErrOf result SourceFail.Failed → SomeRose
+            (fault_counts S.seen self.old.parts) (fault_counts S.seen self.new.parts) }
+    {
+        self.asked = self.asked.saturating_add(size(window));
+        read_any(self.items.as_mut_slice(), &self.shape, window, into)
     }
 
     /// All parts, in their order. It takes no memory.
@@ -106,10 +127,8 @@ impl<S: CubeSource> CubeSource for Mosaic<S> {
         self.items[0].kind()
     }
 
-    /// It takes no memory, and asks a part only for windows that the part has.
     fn read(&mut self, window: &Window, into: &mut [Cell]) -> Result<(), SourceFail> {
-        self.asked = self.asked.saturating_add(size(window));
-        read_any(self.items.as_mut_slice(), &self.shape, window, into)
+        self.read_parts(window, into)
     }
 }
 
@@ -141,7 +160,7 @@ fn bands_of<S: CubeSource>(alloc: Global, items: &[S]) -> Result<Option<Vec<Text
     Ok(names)
 }
 
-/// The shape of the mosaic of these parts, `None` where it breaks the limits of a shape.
+/// The shape of the mosaic of these parts, `None` where it breaks a rule of shapes.
 fn shape_of<S: CubeSource>(alloc: Global, items: &[S]) -> Result<Option<Shape>, OutOfMemory>
     requires { 0 < length items.now }
     ensures { IfOk result (λ found. MatchOption found

@@ -85,13 +85,23 @@ fn fits_kind<S: CubeSource>(items: &[S], part: &S) -> bool
     }
 }
 
+/// The shape of a part, which is valid.
+fn shape_of<S: CubeSource>(part: &S) -> &Shape
+    ensures value { result.now ≡ (S.seen part.now).shape }
+    ensures sound { IsSound (part_of (S.seen part.now)) }
+{
+    let shape = part.shape();
+    let _epsg = shape.epsg();
+    shape
+}
+
 /// The dimensions and the EPSG code of a part are those of the first one, if there is one.
 fn fits_dimensions<S: CubeSource>(items: &[S], part: &S) -> bool
     ensures value { result
         ≡ fits_dimensions (parts_of S.seen items.now) (part_of (S.seen part.now)) }
     ensures sound { IsSound (part_of (S.seen part.now)) }
 {
-    let shape = part.shape();
+    let shape = shape_of(part);
     match items.first() {
         Some(first) => same_dimensions(first.shape(), shape),
         None => true,
@@ -242,7 +252,7 @@ fn may_replace<S: CubeSource>(items: &[S], place: usize, part: &S) -> bool
     ensures within { result ≡ true → place < length items.now }
     ensures sound { IsSound (part_of (S.seen part.now)) }
 {
-    let _shape = part.shape();
+    let _shape = shape_of(part);
     if place >= items.len() {
         return false;
     }

@@ -79,6 +79,40 @@ fn ends_of(kind: Kind, labels: &[i64]) -> (i64, i64)
     }
 }
 
+/// Labels of t, y or x all stand before those of a part, or all behind them.
+fn stand_beside(labels: &[i64], part: &Shape, kind: Kind) -> bool
+    requires some { 0 < length labels.now }
+    requires order { IsInOrder kind labels.now }
+    ensures { result ≡ true
+        → LieAmong same_number labels.now (number_labels part.now kind) Along.Apart }
+{
+    let own = part.labels(kind);
+    if own.is_empty() {
+        return false;
+    }
+    let (least, greatest) = ends_of(kind, labels);
+    let (own_least, own_greatest) = ends_of(kind, own);
+    greatest < own_least || own_greatest < least
+}
+
+/// The same of the labels at the indices of a span, where both cubes have the dimension.
+#[tactic(auto, using(crate::proofs::PlaceLemmas::order_piece))]
+fn is_beside_along(shape: &Shape, part: &Shape, kind: Kind, span: Span) -> bool
+    requires numbers { IsOfNumbers kind }
+    requires some { span.from < span.to }
+    requires within { span.to ≤ extent (numbers_along kind shape.now) }
+    ensures { result ≡ true → LiesAlong same_number (numbers_along kind shape.now)
+        (numbers_along kind part.now) span Along.Apart }
+{
+    match (shape.count(kind), part.count(kind)) {
+        (Some(_), Some(_)) => {
+            let labels = shape.labels(kind);
+            stand_beside(&labels[span.from as usize..span.to as usize], part, kind)
+        }
+        _ => false,
+    }
+}
+
 /// How labels of t, y or x lie among those of a part.
 #[tactic(auto, using(crate::proofs::PlaceLemmas::single_from, crate::proofs::PlaceLemmas::single_apart, crate::proofs::PlaceLemmas::range_apart))]
 fn numbers_among(labels: &[i64], part: &Shape, kind: Kind) -> Along
@@ -247,14 +281,17 @@ fn span_in_part(along: Along, span: Span) -> Span
     }
 }
 
-/// The part has none of the rows of a window. This is looked at first: most tiles of a mosaic lie beside a window.
-#[tactic(auto, using(crate::proofs::PlaceLemmas::apart_along_y))]
+/// The part has none of the tuples of a window, by the ends of its labels alone. This is looked at first: most tiles of a
+/// mosaic lie beside a window.
+#[tactic(auto, using(crate::proofs::PlaceLemmas::apart_along_y, crate::proofs::PlaceLemmas::apart_along_x, crate::proofs::PlaceLemmas::apart_along_t))]
 fn is_beside(shape: &Shape, part: &Shape, window: &Window) -> bool
     requires inside { Holds (whole_window shape.now) window.now }
     requires filled { ¬ IsEmpty window.now }
     ensures { result ≡ true → HasNoTupleOf shape.now part.now window.now }
 {
-    is_apart(numbers_along(shape, part, Kind::Y, window.y))
+    is_beside_along(shape, part, Kind::Y, window.y)
+        || is_beside_along(shape, part, Kind::X, window.x)
+        || is_beside_along(shape, part, Kind::Time, window.t)
 }
 
 /// How a window of a cube lies in a part.

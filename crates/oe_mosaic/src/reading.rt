@@ -2,7 +2,7 @@
 ghost use Rattle.std.specs.Prelude.{◌≡◌, ◌<◌, ℕ, length, slice_index_or};
 ghost use Rattle.oe_dims.specs.Dimensions.{IsShape, extent};
 ghost use Rattle.oe_dims.specs.Positions.{number_of};
-ghost use Rattle.oe_mosaic.specs.Mosaics.{fault_count, parts_of};
+ghost use Rattle.oe_mosaic.specs.Mosaics.{fault_counts, parts_of};
 ghost use Rattle.oe_mosaic.specs.Parts.{ArePartsOfOne};
 ghost use Rattle.oe_mosaic.specs.Places.{first_of, side_sum};
 ghost use Rattle.oe_mosaic.specs.Readings.{Finds, IsAnswer, IsTried, OnlyReads};
@@ -118,7 +118,7 @@ fn try_window<S: CubeSource>(
     requires room { length into.old ≡ position_count window.now }
     requires parts { ArePartsOfOne (parts_of S.seen items.old) }
     ensures tried { IsTried (parts_of S.seen items.old) shape.now window.now into.new
-        (fault_count S.seen items.old) (fault_count S.seen items.new) result }
+        (fault_counts S.seen items.old) (fault_counts S.seen items.new) result }
     ensures reads { OnlyReads S.seen items.old items.new }
 {
     match find(items, shape, window) {
@@ -154,7 +154,7 @@ fn read_window<S: CubeSource>(
     requires room { length into.old ≡ position_count window.now }
     requires parts { ArePartsOfOne (parts_of S.seen items.old) }
     ensures answer { IsAnswer (parts_of S.seen items.old) shape.now window.now into.new
-        (fault_count S.seen items.old) (fault_count S.seen items.new) result }
+        (fault_counts S.seen items.old) (fault_counts S.seen items.new) result }
     ensures reads { OnlyReads S.seen items.old items.new }
 {
     match try_window(items, shape, window, into) {
@@ -183,7 +183,7 @@ pub fn read_any<S: CubeSource>(
     requires room { length into.old ≡ position_count window.now }
     requires parts { ArePartsOfOne (parts_of S.seen items.old) }
     ensures answer { IsAnswer (parts_of S.seen items.old) shape.now window.now into.new
-        (fault_count S.seen items.old) (fault_count S.seen items.new) result }
+        (fault_counts S.seen items.old) (fault_counts S.seen items.new) result }
     ensures reads { OnlyReads S.seen items.old items.new }
 {
     if window.is_empty() {

@@ -1,5 +1,5 @@
-use Rattle.std.proofs.Common.{◌≡◌, List, length, rules, sym, ap, ◌∙◌, subst, arith}
-use Rattle.oe_mosaic.specs.Mosaics.{Part, fault_count, parts_of}
+use Rattle.std.proofs.Common.{◌≡◌, List, length, rules, subst, arith}
+use Rattle.oe_mosaic.specs.Mosaics.{Part, fault_counts, parts_of}
 use Rattle.oe_mosaic.specs.Readings.{IsAnswer, IsRead}
 use Rattle.oe_window.specs.Windows.{position_count}
 use Rattle.oe_mosaic.proofs.ReadLemmas.{back_answers, back_holds, fails_earlier, few_positions, front_fails, front_holds, half_counts, only_trans, parts_after}
@@ -63,7 +63,7 @@ returns-in-Ok-clause-answer g t c =
     let count = half_counts w front back halves in
     let first = subst (λ (ps : List Part). IsRead ps d front c.read_window.new.into) c.try_window.ensures.reads.same c.in-Ok.ensures.answer in
     let only = only_trans seen items tried c.read_window.new.items c.try_window.ensures.reads c.read_window.ensures.reads in
-    let second = subst (λ (ps : List Part). IsAnswer ps d back c.read_window-in-Ok.new.into (fault_count seen c.read_window.new.items) (fault_count seen c.read_window-in-Ok.new.items) c.read_window-in-Ok.result) only.same c.read_window-in-Ok.ensures.answer in
+    let second = subst (λ (ps : List Part). IsAnswer ps d back c.read_window-in-Ok.new.into (fault_counts seen c.read_window.new.items) (fault_counts seen c.read_window-in-Ok.new.items) c.read_window-in-Ok.result) only.same c.read_window-in-Ok.ensures.answer in
     back_answers (parts_of seen items) d w front back c.read_window.new.into c.read_window-in-Ok.new.into _ _ _ c.read_window-in-Ok.result halves first only.falls second
 
 pub returns-in-Ok-clause-reads : goal.returns-in-Ok-clause-reads
@@ -90,9 +90,9 @@ returns-in-Err-clause-answer g t c =
     let back = c.halves.result.1 in
     let halves = c.halves.ensures in
     let count = half_counts w front back halves in
-    let failed = subst (λ (ps : List Part). IsAnswer ps d front c.read_window.new.into (fault_count seen tried) (fault_count seen c.read_window.new.items) c.read_window.result) c.try_window.ensures.reads.same c.read_window.ensures.answer in
+    let failed = subst (λ (ps : List Part). IsAnswer ps d front c.read_window.new.into (fault_counts seen tried) (fault_counts seen c.read_window.new.items) c.read_window.result) c.try_window.ensures.reads.same c.read_window.ensures.answer in
     fails_earlier (parts_of seen items) d w c.args.into.now _ _ _ _ c.try_window.ensures.reads.falls
-    (front_fails (parts_of seen items) d w front back c.read_window.new.into c.args.into.now _ _ _ halves (subst (λ r. IsAnswer (parts_of seen items) d front c.read_window.new.into (fault_count seen tried) (fault_count seen c.read_window.new.items) r) c.in-Err.is failed))
+    (front_fails (parts_of seen items) d w front back c.read_window.new.into c.args.into.now _ _ _ halves (subst (λ r. IsAnswer (parts_of seen items) d front c.read_window.new.into (fault_counts seen tried) (fault_counts seen c.read_window.new.items) r) c.in-Err.is failed))
 
 pub returns-in-Err-clause-reads : goal.returns-in-Err-clause-reads
 returns-in-Err-clause-reads g t c =

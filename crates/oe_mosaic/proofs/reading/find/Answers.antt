@@ -1,4 +1,4 @@
-use Rattle.std.proofs.Common.{◌<◌, length, sym, subst, arith}
+use Rattle.std.proofs.Common.{◌<◌, length, subst, arith}
 use Rattle.std.proofs.lemmas.List.{get_or_read}
 use Rattle.oe_dims.specs.Dimensions.{Dimensions}
 use Rattle.oe_mosaic.specs.Places.{HasBox}

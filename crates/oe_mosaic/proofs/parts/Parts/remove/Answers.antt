@@ -1,4 +1,4 @@
-use Rattle.std.proofs.Common.{◌≡◌, ◌<◌, length, Some, sym, ap, ◌∙◌, arith}
+use Rattle.std.proofs.Common.{◌<◌, length, Some, sym, ap, ◌∙◌, arith}
 use Rattle.std.specs.List.{slice_get}
 use Rattle.oe_mosaic.proofs.PartLemmas.{get_there, removed}
 use Rattle.oe_mosaic.proofs.parts.Parts.remove.Goals as goal
