@@ -1,5 +1,5 @@
 -- The cube that a reduction takes.
-use Rattle.std.proofs.Common.{◌≡◌, ℕ, suc, ◌+◌, ◌*◌, ◌<◌, Bool, List, [], ◌∷◌, length, map, Some, slice_get, refl, sym, ap, ◌∙◌}
+use Rattle.std.proofs.Common.{◌≡◌, ℕ, suc, ◌+◌, ◌*◌, ◌<◌, Bool, List, [], ◌∷◌, length, map, Some, slice_get, refl, sym, ap, ◌∙◌, subst}
 use Rattle.std.proofs.lemmas.Option.{get_or_from_slice_get}
 use Rattle.std.specs.Option.{option_and_then}
 use Rattle.std.specs.Prelude.{IfOk, Result, Ok, Err}
@@ -86,6 +86,15 @@ before_is c fold taken nodes (Ok o) nodes_are at steps_are width_is =
     ∙ (ap (λ (ns : List Node). width_of ns taken (order_of ns taken)) nodes_are
     ∙ ap (λ (n : ℕ). width_of (links_of c.nodes) n (order_of (links_of c.nodes) n)) (sym is)))
 before_is c fold taken nodes (Err e) nodes_are at steps_are width_is = tt
+
+-- what an order is of the cube that is taken, by the names that the code has for the links and for the cube
+pub of_taken : {E : Type 0} (c : CheckedGraph) (fold taken : ℕ) (nodes : List Node) (r : Result Steps E) → nodes ≡ links_of c.nodes
+    → slice_get (arguments_of_node c fold) 0 ≡ Some taken → (P : List Node → ℕ → Steps → Type 0) → IfOk r (P nodes taken)
+    → IfOk r (P (links_of c.nodes) (taken_by c fold))
+of_taken c fold taken nodes (Ok o) nodes_are at P h =
+    let is : taken_by c fold ≡ taken = get_or_from_slice_get (arguments_of_node c fold) 0 taken 0 at in
+    subst (λ n. P (links_of c.nodes) n o) (sym is) (subst (λ (ns : List Node). P ns taken o) nodes_are h)
+of_taken c fold taken nodes (Err e) nodes_are at P h = tt
 
 -- the bound of a run that is cut there
 pub bound_is : (c : CheckedGraph) (size : ChunkSize) (fold before behind plane slab scratch bound : ℕ) → before ≡ width_before c fold

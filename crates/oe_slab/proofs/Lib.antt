@@ -8,10 +8,25 @@ pub mod DateLemmas
 pub mod LawLemmas
 pub mod FoldedLemmas
 pub mod SlabLemmas
+pub mod FoldedSlabLemmas
 pub mod PlaneLemmas
 pub mod MeaningLemmas
 pub mod WorkspaceLemmas
 pub mod MedianLemmas
+pub mod StepLemmas
+pub mod MetLemmas
+pub mod ScheduleLemmas
+pub mod PlaneWindowLemmas
 pub mod SlabWindowLemmas
+pub mod GridLemmas
+pub mod CubeLemmas
+pub mod RenderLemmas
+pub mod WrittenLemmas
+pub mod RoundLemmas
+pub mod EndLemmas
+pub mod BehindLemmas
+pub mod KindLemmas
+pub mod PutLemmas
+pub mod ResultLemmas
 mod Worked
 mod WorkedSlabs

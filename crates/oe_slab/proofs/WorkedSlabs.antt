@@ -53,5 +53,6 @@ held : held_cells (record {
   scratch = Empty ∷ Empty ∷ Empty ∷ [];
   windows = [];
   windows_before = [];
+  windows_behind = [];
 }) ≡ 15
 held = refl

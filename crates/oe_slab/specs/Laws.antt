@@ -1,6 +1,8 @@
--- What holds of every time cut.
-use Rattle.std.specs.Prelude.{◌≡◌, ◌⊎◌, ◌↔◌, ◌<◌, ℕ, None, [], ◌∷◌, slice_index_or}
+-- What holds of every time cut, and of every run that is folded slab by slab.
+use Rattle.std.specs.Prelude.{◌≡◌, ◌⊎◌, ◌↔◌, ◌<◌, ℕ, List, Option, None, [], ◌∷◌, slice_index_or}
+use Rattle.oe_cell.specs.declared.cell.Cell.{Cell}
 use Rattle.oe_cell.specs.declared.cell.Cell.TheVariants.{Empty}
+use Rattle.oe_dims.specs.Cube.{Cube}
 use Rattle.oe_fold.specs.Value.{reduction_of}
 use Rattle.oe_order.specs.Graph.{IsInRun, Reaches}
 use Rattle.oe_plan.specs.Figures.{shape_of_node}
@@ -9,12 +11,17 @@ use Rattle.oe_shape.specs.Checked.{AreFaultless, CheckedGraph}
 use Rattle.oe_shape.specs.Graphs.{Collections}
 use Rattle.oe_shape.specs.Laws.{AreCollectionsOf, meaning_of_node}
 use Rattle.oe_shape.specs.Links.{links_of}
+use Rattle.oe_spool.specs.Least.{least_over_of}
 use Rattle.oe_window.specs.Cells.{cells_on}
 use Rattle.oe_window.specs.Windows.{Holds, position_count, whole_window}
 use Rattle.oe_window.specs.declared.window.Window.{Window}
 use Rattle.oe_slab.specs.Cuts.{IsOfRun, IsTimeCut, links_behind}
 use Rattle.oe_slab.specs.Figures.{taken_by}
+use Rattle.oe_slab.specs.Plans.{IsSlabPlan}
+use Rattle.oe_slab.specs.Runs.{HasDone, HasRunRecords, SlabRunOf, chunk_total, result_cube}
 use Rattle.oe_slab.specs.Slabs.{cells_by_date, dates_of_fold}
+
+-- ---- cuts
 
 -- it takes one cube, and the nodes before it, which it reaches by references, are the run of that cube; each node of the
 -- run stands before it or behind it, and none does both
@@ -42,3 +49,16 @@ CutsFold = (collections : Collections) (c : CheckedGraph) → AreFaultless c →
     → slice_index_or (cells_on Empty (meaning_of_node collections c fold).cube plane) k Empty
     ≡ reduction_of cut.lone.reducer cut.lone.ignores_nulls
     (cells_by_date (meaning_of_node collections c (taken_by c fold)).cube plane (dates_of_fold c fold) k)
+
+-- ---- runs
+
+-- Of a run none of whose chunks is done, whatever a store holds is what it has done. Of one all of whose chunks are
+-- done, the number that it has found is the least of a cell of the result that is Over, and it found none exactly where
+-- no cell is.
+pub record BeginAndEnd : Type 0 where
+  pub begun : (r : SlabRunOf) → r.done ≡ 0 → r.over ≡ None → (store : Option (List ℕ))
+      → HasRunRecords r store × ((cube : Cube Cell) → HasDone r store cube)
+  pub over : (r : SlabRunOf) (store : Option (List ℕ)) (collections : Collections) → IsSlabPlan r.plan
+      → AreCollectionsOf r.plan.graph collections → r.done ≡ chunk_total r.plan
+      → HasDone r store (result_cube collections r.plan)
+      → r.over ≡ least_over_of (result_cube collections r.plan).cells

@@ -1,7 +1,11 @@
 pub mod Cuts
 pub mod Figures
-pub mod Plans
 pub mod Folds
 pub mod Slabs
-pub mod Laws
+pub mod Schedules
+pub mod Plans
 pub mod Workspaces
+pub mod Results
+pub mod Runs
+pub mod Rounds
+pub mod Laws

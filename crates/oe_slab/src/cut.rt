@@ -2,7 +2,9 @@
 ghost use Rattle.std.specs.Prelude.{◌≡◌, ◌<◌, ◌↔◌, ℕ, true, false, IfNone, IfOk, IfSome, IsTrue, length, slice_index};
 ghost use Rattle.oe_dims.specs.declared.kind.Kind.TheVariants.{Time};
 ghost use Rattle.oe_graph.specs.Printed.{node_count};
-ghost use Rattle.oe_order.specs.Order.{IsListing};
+ghost use Rattle.oe_order.specs.Evaluation.{IsEvaluationOrder};
+ghost use Rattle.oe_order.specs.Live.{IsSlotted};
+ghost use Rattle.oe_order.specs.Order.{IsListing, order_of};
 ghost use Rattle.oe_shape.specs.Links.{links_of};
 ghost use Rattle.oe_shape.specs.Reach.{whole_of_node};
 ghost use Rattle.oe_plan.specs.Ranges.{AreStepsOf};
@@ -166,9 +168,21 @@ fn width_of_behind(alloc: Global, checked: &Checked, fold: u32) -> Result<Option
 }
 
 /// The order of the run of the cube that a reduction takes.
-fn order_before(alloc: Global, checked: &Checked, fold: u32) -> Result<NodeOrder, OutOfMemory>
+pub(crate) fn order_before(
+    alloc: Global,
+    checked: &Checked,
+    fold: u32,
+) -> Result<NodeOrder, OutOfMemory>
     requires { IsLoneFold checked.now fold }
-    ensures { IfOk result (λ o. o.width ≡ width_before checked.now fold) }
+    ensures steps { IfOk result
+        (λ o. o.steps ≡ order_of (links_of checked.now.nodes) (taken_by checked.now fold)) }
+    ensures listing { IfOk result
+        (λ o. IsListing (links_of checked.now.nodes) (taken_by checked.now fold) o.steps) }
+    ensures evaluation { IfOk result
+        (λ o. IsEvaluationOrder (links_of checked.now.nodes) (taken_by checked.now fold) o.steps) }
+    ensures slots { IfOk result
+        (λ o. IsSlotted (links_of checked.now.nodes) (taken_by checked.now fold) o) }
+    ensures width { IfOk result (λ o. o.width ≡ width_before checked.now fold) }
 {
     // There are fewer than 2^32 nodes, since their number is a u32.
     let _count = checked.nodes();

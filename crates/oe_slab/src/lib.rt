@@ -6,16 +6,23 @@
 //! tells how many cells such a run holds; [`SlabPlan::new`] refuses a run that would hold too many.
 #![tactic(auto)]
 
+mod chunk;
 mod cut;
+mod evaluate;
 mod figures;
 mod fold;
 mod laws;
 mod links;
 mod parts;
 mod plan;
+mod records;
+mod schedules;
+mod slab_run;
 mod workspace;
 
 pub use figures::{SlabNumbers, SlabNumbersFail, slab_figures};
-pub use laws::{cuts_fold_by_date, cuts_part_their_runs};
+pub use laws::{cuts_fold_by_date, cuts_part_their_runs, slab_over_is_of_the_result};
+pub use oe_steps::RunFail;
 pub use plan::{SlabPlan, SlabPlanFail};
+pub use slab_run::{SlabProgress, SlabRun};
 pub use workspace::SlabWorkspace;

@@ -1,17 +1,26 @@
 // A plan of a run that is folded slab by slab.
-ghost use Rattle.std.specs.Prelude.{◌≡◌, ◌≤◌, ◌^◌, ℕ, IfOk, IsErrOf};
+ghost use Rattle.std.specs.Prelude.{◌≡◌, ◌<◌, ◌≤◌, ◌^◌, ℕ, IfOk, IsErrOf, Some};
 ghost use Rattle.oe_plan.specs.Figures as plan;
 ghost use Rattle.oe_slab.specs.Cuts.{HasNoTimeCut};
 ghost use Rattle.oe_slab.specs.Figures.{AreSlabSides, largest_plane, largest_slab, slab_bound, width_before, width_behind};
+ghost use Rattle.oe_plan.specs.Figures.{shape_of_node};
+ghost use Rattle.oe_shape.specs.Reach.{time_fold_of_node};
+ghost use Rattle.oe_dims.specs.Positions.{Position};
+ghost use Rattle.oe_window.specs.Chunks.{FitsSides, chunk_window, tiling_of};
+ghost use Rattle.oe_window.specs.Windows.{Holds, IsIn, whole_window};
 ghost use Rattle.oe_slab.specs.Plans.{IsSlabPlan, IsTooLarge};
+ghost use Rattle.oe_slab.specs.Slabs.{dates_of_fold};
 ghost use Rattle.oe_slab.specs.declared.plan.SlabPlanFail.{SlabPlanFail};
 
 use crate::cut::{TimeCut, time_cut};
-use crate::figures::{SlabSizes, bound_at, chunks_of, sizes_of};
+use crate::figures::{SlabSizes, bound_at, sizes_of};
+use crate::schedules::{Schedules, schedules_of};
+use oe_dims::{Kind, Shape};
+use oe_fold::Reducer;
 use oe_memory::OutOfMemory;
-use oe_plan::order_of;
+use oe_plan::{Schedule, order_of};
 use oe_shape::Checked;
-use oe_window::ChunkSize;
+use oe_window::{ChunkSize, Grid, Window};
 use std::alloc::Global;
 use std::marker::Model;
 
@@ -43,7 +52,8 @@ pub struct SlabPlan {
     cut: TimeCut,
     sizes: SlabSizes,
     bound: u128,
-    chunks: u64,
+    grid: Grid,
+    schedules: Schedules,
 }
 
 impl Model for SlabPlan {
@@ -55,11 +65,25 @@ impl Model for SlabPlan {
 
     ghost coded = { Prim.hlevel (codes, nodes_code (Prim.hlevel codes)) };
 
-    ghost view = { λ p. record { graph = p.checked; size = p.size; fold = p.cut.fold } };
+    ghost view = { λ p. record {
+      graph = p.checked;
+      size = p.size;
+      fold = p.cut.fold;
+      whole = p.schedules.whole;
+      before = p.schedules.before;
+      behind = p.schedules.behind;
+    } };
 
     ghost invariant = { λ p. IsKeptSlabPlan
-        (record { graph = p.checked; size = p.size; fold = p.cut.fold })
-        p.cut p.sizes p.bound p.chunks };
+        (record {
+          graph = p.checked;
+          size = p.size;
+          fold = p.cut.fold;
+          whole = p.schedules.whole;
+          before = p.schedules.before;
+          behind = p.schedules.behind;
+        })
+        p.cut p.sizes p.bound p.grid };
 }
 
 impl SlabPlan {
@@ -90,14 +114,16 @@ impl SlabPlan {
         }
         // A checked graph is without a fault, as the number of its nodes says.
         let _count = checked.nodes();
-        let chunks = chunks_of(&checked, size);
+        let grid = Grid::new(checked.shape(checked.result()), size);
+        let schedules = schedules_of(alloc, &checked, order, cut.fold, sizes)?;
         Ok(SlabPlan {
             checked,
             size,
             cut,
             sizes,
             bound,
-            chunks,
+            grid,
+            schedules,
         })
     }
 
@@ -120,9 +146,96 @@ impl SlabPlan {
     /// How many chunks the result has.
     pub fn chunks(&self) -> u64
         ensures value { result ≡ plan.chunks_of self.now.graph self.now.size }
+        ensures most { result ≤ 2 ^ 48 }
         ensures valid { IsSlabPlan self.now }
     {
-        self.chunks
+        self.grid.count()
+    }
+
+    /// The chunk of a number.
+    pub(crate) fn chunk(&self, k: u64) -> Window
+        requires { k < plan.chunks_of self.now.graph self.now.size }
+        ensures value { result ≡ chunk_window
+            (tiling_of (shape_of_node self.now.graph self.now.graph.result) self.now.size) k }
+        ensures sides { FitsSides
+            (tiling_of (shape_of_node self.now.graph self.now.graph.result) self.now.size) result }
+        ensures inside { Holds
+            (whole_window (shape_of_node self.now.graph self.now.graph.result)) result }
+        ensures filled { (p : Position) × IsIn result p }
+        ensures valid { IsSlabPlan self.now }
+    {
+        self.grid.chunk(k)
+    }
+
+    /// The shape of the result's cube.
+    pub(crate) fn shape(&self) -> &Shape
+        ensures { result.now ≡ shape_of_node self.now.graph self.now.graph.result }
+    {
+        self.checked.shape(self.checked.result())
+    }
+
+    /// The node at which the run is cut.
+    pub(crate) fn fold(&self) -> u32
+        ensures { result ≡ self.now.fold }
+    {
+        self.cut.fold
+    }
+
+    /// The reducer of the cut, and whether it ignores nulls.
+    pub(crate) fn reducer(&self) -> (Reducer, bool)
+        ensures { time_fold_of_node self.now.graph self.now.fold ≡ Some (result.0, result.1) }
+    {
+        match self.checked.time_fold(self.cut.fold) {
+            Some(folds) => folds,
+            None => unreachable!(),
+        }
+    }
+
+    /// The shape of the cube that is folded.
+    pub(crate) fn taken_shape(&self) -> &Shape
+        ensures value { result.now ≡ shape_of_node self.now.graph self.now.before.last }
+        ensures valid { IsSlabPlan self.now }
+    {
+        self.checked.shape(self.schedules.before.last())
+    }
+
+    /// How many dates it has.
+    pub(crate) fn dates(&self) -> u32
+        ensures value { result ≡ dates_of_fold self.now.graph self.now.fold }
+        ensures valid { IsSlabPlan self.now }
+    {
+        self.taken_shape().count(Kind::Time).unwrap_or(0)
+    }
+
+    /// How many dates a slab has at most.
+    pub(crate) fn slab_dates(&self) -> u32
+        ensures { result ≡ self.now.size.t }
+    {
+        self.size.t
+    }
+
+    /// The schedule of the whole run, without slots.
+    pub(crate) fn whole(&self) -> &Schedule
+        ensures value { result.now ≡ self.now.whole }
+        ensures valid { IsSlabPlan self.now }
+    {
+        &self.schedules.whole
+    }
+
+    /// The schedule of the cube that is folded.
+    pub(crate) fn before(&self) -> &Schedule
+        ensures value { result.now ≡ self.now.before }
+        ensures valid { IsSlabPlan self.now }
+    {
+        &self.schedules.before
+    }
+
+    /// The schedule of the result, where the folded cube is given.
+    pub(crate) fn behind(&self) -> &Schedule
+        ensures value { result.now ≡ self.now.behind }
+        ensures valid { IsSlabPlan self.now }
+    {
+        &self.schedules.behind
     }
 
     /// How many slabs are kept at once before the cut.

@@ -1,13 +1,40 @@
 // What a run is evaluated in that is folded slab by slab.
-ghost use Rattle.std.specs.Prelude.{◌≡◌, IfOk, length};
-ghost use Rattle.oe_slab.specs.Figures.{slab_bound};
-ghost use Rattle.oe_slab.specs.Workspaces.{IsWorkspaceFor, held_cells};
+ghost use Rattle.std.specs.Prelude.{◌≡◌, ◌≤◌, ◌^◌, ℕ, IfErr, IfOk, List, OnErr, OnOk, length, take};
+ghost use Rattle.oe_cell.specs.declared.cell.Cell.{Cell};
+ghost use Rattle.oe_cell.specs.declared.cell.Cell.TheVariants.{Empty};
+ghost use Rattle.oe_dims.specs.Dimensions.{cell_count};
+ghost use Rattle.oe_outside.specs.Faults.{HasCauseOf};
+ghost use Rattle.oe_plan.specs.Windows.{AreWindows};
+ghost use Rattle.oe_render.specs.Rendered.{AppendsCube, AppendsCubePrefix, CountsCube, CountsCubePrefix, IsRefusalWithin};
+ghost use Rattle.oe_render.specs.Stored.{HasCells};
+ghost use Rattle.oe_render.specs.declared.rendering.RenderFail.{RenderFail};
+ghost use Rattle.oe_shape.specs.Graphs.{Collections};
+ghost use Rattle.oe_shape.specs.Laws.{AreCollectionsOf};
+ghost use Rattle.oe_sources.specs.CatalogueRows.{rows_of};
 ghost use Rattle.oe_steps.specs.Buffers.{AreOfSize, lists_of};
+ghost use Rattle.oe_steps.specs.Collections.{HasCollections, Shows};
+ghost use Rattle.oe_steps.specs.Loads.{HasRead};
+ghost use Rattle.oe_window.specs.Cells.{cells_on};
+ghost use Rattle.oe_window.specs.Windows.{position_count};
+ghost use Rattle.oe_window.specs.declared.window.Window.{Window};
+ghost use Rattle.oe_slab.specs.Figures.{slab_bound};
+ghost use Rattle.oe_slab.specs.Plans.{most_asked};
+ghost use Rattle.oe_slab.specs.Results.{AreResultOf, HasResultOn, IsChunkOf, answer_of};
+ghost use Rattle.oe_slab.specs.Runs.{result_cube, result_shape};
+ghost use Rattle.oe_slab.specs.Schedules.{IsPlaneOf};
+ghost use Rattle.oe_slab.specs.Slabs.{HaveFoldedAll, HaveFoldedKind};
+ghost use Rattle.oe_slab.specs.Workspaces.{IsWorkspaceFor, held_cells};
 
+use crate::chunk::{fold_all, plane_of, put_plane};
+use crate::evaluate::pick_windows;
 use crate::plan::SlabPlan;
 use oe_cell::Cell;
 use oe_fold::{Pass, Reducer};
 use oe_memory::OutOfMemory;
+use oe_outside::{Pending, Sink, Store};
+use oe_render::{RenderFail, render};
+use oe_sources::Catalogue;
+use oe_steps::{RunFail, evaluate_steps, front, step_of_last};
 use oe_window::{Span, Window};
 use std::alloc::Global;
 use std::marker::Model;
@@ -22,6 +49,7 @@ pub struct SlabWorkspace {
     scratch: Vec<Cell>,
     windows: Vec<Window>,
     windows_before: Vec<Window>,
+    windows_behind: Vec<Window>,
     cells: u64,
 }
 
@@ -39,6 +67,7 @@ impl Model for SlabWorkspace {
       scratch = w.scratch.items;
       windows = w.windows.items;
       windows_before = w.windows_before.items;
+      windows_behind = w.windows_behind.items;
     } };
 
     ghost invariant = { λ w. w.cells ≡ held_cells (record {
@@ -48,6 +77,7 @@ impl Model for SlabWorkspace {
       scratch = w.scratch.items;
       windows = w.windows.items;
       windows_before = w.windows_before.items;
+      windows_behind = w.windows_behind.items;
     }) };
 }
 
@@ -98,15 +128,15 @@ impl SlabWorkspace {
         ensures cells { IfOk result (λ w. held_cells w
             ≡ slab_bound plan.now.graph plan.now.size plan.now.fold) }
     {
-        let steps = plan.checked().nodes() as usize;
         let plane = plan.plane();
         let cells = plan.bound() as u64;
         Ok(SlabWorkspace {
             before: buffers_of(alloc, plan.width_before(), plan.slab())?,
             behind: buffers_of(alloc, plan.width_behind(), plane)?,
             scratch: vec![in alloc; Cell::Empty; plan.scratch()]?,
-            windows: vec![in alloc; no_window(); steps]?,
-            windows_before: vec![in alloc; no_window(); steps]?,
+            windows: vec![in alloc; no_window(); plan.whole().steps().len()]?,
+            windows_before: vec![in alloc; no_window(); plan.before().steps().len()]?,
+            windows_behind: vec![in alloc; no_window(); plan.behind().steps().len()]?,
             cells,
             folds: folds_of(alloc, plane)?,
         })
@@ -117,5 +147,163 @@ impl SlabWorkspace {
         ensures { result ≡ held_cells self.now }
     {
         self.cells
+    }
+
+    /// Evaluates the result on a chunk: its cells are those of `result_cells` then. Takes no memory.
+    ///
+    /// Refuses: where a read of a collection is refused.
+    pub(crate) fn evaluate(
+        &mut self,
+        plan: &SlabPlan,
+        catalogue: &mut Catalogue,
+        chunk: &Window,
+    ) -> Result<(), RunFail>
+        requires room { IsWorkspaceFor plan.now self.old }
+        requires mounted { HasCollections plan.now.graph (rows_of seen catalogue.old) }
+        requires chunk { IsChunkOf plan.now chunk.now }
+        ensures room { IsWorkspaceFor plan.now self.new }
+        ensures result { OnOk result (HasResultOn plan.now chunk.now self.new) }
+        ensures value { OnOk result ((collections : Collections)
+            → AreCollectionsOf plan.now.graph collections
+            → Shows plan.now.graph (rows_of seen catalogue.old) collections
+            → AreResultOf plan.now self.new
+            (cells_on Empty (result_cube collections plan.now) chunk.now)) }
+        ensures read { HasRead plan.now.graph (most_asked plan.now)
+            (rows_of seen catalogue.old) (rows_of seen catalogue.new) result }
+    {
+        let plane = self.fold(plan, catalogue, chunk)?;
+        self.evaluate_behind(plan, &plane);
+        Ok(())
+    }
+
+    /// Finds the windows of the whole run for a chunk, and folds all dates of that of the cut. Answers this one.
+    ///
+    /// Refuses: where a read of a collection is refused.
+    fn fold(
+        &mut self,
+        plan: &SlabPlan,
+        catalogue: &mut Catalogue,
+        chunk: &Window,
+    ) -> Result<Window, RunFail>
+        requires room { IsWorkspaceFor plan.now self.old }
+        requires mounted { HasCollections plan.now.graph (rows_of seen catalogue.old) }
+        requires chunk { IsChunkOf plan.now chunk.now }
+        ensures room { IsWorkspaceFor plan.now self.new }
+        ensures windows { OnOk result
+            (AreWindows plan.now.graph plan.now.size chunk.now self.new.windows) }
+        ensures plane { IfOk result (IsPlaneOf plan.now.graph plan.now.fold self.new.windows) }
+        ensures kind { IfOk result (λ plane. HaveFoldedKind plan.now.graph plan.now.fold
+            (take (position_count plane) self.new.folds)) }
+        ensures seen { IfOk result (λ plane. (collections : Collections)
+            → AreCollectionsOf plan.now.graph collections
+            → Shows plan.now.graph (rows_of seen catalogue.old) collections
+            → HaveFoldedAll collections plan.now.graph plan.now.fold plane
+            (take (position_count plane) self.new.folds)) }
+        ensures read { HasRead plan.now.graph (most_asked plan.now)
+            (rows_of seen catalogue.old) (rows_of seen catalogue.new) (answer_of result) }
+    {
+        let plane = plane_of(plan, chunk, &mut self.windows);
+        fold_all(
+            plan,
+            catalogue,
+            &self.windows,
+            &plane,
+            &mut self.windows_before,
+            &mut self.before,
+            &mut self.scratch,
+            &mut self.folds,
+        )?;
+        Ok(plane)
+    }
+
+    /// Evaluates the part behind the cut, from the folds of a plane of the whole run's windows.
+    fn evaluate_behind(&mut self, plan: &SlabPlan, plane: &Window)
+        requires room { IsWorkspaceFor plan.now self.old }
+        requires windows { (chunk : Window)
+            × AreWindows plan.now.graph plan.now.size chunk self.old.windows }
+        requires plane { IsPlaneOf plan.now.graph plan.now.fold self.old.windows plane.now }
+        requires kind { HaveFoldedKind plan.now.graph plan.now.fold
+            (take (position_count plane.now) self.old.folds) }
+        ensures room { IsWorkspaceFor plan.now self.new }
+        ensures result { (chunk : Window)
+            → AreWindows plan.now.graph plan.now.size chunk self.old.windows
+            → HasResultOn plan.now chunk self.new }
+        ensures value { (collections : Collections) → AreCollectionsOf plan.now.graph collections
+            → HaveFoldedAll collections plan.now.graph plan.now.fold plane.now
+            (take (position_count plane.now) self.old.folds)
+            → (chunk : Window) → AreWindows plan.now.graph plan.now.size chunk self.old.windows
+            → AreResultOf plan.now self.new
+            (cells_on Empty (result_cube collections plan.now) chunk) }
+    {
+        let behind = plan.behind();
+        pick_windows(plan, &self.windows, &mut self.windows_behind);
+        put_plane(
+            plan,
+            plane,
+            &self.folds,
+            &self.windows_behind,
+            &mut self.behind,
+        );
+        evaluate_steps(
+            plan.checked(),
+            behind,
+            &self.windows_behind,
+            &mut self.behind,
+            &mut self.scratch,
+        );
+    }
+
+    /// The cells of the result on the chunk that was evaluated, in row-major order.
+    #[tactic(auto, using(crate::proofs::ResultLemmas::room_behind, crate::proofs::ResultLemmas::are_result, crate::proofs::ResultLemmas::only_result, crate::proofs::ResultLemmas::as_many))]
+    pub(crate) fn result_cells<'a>(&'a self, plan: &SlabPlan) -> &'a [Cell]
+        requires room { IsWorkspaceFor plan.now self.now }
+        requires result { (chunk : Window) × HasResultOn plan.now chunk self.now }
+        ensures are { AreResultOf plan.now self.now result.now }
+        ensures counted { (chunk : Window) → HasResultOn plan.now chunk self.now
+            → length result.now ≡ position_count chunk }
+        ensures only { (cells : List Cell) → AreResultOf plan.now self.now cells
+            → cells ≡ result.now }
+    {
+        front(
+            plan.checked(),
+            plan.behind(),
+            step_of_last(plan.checked(), plan.behind()),
+            &self.windows_behind,
+            &self.behind,
+        )
+    }
+
+    /// Writes the result text from records in a spool, with the cells to work with as its buffer.
+    ///
+    /// Refuses: as [`oe_render::render`] does.
+    pub(crate) fn render<P: Store, O: Sink>(
+        &mut self,
+        plan: &SlabPlan,
+        spool: &mut P,
+        base: u64,
+        out: &mut O,
+        pending: &mut Pending,
+    ) -> Result<(), RenderFail>
+        requires room { IsWorkspaceFor plan.now self.old }
+        requires base { base ≤ 2 ^ 62 }
+        requires stored { HasCells (P.bytes spool.old) base (cell_count (result_shape plan.now)) }
+        ensures room { IsWorkspaceFor plan.now self.new }
+        ensures text { OnOk result (AppendsCube (P.bytes spool.old) base (result_shape plan.now)
+            (O.written out.old) (O.written out.new)) }
+        ensures prefix { OnErr result (AppendsCubePrefix (P.bytes spool.old) base
+            (result_shape plan.now) (O.written out.old) (O.written out.new)) }
+        ensures counted { OnOk result (CountsCube (P.bytes spool.old) base (result_shape plan.now)
+            (O.size out.old) (O.size out.new)) }
+        ensures counted_prefix { OnErr result (CountsCubePrefix (P.bytes spool.old) base
+            (result_shape plan.now) (O.size out.old) (O.size out.new)) }
+        ensures spool_cause { HasCauseOf RenderFail.SpoolFailed (P.faults spool.old)
+            (P.faults spool.new) result }
+        ensures sink_cause { HasCauseOf RenderFail.SinkFailed (O.faults out.old)
+            (O.faults out.new) result }
+        ensures damage { IfErr result
+            (IsRefusalWithin (P.bytes spool.old) 0 (cell_count (result_shape plan.now))) }
+        ensures same { P.bytes spool.new ≡ P.bytes spool.old }
+    {
+        render(plan.shape(), spool, base, out, &mut self.scratch, pending)
     }
 }

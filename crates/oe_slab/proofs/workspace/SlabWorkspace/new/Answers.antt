@@ -16,6 +16,7 @@ invariant_of-result c =
       scratch = c.in_ok-vec.field-0.items;
       windows = c.in_ok-vec-2.field-0.items;
       windows_before = c.in_ok-vec-3.field-0.items;
+      windows_behind = c.in_ok-vec-4.field-0.items;
     }) c.width_before.result c.width_behind.result c.slab.result c.plane-plane.result c.scratch.result
     c.in_ok-buffers_of.ensures c.in_ok-buffers_of-2.ensures c.in_ok-folds_of.ensures scratch
     c.width_before.ensures c.width_behind.ensures c.slab.ensures c.plane-plane.ensures c.scratch.ensures)
@@ -32,6 +33,7 @@ returns-clause-cells c =
       scratch = c.in_ok-vec.field-0.items;
       windows = c.in_ok-vec-2.field-0.items;
       windows_before = c.in_ok-vec-3.field-0.items;
+      windows_behind = c.in_ok-vec-4.field-0.items;
     }) c.width_before.result c.width_behind.result c.slab.result c.plane-plane.result c.scratch.result
     c.in_ok-buffers_of.ensures c.in_ok-buffers_of-2.ensures c.in_ok-folds_of.ensures scratch
     c.width_before.ensures c.width_behind.ensures c.slab.ensures c.plane-plane.ensures c.scratch.ensures
