@@ -105,7 +105,7 @@ fn spell_each<'a, R: Threads + Sync>(
 fn is_read_first(object: Object, line: &str) -> bool {
     match object {
         Object::Input => true,
-        Object::Collections => line.starts_with("run"),
+        Object::Collections => line.starts_with("run") || line.starts_with("slab "),
         Object::Spool | Object::Output => false,
     }
 }

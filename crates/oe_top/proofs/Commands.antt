@@ -3,7 +3,7 @@ use Rattle.std.proofs.Common.{◌≡◌, ℕ, ◌^◌, ◌<◌, List, [], ◌∷
 use Rattle.oe_top.proofs.Numbers.{one_number}
 use Rattle.oe_top.specs.Words.{AreRunNumbers, IsNumberWord, Spells, SpellsDemo, SpellsId, SpellsNumbers, SpellsSides}
 use Rattle.oe_top.specs.declared.words.Command.{Command}
-use Rattle.oe_top.specs.declared.words.Command.TheVariants.{Run, Plan, SlabPlan, Demo, Check, Explain, Pack, Repack, DescribeAll, Describe}
+use Rattle.oe_top.specs.declared.words.Command.TheVariants.{Run, Plan, Slab, SlabPlan, Demo, Check, Explain, Pack, Repack, DescribeAll, Describe}
 use Rattle.oe_window.specs.declared.grid.ChunkSize.{ChunkSize}
 
 -- ---- the verb of a command
@@ -11,6 +11,7 @@ use Rattle.oe_window.specs.declared.grid.ChunkSize.{ChunkSize}
 abbrev verb_of : Command → List ℕ
 verb_of (Run size workers) = codes "run"
 verb_of (Plan size workers) = codes "plan"
+verb_of (Slab size) = codes "slab"
 verb_of (SlabPlan size) = codes "slabplan"
 verb_of (Demo seed side size workers) = codes "demo"
 verb_of Check = codes "check"
@@ -24,6 +25,7 @@ verb_of Describe = codes "describe"
 begins : (words : List (List ℕ)) (command : Command) → Spells words command → get_or words 0 [] ≡ verb_of command
 begins words (Run size workers) spells = ap (λ w. get_or w 0 []) spells.words_are
 begins words (Plan size workers) spells = ap (λ w. get_or w 0 []) spells.words_are
+begins words (Slab size) spells = ap (λ w. get_or w 0 []) spells.words_are
 begins words (SlabPlan size) spells = ap (λ w. get_or w 0 []) spells.words_are
 begins words (Demo seed side size workers) spells = ap (λ w. get_or w 0 []) spells.words_are
 begins words Check is = ap (λ w. get_or w 0 []) is
@@ -92,6 +94,7 @@ apart words alone spells = let same : codes "describe" ∷ [] ≡ codes "describ
 pub one_command : (words : List (List ℕ)) (a b : Command) → Spells words a → Spells words b → a ≡ b
 one_command words (Run s n) (Run t m) one two = ap (λ (p : ChunkSize × ℕ). Run p.0 p.1) (one_run (codes "run") words s t n m one two)
 one_command words (Run s n) (Plan t m) one two = let same : verb_of (Run s n) ≡ verb_of (Plan t m) = one_verb words (Run s n) (Plan t m) one two in cc
+one_command words (Run s n) (Slab t) one two = let same : verb_of (Run s n) ≡ verb_of (Slab t) = one_verb words (Run s n) (Slab t) one two in cc
 one_command words (Run s n) (SlabPlan t) one two = let same : verb_of (Run s n) ≡ verb_of (SlabPlan t) = one_verb words (Run s n) (SlabPlan t) one two in cc
 one_command words (Run s n) (Demo l e t m) one two = let same : verb_of (Run s n) ≡ verb_of (Demo l e t m) = one_verb words (Run s n) (Demo l e t m) one two in cc
 one_command words (Run s n) Check one two = let same : verb_of (Run s n) ≡ verb_of Check = one_verb words (Run s n) Check one two in cc
@@ -102,6 +105,7 @@ one_command words (Run s n) DescribeAll one two = let same : verb_of (Run s n) �
 one_command words (Run s n) Describe one two = let same : verb_of (Run s n) ≡ verb_of Describe = one_verb words (Run s n) Describe one two in cc
 one_command words (Plan s n) (Run t m) one two = let same : verb_of (Plan s n) ≡ verb_of (Run t m) = one_verb words (Plan s n) (Run t m) one two in cc
 one_command words (Plan s n) (Plan t m) one two = ap (λ (p : ChunkSize × ℕ). Plan p.0 p.1) (one_run (codes "plan") words s t n m one two)
+one_command words (Plan s n) (Slab t) one two = let same : verb_of (Plan s n) ≡ verb_of (Slab t) = one_verb words (Plan s n) (Slab t) one two in cc
 one_command words (Plan s n) (SlabPlan t) one two = let same : verb_of (Plan s n) ≡ verb_of (SlabPlan t) = one_verb words (Plan s n) (SlabPlan t) one two in cc
 one_command words (Plan s n) (Demo l e t m) one two = let same : verb_of (Plan s n) ≡ verb_of (Demo l e t m) = one_verb words (Plan s n) (Demo l e t m) one two in cc
 one_command words (Plan s n) Check one two = let same : verb_of (Plan s n) ≡ verb_of Check = one_verb words (Plan s n) Check one two in cc
@@ -110,8 +114,20 @@ one_command words (Plan s n) Pack one two = let same : verb_of (Plan s n) ≡ ve
 one_command words (Plan s n) Repack one two = let same : verb_of (Plan s n) ≡ verb_of Repack = one_verb words (Plan s n) Repack one two in cc
 one_command words (Plan s n) DescribeAll one two = let same : verb_of (Plan s n) ≡ verb_of DescribeAll = one_verb words (Plan s n) DescribeAll one two in cc
 one_command words (Plan s n) Describe one two = let same : verb_of (Plan s n) ≡ verb_of Describe = one_verb words (Plan s n) Describe one two in cc
+one_command words (Slab s) (Run t m) one two = let same : verb_of (Slab s) ≡ verb_of (Run t m) = one_verb words (Slab s) (Run t m) one two in cc
+one_command words (Slab s) (Plan t m) one two = let same : verb_of (Slab s) ≡ verb_of (Plan t m) = one_verb words (Slab s) (Plan t m) one two in cc
+one_command words (Slab s) (Slab t) one two = ap Slab (one_size (codes "slab") words s t one two)
+one_command words (Slab s) (SlabPlan t) one two = let same : verb_of (Slab s) ≡ verb_of (SlabPlan t) = one_verb words (Slab s) (SlabPlan t) one two in cc
+one_command words (Slab s) (Demo l e t m) one two = let same : verb_of (Slab s) ≡ verb_of (Demo l e t m) = one_verb words (Slab s) (Demo l e t m) one two in cc
+one_command words (Slab s) Check one two = let same : verb_of (Slab s) ≡ verb_of Check = one_verb words (Slab s) Check one two in cc
+one_command words (Slab s) Explain one two = let same : verb_of (Slab s) ≡ verb_of Explain = one_verb words (Slab s) Explain one two in cc
+one_command words (Slab s) Pack one two = let same : verb_of (Slab s) ≡ verb_of Pack = one_verb words (Slab s) Pack one two in cc
+one_command words (Slab s) Repack one two = let same : verb_of (Slab s) ≡ verb_of Repack = one_verb words (Slab s) Repack one two in cc
+one_command words (Slab s) DescribeAll one two = let same : verb_of (Slab s) ≡ verb_of DescribeAll = one_verb words (Slab s) DescribeAll one two in cc
+one_command words (Slab s) Describe one two = let same : verb_of (Slab s) ≡ verb_of Describe = one_verb words (Slab s) Describe one two in cc
 one_command words (SlabPlan s) (Run t m) one two = let same : verb_of (SlabPlan s) ≡ verb_of (Run t m) = one_verb words (SlabPlan s) (Run t m) one two in cc
 one_command words (SlabPlan s) (Plan t m) one two = let same : verb_of (SlabPlan s) ≡ verb_of (Plan t m) = one_verb words (SlabPlan s) (Plan t m) one two in cc
+one_command words (SlabPlan s) (Slab t) one two = let same : verb_of (SlabPlan s) ≡ verb_of (Slab t) = one_verb words (SlabPlan s) (Slab t) one two in cc
 one_command words (SlabPlan s) (SlabPlan t) one two = ap SlabPlan (one_size (codes "slabplan") words s t one two)
 one_command words (SlabPlan s) (Demo l e t m) one two = let same : verb_of (SlabPlan s) ≡ verb_of (Demo l e t m) = one_verb words (SlabPlan s) (Demo l e t m) one two in cc
 one_command words (SlabPlan s) Check one two = let same : verb_of (SlabPlan s) ≡ verb_of Check = one_verb words (SlabPlan s) Check one two in cc
@@ -122,6 +138,7 @@ one_command words (SlabPlan s) DescribeAll one two = let same : verb_of (SlabPla
 one_command words (SlabPlan s) Describe one two = let same : verb_of (SlabPlan s) ≡ verb_of Describe = one_verb words (SlabPlan s) Describe one two in cc
 one_command words (Demo k d s n) (Run t m) one two = let same : verb_of (Demo k d s n) ≡ verb_of (Run t m) = one_verb words (Demo k d s n) (Run t m) one two in cc
 one_command words (Demo k d s n) (Plan t m) one two = let same : verb_of (Demo k d s n) ≡ verb_of (Plan t m) = one_verb words (Demo k d s n) (Plan t m) one two in cc
+one_command words (Demo k d s n) (Slab t) one two = let same : verb_of (Demo k d s n) ≡ verb_of (Slab t) = one_verb words (Demo k d s n) (Slab t) one two in cc
 one_command words (Demo k d s n) (SlabPlan t) one two = let same : verb_of (Demo k d s n) ≡ verb_of (SlabPlan t) = one_verb words (Demo k d s n) (SlabPlan t) one two in cc
 one_command words (Demo k d s n) (Demo l e t m) one two = one_demo words k l d e s t n m one two
 one_command words (Demo k d s n) Check one two = let same : verb_of (Demo k d s n) ≡ verb_of Check = one_verb words (Demo k d s n) Check one two in cc
@@ -132,6 +149,7 @@ one_command words (Demo k d s n) DescribeAll one two = let same : verb_of (Demo 
 one_command words (Demo k d s n) Describe one two = let same : verb_of (Demo k d s n) ≡ verb_of Describe = one_verb words (Demo k d s n) Describe one two in cc
 one_command words Check (Run t m) one two = let same : verb_of Check ≡ verb_of (Run t m) = one_verb words Check (Run t m) one two in cc
 one_command words Check (Plan t m) one two = let same : verb_of Check ≡ verb_of (Plan t m) = one_verb words Check (Plan t m) one two in cc
+one_command words Check (Slab t) one two = let same : verb_of Check ≡ verb_of (Slab t) = one_verb words Check (Slab t) one two in cc
 one_command words Check (SlabPlan t) one two = let same : verb_of Check ≡ verb_of (SlabPlan t) = one_verb words Check (SlabPlan t) one two in cc
 one_command words Check (Demo l e t m) one two = let same : verb_of Check ≡ verb_of (Demo l e t m) = one_verb words Check (Demo l e t m) one two in cc
 one_command words Check Check one two = refl
@@ -142,6 +160,7 @@ one_command words Check DescribeAll one two = let same : verb_of Check ≡ verb_
 one_command words Check Describe one two = let same : verb_of Check ≡ verb_of Describe = one_verb words Check Describe one two in cc
 one_command words Explain (Run t m) one two = let same : verb_of Explain ≡ verb_of (Run t m) = one_verb words Explain (Run t m) one two in cc
 one_command words Explain (Plan t m) one two = let same : verb_of Explain ≡ verb_of (Plan t m) = one_verb words Explain (Plan t m) one two in cc
+one_command words Explain (Slab t) one two = let same : verb_of Explain ≡ verb_of (Slab t) = one_verb words Explain (Slab t) one two in cc
 one_command words Explain (SlabPlan t) one two = let same : verb_of Explain ≡ verb_of (SlabPlan t) = one_verb words Explain (SlabPlan t) one two in cc
 one_command words Explain (Demo l e t m) one two = let same : verb_of Explain ≡ verb_of (Demo l e t m) = one_verb words Explain (Demo l e t m) one two in cc
 one_command words Explain Check one two = let same : verb_of Explain ≡ verb_of Check = one_verb words Explain Check one two in cc
@@ -152,6 +171,7 @@ one_command words Explain DescribeAll one two = let same : verb_of Explain ≡ v
 one_command words Explain Describe one two = let same : verb_of Explain ≡ verb_of Describe = one_verb words Explain Describe one two in cc
 one_command words Pack (Run t m) one two = let same : verb_of Pack ≡ verb_of (Run t m) = one_verb words Pack (Run t m) one two in cc
 one_command words Pack (Plan t m) one two = let same : verb_of Pack ≡ verb_of (Plan t m) = one_verb words Pack (Plan t m) one two in cc
+one_command words Pack (Slab t) one two = let same : verb_of Pack ≡ verb_of (Slab t) = one_verb words Pack (Slab t) one two in cc
 one_command words Pack (SlabPlan t) one two = let same : verb_of Pack ≡ verb_of (SlabPlan t) = one_verb words Pack (SlabPlan t) one two in cc
 one_command words Pack (Demo l e t m) one two = let same : verb_of Pack ≡ verb_of (Demo l e t m) = one_verb words Pack (Demo l e t m) one two in cc
 one_command words Pack Check one two = let same : verb_of Pack ≡ verb_of Check = one_verb words Pack Check one two in cc
@@ -162,6 +182,7 @@ one_command words Pack DescribeAll one two = let same : verb_of Pack ≡ verb_of
 one_command words Pack Describe one two = let same : verb_of Pack ≡ verb_of Describe = one_verb words Pack Describe one two in cc
 one_command words Repack (Run t m) one two = let same : verb_of Repack ≡ verb_of (Run t m) = one_verb words Repack (Run t m) one two in cc
 one_command words Repack (Plan t m) one two = let same : verb_of Repack ≡ verb_of (Plan t m) = one_verb words Repack (Plan t m) one two in cc
+one_command words Repack (Slab t) one two = let same : verb_of Repack ≡ verb_of (Slab t) = one_verb words Repack (Slab t) one two in cc
 one_command words Repack (SlabPlan t) one two = let same : verb_of Repack ≡ verb_of (SlabPlan t) = one_verb words Repack (SlabPlan t) one two in cc
 one_command words Repack (Demo l e t m) one two = let same : verb_of Repack ≡ verb_of (Demo l e t m) = one_verb words Repack (Demo l e t m) one two in cc
 one_command words Repack Check one two = let same : verb_of Repack ≡ verb_of Check = one_verb words Repack Check one two in cc
@@ -172,6 +193,7 @@ one_command words Repack DescribeAll one two = let same : verb_of Repack ≡ ver
 one_command words Repack Describe one two = let same : verb_of Repack ≡ verb_of Describe = one_verb words Repack Describe one two in cc
 one_command words DescribeAll (Run t m) one two = let same : verb_of DescribeAll ≡ verb_of (Run t m) = one_verb words DescribeAll (Run t m) one two in cc
 one_command words DescribeAll (Plan t m) one two = let same : verb_of DescribeAll ≡ verb_of (Plan t m) = one_verb words DescribeAll (Plan t m) one two in cc
+one_command words DescribeAll (Slab t) one two = let same : verb_of DescribeAll ≡ verb_of (Slab t) = one_verb words DescribeAll (Slab t) one two in cc
 one_command words DescribeAll (SlabPlan t) one two = let same : verb_of DescribeAll ≡ verb_of (SlabPlan t) = one_verb words DescribeAll (SlabPlan t) one two in cc
 one_command words DescribeAll (Demo l e t m) one two = let same : verb_of DescribeAll ≡ verb_of (Demo l e t m) = one_verb words DescribeAll (Demo l e t m) one two in cc
 one_command words DescribeAll Check one two = let same : verb_of DescribeAll ≡ verb_of Check = one_verb words DescribeAll Check one two in cc
@@ -182,6 +204,7 @@ one_command words DescribeAll DescribeAll one two = refl
 one_command words DescribeAll Describe one two = absurd (apart words one two)
 one_command words Describe (Run t m) one two = let same : verb_of Describe ≡ verb_of (Run t m) = one_verb words Describe (Run t m) one two in cc
 one_command words Describe (Plan t m) one two = let same : verb_of Describe ≡ verb_of (Plan t m) = one_verb words Describe (Plan t m) one two in cc
+one_command words Describe (Slab t) one two = let same : verb_of Describe ≡ verb_of (Slab t) = one_verb words Describe (Slab t) one two in cc
 one_command words Describe (SlabPlan t) one two = let same : verb_of Describe ≡ verb_of (SlabPlan t) = one_verb words Describe (SlabPlan t) one two in cc
 one_command words Describe (Demo l e t m) one two = let same : verb_of Describe ≡ verb_of (Demo l e t m) = one_verb words Describe (Demo l e t m) one two in cc
 one_command words Describe Check one two = let same : verb_of Describe ≡ verb_of Check = one_verb words Describe Check one two in cc

@@ -3,7 +3,7 @@ use Rattle.std.proofs.Common.{◌≡◌, ◌≢◌, ℕ, List, Result, Ok, Err, 
 use Rattle.oe_top.proofs.Commands.{one_command}
 use Rattle.oe_top.specs.Answer.{CommandEnds, Ends}
 use Rattle.oe_top.specs.DescribeAnswer.{DescribeAnswers}
-use Rattle.oe_top.specs.Endings.{ending_of, of_check, of_demo, of_describe, of_evaluation, of_input, of_listing, of_pack, of_repack, of_run, of_slab_plan}
+use Rattle.oe_top.specs.Endings.{ending_of, of_check, of_demo, of_describe, of_evaluation, of_input, of_listing, of_pack, of_repack, of_run, of_slab, of_slab_plan}
 use Rattle.oe_top.specs.Objects.{Objects}
 use Rattle.oe_top.specs.PackAnswer.{PackAnswers}
 use Rattle.oe_top.specs.RepackAnswer.{RepackAnswers}
@@ -28,10 +28,12 @@ use Rattle.oe_top.specs.declared.repack.RepackRefusal.{RepackRefusal}
 use Rattle.oe_top.specs.declared.repack.RepackRefusal.TheVariants as repack
 use Rattle.oe_top.specs.declared.run.RunRefusal.{RunRefusal}
 use Rattle.oe_top.specs.declared.run.RunRefusal.TheVariants as run
+use Rattle.oe_top.specs.declared.slab.SlabRefusal.{SlabRefusal}
+use Rattle.oe_top.specs.declared.slab.SlabRefusal.TheVariants as slab
 use Rattle.oe_top.specs.declared.slab_plan.SlabPlanRefusal.{SlabPlanRefusal}
 use Rattle.oe_top.specs.declared.slab_plan.SlabPlanRefusal.TheVariants as slab_plan
 use Rattle.oe_top.specs.declared.words.Command.{Command}
-use Rattle.oe_top.specs.declared.words.Command.TheVariants.{Run, Plan, SlabPlan, Demo, Check, Explain, Pack, Repack, DescribeAll, Describe}
+use Rattle.oe_top.specs.declared.words.Command.TheVariants.{Run, Plan, Slab, SlabPlan, Demo, Check, Explain, Pack, Repack, DescribeAll, Describe}
 
 -- ---- no command ends by `Usage`
 
@@ -58,6 +60,13 @@ check_other : (refusal : CheckRefusal) → of_check refusal ≢ Usage
 check_other (check.Input refusal) is = input_other refusal is
 check_other check.WriteFault is = cc
 check_other check.OutOfMemory is = cc
+
+slab_other : (refusal : SlabRefusal) → of_slab refusal ≢ Usage
+slab_other (slab.Input refusal) is = input_other refusal is
+slab_other slab.NoTimeFold is = cc
+slab_other (slab.TooLarge cells) is = cc
+slab_other slab.OutOfMemory is = cc
+slab_other (slab.Stopped fail) is = evaluation_other fail is
 
 slab_plan_other : (refusal : SlabPlanRefusal) → of_slab_plan refusal ≢ Usage
 slab_plan_other (slab_plan.Input refusal) is = input_other refusal is
@@ -103,6 +112,7 @@ not_usage : (words : List (List ℕ)) (command : Command) (before after : Object
     → CommandEnds words command before after ending → ending ≢ Err Usage
 not_usage words (Run size workers) before after ending (ended, same, answers) = other of_run run_other ended ending same
 not_usage words (Plan size workers) before after ending (ended, same, answers) = other of_check check_other ended ending same
+not_usage words (Slab size) before after ending (ended, same, answers) = other of_slab slab_other ended ending same
 not_usage words (SlabPlan size) before after ending (ended, same, answers) =
     other of_slab_plan slab_plan_other ended ending same
 not_usage words (Demo seed side size workers) before after ending (ended, same, answers) =

@@ -29,7 +29,7 @@ use Rattle.oe_top.specs.declared.evaluation.EvaluationFail.{EvaluationFail}
 use Rattle.oe_top.specs.declared.evaluation.EvaluationFail.TheVariants.{Damaged, Overflow, ReadFault, SpoolDamaged, SpoolFault, WriteFault}
 
 -- nothing is a prefix of every text
-nothing_more : (held : Option (List ℕ)) (piece : List ℕ) → AppendsPrefix held piece held
+pub nothing_more : (held : Option (List ℕ)) (piece : List ℕ) → AppendsPrefix held piece held
 nothing_more None piece = (0, refl)
 nothing_more (Some bytes) piece = (0, ap Some (sym (append-nil bytes)))
 

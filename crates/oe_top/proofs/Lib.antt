@@ -18,5 +18,9 @@ pub mod Demos
 pub mod Descriptions
 pub mod Namings
 pub mod Runs
+pub mod SlabEvaluations
+pub mod SlabLoads
 pub mod SlabPlans
+pub mod SlabRounds
+pub mod Slabs
 pub mod Writings

@@ -15,7 +15,7 @@ fold_map : (g f : ℕ → ℕ) (z : ℕ) (xs : List ℕ) → fold (λ a x. a + g
 fold_map g f z [] = refl
 fold_map g f z (i ∷ xs) = fold_map g f (z + g (f i)) xs
 
-by_index : (p : ℕ → Bool) (xs : List ℕ) → count_by (λ i. p (slice_index xs i)) (range_with_len 0 (length xs)) ≡ count_by p xs
+pub by_index : (p : ℕ → Bool) (xs : List ℕ) → count_by (λ i. p (slice_index xs i)) (range_with_len 0 (length xs)) ≡ count_by p xs
 by_index p xs =
     let filled : xs ≡ map (slice_index xs) (range_with_len 0 (length xs)) =
     fill_by_all (slice_index xs) xs (length xs) 0 refl (λ k below. refl) in

@@ -21,7 +21,8 @@ use Rattle.oe_steps.specs.declared.fail.RunFail.{RunFail}
 use Rattle.oe_steps.specs.declared.fail.RunFail.TheVariants as run
 use Rattle.oe_top.specs.Evaluated.{Completes, Goes, GoesThrough, IsBegun, IsVisible, ReadsForPlan, most_asked}
 
-still_visible : (touched : ℕ → Type 0) (old new : Option (List ℕ)) → KeepsBytesBut touched old new → IsVisible old → IsVisible new
+-- bytes that are visible stay so where only some of them change
+pub still_visible : (touched : ℕ → Type 0) (old new : Option (List ℕ)) → KeepsBytesBut touched old new → IsVisible old → IsVisible new
 still_visible touched None new kept visible = absurd visible
 still_visible touched (Some bytes) None kept visible = absurd kept
 still_visible touched (Some bytes) (Some more) kept visible = tt

@@ -3,7 +3,7 @@ use Rattle.std.specs.Prelude.{◌≡◌, ℕ, ◌↔◌, List, Result, Err}
 use Rattle.oe_top.specs.CheckAnswer.{CheckAnswers}
 use Rattle.oe_top.specs.DemoAnswer.{DemoAnswers}
 use Rattle.oe_top.specs.DescribeAnswer.{DescribeAnswers, ListingAnswers}
-use Rattle.oe_top.specs.Endings.{ending_of, of_check, of_demo, of_describe, of_listing, of_pack, of_repack, of_run, of_slab_plan}
+use Rattle.oe_top.specs.Endings.{ending_of, of_check, of_demo, of_describe, of_listing, of_pack, of_repack, of_run, of_slab, of_slab_plan}
 use Rattle.oe_top.specs.ExplainAnswer.{ExplainAnswers}
 use Rattle.oe_top.specs.Lines.{ErrorOutput, SaysEnding, status_of}
 use Rattle.oe_top.specs.Objects.{Objects}
@@ -11,12 +11,13 @@ use Rattle.oe_top.specs.PackAnswer.{PackAnswers}
 use Rattle.oe_top.specs.PlanAnswer.{PlanAnswers}
 use Rattle.oe_top.specs.RepackAnswer.{RepackAnswers}
 use Rattle.oe_top.specs.RunAnswer.{RunAnswers}
+use Rattle.oe_top.specs.SlabAnswer.{SlabAnswers}
 use Rattle.oe_top.specs.SlabPlanAnswer.{SlabPlanAnswers}
 use Rattle.oe_top.specs.Words.{SpellsCommand, Spells, id_in}
 use Rattle.oe_top.specs.declared.refusal.Refusal.{Refusal}
 use Rattle.oe_top.specs.declared.refusal.Refusal.TheVariants.{Usage}
 use Rattle.oe_top.specs.declared.words.Command.{Command}
-use Rattle.oe_top.specs.declared.words.Command.TheVariants.{Run, Plan, SlabPlan, Demo, Check, Explain, Pack, Repack, DescribeAll, Describe}
+use Rattle.oe_top.specs.declared.words.Command.TheVariants.{Run, Plan, Slab, SlabPlan, Demo, Check, Explain, Pack, Repack, DescribeAll, Describe}
 
 -- the call ends as the command did, in a way that the table of the command has
 abbrev pub EndsAs : {E : Type 0} → (E → Refusal) → (Result (Unit {0}) E → Type 0) → Result (Unit {0}) Refusal → Type 0
@@ -28,6 +29,7 @@ CommandEnds words (Run size workers) before after ending =
     EndsAs of_run (RunAnswers size workers before after) ending
 CommandEnds words (Plan size workers) before after ending =
     EndsAs of_check (PlanAnswers size workers before after) ending
+CommandEnds words (Slab size) before after ending = EndsAs of_slab (SlabAnswers size before after) ending
 CommandEnds words (SlabPlan size) before after ending =
     EndsAs of_slab_plan (SlabPlanAnswers size before after) ending
 CommandEnds words (Demo seed side size workers) before after ending =

@@ -20,6 +20,8 @@ use Rattle.oe_top.specs.declared.repack.RepackRefusal.{RepackRefusal}
 use Rattle.oe_top.specs.declared.repack.RepackRefusal.TheVariants as repack
 use Rattle.oe_top.specs.declared.run.RunRefusal.{RunRefusal}
 use Rattle.oe_top.specs.declared.run.RunRefusal.TheVariants as run
+use Rattle.oe_top.specs.declared.slab.SlabRefusal.{SlabRefusal}
+use Rattle.oe_top.specs.declared.slab.SlabRefusal.TheVariants as slab
 use Rattle.oe_top.specs.declared.slab_plan.SlabPlanRefusal.{SlabPlanRefusal}
 use Rattle.oe_top.specs.declared.slab_plan.SlabPlanRefusal.TheVariants as slab_plan
 
@@ -43,6 +45,13 @@ of_run (run.Input refusal) = of_input refusal
 of_run (run.TooLarge cells) = TooLarge cells
 of_run run.OutOfMemory = OutOfMemory
 of_run (run.Stopped fail) = of_evaluation fail
+
+abbrev pub of_slab : SlabRefusal → Refusal
+of_slab (slab.Input refusal) = of_input refusal
+of_slab slab.NoTimeFold = NoTimeFold
+of_slab (slab.TooLarge cells) = TooLarge cells
+of_slab slab.OutOfMemory = OutOfMemory
+of_slab (slab.Stopped fail) = of_evaluation fail
 
 abbrev pub of_check : CheckRefusal → Refusal
 of_check (check.Input refusal) = of_input refusal

@@ -14,6 +14,8 @@ pub mod PackAnswer
 pub mod PlanAnswer
 pub mod RepackAnswer
 pub mod RunAnswer
+pub mod SlabAnswer
+pub mod SlabEvaluated
 pub mod SlabPlanAnswer
 pub mod Words
 pub mod Written

@@ -3,7 +3,7 @@ use Rattle.std.specs.Prelude.{◌≡◌, ℕ, ◌≤◌, true, List, [], ◌∷�
 use Rattle.oe_dims.specs.Names.{is_name}
 use Rattle.oe_window.specs.declared.grid.ChunkSize.{ChunkSize}
 use Rattle.oe_top.specs.declared.words.Command.{Command}
-use Rattle.oe_top.specs.declared.words.Command.TheVariants.{Run, Plan, SlabPlan, Demo, Check, Explain, Pack, Repack, DescribeAll, Describe}
+use Rattle.oe_top.specs.declared.words.Command.TheVariants.{Run, Plan, Slab, SlabPlan, Demo, Check, Explain, Pack, Repack, DescribeAll, Describe}
 
 -- a number from low to high, spelled in decimal with no sign and no leading zero
 pub record IsNumberWord (low high : ℕ) (word : List ℕ) (number : ℕ) : Type 0 where
@@ -65,6 +65,7 @@ id_in words = slice_index_or words 1 []
 abbrev pub Spells : List (List ℕ) → Command → Type 0
 Spells words (Run size workers) = SpellsNumbers (codes "run") words size workers
 Spells words (Plan size workers) = SpellsNumbers (codes "plan") words size workers
+Spells words (Slab size) = SpellsSides (codes "slab") words size
 Spells words (SlabPlan size) = SpellsSides (codes "slabplan") words size
 Spells words (Demo seed side size workers) = SpellsDemo words seed side size workers
 Spells words Check = words ≡ codes "check" ∷ []

@@ -9,7 +9,7 @@ use crate::demo::demo;
 use crate::describe::{describe, describe_all};
 use crate::endings::{
     ending_of_check, ending_of_demo, ending_of_describe, ending_of_listing, ending_of_pack,
-    ending_of_repack, ending_of_run, ending_of_slab_plan,
+    ending_of_repack, ending_of_run, ending_of_slab, ending_of_slab_plan,
 };
 use crate::explain::explain;
 use crate::pack::pack;
@@ -19,6 +19,7 @@ use crate::repack::repack;
 use crate::run::run;
 use crate::say::say;
 use crate::setup::Setup;
+use crate::slab::slab;
 use crate::slab_plan::slab_plan;
 use crate::words::{Command, read_command};
 use oe_dims::Text;
@@ -34,7 +35,8 @@ use std::thread::Threads;
 /// | `check` | writes `valid` where no fault stands in the process graph of `input` |
 /// | `explain` | the same, and of a fault the lines that explain it |
 /// | `plan CX CY CT W` | writes `bound B chunks N`: how many cells such a run holds at most, and its chunks |
-/// | `slabplan CX CY CT` | the same of a run that folds slabs of CT dates one after the other |
+/// | `slab CX CY CT` | as `run`, where slabs of CT dates at most are folded one after the other |
+/// | `slabplan CX CY CT` | as `plan`, of such a run |
 /// | `demo SEED SIDE CX CY CT W` | evaluates a graph over a generated collection: `cells N first A last B` |
 /// | `pack ID` | writes the cube file of the result text of `input` under the id |
 /// | `repack ID` | writes the cube file of the mounted collection of the id, in least widths |
@@ -89,6 +91,9 @@ fn obey<R: Threads + Sync, I: Source, O: Sink, P: Store, G: Gate>(
     match read_command(words) {
         Some(Command::Run { size, workers }) => {
             ending_of_run(run(setup, (size, workers), input, out, catalogue, spool))
+        }
+        Some(Command::Slab { size }) => {
+            ending_of_slab(slab(setup, size, input, out, catalogue, spool))
         }
         Some(Command::Plan { size, workers }) => {
             ending_of_check(plan(alloc, size, workers, input, out, catalogue))

@@ -11,6 +11,7 @@ use crate::pack::PackRefusal;
 use crate::refusal::Refusal;
 use crate::repack::RepackRefusal;
 use crate::run::RunRefusal;
+use crate::slab::SlabRefusal;
 use crate::slab_plan::SlabPlanRefusal;
 
 /// Why an input was refused.
@@ -47,6 +48,19 @@ fn of_run(refusal: RunRefusal) -> Refusal
         RunRefusal::TooLarge(cells) => Refusal::TooLarge(cells),
         RunRefusal::OutOfMemory => Refusal::OutOfMemory,
         RunRefusal::Stopped(fail) => of_evaluation(fail),
+    }
+}
+
+/// Why `slab` did not finish.
+fn of_slab(refusal: SlabRefusal) -> Refusal
+    ensures { result ≡ spec.of_slab refusal }
+{
+    match refusal {
+        SlabRefusal::Input(refusal) => of_input(refusal),
+        SlabRefusal::NoTimeFold => Refusal::NoTimeFold,
+        SlabRefusal::TooLarge(cells) => Refusal::TooLarge(cells),
+        SlabRefusal::OutOfMemory => Refusal::OutOfMemory,
+        SlabRefusal::Stopped(fail) => of_evaluation(fail),
     }
 }
 
@@ -136,6 +150,16 @@ pub(crate) fn ending_of_run(ended: Result<(), RunRefusal>) -> Result<(), Refusal
     match ended {
         Ok(()) => Ok(()),
         Err(refusal) => Err(of_run(refusal)),
+    }
+}
+
+/// The ending of `slab`.
+pub(crate) fn ending_of_slab(ended: Result<(), SlabRefusal>) -> Result<(), Refusal>
+    ensures { result ≡ spec.ending_of spec.of_slab ended }
+{
+    match ended {
+        Ok(()) => Ok(()),
+        Err(refusal) => Err(of_slab(refusal)),
     }
 }
 

@@ -4,4 +4,6 @@ pub(crate) use oe_engine::{
     collections_are_mounted, collections_are_valid, over_is_of_the_result, reads_change_nothing,
     runs_stay_apart,
 };
+pub(crate) use oe_slab::slab_over_is_of_the_result;
 pub(crate) use oe_sources::ids_are_valid;
+pub(crate) use oe_steps::loads_are_mounted;

@@ -25,6 +25,8 @@ mod repack;
 mod run;
 mod say;
 mod setup;
+mod slab;
+mod slab_evaluation;
 mod slab_plan;
 mod words;
 

@@ -20,7 +20,11 @@ pub enum Command {
         size: ChunkSize,
         workers: u32,
     },
-    /// To say how many cells a run holds at most that folds slabs of so many dates, and how many chunks it has.
+    /// To evaluate the graph of the input, in chunks of which slabs of so many dates are folded one after the other.
+    Slab {
+        size: ChunkSize,
+    },
+    /// To say how many cells such a run holds at most, and how many chunks it has.
     SlabPlan {
         size: ChunkSize,
     },
@@ -104,6 +108,9 @@ fn read_sized(verb: &Text, cx: &Text, cy: &Text, ct: &Text) -> Option<Command>
     ensures none { IfNone result (¬ SpellsCommand (verb.now ∷ cx.now ∷ cy.now ∷ ct.now ∷ [])) }
 {
     let size = read_size(cx, cy, ct)?;
+    if is_word(verb, "slab") {
+        return Some(Command::Slab { size });
+    }
     if is_word(verb, "slabplan") {
         return Some(Command::SlabPlan { size });
     }

@@ -11,8 +11,9 @@ Usage:
   openeo run CX CY CT W            read a process graph and write its result text
   openeo check                     read a process graph and write 'valid', or say which fault stands in it
   openeo explain                   the same, and say of a fault which argument it is of and what to do
+  openeo slab CX CY CT             the same as run, where slabs of CT dates are folded one after the other
   openeo plan CX CY CT W           read a process graph and write how many cells a run holds at most, and its chunks
-  openeo slabplan CX CY CT         the same of a run that folds slabs of CT dates one after the other
+  openeo slabplan CX CY CT         the same of a run by slab
   openeo demo SEED SIDE CX CY CT W evaluate a graph over a generated collection and write its first and last cell
   openeo pack ID                   read a result text and write it as a cube file
   openeo repack ID                 write the cube file of a collection, as short as it can be
@@ -41,7 +42,7 @@ Exit status, and the line on standard error:
   0   the whole text was written
   1   Usage: the words are no command
   2   CODE NODE: the least fault of a graph; CubeTextInvalid: the input of pack, also one over 1048576 bytes;
-      CollectionNotFound: the id of repack or describe; NoTimeFold: slabplan finds no reduction of t to cut at;
+      CollectionNotFound: the id of repack or describe; NoTimeFold: slab or slabplan finds no reduction of t to cut at;
       InputTooLong: what client sends is over 1048576 bytes
   3   PlanTooLarge CELLS: a run would hold more than 67108864 cells; try smaller chunks or extents
   4   NumberOverflow POSITION: a number of the result is out of range
@@ -71,6 +72,19 @@ Exit status: 0, 1 Usage, 2 CODE NODE, 3 PlanTooLarge, 4 NumberOverflow, 5 ReadFa
 8 WriteFault, 9 OutOfMemory, 14 Setup, 15 SpoolDamaged.
 ";
 
+const SLAB: &str = "\
+openeo slab CX CY CT < GRAPH
+
+Reads a process graph from standard input and writes its result text, as run does, but holds only CT dates of a long
+series at once: in each chunk it evaluates slabs of at most CT dates one after the other and folds them. It needs a
+reduction of t that goes date by date, by one of sum, product, mean, min, max, first, last, any, all and count, which is
+the only node that needs all dates and through which all goes that is loaded. CX, CY and CT are from 1 to 4096 and have
+no effect on the text; 'openeo slabplan' with the same words says how many cells it holds, of 24 bytes each. It has one
+worker. While it works, and standard error is a terminal, a line 'chunk K of N' there tells how many chunks were begun.
+Exit status: 0, 1 Usage, 2 CODE NODE or NoTimeFold, 3 PlanTooLarge, 4 NumberOverflow, 5 ReadFault, 6 SourceDamaged,
+7 SpoolFault, 8 WriteFault, 9 OutOfMemory, 14 Setup, 15 SpoolDamaged.
+";
+
 const CHECK: &str = "\
 openeo check < GRAPH
 
@@ -98,10 +112,8 @@ Exit status: 0, 1 Usage, 2 CODE NODE, 5 ReadFault, 8 WriteFault, 9 OutOfMemory, 
 const SLABPLAN: &str = "\
 openeo slabplan CX CY CT < GRAPH
 
-Reads a process graph from standard input and writes 'bound B chunks N': a run that evaluates slabs of at most CT dates
-one after the other and folds them holds at most B cells at once, and has N chunks. It needs a reduction of t that goes
-date by date, by one of sum, product, mean, min, max, first, last, any, all and count, which is the only node that needs
-all dates and through which all goes that is loaded. CX, CY and CT are from 1 to 4096. No collection is read.
+Reads a process graph from standard input and writes 'bound B chunks N': a run by slab with these words holds at most B
+cells at once, and has N chunks. No collection is read.
 Exit status: 0, 1 Usage, 2 CODE NODE or NoTimeFold, 5 ReadFault, 8 WriteFault, 9 OutOfMemory, 14 Setup.
 ";
 
@@ -235,6 +247,7 @@ fn help_of(verb: &str) -> Option<&'static str>
         "check" => Some(CHECK),
         "explain" => Some(EXPLAIN),
         "plan" => Some(PLAN),
+        "slab" => Some(SLAB),
         "slabplan" => Some(SLABPLAN),
         "demo" => Some(DEMO),
         "pack" => Some(PACK),

@@ -1,6 +1,6 @@
 use Rattle.oe_sources.specs.CatalogueRows.{rows_of}
 use Rattle.oe_top.proofs.Ended.{ends_describe, ends_of, ends_pack, ends_repack, ends_usage}
-use Rattle.oe_top.specs.declared.words.Command.TheVariants.{Run, Plan, SlabPlan, Demo, Check, Explain, Pack, Repack, DescribeAll, Describe}
+use Rattle.oe_top.specs.declared.words.Command.TheVariants.{Run, Plan, Slab, SlabPlan, Demo, Check, Explain, Pack, Repack, DescribeAll, Describe}
 use Rattle.oe_top.proofs.command.obey.Goals as goal
 
 pub returns-in-Some-Run : goal.returns-in-Some-Run
@@ -12,6 +12,11 @@ pub returns-in-Some-Plan : goal.returns-in-Some-Plan
 returns-in-Some-Plan g c =
     ends_of c.args.words.now (Plan c.in-Some-Plan.size c.in-Some-Plan.workers) _ _ c.ending_of_check.result
     (rw c.in-Some-Plan.field-0-is at c.in-Some-Plan.ensures.some) (c.plan.result, c.ending_of_check.ensures, c.plan.ensures _ _)
+
+pub returns-in-Some-Slab : goal.returns-in-Some-Slab
+returns-in-Some-Slab g c =
+    ends_of c.args.words.now (Slab c.in-Some-Slab.size) _ _ c.ending_of_slab.result
+    (rw c.in-Some-Slab.field-0-is at c.in-Some-Slab.ensures.some) (c.slab.result, c.ending_of_slab.ensures, c.slab.ensures)
 
 pub returns-in-Some-SlabPlan : goal.returns-in-Some-SlabPlan
 returns-in-Some-SlabPlan g c =

@@ -1,0 +1,41 @@
+use Rattle.std.proofs.Common.{Result, Err, sym, ap, ◌∙◌, subst}
+use Rattle.oe_steps.specs.declared.fail.RunFail.{RunFail}
+use Rattle.oe_shape.specs.Checked.{CheckedGraph}
+use Rattle.oe_slab.specs.Plans.{SlabPlanOf}
+use Rattle.oe_top.proofs.Namings.{can_be_named}
+use Rattle.oe_top.proofs.SlabEvaluations.{refused_slabs, stopped_slabs, written_slabs}
+use Rattle.oe_top.specs.Evaluated.{CanBeNamed, IsFailOfRun}
+use Rattle.oe_top.proofs.slab.write_folded.Goals as goal
+
+pub complete_slabs-requires-clause-mounted : goal.complete_slabs-requires-clause-mounted
+complete_slabs-requires-clause-mounted g c κs within =
+    c.loads_are_mounted.ensures c.args.run.plan.graph _ c.requires.begun.planned.faultless c.requires.found
+
+pub fail_of_run-requires : goal.fail_of_run-requires
+fail_of_run-requires g c =
+    let err : RunFail → Result (Unit {0}) RunFail = λ f. Err f in
+    let same = c.checked.ensures ∙ ap (λ (p : SlabPlanOf). p.graph) c.in-Err.ensures.through.goes.plan in
+    subst (λ (graph : CheckedGraph). CanBeNamed graph c.in-Err.fail) (sym same)
+    (can_be_named c.args.run.plan.graph _ c.ids_are_valid.ensures c.in-Err.fail
+    (λ node number is. c.in-Err.ensures.through.says node number (ap err is)))
+
+pub returns : goal.returns
+returns g c = λ input input_after input_faults input_faults_after.
+    let same = c.checked.ensures ∙ ap (λ (p : SlabPlanOf). p.graph) c.in-Err.ensures.through.goes.plan in
+    refused_slabs _ _ _ _ _ _ _ _ c.requires.collections c.requires.rows c.slab_over_is_of_the_result.ensures c.requires.begun.planned
+    input input_after input_faults input_faults_after _ _ c.in-Err.fail _ c.in-Err.ensures
+    (subst (λ (graph : CheckedGraph). IsFailOfRun graph c.in-Err.fail c.fail_of_run.result) same c.fail_of_run.ensures)
+
+pub returns-in-Ok-render : goal.returns-in-Ok-render
+returns-in-Ok-render g c = λ input input_after input_faults input_faults_after.
+    rw c.render.ensures.same
+    (written_slabs _ _ _ _ _ _ _ _ c.requires.collections c.requires.rows c.slab_over_is_of_the_result.ensures c.requires.begun.planned
+    c.in-Ok.ensures input input_after input_faults input_faults_after _ _ _ _ _ c.in-Ok-render.ensures.text c.in-Ok-render.ensures.spool_cause.count
+    c.in-Ok-render.ensures.sink_cause.count)
+
+pub returns-in-Ok : goal.returns-in-Ok
+returns-in-Ok g c = λ input input_after input_faults input_faults_after.
+    rw c.render.ensures.same
+    (stopped_slabs _ _ _ _ _ _ _ _ c.requires.collections c.requires.rows c.slab_over_is_of_the_result.ensures c.requires.begun.planned
+    c.in-Ok.ensures input input_after input_faults input_faults_after _ _ _ _ _ c.in-Err-render.fail _ c.fail_of_text.ensures c.in-Err-render.ensures.prefix
+    c.in-Err-render.ensures.spool_cause c.in-Err-render.ensures.sink_cause c.in-Err-render.ensures.damage)
