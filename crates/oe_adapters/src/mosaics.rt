@@ -1,5 +1,5 @@
 // The mosaics of the folder `collections`.
-ghost use Rattle.std.specs.Prelude.{◌↔◌, IfErr, IsOk};
+ghost use Rattle.std.specs.Prelude.{◌≡◌, ◌↔◌, length, IfErr, IfOk, IsOk};
 ghost use Rattle.oe_adapters.specs.Setup.{HasMosaicFault, HasPartFault, HasTextFault, IsSetupFault};
 
 use crate::collections::{CubeFile, open_cube, open_in_folder};
@@ -32,6 +32,25 @@ where
     ensures { IfErr result (IsSetupFault name.now) }
 {
     let text = read_text(alloc, file, name)?;
+    mosaic_of(alloc, files, text, name)
+}
+
+/// The id that the text of a mosaic gives, and the mosaic of the cube files that it names.
+///
+/// Refuses: the set-up fault of the mosaic's file where a file that it names is no plain file, could not be opened or is
+/// no cube file, or where these are no mosaic; out of memory.
+fn mosaic_of<R: Files>(
+    alloc: Global,
+    files: &R,
+    text: MosaicText,
+    name: &[u8],
+) -> Result<(Text, Mosaic<CubeFile<R::File>>), Fault>
+where
+    R::File: FileExt,
+    ensures id { IfOk result (λ made. made.0 ≡ text.id) }
+    ensures parts { IfOk result (λ made. length made.1.parts ≡ length text.files.items) }
+    ensures refused { IfErr result (IsSetupFault name.now) }
+{
     let parts = open_parts(alloc, files, &text.files, name)?;
     match Mosaic::of(alloc, parts) {
         Ok(mosaic) => Ok((text.id, mosaic)),
@@ -68,7 +87,8 @@ fn open_parts<R: Files>(
 ) -> Result<Parts<CubeFile<R::File>>, Fault>
 where
     R::File: FileExt,
-    ensures { IfErr result (IsSetupFault mosaic.now) }
+    ensures count { IfOk result (λ parts. length parts ≡ length names.now) }
+    ensures refused { IfErr result (IsSetupFault mosaic.now) }
 {
     let mut parts = Parts::new(alloc);
     for index in 0..names.len() {
