@@ -10,7 +10,7 @@ use std::alloc::{AllocError, Global};
 use std::io::{Error, ErrorKind};
 
 /// A fault of the program's own.
-#[derive(Debug, Drop)]
+#[derive(Drop)]
 pub enum Fault {
     /// What the program needs could not be opened, made, read or mounted, and this is the line that names it.
     Setup(Vec<u8>),

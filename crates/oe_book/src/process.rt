@@ -23,7 +23,7 @@ use std::alloc::Global;
 const MOST_PROCESS: usize = 65536;
 
 /// Why a value has no text as a process of a book.
-#[derive(Clone, Copy, Debug, PartialEq, Eq)]
+#[derive(Clone, Copy, PartialEq, Eq)]
 pub enum ProcessRefusal {
     /// A number in it is not whole.
     NumberUnsupported,

@@ -5,7 +5,7 @@ ghost use Rattle.oe_cell.specs.Kinds.{is_over, is_empty, is_number};
 use crate::Frac;
 
 /// One cell of a datacube.
-#[derive(Clone, Copy, Debug, PartialEq, Eq)]
+#[derive(Clone, Copy, PartialEq, Eq)]
 pub enum Cell {
     /// No value: `null` in openEO Processes.
     Empty,

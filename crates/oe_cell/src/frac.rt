@@ -13,7 +13,7 @@ use std::marker::Model;
 const LARGEST: u64 = 9223372036854775807;
 
 /// An exact fraction in lowest terms. Its numerator is in −(2^63−1) to 2^63−1, its denominator in 1 to 2^63−1.
-#[derive(Clone, Copy, Debug, PartialEq, Eq)]
+#[derive(Clone, Copy, PartialEq, Eq)]
 pub struct Frac {
     num: i64,
     den: u64,

@@ -14,7 +14,7 @@ use std::marker::Model;
 const ROOM: usize = 48;
 
 /// A text of at most 48 bytes, which keeps the spelling of one cell. Contracts see it as its bytes.
-#[derive(Debug, Drop)]
+#[derive(Drop)]
 pub struct TextBuf {
     bytes: [u8; ROOM],
     len: usize,

@@ -17,7 +17,7 @@ use oe_outside::{Link, Sink};
 use std::alloc::Global;
 
 /// Why a call did not end with the body of its response on the output.
-#[derive(Debug, Drop)]
+#[derive(Drop)]
 pub enum ClientFail {
     /// A read or a write of the link failed, and its fault counter rose.
     LinkFailed,

@@ -14,7 +14,7 @@ use std::alloc::Global;
 const LAST_OFFSET: u64 = 100000;
 
 /// Why a body says nothing of the next page.
-#[derive(Clone, Copy, Debug, PartialEq, Eq)]
+#[derive(Clone, Copy, PartialEq, Eq)]
 pub enum PageFail {
     /// It is no page of the list.
     Invalid,

@@ -6,7 +6,7 @@ ghost use Rattle.oe_client.specs.Verbs as spec;
 use http::Method;
 
 /// The method of a verb's request.
-#[derive(Clone, Copy, Debug, PartialEq, Eq)]
+#[derive(Clone, Copy, PartialEq, Eq)]
 pub enum VerbMethod {
     Delete,
     Get,
@@ -15,7 +15,7 @@ pub enum VerbMethod {
 }
 
 /// What stands behind a verb.
-#[derive(Clone, Copy, Debug, PartialEq, Eq)]
+#[derive(Clone, Copy, PartialEq, Eq)]
 pub enum Argument {
     /// Nothing.
     Missing,

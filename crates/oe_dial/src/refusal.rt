@@ -8,7 +8,7 @@ use itoa::Buffer;
 use oe_outside::{Failed, Sink};
 
 /// Why a call did not succeed.
-#[derive(Debug, Drop)]
+#[derive(Drop)]
 pub enum CallRefusal {
     /// The input could not be read.
     ReadFault,

@@ -11,7 +11,7 @@ use std::alloc::Global;
 use std::marker::Model;
 
 /// The bands of a shape in the byte order of their names, put into order once to find many of them.
-#[derive(Debug, Drop)]
+#[derive(Drop)]
 pub struct BandIndex {
     order: Vec<u16>,
 }

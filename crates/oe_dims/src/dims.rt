@@ -5,7 +5,7 @@ use crate::{CellKind, Shape, Text};
 use oe_memory::OutOfMemory;
 
 /// A collection by its id, with its shape and the kind of its cells.
-#[derive(Debug, Drop)]
+#[derive(Drop)]
 pub struct DimsRow {
     /// The id of the collection.
     pub id: Text,
@@ -30,7 +30,7 @@ impl DimsRow {
 
 /// The dimensions of several collections, a row each. Whoever takes them asks that the ids rise in byte order
 /// (`HaveRisingIds`).
-#[derive(Debug, Drop)]
+#[derive(Drop)]
 pub struct Dims {
     /// A row for each collection.
     pub rows: Vec<DimsRow>,

@@ -21,7 +21,7 @@ const DAYS_BEFORE_1970: i64 = 719162;
 const DAY: u64 = 86400;
 
 /// Why a text is no instant.
-#[derive(Clone, Copy, Debug, PartialEq, Eq)]
+#[derive(Clone, Copy, PartialEq, Eq)]
 pub enum InstantFault {
     /// The text is neither `YYYY-MM-DD` nor `YYYY-MM-DDTHH:MM:SSZ`.
     Spelling,

@@ -2,7 +2,7 @@
 use crate::Text;
 
 /// What the cells of a cube are, besides null.
-#[derive(Clone, Copy, Debug, PartialEq, Eq)]
+#[derive(Clone, Copy, PartialEq, Eq)]
 pub enum CellKind {
     /// Exact numbers.
     Numbers,
@@ -11,7 +11,7 @@ pub enum CellKind {
 }
 
 /// The dimensions that a cube may have, in their order.
-#[derive(Clone, Copy, Debug, PartialEq, Eq)]
+#[derive(Clone, Copy, PartialEq, Eq)]
 pub enum Kind {
     /// `t`, whose labels are instants.
     Time,
@@ -24,7 +24,7 @@ pub enum Kind {
 }
 
 /// The labels of one dimension.
-#[derive(Debug, Drop)]
+#[derive(Drop)]
 pub enum Labels {
     /// Whole seconds since 1970-01-01T00:00:00Z.
     Instants(Vec<i64>),

@@ -27,7 +27,7 @@ const MOST_LABELS: usize = 65536;
 const MOST_CELLS: u64 = 1 << 40;
 
 /// Dimensions with their labels, which need not keep any rule.
-#[derive(Debug, Drop)]
+#[derive(Drop)]
 pub struct Lists {
     pub epsg: u32,
     pub t: Option<Vec<i64>>,

@@ -16,7 +16,7 @@ use oe_memory::OutOfMemory;
 use std::marker::Model;
 
 /// Why lists of labels are not the dimensions of a cube.
-#[derive(Clone, Copy, Debug, PartialEq, Eq)]
+#[derive(Clone, Copy, PartialEq, Eq)]
 pub enum ShapeFault {
     /// The labels of `t` or `x` do not rise, those of `y` do not fall, or a band name occurs twice.
     OrderWrong(Kind),
@@ -31,7 +31,6 @@ pub enum ShapeFault {
 }
 
 /// The dimensions of a cube with their labels, which keep every rule of [`ShapeFault`].
-#[derive(Debug)]
 pub struct Shape {
     lists: Lists,
 }

@@ -41,7 +41,7 @@ use std::alloc::Global;
 use std::marker::Model;
 
 /// How far the chunk of a bench is.
-#[derive(Clone, Copy, Debug, PartialEq, Eq)]
+#[derive(Clone, Copy, PartialEq, Eq)]
 pub enum State {
     /// It has no chunk.
     Idle,

@@ -16,7 +16,7 @@ use std::marker::Model;
 use std::thread::Threads;
 
 /// How far a run is after a round.
-#[derive(Clone, Copy, Debug, PartialEq, Eq)]
+#[derive(Clone, Copy, PartialEq, Eq)]
 pub enum Progress {
     /// Chunks are left.
     More,

@@ -11,7 +11,7 @@ use oe_dims::CellKind;
 use oe_fold::Reducer;
 
 /// An operation on one cell.
-#[derive(Clone, Copy, Debug, PartialEq, Eq)]
+#[derive(Clone, Copy, PartialEq, Eq)]
 pub enum Unary {
     Absolute,
     Sgn,
@@ -22,7 +22,7 @@ pub enum Unary {
 }
 
 /// An operation on two cells.
-#[derive(Clone, Copy, Debug, PartialEq, Eq)]
+#[derive(Clone, Copy, PartialEq, Eq)]
 pub enum Binary {
     Add,
     Subtract,
@@ -41,7 +41,7 @@ pub enum Binary {
 }
 
 /// What a process of a callback does.
-#[derive(Clone, Copy, Debug, PartialEq, Eq)]
+#[derive(Clone, Copy, PartialEq, Eq)]
 pub enum Operation {
     /// An operation on the cell `x`.
     OfOne(Unary),

@@ -3,14 +3,14 @@ use oe_cell::Cell;
 use oe_dims::{CellKind, Labels};
 
 /// A list of a reduction, by its labels: those of the dimension from the index `from` to before the index `to`.
-#[derive(Clone, Copy, Debug, PartialEq, Eq)]
+#[derive(Clone, Copy, PartialEq, Eq)]
 pub struct ListPart {
     pub from: u32,
     pub to: u32,
 }
 
 /// What the parent of a callback gives it (openEO API, process graphs; openEO Processes).
-#[derive(Debug, Drop)]
+#[derive(Drop)]
 pub enum Scope {
     /// `x` and `context`, by `apply`: the kind of the cells.
     Apply {

@@ -2,7 +2,7 @@
 
 /// A reducer of openEO Processes: `sum`, `product`, `mean`, `min`, `max`, `median`, `first`, `last`, `any`, `all`, and
 /// `count` without and with nulls.
-#[derive(Clone, Copy, Debug, PartialEq, Eq)]
+#[derive(Clone, Copy, PartialEq, Eq)]
 pub enum Reducer {
     /// The cells added up from the first on.
     Sum,

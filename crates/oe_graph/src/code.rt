@@ -3,7 +3,7 @@ ghost use Rattle.std.specs.Prelude.{◌≡◌};
 ghost use Rattle.oe_graph.specs.Codes.{phase_of, number_in_phase, name_of};
 
 /// What is wrong with a graph. The table of faults has one code a row, in this order.
-#[derive(Clone, Copy, Debug, PartialEq, Eq)]
+#[derive(Clone, Copy, PartialEq, Eq)]
 pub enum Code {
     // The form of the graph.
     InputTooLong,

@@ -8,14 +8,14 @@ use oe_memory::OutOfMemory;
 
 /// What is wrong with a graph, and the node at which it is: `n` in the main graph, `p/a/n` in the callback `a` of
 /// the node `p`, empty for the graph as a whole.
-#[derive(Debug, Drop)]
+#[derive(Drop)]
 pub struct Fault {
     pub code: Code,
     pub node: Text,
 }
 
 /// Why a graph was not taken.
-#[derive(Debug, Drop)]
+#[derive(Drop)]
 pub enum Refusal {
     /// The least fault of the graph.
     Fault(Fault),

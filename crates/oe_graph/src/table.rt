@@ -1,7 +1,7 @@
 // The catalogue of processes, one row per process (openEO Processes; the parameters and defaults are this profile's).
 
 /// What a parameter may hold.
-#[derive(Clone, Copy, Debug, PartialEq, Eq)]
+#[derive(Clone, Copy, PartialEq, Eq)]
 pub enum ArgumentKind {
     /// A reference to a node of the main graph.
     Cube,
@@ -68,7 +68,7 @@ pub enum ArgumentKind {
 }
 
 /// The default of a parameter.
-#[derive(Clone, Copy, Debug, PartialEq, Eq)]
+#[derive(Clone, Copy, PartialEq, Eq)]
 pub enum Literal {
     Null,
     Flag(bool),

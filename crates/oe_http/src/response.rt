@@ -15,7 +15,7 @@ use oe_dims::Text;
 use oe_outside::{Failed, Link};
 
 /// A reply. Where `json` holds its body is a JSON text. Statuses 201, 202 and 204 send no body.
-#[derive(Debug, Drop)]
+#[derive(Drop)]
 pub struct Response {
     pub status: u16,
     pub location: Option<Text>,

@@ -42,7 +42,7 @@ pub enum Command {
 }
 
 /// Why a command is refused.
-#[derive(Clone, Copy, Debug, PartialEq, Eq)]
+#[derive(Clone, Copy, PartialEq, Eq)]
 pub enum JobFault {
     /// The user has no job of this id.
     JobNotFound,
@@ -59,7 +59,7 @@ pub enum JobFault {
 }
 
 /// What a command is answered.
-#[derive(Debug, Drop)]
+#[derive(Drop)]
 pub enum Outcome {
     /// The id of the new job.
     Created(Text),

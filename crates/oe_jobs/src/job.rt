@@ -5,7 +5,6 @@ use oe_dims::Text;
 use oe_graph::StoredProcess;
 
 /// An entry of a job's logs.
-#[derive(Debug)]
 pub struct LogEntry {
     pub level: Level,
     pub code: Option<Text>,
@@ -13,7 +12,6 @@ pub struct LogEntry {
 }
 
 /// A result file of a job: its name, and the text that it holds.
-#[derive(Debug)]
 pub struct Asset {
     pub name: Text,
     pub text: Text,

@@ -11,7 +11,7 @@ use crate::book::Book;
 use crate::change::Change;
 
 /// Why a keeper refuses.
-#[derive(Clone, Copy, Debug, PartialEq, Eq)]
+#[derive(Clone, Copy, PartialEq, Eq)]
 pub enum KeeperFail {
     /// A call of the outside failed.
     Failed,

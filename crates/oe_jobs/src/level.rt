@@ -4,7 +4,7 @@ ghost use Rattle.oe_jobs.specs.Machine as spec;
 ghost use Rattle.oe_jobs.specs.Texts.{Finds, level_text};
 
 /// The level of a log entry (openEO API, logs), the most severe first.
-#[derive(Clone, Copy, Debug, PartialEq, Eq)]
+#[derive(Clone, Copy, PartialEq, Eq)]
 pub enum Level {
     Error,
     Warning,

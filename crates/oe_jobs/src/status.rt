@@ -4,7 +4,7 @@ ghost use Rattle.oe_jobs.specs.Machine as spec;
 ghost use Rattle.oe_jobs.specs.Texts.{Finds, status_text};
 
 /// The status of a batch job (openEO API, batch jobs).
-#[derive(Clone, Copy, Debug, PartialEq, Eq)]
+#[derive(Clone, Copy, PartialEq, Eq)]
 pub enum Status {
     Created,
     Queued,

@@ -5,7 +5,7 @@ ghost use Rattle.oe_kernel.specs.Borders.{border_position, period_of, is_on, out
 use oe_cell::Frac;
 
 /// What stands for a pixel outside a side of n positions, which are 0 to n−1.
-#[derive(Clone, Copy, Debug, PartialEq, Eq)]
+#[derive(Clone, Copy, PartialEq, Eq)]
 pub enum Border {
     /// This number, for every such pixel.
     Value(Frac),

@@ -15,7 +15,7 @@ use std::marker::Model;
 const LARGEST_SIZE: u32 = 31;
 
 /// Why numbers are no kernel.
-#[derive(Clone, Copy, Debug, PartialEq, Eq)]
+#[derive(Clone, Copy, PartialEq, Eq)]
 pub enum KernelFault {
     /// There are not width times height values.
     LengthDiffers,
@@ -27,7 +27,7 @@ pub enum KernelFault {
 
 /// A kernel of `apply_kernel` of openEO Processes: an odd width and height from 1 to 31, and a number for each row and
 /// column.
-#[derive(Debug, Drop)]
+#[derive(Drop)]
 pub struct Kernel {
     width: u32,
     height: u32,

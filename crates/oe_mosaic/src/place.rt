@@ -13,7 +13,7 @@ use oe_dims::{Kind, Shape, Text};
 use oe_window::{Span, Window};
 
 /// How the labels of a span lie in a part, along one dimension.
-#[derive(Clone, Copy, Debug, PartialEq, Eq)]
+#[derive(Clone, Copy, PartialEq, Eq)]
 pub enum Along {
     /// The part has none of them.
     Apart,
@@ -24,7 +24,7 @@ pub enum Along {
 }
 
 /// How the tuples of a window lie in a part.
-#[derive(Clone, Copy, Debug, PartialEq, Eq)]
+#[derive(Clone, Copy, PartialEq, Eq)]
 pub enum Place {
     /// The part has none of them.
     Apart,
@@ -35,7 +35,7 @@ pub enum Place {
 }
 
 /// How the four spans of a window lie in a part.
-#[derive(Clone, Copy, Debug, PartialEq, Eq)]
+#[derive(Clone, Copy, PartialEq, Eq)]
 pub struct Sides {
     pub t: Along,
     pub bands: Along,

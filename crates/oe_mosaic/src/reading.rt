@@ -17,7 +17,7 @@ use oe_sources::{CubeSource, SourceFail};
 use oe_window::{Window, size};
 
 /// Which part decides about the tuples of a window.
-#[derive(Clone, Copy, Debug, PartialEq, Eq)]
+#[derive(Clone, Copy, PartialEq, Eq)]
 pub enum Found {
     /// No part has any of them.
     Nowhere,
@@ -55,7 +55,7 @@ fn find<S: CubeSource>(items: &[S], shape: &Shape, window: &Window) -> Found
 }
 
 /// How many indices a shape has along bands, y and x.
-#[derive(Clone, Copy, Debug, PartialEq, Eq)]
+#[derive(Clone, Copy, PartialEq, Eq)]
 pub struct Extents {
     bands: u64,
     y: u64,

@@ -13,7 +13,7 @@ use std::str;
 const MOST_LINES: usize = 17;
 
 /// The id of a mosaic, and the names of its files in order of priority.
-#[derive(Debug, Drop)]
+#[derive(Drop)]
 pub struct MosaicText {
     /// The id of the collection.
     pub id: Text,
@@ -22,7 +22,7 @@ pub struct MosaicText {
 }
 
 /// Why the file of a mosaic was not read.
-#[derive(Clone, Copy, Debug, PartialEq, Eq)]
+#[derive(Clone, Copy, PartialEq, Eq)]
 pub enum MosaicTextFail {
     /// The number of the first bad line, from 1, or of the line that is missing behind the last one.
     Invalid(u32),

@@ -26,7 +26,7 @@ use std::alloc::Global;
 use std::marker::Model;
 
 /// What one node of a graph refers to. Nodes are named by their index in the byte order of their names.
-#[derive(Debug, Drop)]
+#[derive(Drop)]
 pub struct Links {
     /// Whether the node loads a cube. Such a node stands before every other, whatever it refers to.
     pub load: bool,
@@ -35,7 +35,7 @@ pub struct Links {
 }
 
 /// The nodes of a run in the order in which they are worked off, with a slot for the result of each.
-#[derive(Debug, Drop)]
+#[derive(Drop)]
 pub struct NodeOrder {
     steps: Vec<u32>,
     slots: Vec<u32>,

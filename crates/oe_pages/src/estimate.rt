@@ -13,7 +13,7 @@ use serde_json::{Map, Value, put};
 use std::alloc::Global;
 
 /// What an asset needs: its bound in cells and its number of chunks.
-#[derive(Debug, Drop)]
+#[derive(Drop)]
 pub struct EstimateRow {
     pub name: Text,
     pub bound: u128,

@@ -13,7 +13,7 @@ use std::alloc::{AllocError, Global};
 const MOST_LIMIT: u64 = 1000;
 
 /// Why nothing is answered to a query.
-#[derive(Clone, Copy, Debug, PartialEq, Eq)]
+#[derive(Clone, Copy, PartialEq, Eq)]
 pub enum QueryFail {
     /// A name that is looked at stands twice, or its value is not of its form.
     Invalid,
@@ -38,7 +38,7 @@ impl From<OutOfMemory> for QueryFail {
 }
 
 /// How many items of a list are asked for, 1 to 1000, and how many of those before them are left out.
-#[derive(Clone, Copy, Debug, PartialEq, Eq)]
+#[derive(Clone, Copy, PartialEq, Eq)]
 pub struct PageAsked {
     pub limit: u64,
     pub offset: u64,

@@ -18,7 +18,7 @@ const DAYS_BEFORE_1970: i64 = 719162;
 const DAY: i64 = 86400;
 
 /// A calendar period, in universal time (openEO Processes, `aggregate_temporal_period`).
-#[derive(Clone, Copy, Debug, PartialEq, Eq)]
+#[derive(Clone, Copy, PartialEq, Eq)]
 pub enum Period {
     Day,
     Month,

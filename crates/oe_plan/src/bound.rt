@@ -19,7 +19,7 @@ use oe_window::{ChunkSize, Grid};
 use std::alloc::Global;
 
 /// What a run of a checked graph takes.
-#[derive(Clone, Copy, Debug, PartialEq, Eq)]
+#[derive(Clone, Copy, PartialEq, Eq)]
 pub struct PlanFigures {
     /// How many cells it holds at once at most, in all buffers of all workers.
     pub bound: u128,
@@ -28,7 +28,7 @@ pub struct PlanFigures {
 }
 
 /// How many cells the buffers of a run have.
-#[derive(Clone, Copy, Debug, PartialEq, Eq)]
+#[derive(Clone, Copy, PartialEq, Eq)]
 pub(crate) struct Sizes {
     /// The most cells of a window of a node.
     pub largest: u128,
@@ -37,7 +37,7 @@ pub(crate) struct Sizes {
 }
 
 /// How far a run reaches beyond the labels of a chunk along a dimension.
-#[derive(Clone, Copy, Debug, PartialEq, Eq)]
+#[derive(Clone, Copy, PartialEq, Eq)]
 struct Reach {
     /// A node needs the whole side.
     whole: bool,
@@ -46,7 +46,7 @@ struct Reach {
 }
 
 /// The most indices that a window of a node has along each dimension.
-#[derive(Clone, Copy, Debug, PartialEq, Eq)]
+#[derive(Clone, Copy, PartialEq, Eq)]
 pub struct Sides {
     pub t: u32,
     pub bands: u32,

@@ -27,7 +27,7 @@ use std::alloc::Global;
 use std::marker::Model;
 
 /// Why a graph was not planned.
-#[derive(Clone, Copy, Debug, PartialEq, Eq)]
+#[derive(Clone, Copy, PartialEq, Eq)]
 pub enum PlanFail {
     /// The run would hold so many cells at once, which are more than 67108864.
     TooLarge(u128),

@@ -22,7 +22,7 @@ use std::alloc::Global;
 const MOST_TEXT: usize = 1048576;
 
 /// The cube that a text says: its shape, the kind of its cells, and the cells in row-major order.
-#[derive(Debug, Drop)]
+#[derive(Drop)]
 pub struct CubeText {
     pub shape: Shape,
     pub kind: CellKind,
@@ -30,7 +30,7 @@ pub struct CubeText {
 }
 
 /// Why bytes were not read as a cube text.
-#[derive(Clone, Copy, Debug, PartialEq, Eq)]
+#[derive(Clone, Copy, PartialEq, Eq)]
 pub enum CubeTextFail {
     /// The bytes are no cube text.
     Invalid,

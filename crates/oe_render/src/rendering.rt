@@ -20,7 +20,7 @@ const RECORDS: usize = 4096;
 const ROOM: usize = 17 * RECORDS;
 
 /// Why a cube was not rendered.
-#[derive(Clone, Copy, Debug, PartialEq, Eq)]
+#[derive(Clone, Copy, PartialEq, Eq)]
 pub enum RenderFail {
     /// A read of the store failed, and the store's fault counter rose.
     SpoolFailed,

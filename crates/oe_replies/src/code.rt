@@ -6,7 +6,7 @@ ghost use Rattle.oe_replies.specs.Codes as spec;
 use oe_graph::Code;
 
 /// Why a request was refused, as its error body names it (openEO API, error handling).
-#[derive(Clone, Copy, Debug, PartialEq, Eq)]
+#[derive(Clone, Copy, PartialEq, Eq)]
 pub enum ReplyCode {
     // The bytes of the request.
     HeadTooLong,

@@ -12,7 +12,7 @@ use serde_json::{Map, Value, put};
 use std::alloc::Global;
 
 /// A path of the service, with its methods.
-#[derive(Debug, Drop)]
+#[derive(Drop)]
 pub struct Endpoint {
     /// The path, a parameter in braces.
     pub path: Text,

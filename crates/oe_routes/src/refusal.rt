@@ -11,7 +11,7 @@ use oe_replies::ReplyCode;
 use std::alloc::AllocError;
 
 /// A code, or out of memory.
-#[derive(Clone, Copy, Debug, PartialEq, Eq)]
+#[derive(Clone, Copy, PartialEq, Eq)]
 pub enum Refusal {
     Code(ReplyCode),
     OutOfMemory,
@@ -45,7 +45,7 @@ impl From<QueryFail> for Refusal {
 }
 
 /// Why a request is refused: with a code, or with the least fault of a graph.
-#[derive(Debug, Drop)]
+#[derive(Drop)]
 pub enum Rejection {
     Code(ReplyCode),
     Fault(Fault),

@@ -3,7 +3,7 @@ use crate::tokens::Tokens;
 use oe_dims::Text;
 
 /// Where a service is found, and its users.
-#[derive(Debug, Drop)]
+#[derive(Drop)]
 pub struct Site {
     /// The base of its addresses, of 1 to 1024 bytes from 0x21 to 0x7E, which ends with a slash.
     pub base: Text,

@@ -15,7 +15,7 @@ use oe_replies::{Endpoint, ReplyCode};
 use std::alloc::Global;
 
 /// What a route does.
-#[derive(Clone, Copy, Debug, PartialEq, Eq)]
+#[derive(Clone, Copy, PartialEq, Eq)]
 pub enum Operation {
     ShowCapabilities,
     ShowVersions,

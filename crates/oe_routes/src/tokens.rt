@@ -14,7 +14,7 @@ use std::str;
 const MOST_USERS: usize = 8;
 
 /// The users of a service, each with a token. Contracts see them as pairs.
-#[derive(Debug, Drop)]
+#[derive(Drop)]
 pub struct Tokens {
     entries: Vec<(Text, Text)>,
 }
@@ -29,7 +29,7 @@ impl Model for Tokens {
 }
 
 /// Why a file of tokens is not read.
-#[derive(Clone, Copy, Debug, PartialEq, Eq)]
+#[derive(Clone, Copy, PartialEq, Eq)]
 pub enum TokensFail {
     /// The number of the first bad line, from 1.
     Invalid(u32),

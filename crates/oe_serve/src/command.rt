@@ -9,7 +9,7 @@ use oe_dims::Text;
 use oe_window::ChunkSize;
 
 /// What the words `serve PORT CX CY CT W TURNS` ask for.
-#[derive(Clone, Copy, Debug, PartialEq, Eq)]
+#[derive(Clone, Copy, PartialEq, Eq)]
 pub struct ServeCommand {
     /// The port at which connections are taken, 1 to 65535.
     pub port: u16,

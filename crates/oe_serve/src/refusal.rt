@@ -5,7 +5,7 @@ ghost use Rattle.oe_serve.specs.Results as spec;
 use oe_engine::RunFail;
 
 /// Why the run of a graph has no result.
-#[derive(Clone, Copy, Debug, PartialEq, Eq)]
+#[derive(Clone, Copy, PartialEq, Eq)]
 pub enum ResultRefusal {
     /// It would hold so many cells, which are more than are allowed.
     PlanTooLarge(u128),

@@ -1,7 +1,7 @@
 // How a connection was served.
 
 /// What became of a connection.
-#[derive(Clone, Copy, Debug, PartialEq, Eq)]
+#[derive(Clone, Copy, PartialEq, Eq)]
 pub enum Served {
     /// A whole reply of this status was written.
     Answered(u16),

@@ -26,7 +26,7 @@ use oe_sources::Catalogue;
 use std::thread::Threads;
 
 /// Why a server ended before its turns were done.
-#[derive(Clone, Copy, Debug, PartialEq, Eq)]
+#[derive(Clone, Copy, PartialEq, Eq)]
 pub enum ServeFail {
     /// The keeper failed at the opening of the book or in a tick.
     KeeperFault,

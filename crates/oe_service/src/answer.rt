@@ -5,7 +5,7 @@ ghost use Rattle.oe_service.specs.Ticks as spec;
 use oe_jobs::KeeperFail;
 
 /// How a tick ended.
-#[derive(Clone, Copy, Debug, PartialEq, Eq)]
+#[derive(Clone, Copy, PartialEq, Eq)]
 pub enum Ticked {
     /// No job is queued or runs.
     Idle,

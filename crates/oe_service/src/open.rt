@@ -15,7 +15,7 @@ use oe_window::ChunkSize;
 use std::alloc::Global;
 
 /// Why the book was not opened.
-#[derive(Clone, Copy, Debug, PartialEq, Eq)]
+#[derive(Clone, Copy, PartialEq, Eq)]
 pub enum OpenBookFail {
     /// The keeper failed.
     KeeperFailed,

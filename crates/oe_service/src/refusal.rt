@@ -9,7 +9,7 @@ use oe_plan::PlanFail;
 use oe_render::RenderFail;
 
 /// Why the run of a job is refused. Its code is that of the failed job.
-#[derive(Clone, Copy, Debug, PartialEq, Eq)]
+#[derive(Clone, Copy, PartialEq, Eq)]
 pub enum RunRefusal {
     /// A fault stands in the graph of the asset.
     Graph(Code),

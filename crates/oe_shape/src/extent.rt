@@ -2,7 +2,7 @@
 
 /// A left-closed temporal extent (openEO Processes): from `start`, which is inside, to `end`, which is not, in seconds
 /// since 1970-01-01T00:00:00Z. One that is missing does not limit.
-#[derive(Clone, Copy, Debug, PartialEq, Eq)]
+#[derive(Clone, Copy, PartialEq, Eq)]
 pub struct TemporalExtent {
     pub start: Option<i64>,
     pub end: Option<i64>,
@@ -10,7 +10,7 @@ pub struct TemporalExtent {
 
 /// A bounding box (openEO Processes) in the unit of the reference system with the code `epsg`, from 1 to 999999. Its
 /// borders belong to it.
-#[derive(Clone, Copy, Debug, PartialEq, Eq)]
+#[derive(Clone, Copy, PartialEq, Eq)]
 pub struct BoundingBox {
     pub west: i64,
     pub south: i64,
@@ -20,7 +20,7 @@ pub struct BoundingBox {
 }
 
 /// An interval of `aggregate_temporal` with the label that stands for it, in seconds since 1970-01-01T00:00:00Z.
-#[derive(Clone, Copy, Debug, PartialEq, Eq)]
+#[derive(Clone, Copy, PartialEq, Eq)]
 pub struct Interval {
     pub extent: TemporalExtent,
     pub label: i64,

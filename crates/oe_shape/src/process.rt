@@ -3,7 +3,7 @@ ghost use Rattle.std.specs.Prelude.{◌≡◌, map};
 ghost use Rattle.oe_shape.specs.Requests as spec;
 
 /// A process on cubes (openEO Processes).
-#[derive(Clone, Copy, Debug, PartialEq, Eq)]
+#[derive(Clone, Copy, PartialEq, Eq)]
 pub enum CubeProcess {
     AggregateTemporal,
     Apply,

@@ -15,7 +15,7 @@ use oe_window::{ChunkSize, Grid};
 use std::alloc::Global;
 
 /// What a run takes that is folded slab by slab.
-#[derive(Clone, Copy, Debug, PartialEq, Eq)]
+#[derive(Clone, Copy, PartialEq, Eq)]
 pub struct SlabNumbers {
     /// How many cells it holds at once at most.
     pub bound: u128,
@@ -24,7 +24,7 @@ pub struct SlabNumbers {
 }
 
 /// Why there are no such numbers.
-#[derive(Clone, Copy, Debug, PartialEq, Eq)]
+#[derive(Clone, Copy, PartialEq, Eq)]
 pub enum SlabNumbersFail {
     /// The run has no time cut.
     NoTimeFold,
@@ -42,7 +42,7 @@ impl From<OutOfMemory> for SlabNumbersFail {
 }
 
 /// How many cells the windows of a run have that is folded slab by slab.
-#[derive(Clone, Copy, Debug, PartialEq, Eq)]
+#[derive(Clone, Copy, PartialEq, Eq)]
 pub(crate) struct SlabSizes {
     /// The most cells of a window without t.
     pub plane: u128,

@@ -25,7 +25,7 @@ use std::alloc::Global;
 use std::marker::Model;
 
 /// Why a graph was not planned.
-#[derive(Clone, Copy, Debug, PartialEq, Eq)]
+#[derive(Clone, Copy, PartialEq, Eq)]
 pub enum SlabPlanFail {
     /// The run has no time cut.
     NoTimeFold,

@@ -15,7 +15,7 @@ use oe_steps::RunFail;
 use std::marker::Model;
 
 /// How far a run is after a round.
-#[derive(Clone, Copy, Debug, PartialEq, Eq)]
+#[derive(Clone, Copy, PartialEq, Eq)]
 pub enum SlabProgress {
     /// Chunks are left.
     More,

@@ -3,7 +3,7 @@
 use std::time::{Clock, Duration, Instant};
 
 /// A moment, or none, which is over. A clock that cannot be read, or that ends before the moment, gives none.
-#[derive(Clone, Copy, Debug)]
+#[derive(Clone, Copy)]
 pub(crate) struct Deadline {
     until: Option<Instant>,
 }

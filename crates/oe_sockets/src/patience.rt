@@ -6,7 +6,7 @@ use std::time::Duration;
 pub(crate) const MICROSECONDS_A_BYTE: u64 = 16;
 
 /// How long peers may take.
-#[derive(Clone, Copy, Debug)]
+#[derive(Clone, Copy)]
 pub struct Patience {
     /// until a dialled peer has taken the connection, all addresses of its name together
     pub connect: Duration,

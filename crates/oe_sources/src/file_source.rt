@@ -40,7 +40,7 @@ pub enum OpenFail<S: Store + Drop> {
 }
 
 /// The same, without the store.
-#[derive(Clone, Copy, Debug, PartialEq, Eq)]
+#[derive(Clone, Copy, PartialEq, Eq)]
 enum Refusal {
     Failed,
     Invalid,

@@ -23,7 +23,7 @@ use std::alloc::Global;
 pub(crate) const ROOM: usize = 65536;
 
 /// Why a cube file was not written.
-#[derive(Clone, Copy, Debug, PartialEq, Eq)]
+#[derive(Clone, Copy, PartialEq, Eq)]
 pub enum PackFail {
     /// A write failed, and the output's fault counter rose.
     SinkFailed,

@@ -27,7 +27,7 @@ use std::alloc::Global;
 const CELLS: u64 = 65536;
 
 /// Why a mounted collection was not written as a cube file.
-#[derive(Clone, Copy, Debug, PartialEq, Eq)]
+#[derive(Clone, Copy, PartialEq, Eq)]
 pub enum RepackFail {
     /// A read of the collection failed, and its fault counter rose.
     SourceFailed,

@@ -13,7 +13,7 @@ use oe_wide::Width;
 use std::alloc::Global;
 
 /// The kind of a cell, the width of its record, where that stands, and how many cells from it on are of its section.
-#[derive(Clone, Copy, Debug)]
+#[derive(Clone, Copy)]
 pub(crate) struct Spot {
     pub(crate) kind: CellKind,
     pub(crate) width: Width,

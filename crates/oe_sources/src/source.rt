@@ -11,7 +11,7 @@ use oe_dims::{CellKind, Shape};
 use oe_window::Window;
 
 /// Why a window was not read.
-#[derive(Clone, Copy, Debug, PartialEq, Eq)]
+#[derive(Clone, Copy, PartialEq, Eq)]
 pub enum SourceFail {
     /// A read of what keeps the cells failed, and the source's fault counter rose.
     Failed,

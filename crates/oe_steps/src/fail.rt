@@ -1,7 +1,7 @@
 // Why a run did not go on.
 
 /// Why a run did not go on.
-#[derive(Clone, Copy, Debug, PartialEq, Eq)]
+#[derive(Clone, Copy, PartialEq, Eq)]
 pub enum RunFail {
     /// A read of a collection failed, and its fault counter rose.
     SourceFailed,

@@ -10,7 +10,7 @@ use oe_sources::Catalogue;
 use std::alloc::Global;
 
 /// Why `check` or `plan` did not finish.
-#[derive(Debug, Drop)]
+#[derive(Drop)]
 pub enum CheckRefusal {
     /// The input is no graph without a fault.
     Input(InputRefusal),

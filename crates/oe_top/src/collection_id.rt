@@ -9,7 +9,7 @@ const MOST: usize = 64;
 
 /// The id of a collection, 64 bytes at most. It takes no memory, so that a position can be named in the midst of a run.
 /// Contracts see the bytes.
-#[derive(Debug, Drop)]
+#[derive(Drop)]
 pub struct CollectionId {
     bytes: [u8; MOST],
     length: usize,

@@ -45,7 +45,7 @@ const GRAPH: &str = "{\"process_graph\":{\
 {\"max\":{\"process_id\":\"max\",\"arguments\":{\"data\":{\"from_parameter\":\"data\"}},\"result\":true}}}},\"result\":true}}}";
 
 /// Why `demo` did not finish.
-#[derive(Debug, Drop)]
+#[derive(Drop)]
 pub enum DemoRefusal {
     /// The run would hold so many cells, which are more than are allowed.
     TooLarge(u128),

@@ -14,7 +14,7 @@ use oe_sources::Catalogue;
 use std::alloc::Global;
 
 /// Why a text was not written.
-#[derive(Clone, Copy, Debug, PartialEq, Eq)]
+#[derive(Clone, Copy, PartialEq, Eq)]
 pub enum UnwrittenCause {
     /// The output could not be written.
     WriteFault,
@@ -23,7 +23,7 @@ pub enum UnwrittenCause {
 }
 
 /// Why a collection was not described.
-#[derive(Clone, Copy, Debug, PartialEq, Eq)]
+#[derive(Clone, Copy, PartialEq, Eq)]
 pub enum DescribeRefusal {
     /// No collection is mounted under the id.
     NotMounted,

@@ -21,7 +21,7 @@ use std::alloc::Global;
 use std::thread::Threads;
 
 /// Why the evaluation of a graph stopped.
-#[derive(Debug, Drop)]
+#[derive(Drop)]
 pub enum EvaluationFail {
     /// A cell of the result is out of the range of numbers, at this row-major number at first.
     Overflow(u64),

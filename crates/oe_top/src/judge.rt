@@ -19,7 +19,7 @@ use oe_sources::Catalogue;
 use std::alloc::Global;
 
 /// Why an input is no graph that can be worked on.
-#[derive(Debug, Drop)]
+#[derive(Drop)]
 pub enum InputRefusal {
     /// Faults stand in it, of which this is the least one.
     Graph(Fault),

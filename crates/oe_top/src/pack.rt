@@ -18,7 +18,7 @@ use oe_sources::PackFail;
 use std::alloc::Global;
 
 /// Why `pack` did not finish.
-#[derive(Clone, Copy, Debug, PartialEq, Eq)]
+#[derive(Clone, Copy, PartialEq, Eq)]
 pub enum PackRefusal {
     /// The input is no result text.
     NoCubeText,

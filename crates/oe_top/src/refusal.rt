@@ -3,7 +3,7 @@ use crate::collection_id::CollectionId;
 use oe_graph::Fault;
 
 /// The endings of a command other than success, each with its status and its code.
-#[derive(Debug, Drop)]
+#[derive(Drop)]
 pub enum Refusal {
     /// The words spell no command.
     Usage,

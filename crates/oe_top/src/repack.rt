@@ -12,7 +12,7 @@ use oe_sources::{Catalogue, RepackFail};
 use std::alloc::Global;
 
 /// Why `repack` did not finish.
-#[derive(Debug, Drop)]
+#[derive(Drop)]
 pub enum RepackRefusal {
     /// No collection is mounted under the id.
     NotMounted,

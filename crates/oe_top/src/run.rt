@@ -22,7 +22,7 @@ use oe_window::ChunkSize;
 use std::thread::Threads;
 
 /// Why `run` did not finish.
-#[derive(Debug, Drop)]
+#[derive(Drop)]
 pub enum RunRefusal {
     /// The input is no graph without a fault.
     Input(InputRefusal),

@@ -17,7 +17,7 @@ use oe_window::ChunkSize;
 use std::alloc::Global;
 
 /// Why `slabplan` did not finish.
-#[derive(Debug, Drop)]
+#[derive(Drop)]
 pub enum SlabPlanRefusal {
     /// The input is no graph without a fault.
     Input(InputRefusal),

@@ -8,7 +8,7 @@ use oe_dims::{Text, is_name};
 use oe_window::ChunkSize;
 
 /// What the words ask for: one variant a command.
-#[derive(Clone, Copy, Debug, PartialEq, Eq)]
+#[derive(Clone, Copy, PartialEq, Eq)]
 pub enum Command {
     /// To evaluate the graph of the input, in chunks of this size, with 1 to 64 workers.
     Run {

@@ -5,7 +5,7 @@ ghost use Rattle.oe_wide.specs.Wide.{AllFitIn, FitsIn, IsLeastWidth, byte_count}
 use oe_cell::Cell;
 
 /// How many bytes the records of a part of a cube file have.
-#[derive(Clone, Copy, Debug, PartialEq, Eq)]
+#[derive(Clone, Copy, PartialEq, Eq)]
 pub enum Width {
     /// A tag: null, `false` and `true`.
     One,

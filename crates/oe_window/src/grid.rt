@@ -12,7 +12,7 @@ use oe_dims::{Kind, Shape};
 use std::marker::Model;
 
 /// The most labels that a chunk takes along `x`, `y` and `t`, each from 1 to 4096.
-#[derive(Clone, Copy, Debug, PartialEq, Eq)]
+#[derive(Clone, Copy, PartialEq, Eq)]
 pub struct ChunkSize {
     pub x: u32,
     pub y: u32,
@@ -20,7 +20,7 @@ pub struct ChunkSize {
 }
 
 /// A shape that is parted into chunks, counted with `x` fastest, then `y`, then `t`. Bands are never cut.
-#[derive(Debug, Drop)]
+#[derive(Drop)]
 pub struct Grid {
     t: u32,
     bands: u32,

@@ -3,7 +3,7 @@ ghost use Rattle.std.specs.Prelude.{◌≡◌, ◌<◌};
 ghost use Rattle.oe_window.specs.Layouts.{Covers, Fits, IsBox, first_of_run, run_count};
 
 /// How many indices a box or a cube has along each dimension.
-#[derive(Clone, Copy, Debug)]
+#[derive(Clone, Copy)]
 pub(crate) struct Sides {
     pub(crate) t: u64,
     pub(crate) bands: u64,
@@ -12,7 +12,7 @@ pub(crate) struct Sides {
 }
 
 /// How many steps there are along one dimension, and how far each leads.
-#[derive(Clone, Copy, Debug)]
+#[derive(Clone, Copy)]
 pub(crate) struct Axis {
     pub(crate) count: u64,
     pub(crate) stride: u64,
@@ -24,7 +24,7 @@ const ONE_STEP: Axis = Axis {
 };
 
 /// Runs of one length, whose first numbers stand at regular distances.
-#[derive(Clone, Copy, Debug)]
+#[derive(Clone, Copy)]
 pub(crate) struct Layout {
     pub(crate) first: u64,
     pub(crate) length: u64,

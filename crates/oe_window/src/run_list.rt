@@ -13,7 +13,7 @@ use oe_dims::{Kind, Shape};
 use std::marker::Model;
 
 /// The runs of numbers that are still to come, each a first number and a length.
-#[derive(Debug, Drop)]
+#[derive(Drop)]
 pub struct RunList {
     layout: Layout,
     done: u64,

@@ -8,7 +8,7 @@ ghost use Rattle.oe_window.specs.Windows.{positions, position_count, number_in};
 use oe_dims::{Kind, Shape};
 
 /// Indices along one dimension: from the index `from` on, and before `to`.
-#[derive(Clone, Copy, Debug, PartialEq, Eq)]
+#[derive(Clone, Copy, PartialEq, Eq)]
 pub struct Span {
     pub from: u32,
     pub to: u32,
@@ -41,7 +41,7 @@ impl Span {
 }
 
 /// The positions whose indices lie in the four spans. A missing dimension has the span 0 to 1.
-#[derive(Clone, Copy, Debug, PartialEq, Eq)]
+#[derive(Clone, Copy, PartialEq, Eq)]
 pub struct Window {
     pub t: Span,
     pub bands: Span,
