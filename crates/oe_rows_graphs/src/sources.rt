@@ -10,7 +10,7 @@ use oe_lines::{
     Answers, Fault, end_line, first_word, numbers_of, parts_of, push, push_all, push_cell,
     push_digits, push_number,
 };
-use oe_outside::MemorySink;
+use oe_outside::{MemorySink, NoGate};
 use oe_sources::{Catalogue, CubeSource, MountFail, RepackFail, SourceFail, repack};
 use oe_window::whole;
 use std::alloc::Global;
@@ -150,7 +150,7 @@ fn write_row(
     if !is_name(id.as_str()) {
         return Err(Fault::Line);
     }
-    word_of(repack(alloc, catalogue, place, &id, out))
+    word_of(repack(alloc, catalogue, place, &id, out, &NoGate))
 }
 
 fn word_of(answer: Result<(), RepackFail>) -> Result<&'static str, Fault> {

@@ -18,7 +18,7 @@ use crate::{Catalogue, SourceFail};
 use oe_cell::{Cell, whole_cell};
 use oe_dims::{Kind, Shape, Text};
 use oe_memory::OutOfMemory;
-use oe_outside::Sink;
+use oe_outside::{Gate, Sink};
 use oe_wide::{Width, common_width};
 use oe_window::{Span, Window, size};
 use std::alloc::Global;
@@ -50,17 +50,19 @@ impl From<OutOfMemory> for RepackFail {
 }
 
 /// Appends the cube file of version 2 of a mounted collection under an id, each section in the least width that holds
-/// all its cells. It reads the collection twice: once for the widths, before anything is written.
+/// all its cells. It reads the collection twice: once for the widths, before anything is written. It enters the gate
+/// before each section that it reads, with the number of sections before that: twice as often as there are sections.
 ///
 /// Refuses: `SourceFailed` only where the collection's fault counter rose; then nothing or a prefix of the file was
 /// written. `SinkFailed` only where the output's fault counter rose; then a prefix was written. `SourceDamaged` only
 /// with a damaged position, and `OutOfMemory` where an allocation was refused; then nothing was written.
-pub fn repack<O: Sink>(
+pub fn repack<O: Sink, G: Gate>(
     alloc: Global,
     catalogue: &mut Catalogue,
     place: u32,
     id: &Text,
     out: &mut O,
+    gate: &G,
 ) -> Result<(), RepackFail>
     requires mounted { place < length (rows_in seen catalogue.old) }
     requires id { is_name id.now ≡ true }
@@ -80,7 +82,7 @@ pub fn repack<O: Sink>(
 {
     let mut cells = cell_room(alloc)?;
     let mut buffer = room(alloc)?;
-    let widths = match find_widths(alloc, catalogue, place, &mut cells) {
+    let widths = match find_widths(alloc, catalogue, place, &mut cells, gate) {
         Ok(widths) => widths,
         Err(fail) => return Err(fail),
     };
@@ -90,7 +92,15 @@ pub fn repack<O: Sink>(
         Ok(()) => {}
         Err(_) => return Err(RepackFail::SinkFailed),
     }
-    match write_all(out, catalogue, place, &widths, &mut cells, &mut buffer) {
+    match write_all(
+        out,
+        catalogue,
+        place,
+        &widths,
+        &mut cells,
+        &mut buffer,
+        gate,
+    ) {
         Ok(()) => Ok(()),
         Err(fail) => Err(fail),
     }
@@ -107,11 +117,12 @@ fn cell_room(alloc: Global) -> Result<Vec<Cell>, OutOfMemory>
 }
 
 /// The least width of each section of a collection.
-fn find_widths(
+fn find_widths<G: Gate>(
     alloc: Global,
     catalogue: &mut Catalogue,
     place: u32,
     cells: &mut [Cell],
+    gate: &G,
 ) -> Result<Vec<Width>, RepackFail>
     requires mounted { place < length (rows_in seen catalogue.old) }
     requires enough { length cells.old ≡ 65536 }
@@ -135,6 +146,7 @@ fn find_widths(
         Err(_) => return Err(RepackFail::OutOfMemory),
     };
     for section in 0..count {
+        gate.enter(u64::from(section));
         let width = section_width(catalogue, place, section, cells)?;
         match widths.push(width) {
             Ok(()) => {}
@@ -185,13 +197,14 @@ fn section_width(
 }
 
 /// The records of all sections, in their widths.
-fn write_all<O: Sink>(
+fn write_all<O: Sink, G: Gate>(
     out: &mut O,
     catalogue: &mut Catalogue,
     place: u32,
     widths: &[Width],
     cells: &mut [Cell],
     buffer: &mut Vec<u8>,
+    gate: &G,
 ) -> Result<(), RepackFail>
     requires mounted { place < length (rows_in seen catalogue.old) }
     requires counted { length widths.now
@@ -221,6 +234,7 @@ fn write_all<O: Sink>(
 {
     let count = section_count(catalogue.shape(place));
     for section in 0..count {
+        gate.enter(u64::from(count) + u64::from(section));
         let width = widths[section as usize];
         match write_one(out, catalogue, place, section, width, cells, buffer) {
             Ok(()) => {}

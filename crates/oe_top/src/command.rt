@@ -112,7 +112,9 @@ fn obey<R: Threads + Sync, I: Source, O: Sink, P: Store, G: Gate>(
         Some(Command::Check) => ending_of_check(check(alloc, input, out, catalogue)),
         Some(Command::Explain) => ending_of_check(explain(alloc, input, out, catalogue)),
         Some(Command::Pack) => ending_of_pack(pack(alloc, &words[1], input, out)),
-        Some(Command::Repack) => ending_of_repack(repack(alloc, &words[1], out, catalogue)),
+        Some(Command::Repack) => {
+            ending_of_repack(repack(alloc, &words[1], out, catalogue, setup.gate))
+        }
         Some(Command::DescribeAll) => ending_of_listing(describe_all(alloc, out, catalogue)),
         Some(Command::Describe) => ending_of_describe(describe(alloc, &words[1], out, catalogue)),
         None => Err(Refusal::Usage),

@@ -1,13 +1,14 @@
 // The command `repack`: a mounted collection as a cube file in least widths.
-ghost use Rattle.std.specs.Prelude.{◌≡◌, ℕ, List, Option, true};
+ghost use Rattle.std.specs.Prelude.{◌≡◌, ◌<◌, ℕ, List, Option, Some, length, slice_get, true};
 ghost use Rattle.oe_dims.specs.Names.{is_name};
+ghost use Rattle.oe_sources.specs.Catalogue.{row_index, row_of};
 ghost use Rattle.oe_sources.specs.CatalogueRows.{rows_of};
 ghost use Rattle.oe_top.specs.Objects.{objects};
 ghost use Rattle.oe_top.specs.RepackAnswer.{RepackAnswers};
 
 use crate::collection_id::CollectionId;
-use oe_dims::Text;
-use oe_outside::Sink;
+use oe_dims::{Kind, Text};
+use oe_outside::{Gate, Sink};
 use oe_sources::{Catalogue, RepackFail};
 use std::alloc::Global;
 
@@ -26,12 +27,14 @@ pub enum RepackRefusal {
     OutOfMemory,
 }
 
-/// Writes the cube file of the collection that is mounted under an id.
-pub(crate) fn repack<O: Sink>(
+/// Writes the cube file of the collection that is mounted under an id, at a gate that is entered before each read of a
+/// date.
+pub(crate) fn repack<O: Sink, G: Gate>(
     alloc: Global,
     id: &Text,
     out: &mut O,
     catalogue: &mut Catalogue,
+    gate: &G,
 ) -> Result<(), RepackRefusal>
     requires { is_name id.now ≡ true }
     ensures { (input : Option (List ℕ)) (input_faults : ℕ) (spool : Option (List ℕ))
@@ -44,7 +47,36 @@ pub(crate) fn repack<O: Sink>(
     let Some(place) = catalogue.place(id.as_str()) else {
         return Err(RepackRefusal::NotMounted);
     };
-    match oe_sources::repack(alloc, catalogue, place, id, out) {
+    // Each date is read twice, and so is a collection without t.
+    let dates = catalogue.shape(place).count(Kind::Time).unwrap_or(1);
+    gate.open(2 * u64::from(dates));
+    let end = write_anew(alloc, id, place, out, catalogue, gate);
+    gate.close();
+    end
+}
+
+/// Writes the cube file of the collection at a place, which is mounted under an id, at a gate that is open.
+fn write_anew<O: Sink, G: Gate>(
+    alloc: Global,
+    id: &Text,
+    place: u32,
+    out: &mut O,
+    catalogue: &mut Catalogue,
+    gate: &G,
+) -> Result<(), RepackRefusal>
+    requires id { is_name id.now ≡ true }
+    requires index { Some place ≡ row_index (rows_of seen catalogue.old) id.now }
+    requires within { place < length (rows_of seen catalogue.old) }
+    requires found { slice_get (rows_of seen catalogue.old) place
+        ≡ row_of (rows_of seen catalogue.old) id.now }
+    ensures { (input : Option (List ℕ)) (input_faults : ℕ) (spool : Option (List ℕ))
+        (spool_faults : ℕ) → RepackAnswers id.now
+        (objects input input_faults (O.written out.old) (O.faults out.old) spool spool_faults
+        (rows_of seen catalogue.old))
+        (objects input input_faults (O.written out.new) (O.faults out.new) spool spool_faults
+        (rows_of seen catalogue.new)) result }
+{
+    match oe_sources::repack(alloc, catalogue, place, id, out, gate) {
         Ok(()) => Ok(()),
         Err(RepackFail::SourceFailed) => Err(RepackRefusal::ReadFault),
         Err(RepackFail::SourceDamaged(position)) => Err(RepackRefusal::Damaged {

@@ -142,7 +142,8 @@ const REPACK: &str = "\
 openeo repack ID > ID.cube && mv ID.cube collections/
 
 Writes the cube file of the mounted collection ID in the least widths that hold its cells. It is written beside the
-folder and moved in: written onto the file that is mounted it would empty it first.
+folder and moved in: written onto the file that is mounted it would empty it first. It reads each date twice; while it
+works, and standard error is a terminal, a line 'chunk K of N' there tells how many of these reads were begun.
 Exit status: 0, 1 Usage, 2 CollectionNotFound, 5 ReadFault, 6 SourceDamaged, 8 WriteFault, 9 OutOfMemory, 14 Setup.
 ";
 

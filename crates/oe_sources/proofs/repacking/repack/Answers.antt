@@ -33,10 +33,10 @@ returns-in-Err-write-clause-left g c =
     front_written _ _ c.args.place only c.args.id.now c.in-Ok.widths.items c.deref-2.result.now (g.O.Sink.written c.args.out.now) (g.O.Sink.written c.write.new.self) front c.in-Ok.ensures.widths c.in-Err-write.ensures.prefix
 
 pub write_all-requires-clause-mounted : goal.write_all-requires-clause-mounted
-write_all-requires-clause-mounted g c = still_mounted _ _ c.args.place c.find_widths.ensures.only c.requires.mounted
+write_all-requires-clause-mounted g c = λ κs within. still_mounted _ _ c.args.place c.find_widths.ensures.only c.requires.mounted
 
 pub write_all-requires-clause-widths : goal.write_all-requires-clause-widths
-write_all-requires-clause-widths g c =
+write_all-requires-clause-widths g c = λ κs within.
     after_source (λ (d : Dimensions) (o : Option Contents). IfSome o (λ v. AreWidthsOf d v c.deref-3.result.now)) _ _ c.args.place c.find_widths.ensures.only
     (widths_same _ _ c.in-Ok.widths.items c.deref-3.result.now c.deref-3.ensures.value c.in-Ok.ensures.widths)
 

@@ -2,15 +2,15 @@ use Rattle.std.proofs.Common.{Err, ap, refl}
 use Rattle.oe_sources.specs.CatalogueRows.{rows_of}
 use Rattle.oe_top.proofs.Repackings.{damaged, no_memory, repacked, unread, unwritten}
 use Rattle.oe_top.specs.Objects.{objects}
-use Rattle.oe_top.proofs.repack.repack.Goals as goal
+use Rattle.oe_top.proofs.repack.write_anew.Goals as goal
 
 pub returns-in-Ok : goal.returns-in-Ok
 returns-in-Ok g c = λ input input_faults spool spool_faults.
     let rows = rows_of (λ z. (goal.CubeSource-dyn g z).seen z.1) c.args.catalogue.now in
     let before = objects input input_faults (g.O.Sink.written c.args.out.now) (g.O.Sink.faults c.args.out.now) spool spool_faults rows in
     let after = objects input input_faults (g.O.Sink.written c.repack.new.out) (g.O.Sink.faults c.repack.new.out) spool spool_faults (rows_of (λ z. (goal.CubeSource-dyn g z).seen z.1) c.repack.new.catalogue) in
-    repacked c.args.id.now c.as_str.result.now before after c.in-Some.place c.as_str.ensures c.in-Some.ensures.index c.in-Some.ensures.within
-    c.in-Some.ensures.found c.repack.ensures.only (refl, refl) (refl, refl) c.repack.ensures.sink.count
+    repacked c.args.id.now c.args.id.now before after c.args.place refl c.requires.index c.requires.within c.requires.found
+    c.repack.ensures.only (refl, refl) (refl, refl) c.repack.ensures.sink.count
     c.in-Ok.ensures.undamaged c.in-Ok.ensures.written
 
 pub returns-in-Err-SourceFailed : goal.returns-in-Err-SourceFailed
@@ -18,8 +18,8 @@ returns-in-Err-SourceFailed g c = λ input input_faults spool spool_faults.
     let rows = rows_of (λ z. (goal.CubeSource-dyn g z).seen z.1) c.args.catalogue.now in
     let before = objects input input_faults (g.O.Sink.written c.args.out.now) (g.O.Sink.faults c.args.out.now) spool spool_faults rows in
     let after = objects input input_faults (g.O.Sink.written c.repack.new.out) (g.O.Sink.faults c.repack.new.out) spool spool_faults (rows_of (λ z. (goal.CubeSource-dyn g z).seen z.1) c.repack.new.catalogue) in
-    unread c.args.id.now c.as_str.result.now before after c.in-Some.place c.as_str.ensures c.in-Some.ensures.index c.in-Some.ensures.within
-    c.in-Some.ensures.found c.repack.ensures.only (refl, refl) (refl, refl) c.repack.ensures.sink.count
+    unread c.args.id.now c.args.id.now before after c.args.place refl c.requires.index c.requires.within c.requires.found
+    c.repack.ensures.only (refl, refl) (refl, refl) c.repack.ensures.sink.count
     (c.in-Err-SourceFailed.ensures.source.failed (ap Err c.in-Err-SourceFailed.field-0-is))
     (rw c.in-Err-SourceFailed.field-0-is at c.in-Err-SourceFailed.ensures.left)
 
@@ -28,8 +28,8 @@ returns-in-Err-SourceDamaged g c = λ input input_faults spool spool_faults.
     let rows = rows_of (λ z. (goal.CubeSource-dyn g z).seen z.1) c.args.catalogue.now in
     let before = objects input input_faults (g.O.Sink.written c.args.out.now) (g.O.Sink.faults c.args.out.now) spool spool_faults rows in
     let after = objects input input_faults (g.O.Sink.written c.repack.new.out) (g.O.Sink.faults c.repack.new.out) spool spool_faults (rows_of (λ z. (goal.CubeSource-dyn g z).seen z.1) c.repack.new.catalogue) in
-    damaged c.args.id.now c.as_str.result.now before after c.in-Some.place c.as_str.ensures c.in-Some.ensures.index c.in-Some.ensures.within
-    c.in-Some.ensures.found c.repack.ensures.only (refl, refl) (refl, refl) c.repack.ensures.sink.count
+    damaged c.args.id.now c.args.id.now before after c.args.place refl c.requires.index c.requires.within c.requires.found
+    c.repack.ensures.only (refl, refl) (refl, refl) c.repack.ensures.sink.count
     c.in-Err-SourceDamaged.position c.of.result c.of.ensures
     (rw c.in-Err-SourceDamaged.field-0-is at c.in-Err-SourceDamaged.ensures.damage)
     (rw c.in-Err-SourceDamaged.field-0-is at c.in-Err-SourceDamaged.ensures.left)
@@ -39,8 +39,8 @@ returns-in-Err-SinkFailed g c = λ input input_faults spool spool_faults.
     let rows = rows_of (λ z. (goal.CubeSource-dyn g z).seen z.1) c.args.catalogue.now in
     let before = objects input input_faults (g.O.Sink.written c.args.out.now) (g.O.Sink.faults c.args.out.now) spool spool_faults rows in
     let after = objects input input_faults (g.O.Sink.written c.repack.new.out) (g.O.Sink.faults c.repack.new.out) spool spool_faults (rows_of (λ z. (goal.CubeSource-dyn g z).seen z.1) c.repack.new.catalogue) in
-    unwritten c.args.id.now c.as_str.result.now before after c.in-Some.place c.as_str.ensures c.in-Some.ensures.index c.in-Some.ensures.within
-    c.in-Some.ensures.found c.repack.ensures.only (refl, refl) (refl, refl) c.repack.ensures.sink.count
+    unwritten c.args.id.now c.args.id.now before after c.args.place refl c.requires.index c.requires.within c.requires.found
+    c.repack.ensures.only (refl, refl) (refl, refl) c.repack.ensures.sink.count
     (c.in-Err-SinkFailed.ensures.sink.failed (ap Err c.in-Err-SinkFailed.field-0-is))
     (rw c.in-Err-SinkFailed.field-0-is at c.in-Err-SinkFailed.ensures.left)
 
@@ -49,6 +49,6 @@ returns-in-Err-OutOfMemory g c = λ input input_faults spool spool_faults.
     let rows = rows_of (λ z. (goal.CubeSource-dyn g z).seen z.1) c.args.catalogue.now in
     let before = objects input input_faults (g.O.Sink.written c.args.out.now) (g.O.Sink.faults c.args.out.now) spool spool_faults rows in
     let after = objects input input_faults (g.O.Sink.written c.repack.new.out) (g.O.Sink.faults c.repack.new.out) spool spool_faults (rows_of (λ z. (goal.CubeSource-dyn g z).seen z.1) c.repack.new.catalogue) in
-    no_memory c.args.id.now c.as_str.result.now before after c.in-Some.place c.as_str.ensures c.in-Some.ensures.index c.in-Some.ensures.within
-    c.in-Some.ensures.found c.repack.ensures.only (refl, refl) (refl, refl) c.repack.ensures.sink.count
+    no_memory c.args.id.now c.args.id.now before after c.args.place refl c.requires.index c.requires.within c.requires.found
+    c.repack.ensures.only (refl, refl) (refl, refl) c.repack.ensures.sink.count
     (rw c.in-Err-OutOfMemory.field-0-is at c.in-Err-OutOfMemory.ensures.left)
