@@ -40,6 +40,9 @@ kind_words kind.Null = codes "null"
 kind_words kind.TrueOrNull = codes "null or true"
 kind_words kind.IndexOrNull = codes "null, or a whole number not below 0"
 kind_words kind.LabelOrNull = codes "null, a text or a whole number"
+kind_words kind.Period = codes "\"day\", \"month\" or \"year\""
+kind_words kind.TimeName = codes "\"t\""
+kind_words kind.Data = codes "a reference to data, as {\"from_parameter\":\"data\"}"
 
 -- what to do about a fault of a code
 abbrev pub hint_words : Code → List ℕ

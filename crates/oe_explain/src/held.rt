@@ -2,17 +2,20 @@
 ghost use Rattle.std.specs.Prelude.{◌≡◌, ◌&&◌, ◌||◌, IfOk, codes, is_some, not};
 ghost use Rattle.std.specs.List.{list_all};
 ghost use Rattle.std.specs.Option.{option_and_then};
+ghost use Rattle.oe_dims.specs.Names.{same_name};
 ghost use Rattle.oe_graph.specs.Built as built;
 ghost use Rattle.oe_graph.specs.Plain.{plain_arg, plain_args, plain_named};
 ghost use Rattle.oe_graph.specs.Tree as tree;
 ghost use Rattle.oe_expr.specs.Requests as cell;
 ghost use Rattle.oe_shape.specs.Held as held;
 ghost use Rattle.oe_shape.specs.Parameters as cube;
+ghost use Rattle.oe_shape.specs.RunningSums as sums;
 
 use crate::asked::{are_bands, is_box, is_kernel};
 use oe_dims::{Text, read_instant};
 use oe_graph::{Arg, ArgumentKind};
 use oe_memory::OutOfMemory;
+use oe_periods::period_named;
 use std::alloc::Global;
 
 /// Most elements of a list that is written in a callback.
@@ -50,6 +53,9 @@ pub(crate) fn may_hold(alloc: Global, kind: ArgumentKind, arg: &Arg) -> Result<b
         ArgumentKind::TrueOrNull => Ok(is_true_or_null(arg)),
         ArgumentKind::IndexOrNull => Ok(is_index_or_null(arg)),
         ArgumentKind::LabelOrNull => Ok(is_label_or_null(arg)),
+        ArgumentKind::Period => Ok(is_period(arg)),
+        ArgumentKind::TimeName => Ok(is_time_name(arg)),
+        ArgumentKind::Data => Ok(is_data(arg)),
     }
 }
 
@@ -103,6 +109,52 @@ fn is_extent_or_null(arg: &Arg) -> bool
     ensures { result ≡ is_some (cube.null_or cube.extent_in (plain_arg arg.now)) }
 {
     is_null(arg) || is_extent(arg)
+}
+
+// ---- names of periods, of t and of the list of a callback
+
+/// The name of a calendar period.
+fn is_period(arg: &Arg) -> bool
+    ensures { result ≡ is_some (cube.period_in (plain_arg arg.now)) }
+{
+    match arg {
+        Arg::Str(name) => period_named(name.as_str()).is_some(),
+        _ => false,
+    }
+}
+
+/// The name `t`.
+fn names_time(name: &str) -> bool
+    ensures { result ≡ same_name name.now (codes "t") }
+{
+    name == "t"
+}
+
+/// A text that is the name of t.
+fn is_time_name(arg: &Arg) -> bool
+    ensures { result ≡ cube.is_time_name (plain_arg arg.now) }
+{
+    match arg {
+        Arg::Str(name) => names_time(name.as_str()),
+        _ => false,
+    }
+}
+
+/// The name of the list that a callback sees.
+fn is_data_name(name: &str) -> bool
+    ensures { result ≡ same_name name.now (codes "data") }
+{
+    name == "data"
+}
+
+/// A reference to the list that a callback sees.
+fn is_data(arg: &Arg) -> bool
+    ensures { result ≡ sums.is_data (plain_arg arg.now) }
+{
+    match arg {
+        Arg::FromParameter(name) => is_data_name(name.as_str()),
+        _ => false,
+    }
 }
 
 // ---- references, texts, numbers and literals

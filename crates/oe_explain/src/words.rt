@@ -58,6 +58,9 @@ pub(crate) fn kind_words(kind: ArgumentKind) -> &'static str
         ArgumentKind::TrueOrNull => "null or true",
         ArgumentKind::IndexOrNull => "null, or a whole number not below 0",
         ArgumentKind::LabelOrNull => "null, a text or a whole number",
+        ArgumentKind::Period => "\"day\", \"month\" or \"year\"",
+        ArgumentKind::TimeName => "\"t\"",
+        ArgumentKind::Data => "a reference to data, as {\"from_parameter\":\"data\"}",
     }
 }
 

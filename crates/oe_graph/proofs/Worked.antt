@@ -182,7 +182,7 @@ optional_null = refl
 ids_rise : names_rise (map (λ (p : Process). p.id) catalogue) ≡ true
 ids_rise = refl
 
-number_of_processes : length catalogue ≡ 44
+number_of_processes : length catalogue ≡ 47
 number_of_processes = refl
 
 no_such_process : process_named (codes "nothing") ≡ None

@@ -1,6 +1,6 @@
--- A graph is resolved where all its names lead somewhere: each node calls a process of the catalogue that may stand
--- where it does, with exactly the arguments that the process has, and each reference names a node or a parameter that
--- is there.
+-- A graph is resolved where all its names lead somewhere: each node calls a process of the catalogue that stands in the
+-- main graph or in callbacks, as it does itself, with exactly the arguments that the process has, and each reference
+-- names a node or a parameter that is there. Where `cumsum` may stand among callbacks is judged where calls are.
 use Rattle.std.specs.Prelude.{◌≡◌, ℕ, ◌<◌, ◌≤◌, ◌-◌, ◌^◌, Bool, true, false, List, [], ◌∷◌, ◌++◌, map, length, Option, Some, None, Contains}
 use Rattle.std.specs.Option.{option_map_or}
 use Rattle.oe_dims.specs.Names.{names_rise}

@@ -65,6 +65,12 @@ pub enum ArgumentKind {
     IndexOrNull,
     /// Null, a text or a whole number.
     LabelOrNull,
+    /// The name of a calendar period: `day`, `month` or `year`.
+    Period,
+    /// The name of the dimension of time alone, `t`.
+    TimeName,
+    /// In a callback: a reference to the list `data` alone.
+    Data,
 }
 
 /// The default of a parameter.
@@ -90,7 +96,7 @@ pub type ProcessEntry = (
 );
 
 /// The number of processes.
-pub const PROCESS_COUNT: usize = 44;
+pub const PROCESS_COUNT: usize = 47;
 
 // Null as a default, and the parameter without effect that callbacks see.
 const NULL: Option<Literal> = Some(Literal::Null);
@@ -160,6 +166,18 @@ pub static PROCESSES: [ProcessEntry; PROCESS_COUNT] = [
         ],
         &["data", "context"],
     ),
+    (
+        "aggregate_temporal_period",
+        false,
+        &[
+            DATA,
+            ("period", ArgumentKind::Period, None),
+            ("reducer", ArgumentKind::Callback, None),
+            DIMENSION,
+            CONTEXT,
+        ],
+        &["data", "context"],
+    ),
     ("all", true, FLAGS, &[]),
     ("and", true, TWO_FLAGS, &[]),
     ("any", true, FLAGS, &[]),
@@ -168,6 +186,18 @@ pub static PROCESSES: [ProcessEntry; PROCESS_COUNT] = [
         false,
         &[DATA, ("process", ArgumentKind::Callback, None), CONTEXT],
         &["x", "context"],
+    ),
+    (
+        "apply_dimension",
+        false,
+        &[
+            DATA,
+            ("process", ArgumentKind::Callback, None),
+            ("dimension", ArgumentKind::TimeName, None),
+            ("target_dimension", ArgumentKind::Null, NULL),
+            CONTEXT,
+        ],
+        &["data", "context"],
     ),
     (
         "apply_kernel",
@@ -209,6 +239,12 @@ pub static PROCESSES: [ProcessEntry; PROCESS_COUNT] = [
             ("condition", ArgumentKind::TrueOrNull, NULL),
             CONTEXT,
         ],
+        &[],
+    ),
+    (
+        "cumsum",
+        true,
+        &[("data", ArgumentKind::Data, None), IGNORE],
         &[],
     ),
     ("divide", true, TWO_NUMBERS, &[]),

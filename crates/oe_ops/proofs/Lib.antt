@@ -23,3 +23,4 @@ pub mod NodeLemmas
 pub mod DateLemmas
 pub mod AggregateLemmas
 pub mod IntervalLemmas
+pub mod AccumulateLemmas

@@ -1,5 +1,5 @@
 -- What an operation needs and asks, told for each of them.
-use Rattle.std.proofs.Common.{◌≡◌, ℕ, ◌+◌, ◌*◌, ◌<◌, ◌≤◌, List, [], ◌∷◌, length, refl, sym, subst, arith, Option, Some, None, IfSome, Vec, Global}
+use Rattle.std.proofs.Common.{◌≡◌, Bool, ℕ, ◌+◌, ◌*◌, ◌<◌, ◌≤◌, List, [], ◌∷◌, length, refl, sym, subst, arith, Option, Some, None, IfSome, Vec, Global}
 use Rattle.std.specs.List.{All}
 use Rattle.std.specs.Option.{unwrap_or}
 use Rattle.oe_cell.specs.Fraction.{Fraction}
@@ -16,12 +16,12 @@ use Rattle.oe_kernel.specs.Kernels.{KernelValues}
 use Rattle.oe_kernel.specs.declared.border.Border.{Border}
 use Rattle.oe_shape.specs.Extents.{Restriction}
 use Rattle.oe_shape.specs.Meaning.{cube_of}
-use Rattle.oe_shape.specs.Operations.{Operation, keep, each_cell, convolve, reduce, aggregate, merge, cover, give_back, labels_along, shape_of}
+use Rattle.oe_shape.specs.Operations.{Operation, keep, each_cell, convolve, reduce, aggregate, accumulate, merge, cover, give_back, labels_along, shape_of}
 use Rattle.oe_shape.specs.Reach.{halo_of, needs_whole}
 use Rattle.oe_shape.specs.PlainRequests.{plain_operation, plain_restriction}
 use Rattle.oe_shape.specs.declared.extent.Interval.{Interval}
 use Rattle.oe_shape.specs.declared.operation.Operation as declared
-use Rattle.oe_shape.specs.declared.operation.Operation.TheVariants.{Keep, EachCell, Convolve, Reduce, Aggregate, Merge, Cover, GiveBack}
+use Rattle.oe_shape.specs.declared.operation.Operation.TheVariants.{Keep, EachCell, Convolve, Reduce, Aggregate, Accumulate, Merge, Cover, GiveBack}
 use Rattle.oe_window.specs.Cells.{cells_on}
 use Rattle.oe_window.specs.Windows.{Holds, position_count, positions, span_length, whole_window}
 use Rattle.oe_window.specs.declared.window.Window.{Window}
@@ -81,20 +81,28 @@ module _ (shape argument : Dimensions) (shapes : List Dimensions) (number : ℕ)
       (same_need (HasLabelsBeside Time (shape_of (aggregate i.items e) shapes) (argument_shape shapes number)) (Needs (aggregate i.items e) shapes number) window box (λ p q m. m) (λ p q m. m)
       (beside_same Time (shape_of (aggregate i.items e) shapes) here h))
 
+  pub accumulate_needs : (o : declared.Operation) (ignore : Bool) → o ≡ Accumulate ignore → shape ≡ shape_of (plain_operation o) shapes → IsNeed (HasLabelsBeside Time shape argument) window box → IsNeed (Needs (plain_operation o) shapes number) window box
+  accumulate_needs o ignore which same h =
+      let here : shape ≡ shape_of (accumulate ignore) shapes = subst (λ (g : declared.Operation). shape ≡ shape_of (plain_operation g) shapes) which same in
+      subst (λ (g : declared.Operation). IsNeed (Needs (plain_operation g) shapes number) window box) (sym which)
+      (same_need (HasLabelsBeside Time (shape_of (accumulate ignore) shapes) (argument_shape shapes number)) (Needs (accumulate ignore) shapes number) window box (λ p q m. m) (λ p q m. m)
+      (beside_same Time (shape_of (accumulate ignore) shapes) here h))
+
   -- of any other
   labels_same : (o : Operation) → shape ≡ shape_of o shapes → IsNeed (HasLabelsOf shape argument) window box → IsNeed (HasLabelsOf (shape_of o shapes) (argument_shape shapes number)) window box
   labels_same o same h =
       subst (λ (a : Dimensions). IsNeed (HasLabelsOf (shape_of o shapes) a) window box) is (subst (λ (d : Dimensions). IsNeed (HasLabelsOf d argument) window box) same h)
 
-  pub labels_needs : (o : declared.Operation) → ((k : KernelValues) (f : Fraction) (b : Border) (r : Fraction) → o ≡ Convolve k f b r → ⊥) → ((along : Kind) (e : Callback) → o ≡ Reduce along e → ⊥) → ((i : Vec Interval Global) (e : Callback) → o ≡ Aggregate i e → ⊥) → shape ≡ shape_of (plain_operation o) shapes → IsNeed (HasLabelsOf shape argument) window box → IsNeed (Needs (plain_operation o) shapes number) window box
-  labels_needs (Keep r) not_c not_r not_a same h = same_need _ (Needs (keep (plain_restriction r)) shapes number) window box (λ p q m. m) (λ p q m. m) (labels_same (keep (plain_restriction r)) same h)
-  labels_needs (EachCell e) not_c not_r not_a same h = same_need _ (Needs (each_cell e) shapes number) window box (λ p q m. m) (λ p q m. m) (labels_same (each_cell e) same h)
-  labels_needs (Convolve k f b r) not_c not_r not_a same h = absurd (not_c k f b r refl)
-  labels_needs (Reduce along e) not_c not_r not_a same h = absurd (not_r along e refl)
-  labels_needs (Aggregate i e) not_c not_r not_a same h = absurd (not_a i e refl)
-  labels_needs (Merge r) not_c not_r not_a same h = same_need _ (Needs (merge r) shapes number) window box (λ p q m. m) (λ p q m. m) (labels_same (merge r) same h)
-  labels_needs (Cover v) not_c not_r not_a same h = same_need _ (Needs (cover v) shapes number) window box (λ p q m. m) (λ p q m. m) (labels_same (cover v) same h)
-  labels_needs GiveBack not_c not_r not_a same h = same_need _ (Needs give_back shapes number) window box (λ p q m. m) (λ p q m. m) (labels_same give_back same h)
+  pub labels_needs : (o : declared.Operation) → ((k : KernelValues) (f : Fraction) (b : Border) (r : Fraction) → o ≡ Convolve k f b r → ⊥) → ((along : Kind) (e : Callback) → o ≡ Reduce along e → ⊥) → ((i : Vec Interval Global) (e : Callback) → o ≡ Aggregate i e → ⊥) → ((ignore : Bool) → o ≡ Accumulate ignore → ⊥) → shape ≡ shape_of (plain_operation o) shapes → IsNeed (HasLabelsOf shape argument) window box → IsNeed (Needs (plain_operation o) shapes number) window box
+  labels_needs (Keep r) not_c not_r not_a not_s same h = same_need _ (Needs (keep (plain_restriction r)) shapes number) window box (λ p q m. m) (λ p q m. m) (labels_same (keep (plain_restriction r)) same h)
+  labels_needs (EachCell e) not_c not_r not_a not_s same h = same_need _ (Needs (each_cell e) shapes number) window box (λ p q m. m) (λ p q m. m) (labels_same (each_cell e) same h)
+  labels_needs (Convolve k f b r) not_c not_r not_a not_s same h = absurd (not_c k f b r refl)
+  labels_needs (Reduce along e) not_c not_r not_a not_s same h = absurd (not_r along e refl)
+  labels_needs (Aggregate i e) not_c not_r not_a not_s same h = absurd (not_a i e refl)
+  labels_needs (Accumulate ignore) not_c not_r not_a not_s same h = absurd (not_s ignore refl)
+  labels_needs (Merge r) not_c not_r not_a not_s same h = same_need _ (Needs (merge r) shapes number) window box (λ p q m. m) (λ p q m. m) (labels_same (merge r) same h)
+  labels_needs (Cover v) not_c not_r not_a not_s same h = same_need _ (Needs (cover v) shapes number) window box (λ p q m. m) (λ p q m. m) (labels_same (cover v) same h)
+  labels_needs GiveBack not_c not_r not_a not_s same h = same_need _ (Needs give_back shapes number) window box (λ p q m. m) (λ p q m. m) (labels_same give_back same h)
 
 -- ---- what the operation of a node promises of its shape, of its cubes and of their windows
 
@@ -125,6 +133,9 @@ module _ (shape one two : Dimensions) (first second : Slice) (window : Window) w
 
   pub aggregate_need : (intervals : List Interval) (c : Callback) → IsNode (aggregate intervals c) shape one two first second window → HoldsNeed (HasLabelsBeside Time shape one) window first.window
   aggregate_need intervals c n = subst (λ (d : Dimensions). HoldsNeed (HasLabelsBeside Time d one) window first.window) (sym n.shape_is) (λ p q inside m. n.need p q inside m)
+
+  pub accumulate_need : (ignore : Bool) → IsNode (accumulate ignore) shape one two first second window → HoldsNeed (HasLabelsBeside Time shape shape) window first.window
+  accumulate_need ignore n = subst (λ (d : Dimensions). HoldsNeed (HasLabelsBeside Time d d) window first.window) (sym n.shape_is) (λ p q inside m. n.need p q inside m)
 
   pub merge_need : (r : Option Callback) → IsNode (merge r) shape one two first second window → HoldsNeed (HasLabelsOf shape one) window first.window
   merge_need r n = subst (λ (d : Dimensions). HoldsNeed (HasLabelsOf d one) window first.window) (sym n.shape_is) (λ p q inside m. n.need p q inside m)
@@ -196,6 +207,7 @@ one_shape (each_cell c) d h = refl
 one_shape (convolve k f b r) d h = refl
 one_shape (reduce along c) d h = refl
 one_shape (aggregate i c) d h = refl
+one_shape (accumulate i) d h = refl
 one_shape (merge r) d h = elim h [ ]
 one_shape (cover v) d h = elim h [ ]
 one_shape give_back d h = refl
@@ -206,6 +218,7 @@ one_cube (each_cell c) cube h = refl
 one_cube (convolve k f b r) cube h = refl
 one_cube (reduce along c) cube h = refl
 one_cube (aggregate i c) cube h = refl
+one_cube (accumulate i) cube h = refl
 one_cube (merge r) cube h = elim h [ ]
 one_cube (cover v) cube h = elim h [ ]
 one_cube give_back cube h = refl
@@ -217,6 +230,7 @@ one_need (each_cell c) d p q h n = n
 one_need (convolve k f b r) d p q h n = record { is_position = n.is_position; t = n.t; bands = n.bands; y = n.y; x = n.x }
 one_need (reduce along c) d p q h n = n
 one_need (aggregate i c) d p q h n = n
+one_need (accumulate i) d p q h n = n
 one_need (merge r) d p q h n = elim h [ ]
 one_need (cover v) d p q h n = elim h [ ]
 one_need give_back d p q h n = n
@@ -227,6 +241,7 @@ second_need (each_cell c) d p q h n = n
 second_need (convolve k f b r) d p q h n = record { is_position = n.is_position; t = n.t; bands = n.bands; y = n.y; x = n.x }
 second_need (reduce along c) d p q h n = n
 second_need (aggregate i c) d p q h n = n
+second_need (accumulate i) d p q h n = n
 second_need (merge r) d p q h n = elim h [ ]
 second_need (cover v) d p q h n = elim h [ ]
 second_need give_back d p q h n = n

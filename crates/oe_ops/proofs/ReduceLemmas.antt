@@ -64,7 +64,7 @@ first_along_x d window X p holds h e = let x = (holds p h).x.before in omega ari
 
 -- ---- the list is that of the cube
 
-by_index : {L : Type 0} (f : ℕ → Cell) (g : Tuple → Cell) (h : L → Tuple) (labels : List L) (a : ℕ) → ((i j : ℕ) (l : L) → slice_get labels i ≡ Some l → j ≡ a + i → f j ≡ g (h l)) → map f (range_with_len a (length labels)) ≡ map g (map h labels)
+pub by_index : {L : Type 0} (f : ℕ → Cell) (g : Tuple → Cell) (h : L → Tuple) (labels : List L) (a : ℕ) → ((i j : ℕ) (l : L) → slice_get labels i ≡ Some l → j ≡ a + i → f j ≡ g (h l)) → map f (range_with_len a (length labels)) ≡ map g (map h labels)
 by_index f g h [] a e = refl
 by_index f g h (l ∷ labels) a e =
     let first : f a ≡ g (h l) = e 0 a l refl (omega arith) in

@@ -7,3 +7,4 @@ pub mod Spans
 pub mod Joins
 pub mod Nodes
 pub mod Loads
+pub mod Sums

@@ -8,7 +8,7 @@ use Rattle.oe_dims.specs.declared.kind.Kind.TheVariants.{Time, Bands, Y, X}
 use Rattle.oe_window.specs.Windows.{IsIn, Holds, span_at, span_below}
 use Rattle.oe_window.specs.declared.window.Window.{Window}
 use Rattle.oe_shape.specs.Labels.{restrict}
-use Rattle.oe_shape.specs.Operations.{Operation, keep, each_cell, convolve, reduce, aggregate, merge, cover, give_back}
+use Rattle.oe_shape.specs.Operations.{Operation, keep, each_cell, convolve, reduce, aggregate, accumulate, merge, cover, give_back}
 use Rattle.oe_shape.specs.Operations.{no_dimensions, shape_of, without_dimension}
 use Rattle.oe_shape.specs.Reach.{needs_whole, halo_of}
 
@@ -46,8 +46,8 @@ argument_shape shapes argument = slice_index_or shapes argument no_dimensions
 
 -- For the position p of its result an operation on cubes of these shapes needs the position q of an argument. A filter,
 -- a callback on each cell, a merge, a mask and a result that is saved need the labels of p alone; a kernel the pixels
--- around p up to the sides, and the whole sides where its border wraps; a reduction and an aggregation need the labels
--- of p with all labels of the dimension that they reduce.
+-- around p up to the sides, and the whole sides where its border wraps; a reduction, an aggregation and
+-- running sums need the labels of p with all labels of the dimension that they go along.
 abbrev pub Needs : Operation → List Dimensions → ℕ → Position → Position → Type 0
 Needs (keep r) shapes argument p q = HasLabelsOf (shape_of (keep r) shapes) (argument_shape shapes argument) p q
 Needs (each_cell c) shapes argument p q =
@@ -60,6 +60,8 @@ Needs (reduce kind c) shapes argument p q =
     HasLabelsBeside kind (shape_of (reduce kind c) shapes) (argument_shape shapes argument) p q
 Needs (aggregate intervals c) shapes argument p q =
     HasLabelsBeside Time (shape_of (aggregate intervals c) shapes) (argument_shape shapes argument) p q
+Needs (accumulate ignore) shapes argument p q =
+    HasLabelsBeside Time (shape_of (accumulate ignore) shapes) (argument_shape shapes argument) p q
 Needs (merge resolver) shapes argument p q =
     HasLabelsOf (shape_of (merge resolver) shapes) (argument_shape shapes argument) p q
 Needs (cover replacement) shapes argument p q =

@@ -7,7 +7,7 @@ use Rattle.oe_dims.specs.Dimensions.{Dimensions}
 use Rattle.oe_dims.specs.declared.kind.CellKind.{CellKind}
 use Rattle.oe_dims.specs.declared.kind.Kind.{Kind}
 use Rattle.oe_expr.specs.Callback.{KeepsKind, callback_kind}
-use Rattle.oe_shape.specs.Operations.{Operation, keep, each_cell, convolve, reduce, aggregate, merge, cover, give_back}
+use Rattle.oe_shape.specs.Operations.{Operation, keep, each_cell, convolve, reduce, aggregate, accumulate, merge, cover, give_back}
 use Rattle.oe_window.specs.Windows.{extent_along}
 use Rattle.oe_ops.specs.Lists.{TakesIntervals, TakesLists}
 use Rattle.oe_ops.specs.Slices.{TakesCells, TakesPairs}
@@ -20,6 +20,7 @@ TakesInputs (each_cell c) d one two = KeepsKind c × TakesCells c one
 TakesInputs (convolve kernel factor border replace) d one two = ⊤
 TakesInputs (reduce along c) d one two = KeepsKind c × TakesLists c along d one
 TakesInputs (aggregate intervals c) d one two = KeepsKind c × TakesIntervals c intervals d one
+TakesInputs (accumulate ignore) d one two = ⊤
 TakesInputs (merge resolver) d one two = IfSome resolver (λ c. KeepsKind c × TakesPairs c one two)
 TakesInputs (cover replacement) d one two = ⊤
 TakesInputs give_back d one two = ⊤
@@ -31,6 +32,7 @@ FitsFirstKind (each_cell c) kind two = ⊤
 FitsFirstKind (convolve kernel factor border replace) kind two = ⊤
 FitsFirstKind (reduce along c) kind two = ⊤
 FitsFirstKind (aggregate intervals c) kind two = ⊤
+FitsFirstKind (accumulate ignore) kind two = ⊤
 FitsFirstKind (merge resolver) kind two = All (IsOfKind kind) two × IfSome resolver (λ c. callback_kind c ≡ kind)
 FitsFirstKind (cover replacement) kind two = IsOfKind kind replacement
 FitsFirstKind give_back kind two = ⊤
@@ -51,6 +53,7 @@ IsOnOne (each_cell c) = ⊤
 IsOnOne (convolve kernel factor border replace) = ⊤
 IsOnOne (reduce along c) = ⊤
 IsOnOne (aggregate intervals c) = ⊤
+IsOnOne (accumulate ignore) = ⊤
 IsOnOne (merge resolver) = ⊥
 IsOnOne (cover replacement) = ⊥
 IsOnOne give_back = ⊤

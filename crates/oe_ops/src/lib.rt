@@ -5,6 +5,7 @@
 //! layers above use that these are the cells of the process on whole cubes. Nothing here takes memory.
 #![tactic(auto)]
 
+mod accumulate;
 mod aggregate;
 mod apply;
 mod convolve;
@@ -21,6 +22,7 @@ mod run;
 mod slice;
 mod source;
 
+pub use accumulate::eval_accumulate;
 pub use aggregate::eval_aggregate;
 pub use apply::eval_apply;
 pub use convolve::eval_convolve;

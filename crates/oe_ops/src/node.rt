@@ -16,6 +16,7 @@ ghost use Rattle.oe_ops.specs.Needs.{HoldsNeed, IsNeed, Needs, argument_shape};
 ghost use Rattle.oe_ops.specs.Nodes.{FitsFirstKind, HasScratch, IsConvolution, TakesInputs};
 ghost use Rattle.oe_ops.specs.Slices.{IsCounted, IsOn};
 
+use crate::accumulate::eval_accumulate;
 use crate::aggregate::eval_aggregate;
 use crate::apply::eval_apply;
 use crate::convolve::eval_convolve;
@@ -48,6 +49,7 @@ pub fn need(operation: &Operation, shape: &Shape, argument: &Shape, window: &Win
         ),
         Operation::Reduce(along, _) => need_beside(*along, shape, argument, window),
         Operation::Aggregate(_, _) => need_beside(Kind::Time, shape, argument, window),
+        Operation::Accumulate(_) => need_beside(Kind::Time, shape, argument, window),
         _ => need_labels(shape, argument, window),
     }
 }
@@ -121,6 +123,9 @@ pub fn eval_node(
         Operation::Aggregate(intervals, expr) => eval_aggregate(
             intervals, expr, shape, one.shape, one.slice, window, out, scratch,
         ),
+        Operation::Accumulate(ignore) => {
+            eval_accumulate(*ignore, shape, one.slice, window, out, scratch);
+        }
         Operation::Merge(resolver) => eval_merge(resolver, shape, one, two, window, out, scratch),
         Operation::Cover(replacement) => eval_cover(
             *replacement,

@@ -1,7 +1,7 @@
 // The cells of a cube on a window.
-ghost use Rattle.std.specs.Prelude.{◌≡◌, ℕ, ◌+◌, ◌<◌, ◌≤◌, length, slice_index_or};
+ghost use Rattle.std.specs.Prelude.{◌≡◌, ℕ, ◌+◌, ◌^◌, ◌<◌, ◌≤◌, length, slice_index_or};
 ghost use Rattle.oe_cell.specs.declared.cell.Cell.TheVariants.{Empty};
-ghost use Rattle.oe_window.specs.Windows.{IsIn, number_in, span_length};
+ghost use Rattle.oe_window.specs.Windows.{IsIn, number_in, position_count, span_length};
 ghost use Rattle.oe_ops.specs.Slices.{IsCounted, along_x, cell_of, at_indices};
 
 use oe_cell::Cell;
@@ -21,6 +21,19 @@ pub(crate) fn indices(span: Span) -> usize
     span.to.saturating_sub(span.from) as usize
 }
 
+/// The number of a position among those of a window.
+pub(crate) fn number_on(window: &Window, t: u32, band: u32, y: u32, x: u32) -> usize
+    requires most { position_count window.now < 2 ^ 64 }
+    requires inside { IsIn window.now (at_indices t band y x) }
+    ensures value { result ≡ number_in window.now (at_indices t band y x) }
+    ensures within { result < position_count window.now }
+{
+    let plane = (t - window.t.from) as usize * indices(window.bands)
+        + (band - window.bands.from) as usize;
+    let row = plane * indices(window.y) + (y - window.y.from) as usize;
+    row * indices(window.x) + (x - window.x.from) as usize
+}
+
 /// The number of a position among those of a slice.
 pub(crate) fn number(slice: &Slice, t: u32, band: u32, y: u32, x: u32) -> usize
     requires counted { IsCounted slice.now }
@@ -28,11 +41,7 @@ pub(crate) fn number(slice: &Slice, t: u32, band: u32, y: u32, x: u32) -> usize
     ensures value { result ≡ number_in slice.now.window (at_indices t band y x) }
     ensures within { result < length slice.now.cells.now }
 {
-    let window = &slice.window;
-    let plane = (t - window.t.from) as usize * indices(window.bands)
-        + (band - window.bands.from) as usize;
-    let row = plane * indices(window.y) + (y - window.y.from) as usize;
-    row * indices(window.x) + (x - window.x.from) as usize
+    number_on(&slice.window, t, band, y, x)
 }
 
 /// The cell at a position.

@@ -14,7 +14,7 @@ use Rattle.oe_dims.proofs.ReaderLemmas.{IsUnrepeated, IsUnrepeated-numbers}
 use Rattle.oe_dims.proofs.ShapeLemmas.{t_rises, x_rises, y_falls}
 use Rattle.oe_shape.specs.Extents.{Restriction, has_begun, has_not_ended, is_across, is_in_time, is_up, kept_labels}
 use Rattle.oe_shape.specs.Labels.{differ_along, differ_in, is_above, is_below, merged_shape, only_along}
-use Rattle.oe_shape.specs.Operations.{Operation, keep, each_cell, convolve, reduce, aggregate, merge, cover, give_back, aggregated_shape, first_or, no_dimensions, second_or, shape_of, without_dimension}
+use Rattle.oe_shape.specs.Operations.{Operation, keep, each_cell, convolve, reduce, aggregate, accumulate, merge, cover, give_back, aggregated_shape, first_or, no_dimensions, second_or, shape_of, without_dimension}
 use Rattle.oe_shape.specs.Reach.{halo_of, needs_whole, same_kind}
 use Rattle.oe_shape.specs.declared.extent.BoundingBox.{BoundingBox}
 use Rattle.oe_shape.specs.declared.extent.Interval.{Interval}
@@ -140,6 +140,7 @@ IsTaken (each_cell c) shapes number = number ≡ 0
 IsTaken (convolve kernel factor border replace) shapes number = number ≡ 0
 IsTaken (reduce kind c) shapes number = number ≡ 0
 IsTaken (aggregate intervals c) shapes number = number ≡ 0
+IsTaken (accumulate ignore) shapes number = number ≡ 0
 IsTaken (merge resolver) shapes number = (number ≡ 0) ⊎ (number ≡ 1)
 IsTaken (cover replacement) shapes number = (number ≡ 0) ⊎ ((number ≡ 1) × IsMaskOf (first_or no_dimensions shapes) (second_or no_dimensions shapes))
 IsTaken give_back shapes number = number ≡ 0
@@ -219,6 +220,7 @@ follows (reduce kind c) shapes number along taken valid cut =
     at_first along _ shapes number taken (same_follows along (without_dimension kind (first_or no_dimensions shapes)) (first_or no_dimensions shapes) (without_same kind along (first_or no_dimensions shapes) cut))
 follows (aggregate intervals c) shapes number along taken valid cut =
     at_first along _ shapes number taken (same_follows along (aggregated_shape intervals (first_or no_dimensions shapes)) (first_or no_dimensions shapes) (aggregated_same intervals along (first_or no_dimensions shapes) cut))
+follows (accumulate ignore) shapes number along taken valid cut = at_first along _ shapes number taken (follows_same _)
 follows (merge resolver) shapes number along taken valid cut = elim taken [
   | inl first ↦ at_first along _ shapes number first (merged_first along (first_or no_dimensions shapes) (second_or no_dimensions shapes) (valid 0) (valid 1) cut)
   | inr second ↦ at_second along _ shapes number second (merged_second along (first_or no_dimensions shapes) (second_or no_dimensions shapes) (valid 0) (valid 1) cut)
@@ -302,6 +304,7 @@ module _ (shapes : List Dimensions) (number : ℕ) (along : Kind) (is_cut : IsCu
       asked_near (halo_of (convolve kernel factor border replace) along) (labels_along along (first_or no_dimensions shapes)) (labels_along along argument) (index_at along p) (index_at along q) same near.below near.low near.high
   asks (reduce kind c) taken cut needs = by_label _ _ (follows (reduce kind c) shapes number along taken valid cut) (beside_along kind along _ argument p q is_cut cut needs)
   asks (aggregate intervals c) taken cut needs = by_label _ _ (follows (aggregate intervals c) shapes number along taken valid cut) (beside_along Time along _ argument p q is_cut cut needs)
+  asks (accumulate ignore) taken cut needs = by_label _ _ (follows (accumulate ignore) shapes number along taken valid cut) (beside_along Time along _ argument p q is_cut cut needs)
   asks (merge resolver) taken cut needs = by_label _ _ (follows (merge resolver) shapes number along taken valid cut) (label_along along _ argument p q is_cut needs)
   asks (cover replacement) taken cut needs = by_label _ _ (follows (cover replacement) shapes number along taken valid cut) (label_along along _ argument p q is_cut needs)
   asks give_back taken cut needs = by_label _ _ (follows give_back shapes number along taken valid cut) (label_along along _ argument p q is_cut needs)
@@ -313,6 +316,7 @@ needs_position (each_cell c) shapes number p q needs = needs.is_position
 needs_position (convolve kernel factor border replace) shapes number p q needs = needs.is_position
 needs_position (reduce kind c) shapes number p q needs = needs.is_position
 needs_position (aggregate intervals c) shapes number p q needs = needs.is_position
+needs_position (accumulate ignore) shapes number p q needs = needs.is_position
 needs_position (merge resolver) shapes number p q needs = needs.is_position
 needs_position (cover replacement) shapes number p q needs = needs.is_position
 needs_position give_back shapes number p q needs = needs.is_position

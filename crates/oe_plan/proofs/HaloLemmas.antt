@@ -4,7 +4,7 @@ use Rattle.std.proofs.Common.{refl, arith}
 use Rattle.std.proofs.lemmas.List.Sums.{sum_by-cons}
 use Rattle.oe_dims.specs.declared.kind.Kind.TheVariants.{Time}
 use Rattle.oe_shape.specs.Checked.{CheckedGraph, operation_of_node}
-use Rattle.oe_shape.specs.Operations.{Operation, keep, each_cell, convolve, reduce, aggregate, merge, cover, give_back}
+use Rattle.oe_shape.specs.Operations.{Operation, keep, each_cell, convolve, reduce, aggregate, accumulate, merge, cover, give_back}
 use Rattle.oe_shape.specs.Reach.{halo_of, halo_of_node}
 use Rattle.oe_plan.specs.Figures.{halo_along, steps_of}
 
@@ -14,6 +14,7 @@ no_halo (each_cell callback) = refl
 no_halo (convolve kernel factor border replace) = refl
 no_halo (reduce kind callback) = refl
 no_halo (aggregate intervals callback) = refl
+no_halo (accumulate ignore) = refl
 no_halo (merge resolver) = refl
 no_halo (cover replacement) = refl
 no_halo give_back = refl

@@ -27,7 +27,7 @@ use Rattle.oe_shape.specs.Links.{loaded_collection, index_referred, links_of, lo
 use Rattle.oe_shape.specs.Operations.{Operation, Outline, dimension_named, first_or, no_dimensions, no_outline, operation_of, outline_of, second_or, shape_of}
 use Rattle.oe_shape.specs.Operations as operation
 use Rattle.oe_shape.specs.Reach.{input_shapes, needs_whole, whole_of_node}
-use Rattle.oe_shape.specs.Requests.{CubeRequest, aggregate_temporal, apply, apply_kernel, cube_ids, filter_bands, filter_bbox, filter_temporal, load_collection, mask, merge_cubes, reduce_dimension, cube_request_at, save_result}
+use Rattle.oe_shape.specs.Requests.{CubeRequest, aggregate_temporal, aggregate_temporal_period, apply_dimension, apply, apply_kernel, cube_ids, filter_bands, filter_bbox, filter_temporal, load_collection, mask, merge_cubes, reduce_dimension, cube_request_at, save_result}
 use Rattle.oe_shape.specs.Rows.{differs_from_data, dimension_not_available, first_shape, mask_dimensions_differ}
 use Rattle.oe_shape.specs.SoundNodes.{input_outlines}
 use Rattle.oe_shape.specs.Stands.{HasNoFault, IsSound, asks_for_nothing, cubes_of, early, early_rows, sound}
@@ -87,6 +87,8 @@ some_operation (reduce_dimension data_id name c) cubes h = by (dimension_named n
     by None f is = let lost : lacks_named name (first_shape cubes) ≡ true = rw is refl in absurd (true≢false (sym lost ∙ h))
     by (Some kind) f is = (f kind, ap (option_map f) is)
 some_operation (aggregate_temporal data_id intervals name c) cubes h = (_, refl)
+some_operation (aggregate_temporal_period data_id period name c) cubes h = (_, refl)
+some_operation (apply_dimension data_id callback) cubes h = (_, refl)
 some_operation (merge_cubes one two resolver) cubes h = (_, refl)
 some_operation (mask data_id mask_id replacement) cubes h = (_, refl)
 some_operation (save_result data_id format) cubes h = (_, refl)
@@ -177,6 +179,8 @@ taken (reduce_dimension data_id name c) cubes op none is fits number below = by 
     by None f e = absurd cc
     by (Some kind) f e = subst (λ o. IsTaken o (shapes_of cubes) number) (same_Some _ _ e) (one_alone number below)
 taken (aggregate_temporal data_id intervals name c) cubes op none is fits number below = subst (λ o. IsTaken o (shapes_of cubes) number) (same_Some _ _ is) (one_alone number below)
+taken (aggregate_temporal_period data_id period name c) cubes op none is fits number below = subst (λ o. IsTaken o (shapes_of cubes) number) (same_Some _ _ is) (one_alone number below)
+taken (apply_dimension data_id callback) cubes op none is fits number below = subst (λ o. IsTaken o (shapes_of cubes) number) (same_Some _ _ is) (one_alone number below)
 taken (merge_cubes one two resolver) cubes op none is fits number below = subst (λ o. IsTaken o (shapes_of cubes) number) (same_Some _ _ is) (one_of_two number below)
 taken (mask data_id mask_id replacement) cubes op none is fits number below =
     let masks : IsMaskOf (first_or no_dimensions (shapes_of cubes)) (second_or no_dimensions (shapes_of cubes)) =
@@ -216,6 +220,8 @@ no_load collection at (apply data_id c) none = refl
 no_load collection at (apply_kernel data_id kernel factor border replace) none = refl
 no_load collection at (reduce_dimension data_id name c) none = refl
 no_load collection at (aggregate_temporal data_id intervals name c) none = refl
+no_load collection at (aggregate_temporal_period data_id period name c) none = refl
+no_load collection at (apply_dimension data_id callback) none = refl
 no_load collection at (merge_cubes one two resolver) none = refl
 no_load collection at (mask data_id mask_id replacement) none = refl
 no_load collection at (save_result data_id format) none = refl
@@ -329,6 +335,8 @@ module _ (c : CheckedGraph) (f : AreFaultless c) (index : ℕ) (below : index < 
       no_ids (apply_kernel data_id kernel factor border replace) id e has = absurd cc
       no_ids (reduce_dimension data_id name c) id e has = absurd cc
       no_ids (aggregate_temporal data_id intervals name c) id e has = absurd cc
+      no_ids (aggregate_temporal_period data_id period name c) id e has = absurd cc
+      no_ids (apply_dimension data_id callback) id e has = absurd cc
       no_ids (merge_cubes one two resolver) id e has = absurd cc
       no_ids (mask data_id mask_id replacement) id e has = absurd cc
       no_ids (save_result data_id format) id e has = absurd cc

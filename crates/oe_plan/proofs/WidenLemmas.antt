@@ -18,7 +18,7 @@ use Rattle.oe_ops.specs.Needs.{HoldsNeed, IsNeed, Needs, argument_shape, zero_wi
 use Rattle.oe_ops.specs.Nodes.{IsConvolution}
 use Rattle.oe_shape.specs.Checked.{AreFaultless, CheckedGraph, operation_of_node}
 use Rattle.oe_shape.specs.Links.{links_of}
-use Rattle.oe_shape.specs.Operations.{Operation, keep, each_cell, convolve, reduce, aggregate, merge, cover, give_back, shape_of}
+use Rattle.oe_shape.specs.Operations.{Operation, keep, each_cell, convolve, reduce, aggregate, accumulate, merge, cover, give_back, shape_of}
 use Rattle.oe_window.specs.Chunks.{FitsSides, tiling_of}
 use Rattle.oe_window.specs.Windows.{Holds, IsEmpty, IsIn, whole_window}
 use Rattle.oe_window.specs.declared.grid.ChunkSize.{ChunkSize}
@@ -352,6 +352,7 @@ convolution_same (each_cell c) shapes number conv taken = absurd conv
 convolution_same (convolve kernel factor border replace) shapes number conv taken = ap (argument_shape shapes) (sym taken)
 convolution_same (reduce kind c) shapes number conv taken = absurd conv
 convolution_same (aggregate intervals c) shapes number conv taken = absurd conv
+convolution_same (accumulate ignore) shapes number conv taken = absurd conv
 convolution_same (merge resolver) shapes number conv taken = absurd conv
 convolution_same (cover replacement) shapes number conv taken = absurd conv
 convolution_same give_back shapes number conv taken = absurd conv

@@ -1,7 +1,7 @@
 -- What stands in a graph after some rounds. Each node is one that the graph brings where it stands, and each callback one
 -- that it brings, after some rounds of its own. To a node of a graph itself that still calls a stored process a chain of
 -- as many calls leads; so after as many rounds as there are stored processes none does, unless one reaches itself.
-use Rattle.std.proofs.Common.{◌≡◌, ◌⊎◌, inl, inr, ℕ, zero, suc, ◌+◌, ◌<◌, ◌≤◌, ◌||◌, not, Bool, true, false, cond, if◌then◌else◌, List, [], ◌∷◌, map, length, slice_get, slice_index_or, find, Contains, Decides, Option, Some, None, option_map, refl, sym, ap, ◌∙◌, subst, true≢false, arith}
+use Rattle.std.proofs.Common.{◌&&◌, ◌≡◌, ◌⊎◌, inl, inr, ℕ, zero, suc, ◌+◌, ◌<◌, ◌≤◌, ◌||◌, not, Bool, true, false, cond, if◌then◌else◌, List, [], ◌∷◌, map, length, slice_get, slice_index_or, find, Contains, Decides, Option, Some, None, option_map, refl, sym, ap, ◌∙◌, subst, true≢false, arith}
 use Rattle.std.specs.Cmp.{IsEquivalence}
 use Rattle.std.specs.List.{IsDistinct, AllByRecursion}
 use Rattle.std.specs.Set.{is_member}
@@ -16,7 +16,7 @@ use Rattle.oe_graph.specs.Resolved as resolved_graphs
 use Rattle.oe_graph.specs.Tree.{Nodes, no_nodes, node, PlainGraph, PlainNode, PlainStored}
 use Rattle.oe_graph.specs.declared.code.Code.{Code}
 use Rattle.oe_resolve.specs.Called.{nodes_call}
-use Rattle.oe_resolve.specs.Calls.{means_stored, stored_named, callee, may_stand, HoldsNode, itself, by_callback, Calls, ReachesProcess, calls, onwards, CallsReach, directly, Brings, by_call}
+use Rattle.oe_resolve.specs.Calls.{means_stored, stored_named, callee, may_stand, stands_in, holds_fitting, calls_fitting, HoldsNode, itself, by_callback, Calls, ReachesProcess, calls, onwards, CallsReach, directly, Brings, by_call}
 use Rattle.oe_resolve.specs.Faults.{StandsWithStored, process_unsupported, process_recursive, graph_too_large, callback_too_large, most_main_nodes, most_callback_nodes}
 use Rattle.oe_resolve.specs.Filled.{resolved}
 use Rattle.oe_resolve.specs.Rounds as rounds
@@ -546,14 +546,15 @@ module _ (stored : List PlainStored) (g : PlainGraph) (stored_valid : AreValidSt
       let start = begins stored g count s chain in
       none_recurs start.0 s start.1 start.2 reaches)
 
-  stands_there : (in_callback : Bool) (n : PlainNode) (stands : Bool) → may_stand stored in_callback n ≡ stands
+  stands_there : (in_callback : Bool) (n : PlainNode) (stands : Bool) → stands_in stored in_callback n ≡ stands
       → Brought stored g in_callback n.namespace n.process_id → stands ≡ true
   stands_there in_callback n true is brought = refl
   stands_there in_callback n false is brought =
-      let same_node : may_stand stored in_callback brought.node ≡ may_stand stored in_callback n =
-      ap (λ x. may_stand stored in_callback (record { id = n.id; process_id = brought.node.process_id; namespace = x; arguments = n.arguments })) brought.same_namespace
-      ∙ ap (λ x. may_stand stored in_callback (record { id = n.id; process_id = x; namespace = n.namespace; arguments = n.arguments })) brought.same_process in
-      absurd (faultless _ _ (process_unsupported brought.has brought.brings (same_node ∙ is)))
+      let same_node : stands_in stored in_callback brought.node ≡ stands_in stored in_callback n =
+      ap (λ x. stands_in stored in_callback (record { id = n.id; process_id = brought.node.process_id; namespace = x; arguments = n.arguments })) brought.same_namespace
+      ∙ ap (λ x. stands_in stored in_callback (record { id = n.id; process_id = x; namespace = n.namespace; arguments = n.arguments })) brought.same_process in
+      let fits = holds_fitting stored brought.node && calls_fitting stored brought.node in
+      absurd (faultless _ _ (process_unsupported brought.has brought.brings (ap (λ b. b && fits) (same_node ∙ is))))
 
   module _ (no_call : nodes_call stored (expanded stored g).nodes ≡ false) (valid : IsValidGraph g) where
     in_order : IsInOrder (Brought stored g) (Formed stored g) false (expanded stored g)
@@ -571,7 +572,7 @@ module _ (stored : List PlainStored) (g : PlainGraph) (stored_valid : AreValidSt
     pub expanded-stands : EachObject (StandInCatalogue stored) (expanded stored g)
     expanded-stands in_callback scope nodes result within n has = (
       none_within in_callback scope nodes result within n has,
-      stands_there in_callback n (may_stand stored in_callback n) refl
+      stands_there in_callback n (stands_in stored in_callback n) refl
           (each_holding (Brought stored g) (Formed stored g) (expanded stored g) in_order in_callback scope nodes result within n has),
     )
 

@@ -38,3 +38,4 @@ pub mod LargeLemmas
 pub mod NoCallLemmas
 pub mod BareLemmas
 pub mod SizeLemmas
+pub mod SumLemmas

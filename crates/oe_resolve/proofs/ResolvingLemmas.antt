@@ -17,7 +17,7 @@ use Rattle.oe_graph.specs.Resolved.{parameter_names, IsResolvedNode, IsResolvedO
 use Rattle.oe_graph.specs.Tree.{Argument, null, flag, whole, inexact, text, list, object, from_node, from_parameter, callback, ListValues, no_arguments, argument, Named, no_named, named, Nodes, no_nodes, node, PlainGraph, PlainNode, PlainParameter, PlainStored}
 use Rattle.oe_graph.specs.declared.code.Code.{Code}
 use Rattle.oe_resolve.specs.Called.{nodes_call}
-use Rattle.oe_resolve.specs.Calls.{callee, means_catalogue, row_meant, may_stand, parameters_of}
+use Rattle.oe_resolve.specs.Calls.{callee, means_catalogue, row_meant, stands_in, parameters_of}
 use Rattle.oe_resolve.specs.Faults as faults
 use Rattle.oe_resolve.specs.Faults.{each_argument, HasNode, names_among, StandsWithStored, argument_unknown, process_parameter_missing, parameter_unknown, node_unknown, graph_cycle}
 use Rattle.oe_resolve.specs.Filled.{parameters_named, filled, filled_each, filled_named, filled_nodes, filled_node, filled_graph, put_defaults, resolved}
@@ -280,7 +280,7 @@ in_catalogue true row p is = is
 in_catalogue false row p is = absurd cc
 
 row_of : (stored : List PlainStored) (in_callback : Bool) (n : PlainNode)
-    → callee stored n.namespace n.process_id ≡ None → may_stand stored in_callback n ≡ true → RowOf stored in_callback n
+    → callee stored n.namespace n.process_id ≡ None → stands_in stored in_callback n ≡ true → RowOf stored in_callback n
 row_of stored in_callback n no_call stands =
     let by_row = sym (ap (λ (o : Option PlainStored). is_some o
     || option_map_or (λ (p : Process). if in_callback then p.in_callback else not p.in_callback) (row_meant n.namespace n.process_id) false) no_call)
@@ -314,7 +314,7 @@ EachObject holds g =
 abbrev pub StandInCatalogue : List PlainStored → Bool → Nodes → ℕ → Type 0
 StandInCatalogue stored in_callback nodes result =
     (n : PlainNode) → Contains (each_node nodes) n
-    → (callee stored n.namespace n.process_id ≡ None) × (may_stand stored in_callback n ≡ true)
+    → (callee stored n.namespace n.process_id ≡ None) × (stands_in stored in_callback n ≡ true)
 
 names_map : (ps : List Parameter) → names_among (map plain_parameter ps) ≡ the_names ps
 names_map [] = refl

@@ -1,5 +1,6 @@
 -- What a node calls: a process that a user has stored, or a row of the catalogue (openEO API, process graphs).
-use Rattle.std.specs.Prelude.{◌≡◌, ℕ, Bool, true, false, ◌||◌, not, List, [], map, Option, Some, None, codes, is_some, option_map, find, if◌then◌else◌, Contains}
+use Rattle.std.specs.Prelude.{◌≡◌, ℕ, Bool, true, false, ◌&&◌, ◌||◌, not, List, [], map, Option, Some, None, codes, is_some, option_map, find, if◌then◌else◌, Contains}
+use Rattle.std.specs.List.{list_all}
 use Rattle.std.specs.Option.{option_map_or, option_or}
 use Rattle.oe_dims.specs.Names.{same_name}
 use Rattle.oe_graph.specs.Catalogue.{Process, process_named, plain_parameter}
@@ -27,12 +28,45 @@ callee stored namespace process_id = if means_stored namespace then stored_named
 abbrev pub row_meant : Option (List ℕ) → List ℕ → Option Process
 row_meant namespace process_id = if means_catalogue namespace then process_named process_id else None
 
--- whether a node may stand in the main graph, or in a callback: a stored process may be called in both
-abbrev pub may_stand : List PlainStored → Bool → PlainNode → Bool
-may_stand stored in_callback n =
+-- ---- where a node may stand
+
+-- whether the process of a node stands in the main graph, or in callbacks: a stored process may be called in both
+abbrev pub stands_in : List PlainStored → Bool → PlainNode → Bool
+stands_in stored in_callback n =
     is_some (callee stored n.namespace n.process_id)
     || option_map_or (λ (p : Process). if in_callback then p.in_callback else not p.in_callback)
     (row_meant n.namespace n.process_id) false
+
+-- the node calls no stored process and means this row of the catalogue
+abbrev pub means_row : List ℕ → List PlainStored → PlainNode → Bool
+means_row id stored n =
+    not (is_some (callee stored n.namespace n.process_id)) && (means_catalogue n.namespace && same_name n.process_id id)
+
+-- a running sum, which stands in callbacks of `apply_dimension`, where nothing else stands, and nowhere else (rule of
+-- this profile)
+abbrev pub is_running_sum : List PlainStored → PlainNode → Bool
+is_running_sum stored n = means_row (codes "cumsum") stored n
+
+-- all nodes of a callback are running sums where it is one of `apply_dimension`, and none is where it is not
+abbrev pub fits_callback : List PlainStored → Bool → PlainGraph → Bool
+fits_callback stored of_dimension g =
+    list_all (λ k. if of_dimension then is_running_sum stored k else not (is_running_sum stored k)) (each_node g.nodes)
+
+-- the same of all callbacks of a node
+abbrev pub holds_fitting : List PlainStored → PlainNode → Bool
+holds_fitting stored n =
+    list_all (fits_callback stored (means_row (codes "apply_dimension") stored n)) (callbacks_named n.arguments)
+
+-- no running sum stands by itself in the stored process that a node calls
+abbrev pub calls_fitting : List PlainStored → PlainNode → Bool
+calls_fitting stored n =
+    option_map_or (λ (s : PlainStored). fits_callback stored false s.graph)
+    (callee stored n.namespace n.process_id) true
+
+-- whether a node may stand in the main graph, or in a callback, and running sums in its callbacks and in what it calls
+abbrev pub may_stand : List PlainStored → Bool → PlainNode → Bool
+may_stand stored in_callback n =
+    stands_in stored in_callback n && (holds_fitting stored n && calls_fitting stored n)
 
 -- the parameters of the process of a node
 abbrev pub parameters_of : List PlainStored → PlainNode → Option (List PlainParameter)

@@ -54,7 +54,8 @@ names_among parameters = map (λ (p : PlainParameter). p.name) parameters
 -- its name there, and that in the graph of the call c begins with c/. As many rounds as there are stored processes
 -- replace all calls that do not stand in a callback, where no process reaches itself.
 pub data StandsWithStored (stored : List PlainStored) (g : PlainGraph) : Code → List ℕ → Type 0 where
-  -- a node, or one that its callbacks and calls bring, names no process that may stand where it does
+  -- a node, or one that its callbacks and calls bring, names no process that may stand where it does, or has a callback
+  -- or calls a process in which one may not
   process_unsupported : {n m : PlainNode} {in_callback : Bool}
       → Contains (each_node g.nodes) n → Brings stored false n in_callback m → may_stand stored in_callback m ≡ false
       → StandsWithStored stored g ProcessUnsupported n.id

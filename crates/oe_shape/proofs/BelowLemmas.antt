@@ -46,13 +46,13 @@ sound_one Faulty below.Faulty e = absurd cc
 sound_one Faulty below.Sound e = absurd cc
 sound_one (Sound kept) b e = (kept, refl, e)
 
-first_of : {X : Type 0} (x : X) (xs : List X) → Contains (x ∷ xs) x
+pub first_of : {X : Type 0} (x : X) (xs : List X) → Contains (x ∷ xs) x
 first_of x xs = (0, omega arith, refl)
 
-later_of : {X : Type 0} (x : X) (xs : List X) (y : X) → Contains xs y → Contains (x ∷ xs) y
+pub later_of : {X : Type 0} (x : X) (xs : List X) (y : X) → Contains xs y → Contains (x ∷ xs) y
 later_of x xs y has = let below = has.1 in (suc has.0, omega arith, has.2)
 
-first_or_later : {X : Type 0} (x : X) (xs : List X) (y : X) (k : ℕ) → k < length (x ∷ xs) → slice_index_or (x ∷ xs) k y ≡ y
+pub first_or_later : {X : Type 0} (x : X) (xs : List X) (y : X) (k : ℕ) → k < length (x ∷ xs) → slice_index_or (x ∷ xs) k y ≡ y
     → (x ≡ y) ⊎ Contains xs y
 first_or_later x xs y zero below is = inl is
 first_or_later x xs y (suc k) below is = inr (k, omega arith, is)

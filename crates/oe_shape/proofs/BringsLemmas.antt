@@ -6,27 +6,31 @@ use Rattle.std.specs.Option.{option_map, option_map_or}
 use Rattle.std.proofs.lemmas.Bool.{and_from}
 use Rattle.std.proofs.lemmas.Int.{ints}
 use Rattle.oe_dims.proofs.SpellingLemmas.{read_exactly}
-use Rattle.oe_dims.specs.Dimensions.{all_differ, first_instant, last_instant}
+use Rattle.oe_dims.specs.Dimensions.{all_differ, first_instant, last_instant, number_labels, IsShape}
 use Rattle.oe_dims.specs.Instant.{instant_read, IsInstant}
 use Rattle.oe_dims.specs.Names.{is_name}
 use Rattle.oe_dims.specs.declared.instant.InstantFault.{InstantFault}
 use Rattle.oe_graph.specs.Tree as tree
 use Rattle.oe_graph.specs.Tree.{Argument, ListValues, Named, PlainNode}
 use Rattle.oe_graph.specs.References.{argument_named}
-use Rattle.oe_expr.specs.Requests.{with_both, read, passes}
+use Rattle.oe_expr.specs.Requests.{with_both, read, is_null, passes}
 use Rattle.oe_expr.specs.Scope as scope
 use Rattle.oe_expr.specs.Scope.{read_or_none}
 use Rattle.oe_shape.proofs.OrderedLemmas.{left_of, right_of}
 use Rattle.oe_shape.proofs.RequestLemmas.{found, both_found, passed}
 use Rattle.oe_shape.specs.Brings.{HasDistinctLabels, BringValidLabels}
 use Rattle.oe_shape.specs.declared.extent.TemporalExtent.{TemporalExtent}
-use Rattle.oe_shape.specs.Operations.{Operation, keep, each_cell, convolve, aggregate, merge, cover, give_back, Outline, operation_of, dimension_named, callback_under, first_or, no_outline, interval_scope}
-use Rattle.oe_shape.specs.Parameters.{where_it, null_or, each_in, list_in, name_in, text_in, box_in, cube_in, callback_in, literal_in, number_in, kernel_in, border_in, bands_in, is_given, some_bands_in, instant_in, extent_from, is_limited, extent_in, labelled_interval, by_starts, by_labels, intervals_of, is_empty_list, is_null_or_empty_object}
+use Rattle.oe_shape.specs.Operations.{Operation, keep, each_cell, convolve, aggregate, accumulate, merge, cover, give_back, Outline, operation_of, dimension_named, callback_under, first_or, no_outline, interval_scope}
+use Rattle.oe_shape.specs.Parameters.{where_it, null_or, each_in, list_in, name_in, text_in, is_time_name, period_in, box_in, cube_in, callback_in, literal_in, number_in, kernel_in, border_in, bands_in, is_given, some_bands_in, instant_in, extent_from, is_limited, extent_in, labelled_interval, by_starts, by_labels, intervals_of, is_empty_list, is_null_or_empty_object}
 use Rattle.oe_shape.specs.declared.extent.Interval.{Interval}
 use Rattle.oe_shape.specs.declared.process.CubeProcess.{CubeProcess}
-use Rattle.oe_shape.specs.declared.process.CubeProcess.TheVariants.{AggregateTemporal, Apply, ApplyKernel, FilterBands, FilterBbox, FilterTemporal, LoadCollection, Mask, MergeCubes, ReduceDimension, SaveResult}
-use Rattle.oe_shape.specs.Requests.{cube_process_named, CubeRequest, load_collection, filter_bbox, filter_temporal, filter_bands, apply, apply_kernel, reduce_dimension, aggregate_temporal, merge_cubes, mask, save_result, called_in, intervals_in, resolver_in, cube_request_of}
+use Rattle.oe_shape.specs.declared.process.CubeProcess.TheVariants.{AggregateTemporal, AggregateTemporalPeriod, Apply, ApplyDimension, ApplyKernel, FilterBands, FilterBbox, FilterTemporal, LoadCollection, Mask, MergeCubes, ReduceDimension, SaveResult}
+use Rattle.oe_shape.specs.Requests.{cube_process_named, CubeRequest, load_collection, filter_bbox, filter_temporal, filter_bands, apply, apply_kernel, reduce_dimension, aggregate_temporal, aggregate_temporal_period, apply_dimension, merge_cubes, mask, save_result, called_in, intervals_in, resolver_in, cube_request_of}
 use Rattle.oe_shape.specs.ValidShapes.{AreBands, labels_of, BringsLabels}
+use Rattle.oe_shape.specs.Periods.{period_intervals}
+use Rattle.oe_dims.specs.declared.kind.Kind.TheVariants.{Time}
+use Rattle.oe_shape.proofs.PeriodLemmas.{period_labels}
+use Rattle.oe_shape.specs.RunningSums.{ignores_nulls}
 
 -- ---- lists of what a reader reads
 
@@ -193,29 +197,36 @@ Brings (apply data_id c) = ⊤
 Brings (apply_kernel data_id kernel factor border replace) = ⊤
 Brings (reduce_dimension data_id name c) = ⊤
 Brings (aggregate_temporal data_id intervals name c) = HasInstants intervals
+Brings (aggregate_temporal_period data_id period name c) = ⊤
+Brings (apply_dimension data_id callback) = ⊤
 Brings (merge_cubes one two resolver) = ⊤
 Brings (mask data_id mask_id replacement) = ⊤
 Brings (save_result data_id format) = ⊤
 
-operation_brings : (r : CubeRequest) (cubes : List Outline) (operation : Operation) → operation_of r cubes ≡ Some operation → Brings r → HasDistinctLabels operation → BringsLabels operation
-operation_brings (load_collection id box time bands) cubes operation e b d =
+operation_brings : (r : CubeRequest) (cubes : List Outline) (operation : Operation) → operation_of r cubes ≡ Some operation → IsShape (first_or no_outline cubes).shape → Brings r → HasDistinctLabels operation → BringsLabels operation
+operation_brings (load_collection id box time bands) cubes operation e v b d =
     let same : keep (record { box = box; time = time; bands = bands }) ≡ operation = cc in subst BringsLabels same b
-operation_brings (filter_bbox data_id box) cubes operation e b d =
+operation_brings (filter_bbox data_id box) cubes operation e v b d =
     let same : keep (record { box = Some box; time = None; bands = None }) ≡ operation = cc in subst BringsLabels same tt
-operation_brings (filter_temporal data_id time name) cubes operation e b d =
+operation_brings (filter_temporal data_id time name) cubes operation e v b d =
     let same : keep (record { box = None; time = Some time; bands = None }) ≡ operation = cc in subst BringsLabels same tt
-operation_brings (filter_bands data_id bands) cubes operation e b d =
+operation_brings (filter_bands data_id bands) cubes operation e v b d =
     let same : keep (record { box = None; time = None; bands = Some bands }) ≡ operation = cc in subst BringsLabels same b
-operation_brings (apply data_id c) cubes operation e b d = let same : each_cell (callback_under (scope.apply (first_or no_outline cubes).kind) c) ≡ operation = cc in subst BringsLabels same tt
-operation_brings (apply_kernel data_id kernel factor border replace) cubes operation e b d = let same : convolve kernel factor border replace ≡ operation = cc in subst BringsLabels same tt
-operation_brings (reduce_dimension data_id name c) cubes operation e b d =
+operation_brings (apply data_id c) cubes operation e v b d = let same : each_cell (callback_under (scope.apply (first_or no_outline cubes).kind) c) ≡ operation = cc in subst BringsLabels same tt
+operation_brings (apply_kernel data_id kernel factor border replace) cubes operation e v b d = let same : convolve kernel factor border replace ≡ operation = cc in subst BringsLabels same tt
+operation_brings (reduce_dimension data_id name c) cubes operation e v b d =
     let kind = mapped _ (dimension_named name) operation e in subst BringsLabels kind.2 tt
-operation_brings (aggregate_temporal data_id intervals name c) cubes operation e b d =
+operation_brings (aggregate_temporal data_id intervals name c) cubes operation e v b d =
     let same : aggregate intervals (callback_under (interval_scope intervals (first_or no_outline cubes)) c) ≡ operation = cc in
     subst BringsLabels same (record { differ = subst HasDistinctLabels (sym same) d; in_range = b })
-operation_brings (merge_cubes one two resolver) cubes operation e b d = let same : merge (option_map (callback_under (scope.merge (first_or no_outline cubes).kind)) resolver) ≡ operation = cc in subst BringsLabels same tt
-operation_brings (mask data_id mask_id replacement) cubes operation e b d = let same : cover replacement ≡ operation = cc in subst BringsLabels same tt
-operation_brings (save_result data_id format) cubes operation e b d = let same : give_back ≡ operation = cc in subst BringsLabels same tt
+operation_brings (aggregate_temporal_period data_id period name c) cubes operation e v b d =
+    let intervals = period_intervals period (number_labels (first_or no_outline cubes).shape Time) in
+    let same : aggregate intervals (callback_under (interval_scope intervals (first_or no_outline cubes)) c) ≡ operation = cc in
+    subst BringsLabels same (period_labels period (first_or no_outline cubes).shape v)
+operation_brings (apply_dimension data_id callback) cubes operation e v b d = let same : accumulate (ignores_nulls callback) ≡ operation = cc in subst BringsLabels same tt
+operation_brings (merge_cubes one two resolver) cubes operation e v b d = let same : merge (option_map (callback_under (scope.merge (first_or no_outline cubes).kind)) resolver) ≡ operation = cc in subst BringsLabels same tt
+operation_brings (mask data_id mask_id replacement) cubes operation e v b d = let same : cover replacement ≡ operation = cc in subst BringsLabels same tt
+operation_brings (save_result data_id format) cubes operation e v b d = let same : give_back ≡ operation = cc in subst BringsLabels same tt
 
 module _ (given : Named) where
   load_brings : (r : CubeRequest) → cube_request_of LoadCollection given ≡ Some r → Brings r
@@ -243,6 +254,17 @@ module _ (given : Named) where
 
   pub request_brings : (process : CubeProcess) (r : CubeRequest) → cube_request_of process given ≡ Some r → Brings r
   request_brings AggregateTemporal r e = aggregate_brings r e
+  request_brings AggregateTemporalPeriod r e =
+      let d = found _ (read cube_in (codes "data") given) r e in
+      let p = found _ (read period_in (codes "period") given) r d.2 in
+      let b = both_found (aggregate_temporal_period d.0 p.0) (read (null_or text_in) (codes "dimension") given) (called_in (codes "reducer") given) r p.2 in
+      subst Brings b.4 tt
+  request_brings ApplyDimension r e =
+      let t = passed (passes is_time_name (codes "dimension") given) _ r e in
+      let u = passed (passes is_null (codes "target_dimension") given) _ r t in
+      let c = found _ (read literal_in (codes "context") given) r u in
+      let b = both_found apply_dimension (read cube_in (codes "data") given) (read callback_in (codes "process") given) r c.2 in
+      subst Brings b.4 tt
   request_brings FilterBands r e = bands_brings r e
   request_brings LoadCollection r e = load_brings r e
   request_brings Apply r e =
@@ -278,7 +300,7 @@ module _ (given : Named) where
 
 pub bring_valid_labels : BringValidLabels
 bring_valid_labels = record {
-  each = λ n r cubes operation e f d.
+  each = λ n r cubes operation v e f d.
       let process = found _ (cube_process_named n.process_id) r e in
-      operation_brings r cubes operation f (request_brings n.arguments process.0 r process.2) d;
+      operation_brings r cubes operation f v (request_brings n.arguments process.0 r process.2) d;
 }

@@ -9,13 +9,14 @@ use Rattle.oe_dims.proofs.OrderLemmas.{same_name_is}
 use Rattle.oe_dims.specs.Names.{same_name}
 use Rattle.oe_dims.specs.declared.dims.DimsRow.{DimsRow}
 use Rattle.oe_kernel.specs.Kernels.{KernelValues, IsKernel, largest_size}
+use Rattle.oe_graph.proofs.ResolvedLemmas.{resolved_object}
 use Rattle.oe_graph.specs.Catalogue.{Process, process_named}
 use Rattle.oe_graph.specs.References.{callbacks_named}
 use Rattle.oe_graph.specs.Resolved.{IsResolvedUnder, scope_inside, inside}
 use Rattle.oe_graph.specs.Tree.{Nodes, PlainNode, PlainGraph}
 use Rattle.oe_graph.specs.declared.code.Code.{Code}
 use Rattle.oe_graph.specs.declared.code.Code.TheVariants.{DimensionNotAvailable, TemporalExtentEmpty, KernelDimensionsUneven, KernelTooLarge, DistinctDimensionLabelsRequired}
-use Rattle.oe_expr.specs.Requests.{read, passes}
+use Rattle.oe_expr.specs.Requests.{read, is_null, passes}
 use Rattle.oe_expr.specs.Rows.{JudgedRow, first_row}
 use Rattle.oe_shape.proofs.ReadLemmas.{IsCounted, IsReadCallback, IsRead, labels_read, parts_read}
 use Rattle.oe_shape.proofs.RequestLemmas.{found, both_found, passed}
@@ -23,15 +24,16 @@ use Rattle.oe_shape.specs.Callbacks.{IsResolvedCallback, AreIntervals, IsBuildab
 use Rattle.oe_shape.specs.Extents.{is_empty_extent}
 use Rattle.oe_shape.specs.Inputs.{HasFewIntervals}
 use Rattle.oe_shape.specs.Operations.{Outline}
-use Rattle.oe_shape.specs.Parameters.{null_or, text_in, cube_in, literal_in, number_in, box_in, extent_in, bands_in, some_bands_in, kernel_in, border_in, is_empty_list, is_empty_object, is_null_or_empty_object}
-use Rattle.oe_shape.specs.Requests.{NamedProcess, cube_processes, process_among, cube_process_named, Called, CubeRequest, load_collection, filter_bbox, filter_temporal, filter_bands, apply, apply_kernel, reduce_dimension, aggregate_temporal, merge_cubes, mask, save_result, called_in, intervals_in, resolver_in, cube_request_of, cube_request_at}
+use Rattle.oe_shape.specs.Parameters.{null_or, text_in, is_time_name, period_in, cube_in, callback_in, literal_in, number_in, box_in, extent_in, bands_in, some_bands_in, kernel_in, border_in, is_empty_list, is_empty_object, is_null_or_empty_object}
+use Rattle.oe_shape.specs.Requests.{NamedProcess, cube_processes, process_among, cube_process_named, Called, CubeRequest, load_collection, filter_bbox, filter_temporal, filter_bands, apply, apply_kernel, reduce_dimension, aggregate_temporal, aggregate_temporal_period, apply_dimension, merge_cubes, mask, save_result, called_in, intervals_in, resolver_in, cube_request_of, cube_request_at}
 use Rattle.oe_shape.specs.Results.{HasValidLabels}
 use Rattle.oe_shape.specs.Rows.{is_even, temporal_extent_empty, kernel_dimensions_uneven, kernel_too_large, distinct_labels_required, dimension_not_available}
 use Rattle.oe_shape.specs.Stands.{early_rows}
 use Rattle.oe_shape.specs.Walked.{AreResolved, IsNodeOf}
 use Rattle.oe_shape.specs.declared.extent.Interval.{Interval}
 use Rattle.oe_shape.specs.declared.process.CubeProcess.{CubeProcess}
-use Rattle.oe_shape.specs.declared.process.CubeProcess.TheVariants.{AggregateTemporal, Apply, ApplyKernel, FilterBands, FilterBbox, FilterTemporal, LoadCollection, Mask, MergeCubes, ReduceDimension, SaveResult}
+use Rattle.oe_shape.specs.declared.process.CubeProcess.TheVariants.{AggregateTemporal, AggregateTemporalPeriod, Apply, ApplyDimension, ApplyKernel, FilterBands, FilterBbox, FilterTemporal, LoadCollection, Mask, MergeCubes, ReduceDimension, SaveResult}
+use Rattle.oe_shape.specs.RunningSums.{IsWellFormed}
 
 -- ---- rows that do not hold
 
@@ -103,7 +105,9 @@ are_intervals intervals empty few = record { not_empty = any_false (λ (i : Inte
 
 abbrev id_of : CubeProcess → List ℕ
 id_of AggregateTemporal = codes "aggregate_temporal"
+id_of AggregateTemporalPeriod = codes "aggregate_temporal_period"
 id_of Apply = codes "apply"
+id_of ApplyDimension = codes "apply_dimension"
 id_of ApplyKernel = codes "apply_kernel"
 id_of FilterBands = codes "filter_bands"
 id_of FilterBbox = codes "filter_bbox"
@@ -130,7 +134,7 @@ id_among id (p ∷ others) process h e = by (same_name p.0 id) refl e (id_among 
     by false is e later = later e
 
 id_named : (id : List ℕ) (process : CubeProcess) → cube_process_named id ≡ Some process → id ≡ id_of process
-id_named id process e = id_among id cube_processes process (refl, (refl, (refl, (refl, (refl, (refl, (refl, (refl, (refl, (refl, (refl, tt))))))))))) e
+id_named id process e = id_among id cube_processes process (refl, (refl, (refl, (refl, (refl, (refl, (refl, (refl, (refl, (refl, (refl, (refl, (refl, tt))))))))))))) e
 
 abbrev scope_named : List ℕ → List (List ℕ)
 scope_named id = option_map_or (λ (p : Process). p.callback_parameters) (process_named id) [] ++ []
@@ -149,6 +153,12 @@ module _ (nodes : Nodes) (is : AreResolved nodes) (n : PlainNode) (at : IsNodeOf
     context = read_so.context;
   }
 
+  -- and so the ids of one rise, and it has a result node
+  well_formed : (g : PlainGraph) → Contains (callbacks_named n.arguments) g → IsWellFormed g
+  well_formed g has =
+      let object = resolved_object true (scope_inside n []) g (under g has) in
+      record { ids_rise = object.ids_rise; has_result = object.has_result }
+
   -- what a request needs to be built, but that no row holds
   abbrev Read : CubeRequest → Type 0
   Read (load_collection id box time bands) = ⊤
@@ -159,6 +169,8 @@ module _ (nodes : Nodes) (is : AreResolved nodes) (n : PlainNode) (at : IsNodeOf
   Read (apply_kernel data_id kernel factor border replace) = IsCounted kernel
   Read (reduce_dimension data_id name c) = IsResolvedCallback (codes "data" ∷ codes "context" ∷ []) c
   Read (aggregate_temporal data_id intervals name c) = IsResolvedCallback (codes "data" ∷ codes "context" ∷ []) c
+  Read (aggregate_temporal_period data_id period name c) = IsResolvedCallback (codes "data" ∷ codes "context" ∷ []) c
+  Read (apply_dimension data_id callback) = IsWellFormed callback
   Read (merge_cubes one two resolver) = IfSome resolver (IsResolvedCallback (codes "x" ∷ codes "y" ∷ codes "context" ∷ []))
   Read (mask data_id mask_id replacement) = ⊤
   Read (save_result data_id format) = ⊤
@@ -175,9 +187,20 @@ module _ (nodes : Nodes) (is : AreResolved nodes) (n : PlainNode) (at : IsNodeOf
       let i = found _ (intervals_in n.arguments) r d.2 in
       let b = both_found (aggregate_temporal d.0 i.0) (read (null_or text_in) (codes "dimension") n.arguments) (called_in (codes "reducer") n.arguments) r i.2 in
       subst Read b.4 (resolved_callback AggregateTemporal _ b.1 p refl (subst (IsRead n.arguments) (sym b.4) h))
+  is_read AggregateTemporalPeriod r p e h =
+      let d = found _ (read cube_in (codes "data") n.arguments) r e in
+      let q = found _ (read period_in (codes "period") n.arguments) r d.2 in
+      let b = both_found (aggregate_temporal_period d.0 q.0) (read (null_or text_in) (codes "dimension") n.arguments) (called_in (codes "reducer") n.arguments) r q.2 in
+      subst Read b.4 (resolved_callback AggregateTemporalPeriod _ b.1 p refl (subst (IsRead n.arguments) (sym b.4) h))
   is_read Apply r p e h =
       let b = both_found apply (read cube_in (codes "data") n.arguments) (called_in (codes "process") n.arguments) r e in
       subst Read b.4 (resolved_callback Apply _ b.1 p refl (subst (IsRead n.arguments) (sym b.4) h))
+  is_read ApplyDimension r p e h =
+      let t = passed (passes is_time_name (codes "dimension") n.arguments) _ r e in
+      let u = passed (passes is_null (codes "target_dimension") n.arguments) _ r t in
+      let c = found _ (read literal_in (codes "context") n.arguments) r u in
+      let b = both_found apply_dimension (read cube_in (codes "data") n.arguments) (read callback_in (codes "process") n.arguments) r c.2 in
+      subst Read b.4 (well_formed b.1 (subst (IsRead n.arguments) (sym b.4) h))
   is_read ApplyKernel r p e h =
       let d = found _ (read cube_in (codes "data") n.arguments) r e in
       let k = found _ (read kernel_in (codes "kernel") n.arguments) r d.2 in
@@ -226,6 +249,8 @@ module _ (nodes : Nodes) (is : AreResolved nodes) (n : PlainNode) (at : IsNodeOf
   from_read (apply_kernel data_id kernel factor border replace) cubes h none few = is_kernel kernel h none.uneven none.large
   from_read (reduce_dimension data_id name c) cubes h none few = h
   from_read (aggregate_temporal data_id intervals name c) cubes h none few = (are_intervals intervals none.extent few, h)
+  from_read (aggregate_temporal_period data_id period name c) cubes h none few = h
+  from_read (apply_dimension data_id callback) cubes h none few = h
   from_read (merge_cubes one two resolver) cubes h none few = h
   from_read (mask data_id mask_id replacement) cubes h none few = tt
   from_read (save_result data_id format) cubes h none few = tt

@@ -1,10 +1,10 @@
 -- The cells of a result are of its kind.
-use Rattle.std.proofs.Common.{◌≡◌, ℕ, ◌-◌, ◌<◌, Bool, true, false, List, [], ◌∷◌, length, map, refl, sym, ap, ◌∙◌, subst, arith, Option, Some, None, unwrap_or, cond, ◌==◌, unsigned_abs}
+use Rattle.std.proofs.Common.{◌≡◌, ℕ, ◌-◌, ◌<◌, Bool, true, false, List, [], ◌∷◌, ◌++◌, length, map, refl, sym, ap, ◌∙◌, subst, arith, Option, Some, None, unwrap_or, cond, ◌==◌, unsigned_abs, ℤ}
 use Rattle.std.specs.Prelude.{⊤, All, Contains, slice_get, slice_index_or}
 use Rattle.std.specs.List.{slice_range}
 use Rattle.std.specs.Option.{option_and_then}
 use Rattle.std.proofs.lemmas.List.{length-map}
-use Rattle.std.proofs.lemmas.List.Elements.{All-map, Contains-get_or}
+use Rattle.std.proofs.lemmas.List.Elements.{All-map, All-push, Contains-get_or}
 use Rattle.std.proofs.lemmas.Option.{slice_get_within, get_or_from_slice_get}
 use Rattle.std.proofs.Math.Seq.{take-length}
 use Rattle.oe_cell.proofs.KindLemmas.{IsNumeric-multiply_of}
@@ -13,7 +13,7 @@ use Rattle.oe_cell.specs.declared.cell.Cell.{Cell}
 use Rattle.oe_cell.specs.declared.cell.Cell.TheVariants.{Empty, Flag, Number, Over}
 use Rattle.oe_cube.specs.Kinds.{IsOfKind}
 use Rattle.oe_dims.specs.Cube.{Tuple, Cube, at, row_major, tuples, tabulate}
-use Rattle.oe_dims.specs.Dimensions.{Dimensions}
+use Rattle.oe_dims.specs.Dimensions.{Dimensions, number_labels}
 use Rattle.oe_dims.specs.Plain.{PlainLabels, plain_instants, plain_names, plain_coordinates}
 use Rattle.oe_dims.specs.declared.kind.CellKind.{CellKind}
 use Rattle.oe_dims.specs.declared.kind.CellKind.TheVariants.{Numbers, Flags}
@@ -27,9 +27,11 @@ use Rattle.oe_expr.specs.Callback.{Callback, callback_of, callback_kind, KeepsKi
 use Rattle.oe_expr.specs.Scope as scope
 use Rattle.oe_expr.specs.Scope.{PlainScope, count_labels, labels_in, no_labels}
 use Rattle.oe_expr.specs.declared.scope.ListPart.{ListPart}
+use Rattle.oe_periods.proofs.SumLemmas.{running_sum-numeric, running_sum-logical}
+use Rattle.oe_periods.specs.Sums.{running_sum}
 use Rattle.oe_shape.specs.Extents.{Restriction, kept_shape}
 use Rattle.oe_shape.specs.Labels.{restrict, merged_shape}
-use Rattle.oe_shape.specs.Meaning.{cell, value_on_cells, value_on_list, restricted_cube, applied, convolution, reduced, cells_along, tuples_along, joined, merged, covered_by, covered}
+use Rattle.oe_shape.specs.Meaning.{cell, value_on_cells, value_on_list, restricted_cube, applied, convolution, reduced, cells_along, tuples_along, cells_at, labels_before, accumulated, joined, merged, covered_by, covered}
 use Rattle.oe_shape.specs.Operations.{labels_along, without_dimension}
 
 -- ---- cells of a cube
@@ -162,6 +164,24 @@ covered_by_fits kind replacement (Number q) c h k = chosen_fits kind (unsigned_a
 pub covered_fits : (kind : CellKind) (replacement : Cell) (cube mask : Cube Cell) → IsOfKind kind replacement → AllOfKind kind cube → AllOfKind kind (covered replacement cube mask)
 covered_fits kind replacement cube mask h k =
     tabulated_fits kind cube.shape _ (λ tuple. covered_by_fits kind replacement (cell mask (restrict mask.shape tuple)) (cell cube tuple) h (cell_fits kind cube tuple k))
+
+-- ---- running sums
+
+sum_fits : (kind : CellKind) (ignore : Bool) (before : List Cell) (c : Cell) → All (IsOfKind kind) (before ++ c ∷ []) → IsOfKind kind (running_sum ignore before c)
+sum_fits Numbers ignore before c h = running_sum-numeric ignore before c h
+sum_fits Flags ignore before c h = running_sum-logical ignore before c h
+
+cells_fit : (kind : CellKind) (cube : Cube Cell) (tuple : Tuple) (labels : List ℤ) → AllOfKind kind cube → All (IsOfKind kind) (cells_at cube tuple labels)
+cells_fit kind cube tuple labels h =
+    All-map (IsOfKind kind) (λ label. cell cube (record tuple { t = Some label })) labels
+    (λ k other l. cell_fits kind cube (record tuple { t = Some (slice_index_or labels k other) }) h)
+
+pub accumulated_fits : (kind : CellKind) (ignore : Bool) (cube : Cube Cell) → AllOfKind kind cube → AllOfKind kind (accumulated ignore cube)
+accumulated_fits kind ignore cube h =
+    tabulated_fits kind cube.shape _ (λ tuple.
+    let labels = labels_before tuple.t (number_labels cube.shape Time) in
+    sum_fits kind ignore (cells_at cube tuple labels) (cell cube tuple)
+    (All-push (IsOfKind kind) (cells_at cube tuple labels) (cell cube tuple) (cells_fit kind cube tuple labels h) (cell_fits kind cube tuple h)))
 
 -- ---- `merge_cubes`
 

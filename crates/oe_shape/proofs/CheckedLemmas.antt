@@ -15,7 +15,7 @@ use Rattle.oe_shape.specs.Laws.{ReferToCubes, AreCollectionsOf, meaning_of_node,
 use Rattle.oe_shape.specs.Links.{index_referred, links_of, loaded_by, loaded_collection}
 use Rattle.oe_shape.specs.Meaning.{Datacube, operated}
 use Rattle.oe_shape.specs.Operations.{Operation}
-use Rattle.oe_shape.specs.Requests.{CubeRequest, load_collection, filter_bbox, filter_temporal, filter_bands, apply, apply_kernel, reduce_dimension, aggregate_temporal, merge_cubes, mask, save_result, cube_ids, cube_request_at}
+use Rattle.oe_shape.specs.Requests.{CubeRequest, load_collection, filter_bbox, filter_temporal, filter_bands, apply, apply_kernel, reduce_dimension, aggregate_temporal, aggregate_temporal_period, apply_dimension, merge_cubes, mask, save_result, cube_ids, cube_request_at}
 use Rattle.oe_shape.specs.SoundNodes.{AreAcyclic, IsSoundNode}
 use Rattle.oe_shape.specs.Walked.{AreResolved, IsNodeOf}
 use Rattle.oe_shape.proofs.GraphLemmas.{unfold_at_nodes, are_sound}
@@ -52,6 +52,8 @@ no_load collection at (apply data_id c) none = refl
 no_load collection at (apply_kernel data_id kernel factor border replace) none = refl
 no_load collection at (reduce_dimension data_id name c) none = refl
 no_load collection at (aggregate_temporal data_id intervals name c) none = refl
+no_load collection at (aggregate_temporal_period data_id period name c) none = refl
+no_load collection at (apply_dimension data_id callback) none = refl
 no_load collection at (merge_cubes one two resolver) none = refl
 no_load collection at (mask data_id mask_id replacement) none = refl
 no_load collection at (save_result data_id format) none = refl
@@ -66,6 +68,8 @@ a_load collection at (apply data_id c) id e = absurd cc
 a_load collection at (apply_kernel data_id kernel factor border replace) id e = absurd cc
 a_load collection at (reduce_dimension data_id name c) id e = absurd cc
 a_load collection at (aggregate_temporal data_id intervals name c) id e = absurd cc
+a_load collection at (aggregate_temporal_period data_id period name c) id e = absurd cc
+a_load collection at (apply_dimension data_id callback) id e = absurd cc
 a_load collection at (merge_cubes one two resolver) id e = absurd cc
 a_load collection at (mask data_id mask_id replacement) id e = absurd cc
 a_load collection at (save_result data_id format) id e = absurd cc

@@ -28,8 +28,8 @@ use Rattle.oe_shape.specs.Extents.{kept_shape}
 use Rattle.oe_shape.specs.Labels.{merged_shape}
 use Rattle.oe_shape.specs.Graphs.{Collections, no_datacube, datacube_of, collection_named, collection_rows, request_inputs, outline_named, outline_at, node_meaning, node_outline, request_meaning, meaning_at, operation_at}
 use Rattle.oe_shape.specs.Meaning.{Datacube, no_cube, operated, outline}
-use Rattle.oe_shape.specs.Operations.{Operation, Outline, no_outline, operation_of, keep, each_cell, convolve, reduce, aggregate, merge, cover, give_back, first_or, second_or, without_dimension, aggregated_shape}
-use Rattle.oe_shape.specs.Requests.{CubeRequest, load_collection, filter_bbox, filter_temporal, filter_bands, apply, apply_kernel, reduce_dimension, aggregate_temporal, merge_cubes, mask, save_result, cube_ids, cube_request_at}
+use Rattle.oe_shape.specs.Operations.{Operation, Outline, no_outline, operation_of, keep, each_cell, convolve, reduce, aggregate, accumulate, merge, cover, give_back, first_or, second_or, without_dimension, aggregated_shape}
+use Rattle.oe_shape.specs.Requests.{CubeRequest, load_collection, filter_bbox, filter_temporal, filter_bands, apply, apply_kernel, reduce_dimension, aggregate_temporal, aggregate_temporal_period, apply_dimension, merge_cubes, mask, save_result, cube_ids, cube_request_at}
 use Rattle.oe_shape.specs.SoundNodes.{AreAcyclic, UnfoldAtNodes, IsSoundOperation, input_outlines, HasSoundOperation, IsSoundNode, sound_node, AreCollections, AreSound}
 
 -- ---- unfolding
@@ -138,6 +138,8 @@ module _ (collections : Collections) (valid : AreCollections collections) (at : 
   inputs_valid (apply_kernel data_id kernel factor border replace) h = one_valid (at data_id) h.0
   inputs_valid (reduce_dimension data_id name c) h = one_valid (at data_id) h.0
   inputs_valid (aggregate_temporal data_id intervals name c) h = one_valid (at data_id) h.0
+  inputs_valid (aggregate_temporal_period data_id period name c) h = one_valid (at data_id) h.0
+  inputs_valid (apply_dimension data_id callback) h = one_valid (at data_id) h.0
   inputs_valid (merge_cubes one two resolver) h = two_valid (at one) (at two) h.0 h.1.0
   inputs_valid (mask data_id mask_id replacement) h = two_valid (at data_id) (at mask_id) h.0 h.1.0
   inputs_valid (save_result data_id format) h = one_valid (at data_id) h.0
@@ -161,6 +163,7 @@ operated_counted (each_cell c) inputs h = IsCube-tabulate (first_cube inputs).sh
 operated_counted (convolve kernel factor border replace) inputs h = IsCube-tabulate (first_cube inputs).shape _
 operated_counted (reduce kind c) inputs h = IsCube-tabulate (without_dimension kind (first_cube inputs).shape) _
 operated_counted (aggregate intervals c) inputs h = IsCube-tabulate (aggregated_shape intervals (first_cube inputs).shape) _
+operated_counted (accumulate ignore) inputs h = IsCube-tabulate (first_cube inputs).shape _
 operated_counted (merge resolver) inputs h = IsCube-tabulate (merged_shape (first_cube inputs).shape (second_cube inputs).shape) _
 operated_counted (cover replacement) inputs h = IsCube-tabulate (first_cube inputs).shape _
 operated_counted give_back inputs h = first_counted inputs h

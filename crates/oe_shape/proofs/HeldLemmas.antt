@@ -13,7 +13,7 @@ use Rattle.oe_dims.proofs.OrderLemmas.{same_name_is}
 use Rattle.oe_fold.specs.declared.reducer.Reducer.{Reducer}
 use Rattle.oe_fold.specs.declared.reducer.Reducer.TheVariants.{Sum, Product, Mean, Min, Max, Median, First, Last, Any, All as EveryOne}
 use Rattle.oe_expr.specs.Operations.{NamedOperation, operations, operation_among, operation_named}
-use Rattle.oe_expr.specs.Requests.{with_both, read, where_passed, whole_cell, is_scalar_literal, is_null, scalar_in, items_in, flag_in, counter_in, list_index_in, label_in, unary, binary, choice, reduction, element, two_cells, has_plain_equality, cell_request_of, cell_request_at}
+use Rattle.oe_expr.specs.Requests.{with_both, read, where_passed, whole_cell, is_scalar_literal, is_null, scalar_in, items_in, flag_in, counter_in, list_index_in, label_in, unary, binary, choice, reduction, element, two_cells, has_plain_equality, cell_request_of, cell_request_at, passes}
 use Rattle.oe_expr.specs.declared.operation.Unary.{Unary}
 use Rattle.oe_expr.specs.declared.operation.Unary.TheVariants.{Absolute, Sgn, Floor, Ceil, Int, Not}
 use Rattle.oe_expr.specs.declared.operation.Binary.{Binary}
@@ -23,11 +23,12 @@ use Rattle.oe_expr.specs.declared.operation.Operation.TheVariants.{OfOne, Choice
 use Rattle.oe_shape.proofs.AmongLemmas.{mapped_some}
 use Rattle.oe_shape.proofs.ReferenceLemmas.{id_of, id_is, all_named}
 use Rattle.oe_shape.specs.Held.{is_held, have_labels, arguments_agree, AskWhereHeld}
-use Rattle.oe_shape.specs.Parameters.{cube_in, callback_in, text_in, whole_in, number_in, literal_in, box_in, extent_in, instant_in, bands_in, some_bands_in, kernel_in, border_in, list_in, null_or, is_empty_list, is_empty_object, is_null_or_empty_object, intervals_of}
-use Rattle.oe_shape.specs.Requests.{cube_processes, cube_process_named, load_collection, filter_bbox, filter_temporal, filter_bands, apply, apply_kernel, reduce_dimension, aggregate_temporal, merge_cubes, mask, save_result, called, cube_request_of, cube_request_at}
+use Rattle.oe_shape.specs.Parameters.{cube_in, callback_in, text_in, is_time_name, period_in, whole_in, number_in, literal_in, box_in, extent_in, instant_in, bands_in, some_bands_in, kernel_in, border_in, list_in, null_or, is_empty_list, is_empty_object, is_null_or_empty_object, intervals_of}
+use Rattle.oe_shape.specs.Requests.{cube_processes, cube_process_named, load_collection, filter_bbox, filter_temporal, filter_bands, apply, apply_kernel, reduce_dimension, aggregate_temporal, aggregate_temporal_period, apply_dimension, merge_cubes, mask, save_result, called, cube_request_of, cube_request_at}
 use Rattle.oe_shape.specs.declared.extent.TemporalExtent.{TemporalExtent}
 use Rattle.oe_shape.specs.declared.process.CubeProcess.{CubeProcess}
-use Rattle.oe_shape.specs.declared.process.CubeProcess.TheVariants.{AggregateTemporal, Apply, ApplyKernel, FilterBands, FilterBbox, FilterTemporal, LoadCollection, Mask, MergeCubes, ReduceDimension, SaveResult}
+use Rattle.oe_shape.specs.declared.process.CubeProcess.TheVariants.{AggregateTemporal, AggregateTemporalPeriod, Apply, ApplyDimension, ApplyKernel, FilterBands, FilterBbox, FilterTemporal, LoadCollection, Mask, MergeCubes, ReduceDimension, SaveResult}
+use Rattle.oe_shape.specs.RunningSums.{is_data, running_sum_at}
 
 -- ---- an argument that is read, or tested
 
@@ -141,6 +142,30 @@ second_later true false true d = refl
 second_later true true false d = refl
 second_later true true true false = refl
 second_later true true true true = refl
+
+third_later : (a b c d e : Bool) → (a && (b && (c && (d && (e && true))))) ≡ (a && (b && (d && (c && e))))
+third_later false b c d e = refl
+third_later true false c d e = refl
+third_later true true false false e = refl
+third_later true true false true e = refl
+third_later true true true false e = refl
+third_later true true true true false = refl
+third_later true true true true true = refl
+
+-- data, process, dimension, target_dimension and context
+dimension_sooner : (a b c d e : Bool) → (a && (b && (c && (d && (e && true))))) ≡ (((e && (a && b)) && d) && c)
+dimension_sooner false b c d false = refl
+dimension_sooner false b c d true = refl
+dimension_sooner true false c d false = refl
+dimension_sooner true false c d true = refl
+dimension_sooner true true false false false = refl
+dimension_sooner true true false false true = refl
+dimension_sooner true true false true false = refl
+dimension_sooner true true false true true = refl
+dimension_sooner true true true false false = refl
+dimension_sooner true true true false true = refl
+dimension_sooner true true true true false = refl
+dimension_sooner true true true true true = refl
 
 -- data, intervals, reducer, labels, dimension, context, and whether labels and intervals agree
 labels_sooner : (d i r l n c m : Bool) → (d && (i && (r && (l && (n && (c && true))))) && m) ≡ (d && ((i && l && m) && (n && (r && c))))
@@ -265,13 +290,31 @@ module _ (given : Named) where
       (λ intervals. both_held _ _ (aggregate_temporal data_id intervals) _ _ name_held
       (both_held _ _ called _ _ (callback_held (codes "reducer")) context_held)))
 
+  period_held : Held AggregateTemporalPeriod
+  period_held =
+      third_later (has cube_in (codes "data")) (has period_in (codes "period")) (has callback_in (codes "reducer"))
+      (has (null_or text_in) (codes "dimension")) (told is_scalar_literal (codes "context"))
+      ∙ then_held _ _ _ _ (cube_held (codes "data")) (λ data_id. then_held _ _ _ _
+      (held period_in (argument_named (codes "period") given)) (λ period. both_held _ _ (aggregate_temporal_period data_id period) _ _
+      name_held (both_held _ _ called _ _ (callback_held (codes "reducer")) context_held)))
+
+  dimension_held : Held ApplyDimension
+  dimension_held =
+      dimension_sooner (has cube_in (codes "data")) (has callback_in (codes "process")) (told is_time_name (codes "dimension"))
+      (told is_null (codes "target_dimension")) (told is_scalar_literal (codes "context"))
+      ∙ passed_held _ _ _ _ (passed_held _ _ _ _ (then_held _ _ _ _ context_held (λ context. both_held _ _ apply_dimension _ _
+      (cube_held (codes "data")) (callback_held (codes "process")))) (tested is_null (argument_named (codes "target_dimension") given)))
+      (tested is_time_name (argument_named (codes "dimension") given))
+
   -- the rule of a process that compares two of its arguments
   abbrev agrees : List ℕ → Bool
   agrees id = if same_name id (codes "aggregate_temporal") then have_labels given else true
 
   each_held : (process : CubeProcess) → (row_holds process && agrees (id_of process)) ≡ is_some (cube_request_of process given)
   each_held AggregateTemporal = aggregate_held
+  each_held AggregateTemporalPeriod = no_more _ ∙ period_held
   each_held Apply = no_more _ ∙ apply_held
+  each_held ApplyDimension = no_more _ ∙ dimension_held
   each_held ApplyKernel = no_more _ ∙ kernel_held
   each_held FilterBands = no_more _ ∙ bands_held
   each_held FilterBbox = no_more _ ∙ bbox_held
@@ -467,5 +510,25 @@ in_callbacks n operation named row is_row =
     ∙ (sym (held_among n.arguments n.process_id operations operation (all_held n.arguments) named)
     ∙ ap (λ o. option_map_or (λ (p : Process). list_all (is_held n.arguments) p.parameters) o false) is_row)
 
+-- ---- running sums
+
+chosen : {A : Type 0} (p : Bool) (o : Option A) → is_some (if p then o else None) ≡ (p && (is_some o && true))
+chosen true None = refl
+chosen true (Some a) = refl
+chosen false o = refl
+
+in_sums : (n : PlainNode) (row : Process) → process_named n.process_id ≡ Some row → same_name n.process_id (codes "cumsum") ≡ true
+    → is_some (running_sum_at n) ≡ list_all (is_held n.arguments) row.parameters
+in_sums n row is_row same =
+    let given = n.arguments in
+    let id : codes "cumsum" ≡ n.process_id = same_name_is n.process_id (codes "cumsum") same in
+    ap (λ b. is_some (if b && passes is_data (codes "data") given then read flag_in (codes "ignore_nodata") given else None)) same
+    ∙ (chosen (passes is_data (codes "data") given) (read flag_in (codes "ignore_nodata") given)
+    ∙ (ap (λ b. b && (is_some (read flag_in (codes "ignore_nodata") given) && true)) (sym (tested is_data (argument_named (codes "data") given)))
+    ∙ (ap (λ b. option_map_or is_data (argument_named (codes "data") given) false && (b && true))
+    (sym (held flag_in (argument_named (codes "ignore_nodata") given)))
+    ∙ (ap (row_at given) id
+    ∙ ap (λ o. option_map_or (λ (p : Process). list_all (is_held given) p.parameters) o false) is_row))))
+
 pub ask_where_held : AskWhereHeld
-ask_where_held = record { in_graphs = in_graphs; in_callbacks = in_callbacks }
+ask_where_held = record { in_graphs = in_graphs; in_sums = in_sums; in_callbacks = in_callbacks }

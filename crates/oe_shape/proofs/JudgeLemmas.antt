@@ -1,6 +1,6 @@
 -- What a check finds at one node whose request has none of the faults that those of its callback wait for, from the shape and
 -- the kind of the cubes that the request works on.
-use Rattle.std.proofs.Common.{◌≡◌, ℕ, Bool, true, false, not, List, [], ◌∷◌, map, slice_get, Option, Some, None, is_none, option_map, refl, sym, ap, ◌∙◌, subst, true≢false, if◌then◌else◌}
+use Rattle.std.proofs.Common.{◌≡◌, ℕ, Bool, true, false, not, List, [], ◌∷◌, map, slice_get, Option, Some, None, ◌⊎◌, inl, inr, is_none, option_map, refl, sym, ap, ◌∙◌, subst, true≢false, if◌then◌else◌}
 use Rattle.std.specs.Prelude.{IfSome}
 use Rattle.std.specs.Arc.{arc_value}
 use Rattle.std.specs.Option.{option_and_then, option_map_or}
@@ -8,13 +8,13 @@ use Rattle.oe_cell.specs.declared.cell.Cell.{Cell}
 use Rattle.oe_cell.specs.declared.cell.Cell.TheVariants.{Empty, Flag, Number, Over}
 use Rattle.oe_cube.specs.Kinds.{IsOfKind}
 use Rattle.oe_dims.proofs.OrderLemmas.{same_name_refl}
-use Rattle.oe_dims.specs.Dimensions.{Dimensions, IsShape}
+use Rattle.oe_dims.specs.Dimensions.{Dimensions, IsShape, number_labels}
 use Rattle.oe_dims.specs.declared.dims.DimsRow.{DimsRow}
 use Rattle.oe_dims.specs.declared.kind.CellKind.{CellKind}
 use Rattle.oe_dims.specs.declared.kind.CellKind.TheVariants.{Numbers, Flags}
 use Rattle.oe_dims.specs.declared.kind.Kind.{Kind}
 use Rattle.oe_graph.specs.Faults.{IsLeast, is_before}
-use Rattle.oe_graph.specs.Tree.{PlainNode}
+use Rattle.oe_graph.specs.Tree.{PlainGraph, PlainNode}
 use Rattle.oe_graph.specs.declared.code.Code.{Code}
 use Rattle.oe_graph.specs.declared.code.Code.TheVariants.{CellKindInvalid, CollectionNotFound, CubeTooLarge}
 use Rattle.oe_graph.specs.declared.fault.Fault.{Fault}
@@ -23,26 +23,32 @@ use Rattle.oe_expr.specs.Callback.{Callback, IsFaultlessCallback}
 use Rattle.oe_expr.specs.Rows.{JudgedRow, first_row}
 use Rattle.oe_expr.specs.Scope as scope
 use Rattle.oe_expr.specs.Scope.{PlainScope, scope_parameters}
+use Rattle.oe_periods.specs.declared.calendar.Period.{Period}
 use Rattle.oe_shape.proofs.BuildableLemmas.{or_false, NoneHolds, none_holds}
 use Rattle.oe_shape.proofs.KindLemmas.{kinds_asked}
-use Rattle.oe_shape.proofs.VerdictLemmas.{StandsInside, found_early, wrong_kinds, wrong_size, no_fault, inside_alone, inside_or_size}
-use Rattle.oe_shape.specs.Callbacks.{IsResolvedCallback, IsBuildable, StandsInCallback}
+use Rattle.oe_shape.proofs.InsideLemmas.{inside_later}
+use Rattle.oe_shape.proofs.VerdictLemmas.{StandsInside, found_early, size_first, wrong_kinds, wrong_size, no_fault, inside_alone, inside_or_size}
+use Rattle.oe_shape.specs.Callbacks.{IsResolvedCallback, IsBuildable, StandsInCallback, of_cells, of_sums}
 use Rattle.oe_shape.specs.CellKinds.{IsSoundUnder, IsSoundOn}
 use Rattle.oe_shape.specs.Early.{IsEarlyFault}
 use Rattle.oe_shape.specs.Graphs.{request_outline, node_outline}
 use Rattle.oe_shape.specs.Inputs.{AreInputs, WorksOn}
 use Rattle.oe_shape.specs.Links.{loaded_by}
-use Rattle.oe_shape.specs.Operations.{Operation, reduce, Outline, no_dimensions, no_outline, first_or, operation_of, outline_of, shape_of, operation_kind, dimension_named, callback_under, reduction_scope, interval_scope}
+use Rattle.oe_shape.specs.Operations.{Operation, reduce, accumulate, Outline, no_dimensions, no_outline, first_or, operation_of, outline_of, shape_of, operation_kind, dimension_named, callback_under, reduction_scope, interval_scope}
 use Rattle.oe_shape.specs.PlainRequests.{plain_operation}
-use Rattle.oe_shape.specs.Requests.{Called, CubeRequest, load_collection, filter_bbox, filter_temporal, filter_bands, apply, apply_kernel, reduce_dimension, aggregate_temporal, merge_cubes, mask, save_result, cube_request_at}
-use Rattle.oe_shape.specs.Results.{cubes_among, takes_other_kinds, where_within_limits, HasValidLabels, IsResultShape}
+use Rattle.oe_shape.specs.Requests.{Called, CubeRequest, load_collection, filter_bbox, filter_temporal, filter_bands, apply, apply_kernel, reduce_dimension, aggregate_temporal, aggregate_temporal_period, apply_dimension, merge_cubes, mask, save_result, cube_request_at}
+use Rattle.oe_shape.specs.Results.{cubes_among, takes_other_kinds, where_within_limits, HasValidLabels, IsResultShape, is_by_period}
+use Rattle.oe_shape.specs.RunningSums.{ignores_nulls, AreSums}
 use Rattle.oe_shape.specs.Rows.{collection_not_found, cell_kind_invalid, cube_too_large, gives_too_large, is_of_another, dimension_not_available}
 use Rattle.oe_shape.specs.SoundNodes.{IsSoundOperation}
-use Rattle.oe_shape.specs.Stands.{early_rows, callback_in, callback_on, cubes_of, Passes, HasFaultlessCallback, StandsHere}
+use Rattle.oe_shape.specs.Stands.{early_rows, callback_in, callback_on, sums_of, cubes_of, Passes, HasFaultlessCallback, StandsHere}
 use Rattle.oe_shape.specs.ValidShapes.{BringsLabels, is_within_limits}
 use Rattle.oe_shape.specs.Walked.{outline_kept, IsJudgedSound}
 use Rattle.oe_shape.specs.Words.{same_cell_kind, lacks_dimension}
 use Rattle.oe_shape.specs.declared.checked.CheckedNode.{CheckedNode}
+use Rattle.oe_shape.specs.Periods.{period_intervals}
+use Rattle.oe_dims.specs.declared.kind.Kind.TheVariants.{Time}
+use Rattle.oe_shape.proofs.PeriodLemmas.{period_labels}
 
 -- ---- an operation depends on the first cube alone
 
@@ -55,6 +61,8 @@ first_alone (apply data_id c) one xs ys = refl
 first_alone (apply_kernel data_id kernel factor border replace) one xs ys = refl
 first_alone (reduce_dimension data_id name c) one xs ys = refl
 first_alone (aggregate_temporal data_id intervals name c) one xs ys = refl
+first_alone (aggregate_temporal_period data_id period name c) one xs ys = refl
+first_alone (apply_dimension data_id callback) one xs ys = refl
 first_alone (merge_cubes one_id two_id resolver) one xs ys = refl
 first_alone (mask data_id mask_id replacement) one xs ys = refl
 first_alone (save_result data_id format) one xs ys = refl
@@ -72,6 +80,8 @@ behind (apply data_id c) two = []
 behind (apply_kernel data_id kernel factor border replace) two = []
 behind (reduce_dimension data_id name c) two = []
 behind (aggregate_temporal data_id intervals name c) two = []
+behind (aggregate_temporal_period data_id period name c) two = []
+behind (apply_dimension data_id callback) two = []
 behind (merge_cubes one_id two_id resolver) two = two ∷ []
 behind (mask data_id mask_id replacement) two = two ∷ []
 behind (save_result data_id format) two = []
@@ -85,6 +95,8 @@ among (apply data_id c) one two = refl
 among (apply_kernel data_id kernel factor border replace) one two = refl
 among (reduce_dimension data_id name c) one two = refl
 among (aggregate_temporal data_id intervals name c) one two = refl
+among (aggregate_temporal_period data_id period name c) one two = refl
+among (apply_dimension data_id callback) one two = refl
 among (merge_cubes one_id two_id resolver) one two = refl
 among (mask data_id mask_id replacement) one two = refl
 among (save_result data_id format) one two = refl
@@ -133,6 +145,9 @@ sound_on (reduce_dimension data_id name c) one two h s f k = by (dimension_named
     by None f = tt
     by (Some kind) f = sound_under (reduction_scope kind one) c h f
 sound_on (aggregate_temporal data_id intervals name c) one two h s f k = (sound_under (interval_scope intervals one) c h.1 f, s)
+sound_on (aggregate_temporal_period data_id period name c) one two h s f k =
+    (sound_under (interval_scope (period_intervals period (number_labels one.shape Time)) one) c h f, s)
+sound_on (apply_dimension data_id callback) one two h s f k = tt
 sound_on (merge_cubes one_id two_id None) one two h s f k =
     (same_so one.kind two.kind (or_false _ _ k).0, tt)
 sound_on (merge_cubes one_id two_id (Some c)) one two h s f k =
@@ -142,23 +157,25 @@ sound_on (mask data_id mask_id replacement) one two h s f k = literal_fits one.k
 sound_on (save_result data_id format) one two h s f k = tt
 
 -- the labels that it brings
-pub brings_labels : (r : CubeRequest) (cubes : List Outline) → HasValidLabels r → IfSome (operation_of r cubes) BringsLabels
-brings_labels (load_collection id box time bands) cubes h = h
-brings_labels (filter_bbox data_id box) cubes h = tt
-brings_labels (filter_temporal data_id time name) cubes h = tt
-brings_labels (filter_bands data_id bands) cubes h = h
-brings_labels (apply data_id c) cubes h = tt
-brings_labels (apply_kernel data_id kernel factor border replace) cubes h = tt
-brings_labels (reduce_dimension data_id name c) cubes h = by (dimension_named name)
+pub brings_labels : (r : CubeRequest) (cubes : List Outline) → IsShape (first_or no_outline cubes).shape → HasValidLabels r → IfSome (operation_of r cubes) BringsLabels
+brings_labels (load_collection id box time bands) cubes v h = h
+brings_labels (filter_bbox data_id box) cubes v h = tt
+brings_labels (filter_temporal data_id time name) cubes v h = tt
+brings_labels (filter_bands data_id bands) cubes v h = h
+brings_labels (apply data_id c) cubes v h = tt
+brings_labels (apply_kernel data_id kernel factor border replace) cubes v h = tt
+brings_labels (reduce_dimension data_id name c) cubes v h = by (dimension_named name)
   where
     by : (o : Option Kind)
         → IfSome (option_map (λ kind. reduce kind (callback_under (reduction_scope kind (first_or no_outline cubes)) c)) o) BringsLabels
     by None = tt
     by (Some kind) = tt
-brings_labels (aggregate_temporal data_id intervals name c) cubes h = h
-brings_labels (merge_cubes one_id two_id resolver) cubes h = tt
-brings_labels (mask data_id mask_id replacement) cubes h = tt
-brings_labels (save_result data_id format) cubes h = tt
+brings_labels (aggregate_temporal data_id intervals name c) cubes v h = h
+brings_labels (aggregate_temporal_period data_id period name c) cubes v h = period_labels period (first_or no_outline cubes).shape v
+brings_labels (apply_dimension data_id callback) cubes v h = tt
+brings_labels (merge_cubes one_id two_id resolver) cubes v h = tt
+brings_labels (mask data_id mask_id replacement) cubes v h = tt
+brings_labels (save_result data_id format) cubes v h = tt
 
 -- ---- sizes
 
@@ -184,6 +201,57 @@ too_large : (r : CubeRequest) (cubes : List Outline) (operation : Operation) →
     → cube_too_large r cubes ≡ gives_too_large cubes operation
 too_large r cubes operation e = ap (λ o. option_map_or (gives_too_large cubes) o false) e
 
+-- ---- running sums, and calendar periods
+
+sums_operate : (r : CubeRequest) (g : PlainGraph) (cubes : List Outline) → sums_of r ≡ Some g → operation_of r cubes ≡ Some (accumulate (ignores_nulls g))
+sums_operate (load_collection id box time bands) g cubes e = absurd cc
+sums_operate (filter_bbox data_id box) g cubes e = absurd cc
+sums_operate (filter_temporal data_id time name) g cubes e = absurd cc
+sums_operate (filter_bands data_id bands) g cubes e = absurd cc
+sums_operate (apply data_id c) g cubes e = absurd cc
+sums_operate (apply_kernel data_id kernel factor border replace) g cubes e = absurd cc
+sums_operate (reduce_dimension data_id name c) g cubes e = absurd cc
+sums_operate (aggregate_temporal data_id intervals name c) g cubes e = absurd cc
+sums_operate (aggregate_temporal_period data_id period name c) g cubes e = absurd cc
+sums_operate (apply_dimension data_id callback) g cubes e = let same : callback ≡ g = cc in ap (λ x. Some (accumulate (ignores_nulls x))) same
+sums_operate (merge_cubes one_id two_id resolver) g cubes e = absurd cc
+sums_operate (mask data_id mask_id replacement) g cubes e = absurd cc
+sums_operate (save_result data_id format) g cubes e = absurd cc
+
+-- what a request for calendar periods is
+record IsByPeriod (r : CubeRequest) : Type 0 where
+  data_id : List ℕ
+  period : Period
+  name : Option (List ℕ)
+  called : Called
+  is : aggregate_temporal_period data_id period name called ≡ r
+
+by_period : (r : CubeRequest) → is_by_period r ≡ true → IsByPeriod r
+by_period (load_collection id box time bands) e = absurd cc
+by_period (filter_bbox data_id box) e = absurd cc
+by_period (filter_temporal data_id time name) e = absurd cc
+by_period (filter_bands data_id bands) e = absurd cc
+by_period (apply data_id c) e = absurd cc
+by_period (apply_kernel data_id kernel factor border replace) e = absurd cc
+by_period (reduce_dimension data_id name c) e = absurd cc
+by_period (aggregate_temporal data_id intervals name c) e = absurd cc
+by_period (aggregate_temporal_period data_id period name c) e = record { data_id = data_id; period = period; name = name; called = c; is = refl }
+by_period (apply_dimension data_id callback) e = absurd cc
+by_period (merge_cubes one_id two_id resolver) e = absurd cc
+by_period (mask data_id mask_id replacement) e = absurd cc
+by_period (save_result data_id format) e = absurd cc
+
+period_operates : (r : CubeRequest) (one : Outline) (others : List Outline) → is_by_period r ≡ true → (operation : Operation) × (operation_of r (one ∷ others) ≡ Some operation)
+period_operates r one others e =
+    let b = by_period r e in
+    subst (λ q. (operation : Operation) × (operation_of q (one ∷ others) ≡ Some operation)) b.is (_, refl)
+
+periods_of_kind : (r : CubeRequest) (cubes : List Outline) → is_by_period r ≡ true → cell_kind_invalid r cubes ≡ false
+periods_of_kind r cubes e = subst (λ q. cell_kind_invalid q cubes ≡ false) (by_period r e).is refl
+
+periods_no_sums : (r : CubeRequest) → is_by_period r ≡ true → sums_of r ≡ None
+periods_no_sums r e = subst (λ q. sums_of q ≡ None) (by_period r e).is refl
+
 -- ---- the node
 
 module _ (rows : List DimsRow) (at : List ℕ → Outline) (n : PlainNode) (r : CubeRequest) (p : Passes rows at n r)
@@ -197,16 +265,13 @@ module _ (rows : List DimsRow) (at : List ℕ → Outline) (n : PlainNode) (r : 
   -- ---- where a fault stands in the callback
 
   to_inside : (code : Code) (name : List ℕ) → StandsInCallback n.id r one code name → StandsInside rows at n r p.asks p.none_holds code name
-  to_inside code name s =
-      (s.argument, s.callback, ap (callback_on r) first_cube ∙ s.is_callback (behind r two), s.stands)
+  to_inside code name (of_cells {argument = argument} {c = c} is s) = inl (argument, c, ap (callback_on r) first_cube ∙ is (behind r two), s)
+  to_inside code name (of_sums {g = g} is s) = inr (g, is, s)
 
   from_inside : (code : Code) (name : List ℕ) → StandsInside rows at n r p.asks p.none_holds code name → StandsInCallback n.id r one code name
-  from_inside code name s = record {
-    argument = s.0;
-    callback = s.1;
-    is_callback = λ others. callback_alone r one others (behind r two) ∙ (sym (ap (callback_on r) first_cube) ∙ s.2);
-    stands = s.3;
-  }
+  from_inside code name (inl s) =
+      of_cells {argument = s.0} {c = s.1} (λ others. callback_alone r one others (behind r two) ∙ (sym (ap (callback_on r) first_cube) ∙ s.2)) s.3
+  from_inside code name (inr s) = of_sums {g = s.0} s.1 s.2
 
   least_inside : (fault : Fault) → IsLeast (StandsInCallback n.id r one) fault → IsLeast (StandsInside rows at n r p.asks p.none_holds) fault
   least_inside fault is = record {
@@ -215,21 +280,40 @@ module _ (rows : List DimsRow) (at : List ℕ → Outline) (n : PlainNode) (r : 
   }
 
   -- an operation stands there, and its size is known
+  operation_large : (operation : Operation) → operation_of r cubes ≡ Some operation → (found : Option Dimensions) → IsResultShape r one.shape two.shape found
+      → is_none found ≡ cube_too_large r cubes
+  operation_large operation e found shape =
+      let size = large (shape_of operation (map (λ (o : Outline). o.shape) (cubes_among r one two))) found
+      (shape one.kind two.kind operation (sym (ap (operation_of r) works) ∙ e)) in
+      size
+      ∙ (ap (λ (xs : List Outline). gives_too_large xs operation) (sym works)
+      ∙ sym (too_large r cubes operation e))
+
   callback_large : (fault : Fault) → IsLeast (StandsInCallback n.id r one) fault → (found : Option Dimensions) → IsResultShape r one.shape two.shape found
       → is_none found ≡ cube_too_large r cubes
-  callback_large fault is found shape =
-      by (operation_of r cubes) refl (ap (callback_on r) first_cube ∙ is.stands.is_callback (behind r two))
+  callback_large fault is found shape = by_callback is.stands
     where
-      by : (o : Option Operation) → operation_of r cubes ≡ o → callback_on r cubes ≡ Some (is.stands.argument, is.stands.callback)
+      by : (argument : List ℕ) (c : Callback) (o : Option Operation) → operation_of r cubes ≡ o → callback_on r cubes ≡ Some (argument, c)
           → is_none found ≡ cube_too_large r cubes
-      by None e on =
-          let none : callback_on r cubes ≡ None = ap (option_and_then callback_in) e in absurd cc
-      by (Some operation) e on =
-          let size = large (shape_of operation (map (λ (o : Outline). o.shape) (cubes_among r one two))) found
-          (shape one.kind two.kind operation (sym (ap (operation_of r) works) ∙ e)) in
-          size
-          ∙ (ap (λ (xs : List Outline). gives_too_large xs operation) (sym works)
-          ∙ sym (too_large r cubes operation e))
+      by argument c None e on = let none : callback_on r cubes ≡ None = ap (option_and_then callback_in) e in absurd cc
+      by argument c (Some operation) e on = operation_large operation e found shape
+
+      by_callback : StandsInCallback n.id r one fault.code fault.node → is_none found ≡ cube_too_large r cubes
+      by_callback (of_cells {argument = argument} {c = c} here s) =
+          by argument c (operation_of r cubes) refl (ap (callback_on r) first_cube ∙ here (behind r two))
+      by_callback (of_sums {g = g} here s) = operation_large (accumulate (ignores_nulls g)) (sums_operate r g cubes here) found shape
+
+  -- so many periods are too many before their callback is judged
+  pub too_many_periods : is_by_period r ≡ true → (found : Option Dimensions) → IsResultShape r one.shape two.shape found
+      → is_none found ≡ true → IsLeast (StandsHere rows at n) (record { code = CubeTooLarge; node = n.id })
+  too_many_periods periods found shape many =
+      let operation = period_operates r one (behind r two) periods in
+      size_first rows at n r p.asks p.none_holds (periods_of_kind r cubes periods)
+      (sym (operation_large operation.0 (ap (operation_of r) first_cube ∙ operation.1) found shape) ∙ many) later
+    where
+      later : (other : Fault) → StandsInside rows at n r p.asks p.none_holds other.code other.node → is_before other (record { code = CubeTooLarge; node = n.id }) ≡ false
+      later other (inl s) = inside_later n.id s.0 s.1 other.code other.node s.3
+      later other (inr s) = let none : None ≡ Some s.0 = sym (periods_no_sums r periods) ∙ s.1 in absurd cc
 
   pub callback_alone_least : (fault : Fault) → IsLeast (StandsInCallback n.id r one) fault → (found : Option Dimensions) → IsResultShape r one.shape two.shape found
       → is_none found ≡ false → IsLeast (StandsHere rows at n) fault
@@ -245,12 +329,14 @@ module _ (rows : List DimsRow) (at : List ℕ → Outline) (n : PlainNode) (r : 
   -- ---- where none stands in the callback
 
   module _ (operation : Operation) (op : (others : List Outline) → Some operation ≡ operation_of r (one ∷ others))
-      (right : (others : List Outline) → IfSome (callback_on r (one ∷ others)) (λ c. IsFaultlessCallback c.1)) where
+      (right : (others : List Outline) → IfSome (callback_on r (one ∷ others)) (λ c. IsFaultlessCallback c.1) × IfSome (sums_of r) AreSums) where
     is_operation : operation_of r cubes ≡ Some operation
     is_operation = ap (operation_of r) first_cube ∙ sym (op (behind r two))
 
     faultless : HasFaultlessCallback rows at r
-    faultless = subst (λ (xs : List Outline). IfSome (callback_on r xs) (λ c. IsFaultlessCallback c.1)) (sym first_cube) (right (behind r two))
+    faultless =
+        let both = right (behind r two) in
+        (subst (λ (xs : List Outline). IfSome (callback_on r xs) (λ c. IsFaultlessCallback c.1)) (sym first_cube) both.0, both.1)
 
     kinds : takes_other_kinds operation one.kind two.kind ≡ cell_kind_invalid r cubes
     kinds =
@@ -294,13 +380,14 @@ module _ (rows : List DimsRow) (at : List ℕ → Outline) (n : PlainNode) (r : 
               (some_is (λ o. IsSoundOn o (cubes_among r one two)) (operation_of r (cubes_among r one two)) operation
               (sym (ap (operation_of r) works) ∙ is_operation)
               (sound_on r one two buildable valid
-              (subst (λ (xs : List Outline). IfSome (callback_on r xs) (λ c. IsFaultlessCallback c.1)) works faultless)
+              (subst (λ (xs : List Outline). IfSome (callback_on r xs) (λ c. IsFaultlessCallback c.1)) works faultless.0)
               (ap (cell_kind_invalid r) (sym works) ∙ (sym kinds ∙ same))))
 
           is_sound : IsSoundOperation operation cubes
           is_sound = record {
             kinds = sound_kinds;
-            labels = some_is BringsLabels (operation_of r cubes) operation is_operation (brings_labels r cubes labels);
+            labels = some_is BringsLabels (operation_of r cubes) operation is_operation
+                (brings_labels r cubes (subst (λ (xs : List Outline). IsShape (first_or no_outline xs).shape) (sym first_cube) valid) labels);
             limits = limits.0;
           }
 
@@ -345,6 +432,8 @@ module _ (rows : List DimsRow) (at : List ℕ → Outline) (n : PlainNode) (r : 
       absent (reduce_dimension data_id name c) first rest e f =
           no_such (dimension_named name) first.shape (λ kind. callback_under (reduction_scope kind first) c) e f
       absent (aggregate_temporal data_id intervals name c) first rest e f = absurd cc
+      absent (aggregate_temporal_period data_id period name c) first rest e f = absurd cc
+      absent (apply_dimension data_id callback) first rest e f = absurd cc
       absent (merge_cubes one_id two_id resolver) first rest e f = absurd cc
       absent (mask data_id mask_id replacement) first rest e f = absurd cc
       absent (save_result data_id format) first rest e f = absurd cc
@@ -379,6 +468,8 @@ found_among (apply data_id c) = ([], refl)
 found_among (apply_kernel data_id kernel factor border replace) = ([], refl)
 found_among (reduce_dimension data_id name c) = ([], refl)
 found_among (aggregate_temporal data_id intervals name c) = ([], refl)
+found_among (aggregate_temporal_period data_id period name c) = ([], refl)
+found_among (apply_dimension data_id callback) = ([], refl)
 found_among (merge_cubes one_id two_id resolver) = ([], refl)
 found_among (mask data_id mask_id replacement) = ([], refl)
 found_among (save_result data_id format) = ([], refl)

@@ -5,7 +5,7 @@ use Rattle.oe_dims.specs.declared.kind.CellKind.{CellKind}
 use Rattle.oe_dims.specs.declared.kind.Kind.{Kind}
 use Rattle.oe_expr.specs.Callback.{Callback}
 use Rattle.oe_shape.specs.Operations.{Operation, reduce, Outline, operation_of, dimension_named, callback_under, reduction_scope}
-use Rattle.oe_shape.specs.Requests.{CubeRequest, load_collection, filter_bbox, filter_temporal, filter_bands, apply, apply_kernel, reduce_dimension, aggregate_temporal, merge_cubes, mask, save_result}
+use Rattle.oe_shape.specs.Requests.{CubeRequest, load_collection, filter_bbox, filter_temporal, filter_bands, apply, apply_kernel, reduce_dimension, aggregate_temporal, aggregate_temporal_period, apply_dimension, merge_cubes, mask, save_result}
 use Rattle.oe_shape.specs.Results.{cubes_among, takes_other_kinds}
 use Rattle.oe_shape.specs.Rows.{cell_kind_invalid}
 
@@ -26,6 +26,8 @@ asked (apply_kernel data_id kernel factor border replace) one two = refl
 asked (reduce_dimension data_id name c) one two =
     reduced_taken one.kind two.kind (λ kind. callback_under (reduction_scope kind one) c) (dimension_named name)
 asked (aggregate_temporal data_id intervals name c) one two = refl
+asked (aggregate_temporal_period data_id period name c) one two = refl
+asked (apply_dimension data_id callback) one two = refl
 asked (merge_cubes one_id two_id None) one two = refl
 asked (merge_cubes one_id two_id (Some c)) one two = refl
 asked (mask data_id mask_id replacement) one two = refl

@@ -13,6 +13,7 @@ pub mod AggregateLemmas
 pub mod SoundLemmas
 pub mod OrderedLemmas
 pub mod ValidLemmas
+pub mod PeriodLemmas
 pub mod RequestLemmas
 pub mod ScopeLemmas
 pub mod PartLemmas
@@ -39,6 +40,8 @@ pub mod ReadLemmas
 pub mod KernelLemmas
 pub mod DistinctLemmas
 pub mod KindLemmas
+pub mod InsideLemmas
+pub mod RunningSumLemmas
 pub mod VerdictLemmas
 pub mod InputLemmas
 pub mod BuildableLemmas

@@ -10,14 +10,14 @@ use Rattle.oe_graph.specs.declared.code.Code.TheVariants.{ProcessParameterInvali
 use Rattle.oe_graph.proofs.ResolvedLemmas.{node_below}
 use Rattle.oe_order.specs.Graph as order
 use Rattle.oe_expr.proofs.NodeLemmas.{contains_node}
-use Rattle.oe_expr.specs.Requests.{read, passes}
+use Rattle.oe_expr.specs.Requests.{read, is_null, passes}
 use Rattle.oe_shape.specs.Checked.{CheckedGraph, AreFaultless, collection_of_node}
 use Rattle.oe_shape.specs.Links.{link_of, links_of, loaded_by, loaded_collection}
-use Rattle.oe_shape.specs.Parameters.{cube_in, text_in, number_in, literal_in, box_in, extent_in, bands_in, some_bands_in, kernel_in, border_in, null_or, is_empty_list, is_empty_object, is_null_or_empty_object}
-use Rattle.oe_shape.specs.Requests.{cube_processes, cube_process_named, CubeRequest, load_collection, filter_bbox, filter_temporal, filter_bands, apply, apply_kernel, reduce_dimension, aggregate_temporal, merge_cubes, mask, save_result, called_in, intervals_in, resolver_in, cube_request_of, cube_request_at}
+use Rattle.oe_shape.specs.Parameters.{cube_in, callback_in, text_in, is_time_name, period_in, number_in, literal_in, box_in, extent_in, bands_in, some_bands_in, kernel_in, border_in, null_or, is_empty_list, is_empty_object, is_null_or_empty_object}
+use Rattle.oe_shape.specs.Requests.{cube_processes, cube_process_named, CubeRequest, load_collection, filter_bbox, filter_temporal, filter_bands, apply, apply_kernel, reduce_dimension, aggregate_temporal, aggregate_temporal_period, apply_dimension, merge_cubes, mask, save_result, called_in, intervals_in, resolver_in, cube_request_of, cube_request_at}
 use Rattle.oe_shape.specs.Stands.{IsSound, sound, asks_for_nothing}
 use Rattle.oe_shape.specs.declared.process.CubeProcess.{CubeProcess}
-use Rattle.oe_shape.specs.declared.process.CubeProcess.TheVariants.{AggregateTemporal, Apply, ApplyKernel, FilterBands, FilterBbox, FilterTemporal, LoadCollection, Mask, MergeCubes, ReduceDimension, SaveResult}
+use Rattle.oe_shape.specs.declared.process.CubeProcess.TheVariants.{AggregateTemporal, AggregateTemporalPeriod, Apply, ApplyDimension, ApplyKernel, FilterBands, FilterBbox, FilterTemporal, LoadCollection, Mask, MergeCubes, ReduceDimension, SaveResult}
 use Rattle.oe_shape.proofs.LinkLemmas.{one_node}
 use Rattle.oe_shape.proofs.ReferenceLemmas.{id_of, id_is, all_named, passed_so}
 use Rattle.oe_shape.proofs.RequestLemmas.{found, both_found}
@@ -30,8 +30,19 @@ loads_by AggregateTemporal given r e =
     let i = found _ (intervals_in given) r d.2 in
     let b = both_found (aggregate_temporal d.0 i.0) (read (null_or text_in) (codes "dimension") given) (called_in (codes "reducer") given) r i.2 in
     ap (λ q. is_some (loaded_by q)) (sym b.4)
+loads_by AggregateTemporalPeriod given r e =
+    let d = found _ (read cube_in (codes "data") given) r e in
+    let p = found _ (read period_in (codes "period") given) r d.2 in
+    let b = both_found (aggregate_temporal_period d.0 p.0) (read (null_or text_in) (codes "dimension") given) (called_in (codes "reducer") given) r p.2 in
+    ap (λ q. is_some (loaded_by q)) (sym b.4)
 loads_by Apply given r e =
     let b = both_found apply (read cube_in (codes "data") given) (called_in (codes "process") given) r e in
+    ap (λ q. is_some (loaded_by q)) (sym b.4)
+loads_by ApplyDimension given r e =
+    let t = passed_so (passes is_time_name (codes "dimension") given) _ r e in
+    let u = passed_so (passes is_null (codes "target_dimension") given) _ r t.1 in
+    let c = found _ (read literal_in (codes "context") given) r u.1 in
+    let b = both_found apply_dimension (read cube_in (codes "data") given) (read callback_in (codes "process") given) r c.2 in
     ap (λ q. is_some (loaded_by q)) (sym b.4)
 loads_by ApplyKernel given r e =
     let d = found _ (read cube_in (codes "data") given) r e in

@@ -14,8 +14,8 @@ use Rattle.oe_shape.specs.Graphs.{Collections, no_datacube, collection_named, ou
 use Rattle.oe_shape.specs.Labels.{merged_shape}
 use Rattle.oe_shape.specs.Laws.{AreFoundWithoutCells}
 use Rattle.oe_shape.specs.Meaning.{Datacube, no_cube, cube_of, operated, outline}
-use Rattle.oe_shape.specs.Operations.{Operation, keep, each_cell, convolve, reduce, aggregate, merge, cover, give_back, Outline, no_outline, no_dimensions, first_or, second_or, without_dimension, aggregated_shape, shape_of, operation_kind, outline_of, operation_of}
-use Rattle.oe_shape.specs.Requests.{CubeRequest, load_collection, filter_bbox, filter_temporal, filter_bands, apply, apply_kernel, reduce_dimension, aggregate_temporal, merge_cubes, mask, save_result, cube_request_at}
+use Rattle.oe_shape.specs.Operations.{Operation, keep, each_cell, convolve, reduce, aggregate, accumulate, merge, cover, give_back, Outline, no_outline, no_dimensions, first_or, second_or, without_dimension, aggregated_shape, shape_of, operation_kind, outline_of, operation_of}
+use Rattle.oe_shape.specs.Requests.{CubeRequest, load_collection, filter_bbox, filter_temporal, filter_bands, apply, apply_kernel, reduce_dimension, aggregate_temporal, aggregate_temporal_period, apply_dimension, merge_cubes, mask, save_result, cube_request_at}
 
 -- ---- one operation
 
@@ -38,6 +38,7 @@ shape_given (each_cell c) cubes = first_map the_shape no_cube cubes
 shape_given (convolve kernel factor border replace) cubes = first_map the_shape no_cube cubes
 shape_given (reduce kind c) cubes = ap (without_dimension kind) (first_map the_shape no_cube cubes)
 shape_given (aggregate intervals c) cubes = ap (aggregated_shape intervals) (first_map the_shape no_cube cubes)
+shape_given (accumulate ignore) cubes = first_map the_shape no_cube cubes
 shape_given (merge resolver) cubes =
     ap (λ d. merged_shape d (second_or no_cube cubes).shape) (first_map the_shape no_cube cubes)
     ∙ ap (merged_shape (first_or no_dimensions (map the_shape cubes))) (second_map the_shape no_cube cubes)
@@ -86,6 +87,8 @@ module _ (collections : Collections) where
   inputs_outlined at to same (apply_kernel data_id kernel factor border replace) = ap (λ o. o ∷ []) (same data_id)
   inputs_outlined at to same (reduce_dimension data_id name c) = ap (λ o. o ∷ []) (same data_id)
   inputs_outlined at to same (aggregate_temporal data_id intervals name c) = ap (λ o. o ∷ []) (same data_id)
+  inputs_outlined at to same (aggregate_temporal_period data_id period name c) = ap (λ o. o ∷ []) (same data_id)
+  inputs_outlined at to same (apply_dimension data_id callback) = ap (λ o. o ∷ []) (same data_id)
   inputs_outlined at to same (merge_cubes one two resolver) = ap (λ o. o ∷ outline (at two) ∷ []) (same one) ∙ ap (λ o. to one ∷ o ∷ []) (same two)
   inputs_outlined at to same (mask data_id mask_id replacement) = ap (λ o. o ∷ outline (at mask_id) ∷ []) (same data_id) ∙ ap (λ o. to data_id ∷ o ∷ []) (same mask_id)
   inputs_outlined at to same (save_result data_id format) = ap (λ o. o ∷ []) (same data_id)

@@ -16,18 +16,18 @@ use Rattle.oe_graph.specs.References.{argument_named, callbacks_in, callbacks_na
 use Rattle.oe_graph.specs.Tree as tree
 use Rattle.oe_graph.specs.Tree.{Argument, Named, PlainGraph, PlainNode}
 use Rattle.oe_kernel.specs.Kernels.{KernelValues}
-use Rattle.oe_expr.specs.Requests.{read, passes, whole_cell}
+use Rattle.oe_expr.specs.Requests.{read, is_null, passes, whole_cell}
 use Rattle.oe_shape.proofs.BringsLemmas.{Brings, request_brings}
 use Rattle.oe_shape.proofs.KernelLemmas.{all_rows}
 use Rattle.oe_shape.proofs.RequestLemmas.{found, both_found, passed}
 use Rattle.oe_shape.specs.Labels.{are_distinct}
-use Rattle.oe_shape.specs.Parameters.{null_or, list_in, cube_in, callback_in, text_in, whole_in, number_in, literal_in, box_in, extent_in, bands_in, some_bands_in, kernel_in, kernel_of, border_in, is_given, is_empty_list, is_empty_object, is_null_or_empty_object}
-use Rattle.oe_shape.specs.Requests.{Called, called, cube_process_named, CubeRequest, load_collection, filter_bbox, filter_temporal, filter_bands, apply, apply_kernel, reduce_dimension, aggregate_temporal, merge_cubes, mask, save_result, called_in, intervals_in, resolver_in, cube_request_of, cube_request_at}
+use Rattle.oe_shape.specs.Parameters.{null_or, list_in, cube_in, callback_in, text_in, is_time_name, period_in, whole_in, number_in, literal_in, box_in, extent_in, bands_in, some_bands_in, kernel_in, kernel_of, border_in, is_given, is_empty_list, is_empty_object, is_null_or_empty_object}
+use Rattle.oe_shape.specs.Requests.{Called, called, cube_process_named, CubeRequest, load_collection, filter_bbox, filter_temporal, filter_bands, apply, apply_kernel, reduce_dimension, aggregate_temporal, aggregate_temporal_period, apply_dimension, merge_cubes, mask, save_result, called_in, intervals_in, resolver_in, cube_request_of, cube_request_at}
 use Rattle.oe_shape.specs.Results.{HasValidLabels}
 use Rattle.oe_shape.specs.Rows.{distinct_labels_required}
 use Rattle.oe_shape.specs.ValidShapes.{labels_of}
 use Rattle.oe_shape.specs.declared.process.CubeProcess.{CubeProcess}
-use Rattle.oe_shape.specs.declared.process.CubeProcess.TheVariants.{AggregateTemporal, Apply, ApplyKernel, FilterBands, FilterBbox, FilterTemporal, LoadCollection, Mask, MergeCubes, ReduceDimension, SaveResult}
+use Rattle.oe_shape.specs.declared.process.CubeProcess.TheVariants.{AggregateTemporal, AggregateTemporalPeriod, Apply, ApplyDimension, ApplyKernel, FilterBands, FilterBbox, FilterTemporal, LoadCollection, Mask, MergeCubes, ReduceDimension, SaveResult}
 
 -- ---- labels
 
@@ -41,6 +41,8 @@ labels_valid (apply_kernel data_id kernel factor border replace) b d = tt
 labels_valid (reduce_dimension data_id name c) b d = tt
 labels_valid (aggregate_temporal data_id intervals name c) b d =
     record { differ = not-false (are_distinct same_number (labels_of intervals)) d; in_range = b }
+labels_valid (aggregate_temporal_period data_id period name c) b d = tt
+labels_valid (apply_dimension data_id callback) b d = tt
 labels_valid (merge_cubes one two resolver) b d = tt
 labels_valid (mask data_id mask_id replacement) b d = tt
 labels_valid (save_result data_id format) b d = tt
@@ -181,6 +183,8 @@ IsRead given (apply data_id c) = IsReadCallback given c
 IsRead given (apply_kernel data_id kernel factor border replace) = IsCounted kernel
 IsRead given (reduce_dimension data_id name c) = IsReadCallback given c
 IsRead given (aggregate_temporal data_id intervals name c) = IsReadCallback given c
+IsRead given (aggregate_temporal_period data_id period name c) = IsReadCallback given c
+IsRead given (apply_dimension data_id callback) = Contains (callbacks_named given) callback
 IsRead given (merge_cubes one two resolver) = IfSome resolver (IsReadCallback given)
 IsRead given (mask data_id mask_id replacement) = ⊤
 IsRead given (save_result data_id format) = ⊤
@@ -192,6 +196,18 @@ module _ (given : Named) where
       let i = found _ (intervals_in given) r d.2 in
       let b = both_found (aggregate_temporal d.0 i.0) (read (null_or text_in) (codes "dimension") given) (called_in (codes "reducer") given) r i.2 in
       subst (IsRead given) b.4 (callback_read given (codes "reducer") b.1 b.3)
+  request_read AggregateTemporalPeriod r e =
+      let d = found _ (read cube_in (codes "data") given) r e in
+      let p = found _ (read period_in (codes "period") given) r d.2 in
+      let b = both_found (aggregate_temporal_period d.0 p.0) (read (null_or text_in) (codes "dimension") given) (called_in (codes "reducer") given) r p.2 in
+      subst (IsRead given) b.4 (callback_read given (codes "reducer") b.1 b.3)
+  request_read ApplyDimension r e =
+      let t = passed (passes is_time_name (codes "dimension") given) _ r e in
+      let u = passed (passes is_null (codes "target_dimension") given) _ r t in
+      let c = found _ (read literal_in (codes "context") given) r u in
+      let b = both_found apply_dimension (read cube_in (codes "data") given) (read callback_in (codes "process") given) r c.2 in
+      let graph = found callback_in (argument_named (codes "process") given) b.1 b.3 in
+      subst (IsRead given) b.4 (callbacks_of_argument (codes "process") given graph.0 b.1 graph.1 (within_itself graph.0 b.1 graph.2))
   request_read FilterBands r e =
       let p = passed (passes is_empty_list (codes "wavelengths") given) _ r e in
       let b = both_found filter_bands (read cube_in (codes "data") given) (read bands_in (codes "bands") given) r p in

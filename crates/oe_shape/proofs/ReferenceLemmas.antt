@@ -17,13 +17,13 @@ use Rattle.oe_graph.specs.Resolved.{IsResolvedNode, parameter_names}
 use Rattle.oe_graph.specs.Tree as tree
 use Rattle.oe_graph.specs.Tree.{Argument, ListValues, Named, PlainNode}
 use Rattle.oe_expr.specs.Requests.{with_both, read, passes, where_passed, is_null}
-use Rattle.oe_shape.specs.Parameters.{where_it, cube_in, callback_in, text_in, whole_in, number_in, literal_in, name_in, box_in, bounding_box_of, box_members, is_flat_box, is_box, side_of, crs_of, epsg_in, extent_in, extent_from, is_limited, instant_in, bands_in, some_bands_in, kernel_in, kernel_of, border_in, list_in, each_in, null_or, is_empty_list, is_empty_object, is_null_or_empty_object}
+use Rattle.oe_shape.specs.Parameters.{where_it, cube_in, callback_in, text_in, is_time_name, period_in, whole_in, number_in, literal_in, name_in, box_in, bounding_box_of, box_members, is_flat_box, is_box, side_of, crs_of, epsg_in, extent_in, extent_from, is_limited, instant_in, bands_in, some_bands_in, kernel_in, kernel_of, border_in, list_in, each_in, null_or, is_empty_list, is_empty_object, is_null_or_empty_object}
 use Rattle.oe_shape.specs.declared.extent.BoundingBox.{BoundingBox}
 use Rattle.oe_shape.specs.declared.extent.TemporalExtent.{TemporalExtent}
 use Rattle.oe_shape.specs.declared.process.CubeProcess.{CubeProcess}
-use Rattle.oe_shape.specs.declared.process.CubeProcess.TheVariants.{AggregateTemporal, Apply, ApplyKernel, FilterBands, FilterBbox, FilterTemporal, LoadCollection, Mask, MergeCubes, ReduceDimension, SaveResult}
+use Rattle.oe_shape.specs.declared.process.CubeProcess.TheVariants.{AggregateTemporal, AggregateTemporalPeriod, Apply, ApplyDimension, ApplyKernel, FilterBands, FilterBbox, FilterTemporal, LoadCollection, Mask, MergeCubes, ReduceDimension, SaveResult}
 use Rattle.oe_shape.specs.Labels.{are_among}
-use Rattle.oe_shape.specs.Requests.{NamedProcess, process_among, cube_processes, cube_process_named, CubeRequest, load_collection, filter_bbox, filter_temporal, filter_bands, apply, apply_kernel, reduce_dimension, aggregate_temporal, merge_cubes, mask, save_result, cube_ids, called, called_in, intervals_in, resolver_in, cube_request_of, cube_request_at}
+use Rattle.oe_shape.specs.Requests.{NamedProcess, process_among, cube_processes, cube_process_named, CubeRequest, load_collection, filter_bbox, filter_temporal, filter_bands, apply, apply_kernel, reduce_dimension, aggregate_temporal, aggregate_temporal_period, apply_dimension, merge_cubes, mask, save_result, cube_ids, called, called_in, intervals_in, resolver_in, cube_request_of, cube_request_at}
 use Rattle.oe_shape.proofs.RequestLemmas.{found, both_found}
 
 -- ---- names in byte order
@@ -238,6 +238,9 @@ quiet_list reader quiet a v e =
 quiet_text : IsQuiet text_in
 quiet_text = quiet_scalar text_in (λ rest. refl) (λ ms. refl) (λ id. refl)
 
+quiet_period : IsQuiet period_in
+quiet_period = quiet_scalar period_in (λ rest. refl) (λ ms. refl) (λ id. refl)
+
 quiet_callback : IsQuiet callback_in
 quiet_callback = quiet_scalar callback_in (λ rest. refl) (λ ms. refl) (λ id. refl)
 
@@ -368,6 +371,9 @@ list_quiet a h = quiet_but (λ b. is_empty_list b ≡ true) empty_list (λ ms is
 object_quiet : (a : Argument) → is_empty_object a ≡ true → references_in a ≡ []
 object_quiet a h = quiet_but (λ b. is_empty_object b ≡ true) (λ rest is. absurd (no_truth is)) empty_object (λ id is. no_truth is) a h
 
+time_name_quiet : (a : Argument) → is_time_name a ≡ true → references_in a ≡ []
+time_name_quiet a h = quiet_but (λ b. is_time_name b ≡ true) (λ rest is. absurd (no_truth is)) (λ ms is. absurd (no_truth is)) (λ id is. no_truth is) a h
+
 null_or_object_quiet : (a : Argument) → is_null_or_empty_object a ≡ true → references_in a ≡ []
 null_or_object_quiet a h =
     quiet_but (λ b. is_null_or_empty_object b ≡ true) (λ rest is. absurd (no_truth is)) empty_object (λ id is. no_truth is) a h
@@ -421,7 +427,9 @@ quiet_box a v e =
 
 abbrev pub id_of : CubeProcess → List ℕ
 id_of AggregateTemporal = codes "aggregate_temporal"
+id_of AggregateTemporalPeriod = codes "aggregate_temporal_period"
 id_of Apply = codes "apply"
+id_of ApplyDimension = codes "apply_dimension"
 id_of ApplyKernel = codes "apply_kernel"
 id_of FilterBands = codes "filter_bands"
 id_of FilterBbox = codes "filter_bbox"
@@ -435,7 +443,9 @@ id_of SaveResult = codes "save_result"
 -- in byte order of their names
 abbrev parameters_of : CubeProcess → List (List ℕ)
 parameters_of AggregateTemporal = codes "context" ∷ codes "data" ∷ codes "dimension" ∷ codes "intervals" ∷ codes "labels" ∷ codes "reducer" ∷ []
+parameters_of AggregateTemporalPeriod = codes "context" ∷ codes "data" ∷ codes "dimension" ∷ codes "period" ∷ codes "reducer" ∷ []
 parameters_of Apply = codes "context" ∷ codes "data" ∷ codes "process" ∷ []
+parameters_of ApplyDimension = codes "context" ∷ codes "data" ∷ codes "dimension" ∷ codes "process" ∷ codes "target_dimension" ∷ []
 parameters_of ApplyKernel = codes "border" ∷ codes "data" ∷ codes "factor" ∷ codes "kernel" ∷ codes "replace_invalid" ∷ []
 parameters_of FilterBands = codes "bands" ∷ codes "data" ∷ codes "wavelengths" ∷ []
 parameters_of FilterBbox = codes "data" ∷ codes "extent" ∷ []
@@ -448,7 +458,9 @@ parameters_of SaveResult = codes "data" ∷ codes "format" ∷ codes "options" �
 
 parameters_rise : (process : CubeProcess) → names_rise (parameters_of process) ≡ true
 parameters_rise AggregateTemporal = refl
+parameters_rise AggregateTemporalPeriod = refl
 parameters_rise Apply = refl
+parameters_rise ApplyDimension = refl
 parameters_rise ApplyKernel = refl
 parameters_rise FilterBands = refl
 parameters_rise FilterBbox = refl
@@ -466,7 +478,9 @@ has_these process p =
 
 catalogue_has : (process : CubeProcess) → option_map_or (has_these process) (process_named (id_of process)) false ≡ true
 catalogue_has AggregateTemporal = refl
+catalogue_has AggregateTemporalPeriod = refl
 catalogue_has Apply = refl
+catalogue_has ApplyDimension = refl
 catalogue_has ApplyKernel = refl
 catalogue_has FilterBands = refl
 catalogue_has FilterBbox = refl
@@ -482,7 +496,7 @@ AreNamed [] = ⊤
 AreNamed (p ∷ others) = (id_of p.1 ≡ p.0) × AreNamed others
 
 pub all_named : AreNamed cube_processes
-all_named = (refl, (refl, (refl, (refl, (refl, (refl, (refl, (refl, (refl, (refl, (refl, tt)))))))))))
+all_named = (refl, (refl, (refl, (refl, (refl, (refl, (refl, (refl, (refl, (refl, (refl, (refl, (refl, tt)))))))))))))
 
 pub id_is : (id : List ℕ) (processes : List NamedProcess) (process : CubeProcess) → AreNamed processes → process_among id processes ≡ Some process → id ≡ id_of process
 id_is id [] process named e = absurd cc
@@ -600,6 +614,32 @@ module _ (given : Named) where
       let reducer_at = at_read given callback_in (codes "reducer") c.0 quiet_callback c.2 in
       rw (context_at, data_at, dimension_at, intervals_at, labels_at, reducer_at) (ap cube_ids b.4)
 
+  period_references : (r : CubeRequest) → cube_request_of AggregateTemporalPeriod given ≡ Some r → AreCubes AggregateTemporalPeriod r
+  period_references r e =
+      let d = found _ (read cube_in (codes "data") given) r e in
+      let p = found _ (read period_in (codes "period") given) r d.2 in
+      let b = both_found (aggregate_temporal_period d.0 p.0) (read (null_or text_in) (codes "dimension") given) (called_in (codes "reducer") given) r p.2 in
+      let c = both_found called (read callback_in (codes "reducer") given) (read literal_in (codes "context") given) b.1 b.3 in
+      let context_at = at_read given literal_in (codes "context") c.1 quiet_literal c.3 in
+      let data_at = at_cube given (codes "data") d.0 d.1 in
+      let dimension_at = at_read given (null_or text_in) (codes "dimension") b.0 (quiet_null_or text_in quiet_text) b.2 in
+      let period_at = at_read given period_in (codes "period") p.0 quiet_period p.1 in
+      let reducer_at = at_read given callback_in (codes "reducer") c.0 quiet_callback c.2 in
+      rw (context_at, data_at, dimension_at, period_at, reducer_at) (ap cube_ids b.4)
+
+  dimension_references : (r : CubeRequest) → cube_request_of ApplyDimension given ≡ Some r → AreCubes ApplyDimension r
+  dimension_references r e =
+      let t = passed_so (passes is_time_name (codes "dimension") given) _ r e in
+      let u = passed_so (passes is_null (codes "target_dimension") given) _ r t.1 in
+      let c = found _ (read literal_in (codes "context") given) r u.1 in
+      let b = both_found apply_dimension (read cube_in (codes "data") given) (read callback_in (codes "process") given) r c.2 in
+      let context_at = at_read given literal_in (codes "context") c.0 quiet_literal c.1 in
+      let data_at = at_cube given (codes "data") b.0 b.2 in
+      let dimension_at = at_test given is_time_name (codes "dimension") time_name_quiet t.0 in
+      let process_at = at_read given callback_in (codes "process") b.1 quiet_callback b.3 in
+      let target_at = at_test given is_null (codes "target_dimension") null_quiet u.0 in
+      rw (context_at, data_at, dimension_at, process_at, target_at) (ap cube_ids b.4)
+
   merge_references : (r : CubeRequest) → cube_request_of MergeCubes given ≡ Some r → AreCubes MergeCubes r
   merge_references r e =
       let one = found _ (read cube_in (codes "cube1") given) r e in
@@ -631,7 +671,9 @@ module _ (given : Named) where
 
   process_references : (process : CubeProcess) (r : CubeRequest) → cube_request_of process given ≡ Some r → AreCubes process r
   process_references AggregateTemporal r e = aggregate_references r e
+  process_references AggregateTemporalPeriod r e = period_references r e
   process_references Apply r e = apply_references r e
+  process_references ApplyDimension r e = dimension_references r e
   process_references ApplyKernel r e = kernel_references r e
   process_references FilterBands r e = bands_references r e
   process_references FilterBbox r e = bbox_references r e

@@ -8,15 +8,15 @@ use Rattle.oe_graph.specs.References.{argument_named, references_in, references_
 use Rattle.oe_graph.specs.Tree as tree
 use Rattle.oe_graph.specs.Tree.{Argument, Named, PlainNode, PlainGraph}
 use Rattle.oe_expr.specs.Nodes.{LooksDown}
-use Rattle.oe_expr.specs.Requests.{with_both, read, passes, where_passed}
+use Rattle.oe_expr.specs.Requests.{with_both, read, is_null, passes, where_passed}
 use Rattle.oe_dims.specs.declared.dims.DimsRow.{DimsRow}
 use Rattle.oe_shape.specs.Graphs.{Collections, no_datacube, collection_named, outline_named, request_inputs, request_outline, node_outline, request_meaning, node_meaning}
 use Rattle.oe_shape.specs.Meaning.{Datacube, operated, outline}
 use Rattle.oe_shape.specs.Operations.{Outline, no_outline, operation_of, outline_of}
-use Rattle.oe_shape.specs.Parameters.{cube_in, callback_in, text_in, number_in, literal_in, box_in, extent_in, bands_in, some_bands_in, kernel_in, border_in, null_or, is_empty_list, is_empty_object, is_null_or_empty_object}
+use Rattle.oe_shape.specs.Parameters.{cube_in, callback_in, text_in, is_time_name, period_in, number_in, literal_in, box_in, extent_in, bands_in, some_bands_in, kernel_in, border_in, null_or, is_empty_list, is_empty_object, is_null_or_empty_object}
 use Rattle.oe_shape.specs.declared.process.CubeProcess.{CubeProcess}
-use Rattle.oe_shape.specs.declared.process.CubeProcess.TheVariants.{AggregateTemporal, Apply, ApplyKernel, FilterBands, FilterBbox, FilterTemporal, LoadCollection, Mask, MergeCubes, ReduceDimension, SaveResult}
-use Rattle.oe_shape.specs.Requests.{cube_process_named, called, CubeRequest, load_collection, filter_bbox, filter_temporal, filter_bands, apply, apply_kernel, reduce_dimension, aggregate_temporal, merge_cubes, mask, save_result, cube_ids, called_in, intervals_in, resolver_in, cube_request_of, cube_request_at}
+use Rattle.oe_shape.specs.declared.process.CubeProcess.TheVariants.{AggregateTemporal, AggregateTemporalPeriod, Apply, ApplyDimension, ApplyKernel, FilterBands, FilterBbox, FilterTemporal, LoadCollection, Mask, MergeCubes, ReduceDimension, SaveResult}
+use Rattle.oe_shape.specs.Requests.{cube_process_named, called, CubeRequest, load_collection, filter_bbox, filter_temporal, filter_bands, apply, apply_kernel, reduce_dimension, aggregate_temporal, aggregate_temporal_period, apply_dimension, merge_cubes, mask, save_result, cube_ids, called_in, intervals_in, resolver_in, cube_request_of, cube_request_at}
 
 -- ---- readers that found something
 
@@ -124,6 +124,21 @@ module _ (P : List ℕ → Type 0) (given : Named) (all : (id : List ℕ) → Co
       let b = both_found (aggregate_temporal d.0 i.0) (read (null_or text_in) (codes "dimension") given) (called_in (codes "reducer") given) r i.2 in
       subst Each b.4 (of_cube (codes "data") d.0 d.1, tt)
 
+  of_period : (r : CubeRequest) → cube_request_of AggregateTemporalPeriod given ≡ Some r → Each r
+  of_period r e =
+      let d = found _ (read cube_in (codes "data") given) r e in
+      let p = found _ (read period_in (codes "period") given) r d.2 in
+      let b = both_found (aggregate_temporal_period d.0 p.0) (read (null_or text_in) (codes "dimension") given) (called_in (codes "reducer") given) r p.2 in
+      subst Each b.4 (of_cube (codes "data") d.0 d.1, tt)
+
+  of_dimension : (r : CubeRequest) → cube_request_of ApplyDimension given ≡ Some r → Each r
+  of_dimension r e =
+      let t = passed (passes is_time_name (codes "dimension") given) _ r e in
+      let u = passed (passes is_null (codes "target_dimension") given) _ r t in
+      let c = found _ (read literal_in (codes "context") given) r u in
+      let b = both_found apply_dimension (read cube_in (codes "data") given) (read callback_in (codes "process") given) r c.2 in
+      subst Each b.4 (of_cube (codes "data") b.0 b.2, tt)
+
   of_merge : (r : CubeRequest) → cube_request_of MergeCubes given ≡ Some r → Each r
   of_merge r e =
       let one = found _ (read cube_in (codes "cube1") given) r e in
@@ -144,7 +159,9 @@ module _ (P : List ℕ → Type 0) (given : Named) (all : (id : List ℕ) → Co
 
   of_request : (process : CubeProcess) (r : CubeRequest) → cube_request_of process given ≡ Some r → Each r
   of_request AggregateTemporal r e = of_aggregate r e
+  of_request AggregateTemporalPeriod r e = of_period r e
   of_request Apply r e = of_apply r e
+  of_request ApplyDimension r e = of_dimension r e
   of_request ApplyKernel r e = of_apply_kernel r e
   of_request FilterBands r e = of_filter_bands r e
   of_request FilterBbox r e = of_filter_bbox r e
@@ -172,6 +189,8 @@ same_inputs collection f g (apply data_id c) h = ap (λ a. a ∷ []) h.0
 same_inputs collection f g (apply_kernel data_id kernel factor border replace) h = ap (λ a. a ∷ []) h.0
 same_inputs collection f g (reduce_dimension data_id name c) h = ap (λ a. a ∷ []) h.0
 same_inputs collection f g (aggregate_temporal data_id intervals name c) h = ap (λ a. a ∷ []) h.0
+same_inputs collection f g (aggregate_temporal_period data_id period name c) h = ap (λ a. a ∷ []) h.0
+same_inputs collection f g (apply_dimension data_id callback) h = ap (λ a. a ∷ []) h.0
 same_inputs collection f g (merge_cubes one two resolver) h = ap (λ a. a ∷ f two ∷ []) h.0 ∙ ap (λ a. g one ∷ a ∷ []) h.1.0
 same_inputs collection f g (mask data_id mask_id replacement) h = ap (λ a. a ∷ f mask_id ∷ []) h.0 ∙ ap (λ a. g data_id ∷ a ∷ []) h.1.0
 same_inputs collection f g (save_result data_id format) h = ap (λ a. a ∷ []) h.0

@@ -5,15 +5,18 @@ use Rattle.std.specs.Bool.{⊤}
 use Rattle.std.specs.Prelude.{Vec, IfSome}
 use Rattle.std.specs.Option.{option_map}
 use Rattle.oe_dims.proofs.ShapeLemmas.{is_within_limit_kind, cell_count_within}
-use Rattle.oe_dims.specs.Dimensions.{Dimensions, IsShape, shape_fault, cell_count, most_cells}
+use Rattle.oe_dims.specs.Dimensions.{Dimensions, IsShape, number_labels, shape_fault, cell_count, most_cells}
 use Rattle.oe_dims.specs.Lists.{items_of, dimensions_with}
 use Rattle.oe_dims.specs.declared.kind.Kind.{Kind}
 use Rattle.oe_dims.specs.declared.kind.Kind.TheVariants.{Time, Bands, Y, X}
 use Rattle.oe_dims.specs.declared.shape.ShapeFault.{ShapeFault}
+use Rattle.oe_periods.specs.declared.calendar.Period.{Period}
+use Rattle.oe_shape.proofs.PeriodLemmas.{period_labels, period_shape_is}
 use Rattle.oe_shape.proofs.ValidLemmas.{labelled_shape, is_shape, kept_labelled, without_labelled, aggregated_labelled, merged_labelled}
 use Rattle.oe_shape.specs.Extents.{Restriction, kept_shape}
 use Rattle.oe_shape.specs.Labels.{merged_shape}
 use Rattle.oe_shape.specs.Operations.{without_dimension, aggregated_shape}
+use Rattle.oe_shape.specs.Periods.{period_intervals, period_shape}
 use Rattle.oe_shape.specs.Results.{where_within_limits}
 use Rattle.oe_shape.specs.ValidShapes.{is_within_limits, AreBands, AreIntervalLabels, labels_of}
 use Rattle.oe_shape.specs.declared.extent.Interval.{Interval}
@@ -33,6 +36,9 @@ limits_of_shape d h =
 pub valid_within : (d : Dimensions) → IsShape d → where_within_limits d ≡ Some d
 valid_within d h = rw (limits_of_shape d h) refl
 
+pub past_limits : (d : Dimensions) → is_within_limits d ≡ false → where_within_limits d ≡ None
+past_limits d h = rw h refl
+
 pub none_within : (d : Dimensions) (fault : ShapeFault) → (is_within_limits d ≡ true → IsShape d) → shape_fault d ≡ Some fault → where_within_limits d ≡ None
 none_within d fault valid h = by (is_within_limits d) refl
   where
@@ -41,7 +47,7 @@ none_within d fault valid h = by (is_within_limits d) refl
 
     by : (b : Bool) → is_within_limits d ≡ b → where_within_limits d ≡ None
     by true is = absurd (nothing (sym (valid is) ∙ h))
-    by false is = rw is refl
+    by false is = past_limits d is
 
 -- dimensions from their parts
 pub from_parts : (d : Dimensions) (epsg : ℕ) (t : Option (Vec ℤ Global)) (bands : Option (Vec (List ℕ) Global)) (y x : Option (Vec ℤ Global))
@@ -60,3 +66,9 @@ aggregated_valid intervals d g h l = is_shape (aggregated_shape intervals d) (ag
 
 pub merged_valid : (one two : Dimensions) → IsShape one → IsShape two → is_within_limits (merged_shape one two) ≡ true → IsShape (merged_shape one two)
 merged_valid one two h k l = is_shape (merged_shape one two) (merged_labelled one two (labelled_shape one h) (labelled_shape two k)) l
+
+pub period_valid : (period : Period) (d : Dimensions) → IsShape d → is_within_limits (period_shape period d) ≡ true → IsShape (period_shape period d)
+period_valid period d v l =
+    let same = period_shape_is period d v in
+    subst IsShape same
+    (aggregated_valid (period_intervals period (number_labels d Time)) d (period_labels period d v) v (subst (λ s. is_within_limits s ≡ true) (sym same) l))

@@ -4,11 +4,11 @@ use Rattle.std.specs.Prelude.{All}
 use Rattle.oe_dims.proofs.ShapeLemmas.{t_rises}
 use Rattle.oe_expr.specs.Callback.{Callback}
 use Rattle.oe_shape.proofs.AggregateLemmas.{aggregated_fits}
-use Rattle.oe_shape.proofs.CellKindLemmas.{AllOfKind, Resolves, resolves, kept_fits, applied_fits, convolution_fits, reduced_fits, covered_fits, merged_fits}
+use Rattle.oe_shape.proofs.CellKindLemmas.{AllOfKind, Resolves, resolves, kept_fits, applied_fits, convolution_fits, reduced_fits, accumulated_fits, covered_fits, merged_fits}
 use Rattle.oe_shape.specs.CellKinds.{HasCellsOfKind, ResolvesTo, IsSoundOn, GiveCellsOfKind}
 use Rattle.oe_shape.specs.Graphs.{no_datacube}
 use Rattle.oe_shape.specs.Meaning.{Datacube, operated, outline}
-use Rattle.oe_shape.specs.Operations.{Operation, keep, each_cell, convolve, reduce, aggregate, merge, cover, give_back, Outline, first_or, second_or}
+use Rattle.oe_shape.specs.Operations.{Operation, keep, each_cell, convolve, reduce, aggregate, accumulate, merge, cover, give_back, Outline, first_or, second_or}
 
 -- the first and the second input, or the one that stands where there is none
 abbrev first : List Datacube → Datacube
@@ -57,6 +57,7 @@ both_fit (each_cell c) one two s h k = applied_fits one.kind c one.cube s.scope_
 both_fit (convolve kernel factor border replace) one two s h k = convolution_fits kernel factor border replace one.cube
 both_fit (reduce kind c) one two s h k = reduced_fits one.kind kind c one.cube s.scope_is s.keeps h
 both_fit (aggregate intervals c) one two s h k = aggregated_fits one.kind intervals c one.cube s.0.scope_is s.0.keeps (t_rises one.cube.shape s.1) h
+both_fit (accumulate ignore) one two s h k = accumulated_fits one.kind ignore one.cube h
 both_fit (merge resolver) one two s h k =
     merged_fits one.kind resolver one.cube two.cube (resolves_to (outline one) resolver s.1) h (subst (λ kind. AllOfKind kind two.cube) s.0 k)
 both_fit (cover replacement) one two s h k = covered_fits one.kind replacement one.cube two.cube s h
@@ -76,7 +77,9 @@ same_operated operation inputs = by operation inputs
     by (reduce kind c) [] = refl
     by (reduce kind c) (a ∷ inputs) = refl
     by (aggregate intervals c) [] = refl
+    by (accumulate ignore) [] = refl
     by (aggregate intervals c) (a ∷ inputs) = refl
+    by (accumulate ignore) (a ∷ inputs) = refl
     by (merge resolver) [] = refl
     by (merge resolver) (a ∷ []) = refl
     by (merge resolver) (a ∷ b ∷ inputs) = refl
@@ -94,7 +97,9 @@ same_sound (convolve kernel factor border replace) inputs s = tt
 same_sound (reduce kind c) [] s = s
 same_sound (reduce kind c) (a ∷ inputs) s = s
 same_sound (aggregate intervals c) [] s = s
+same_sound (accumulate ignore) [] s = s
 same_sound (aggregate intervals c) (a ∷ inputs) s = s
+same_sound (accumulate ignore) (a ∷ inputs) s = s
 same_sound (merge resolver) [] s = s
 same_sound (merge resolver) (a ∷ []) s = s
 same_sound (merge resolver) (a ∷ b ∷ inputs) s = s

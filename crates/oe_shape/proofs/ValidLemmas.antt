@@ -11,7 +11,7 @@ use Rattle.oe_dims.specs.declared.kind.Kind.TheVariants.{Time, Bands, Y, X}
 use Rattle.oe_shape.proofs.OrderedLemmas.{left_of, right_of, filter_all, filtered_rise, filtered_fall, ordered_rise, merged_rise, merged_fall, merged_all, order_all, below_is_order, above_is_order, all_bands_differ}
 use Rattle.oe_shape.specs.Extents.{Restriction, is_in_time, is_up, is_across, kept_labels, kept_bands, kept_shape}
 use Rattle.oe_shape.specs.Labels.{is_below, is_above, sorted_labels, new_among, all_in_order, all_bands, either_epsg, merged_shape}
-use Rattle.oe_shape.specs.Operations.{Operation, keep, each_cell, convolve, reduce, aggregate, merge, cover, give_back, no_dimensions, first_or, second_or, epsg_without, without_dimension, aggregated_shape, shape_of}
+use Rattle.oe_shape.specs.Operations.{Operation, keep, each_cell, convolve, reduce, aggregate, accumulate, merge, cover, give_back, no_dimensions, first_or, second_or, epsg_without, without_dimension, aggregated_shape, shape_of}
 use Rattle.oe_shape.specs.declared.extent.Interval.{Interval}
 use Rattle.oe_shape.specs.ValidShapes.{is_within_limits, AreBands, labels_of, AreIntervalLabels, BringsLabels, GiveValidShapes}
 
@@ -267,6 +267,7 @@ gives_shape (reduce kind c) shapes g h l =
     is_shape (without_dimension kind (first_or no_dimensions shapes)) (without_labelled kind (first_or no_dimensions shapes) (labelled_shape _ (first_is_shape shapes h))) l
 gives_shape (aggregate intervals c) shapes g h l =
     is_shape (aggregated_shape intervals (first_or no_dimensions shapes)) (aggregated_labelled intervals (first_or no_dimensions shapes) g (labelled_shape _ (first_is_shape shapes h))) l
+gives_shape (accumulate ignore) shapes g h l = first_is_shape shapes h
 gives_shape (merge resolver) shapes g h l =
     is_shape (merged_shape (first_or no_dimensions shapes) (second_or no_dimensions shapes))
     (merged_labelled (first_or no_dimensions shapes) (second_or no_dimensions shapes) (labelled_shape _ (first_is_shape shapes h)) (labelled_shape _ (second_is_shape shapes h))) l

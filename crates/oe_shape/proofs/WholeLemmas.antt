@@ -21,7 +21,7 @@ use Rattle.oe_shape.specs.Labels.{merged_shape, differ_along}
 use Rattle.oe_shape.specs.Links.{index_referred, links_of}
 use Rattle.oe_shape.specs.Operations.{Operation, Outline, no_outline, merge, operation_of, outline_of, dimension_named}
 use Rattle.oe_shape.specs.Reach.{needs_whole, input_shapes, whole_of_node}
-use Rattle.oe_shape.specs.Requests.{CubeRequest, Called, load_collection, filter_bbox, filter_temporal, filter_bands, apply, apply_kernel, reduce_dimension, aggregate_temporal, merge_cubes, mask, save_result, cube_request_at}
+use Rattle.oe_shape.specs.Requests.{CubeRequest, Called, load_collection, filter_bbox, filter_temporal, filter_bands, apply, apply_kernel, reduce_dimension, aggregate_temporal, aggregate_temporal_period, apply_dimension, merge_cubes, mask, save_result, cube_request_at}
 use Rattle.oe_shape.specs.SoundNodes.{input_outlines}
 use Rattle.oe_shape.specs.Walked.{AreResolved}
 use Rattle.oe_shape.proofs.CheckedLemmas.{refer}
@@ -73,6 +73,8 @@ is_merge (reduce_dimension data_id name c) cubes resolver e = by (dimension_name
     by None f e = absurd cc
     by (Some kind) f e = absurd cc
 is_merge (aggregate_temporal data_id intervals name c) cubes resolver e = absurd cc
+is_merge (aggregate_temporal_period data_id period name c) cubes resolver e = absurd cc
+is_merge (apply_dimension data_id callback) cubes resolver e = absurd cc
 is_merge (merge_cubes one two called) cubes resolver e = record { one = one; two = two; resolver = called; is = refl }
 is_merge (mask data_id mask_id replacement) cubes resolver e = absurd cc
 is_merge (save_result data_id format) cubes resolver e = absurd cc

@@ -5,6 +5,7 @@ use Rattle.std.specs.Option.{option_map}
 use Rattle.oe_cell.specs.Kinds.{is_over}
 use Rattle.oe_graph.specs.Resolved.{IsResolvedUnder}
 use Rattle.oe_graph.specs.Form.{callback_name}
+use Rattle.oe_graph.specs.Tree.{PlainGraph}
 use Rattle.oe_graph.specs.Read.{IsFault}
 use Rattle.oe_graph.specs.declared.code.Code.{Code}
 use Rattle.oe_graph.specs.declared.fault.Refusal.{Refusal}
@@ -13,8 +14,9 @@ use Rattle.oe_expr.specs.Callback.{Callback, StandsInCallbackAt, IsFaultlessCall
 use Rattle.oe_shape.specs.Extents.{is_empty_extent}
 use Rattle.oe_shape.specs.Operations.{Outline, operation_of}
 use Rattle.oe_shape.specs.PlainRequests.{plain_operation}
-use Rattle.oe_shape.specs.Stands.{callback_on}
-use Rattle.oe_shape.specs.Requests.{Called, CubeRequest, load_collection, filter_bbox, filter_temporal, filter_bands, apply, apply_kernel, reduce_dimension, aggregate_temporal, merge_cubes, mask, save_result}
+use Rattle.oe_shape.specs.RunningSums.{AreSums, IsWellFormed, StandsInSums}
+use Rattle.oe_shape.specs.Stands.{callback_on, sums_of}
+use Rattle.oe_shape.specs.Requests.{Called, CubeRequest, load_collection, filter_bbox, filter_temporal, filter_bands, apply, apply_kernel, reduce_dimension, aggregate_temporal, aggregate_temporal_period, apply_dimension, merge_cubes, mask, save_result}
 use Rattle.oe_shape.specs.declared.extent.Interval.{Interval}
 use Rattle.oe_shape.specs.declared.operation.Operation.{Operation}
 
@@ -38,17 +40,20 @@ IsBuildable (apply_kernel data_id kernel factor border replace) = IsKernel kerne
 IsBuildable (reduce_dimension data_id dimension c) = IsResolvedCallback (codes "data" ∷ codes "context" ∷ []) c
 IsBuildable (aggregate_temporal data_id intervals dimension c) =
     AreIntervals intervals × IsResolvedCallback (codes "data" ∷ codes "context" ∷ []) c
+IsBuildable (aggregate_temporal_period data_id period dimension c) =
+    IsResolvedCallback (codes "data" ∷ codes "context" ∷ []) c
+IsBuildable (apply_dimension data_id g) = IsWellFormed g
 IsBuildable (merge_cubes one two resolver) =
     IfSome resolver (IsResolvedCallback (codes "x" ∷ codes "y" ∷ codes "context" ∷ []))
 IsBuildable (mask data_id mask_id replacement) = ⊤
 IsBuildable (save_result data_id format) = ⊤
 
 -- a fault stands in the callback of a request of the node `id`, of whose cubes the first has this outline
-pub record StandsInCallback (id : List ℕ) (r : CubeRequest) (one : Outline) (code : Code) (name : List ℕ) : Type 0 where
-  pub argument : List ℕ
-  pub callback : Callback
-  pub is_callback : (others : List Outline) → callback_on r (one ∷ others) ≡ Some (argument, callback)
-  pub stands : StandsInCallbackAt callback (callback_name id argument) code name
+pub data StandsInCallback (id : List ℕ) (r : CubeRequest) (one : Outline) (code : Code) (name : List ℕ) : Type 0 where
+  of_cells : {argument : List ℕ} {c : Callback}
+      → ((others : List Outline) → callback_on r (one ∷ others) ≡ Some (argument, c))
+      → StandsInCallbackAt c (callback_name id argument) code name → StandsInCallback id r one code name
+  of_sums : {g : PlainGraph} → sums_of r ≡ Some g → StandsInSums g id code name → StandsInCallback id r one code name
 
 -- What is built for a request of the node `id`, of whose cubes the first has this outline: its operation, in whose
 -- callback no fault stands. Refused are the least of the faults that stand there, and out of memory.
@@ -57,5 +62,5 @@ pub record IsBuilt (id : List ℕ) (r : CubeRequest) (one : Outline) (result : R
   pub built : IfOk result (λ operation. (others : List Outline)
       → option_map plain_operation operation ≡ operation_of r (one ∷ others))
   pub faultless : OnOk result ((others : List Outline)
-      → IfSome (callback_on r (one ∷ others)) (λ c. IsFaultlessCallback c.1))
+      → IfSome (callback_on r (one ∷ others)) (λ c. IsFaultlessCallback c.1) × IfSome (sums_of r) AreSums)
   pub refused : IfErr result (IsFault (StandsInCallback id r one))

@@ -6,7 +6,7 @@ use Rattle.oe_expr.specs.Callback.{Callback, callback_kind, KeepsKind}
 use Rattle.oe_expr.specs.Scope as scope
 use Rattle.oe_expr.specs.Scope.{PlainScope}
 use Rattle.oe_shape.specs.Meaning.{Datacube, operated, outline}
-use Rattle.oe_shape.specs.Operations.{Operation, keep, each_cell, convolve, reduce, aggregate, merge, cover, give_back, Outline, no_outline, first_or, second_or, reduction_scope, interval_scope}
+use Rattle.oe_shape.specs.Operations.{Operation, keep, each_cell, convolve, reduce, aggregate, accumulate, merge, cover, give_back, Outline, no_outline, first_or, second_or, reduction_scope, interval_scope}
 
 -- each cell is null, Over or of the kind
 abbrev pub HasCellsOfKind : Datacube → Type 0
@@ -30,6 +30,7 @@ IsSoundOn (convolve kernel factor border replace) cubes = ⊤
 IsSoundOn (reduce kind c) cubes = IsSoundUnder (reduction_scope kind (first_or no_outline cubes)) c
 IsSoundOn (aggregate intervals c) cubes =
     IsSoundUnder (interval_scope intervals (first_or no_outline cubes)) c × IsShape (first_or no_outline cubes).shape
+IsSoundOn (accumulate ignore) cubes = ⊤
 IsSoundOn (merge resolver) cubes =
     ((second_or no_outline cubes).kind ≡ (first_or no_outline cubes).kind)
     × ResolvesTo (first_or no_outline cubes) resolver

@@ -12,8 +12,9 @@ use Rattle.oe_graph.specs.declared.table.ArgumentKind.TheVariants as kind
 use Rattle.oe_expr.specs.Operations.{operation_named}
 use Rattle.oe_expr.specs.Requests.{scalar_in, items_in, flag_in, is_null, is_scalar_literal, counter_in, list_index_in, label_in, read, cell_request_at}
 use Rattle.oe_expr.specs.declared.operation.Operation.{Operation}
-use Rattle.oe_shape.specs.Parameters.{cube_in, callback_in, text_in, box_in, extent_in, list_in, instant_in, bands_in, some_bands_in, kernel_in, whole_in, border_in, null_or, is_empty_list, is_empty_object, is_null_or_empty_object, intervals_of}
+use Rattle.oe_shape.specs.Parameters.{cube_in, callback_in, text_in, box_in, extent_in, list_in, instant_in, bands_in, some_bands_in, kernel_in, whole_in, border_in, null_or, period_in, is_time_name, is_empty_list, is_empty_object, is_null_or_empty_object, intervals_of}
 use Rattle.oe_shape.specs.Requests.{cube_process_named, cube_request_at}
+use Rattle.oe_shape.specs.RunningSums.{is_data, running_sum_at}
 use Rattle.oe_shape.specs.declared.process.CubeProcess.{CubeProcess}
 
 -- ---- one argument
@@ -51,6 +52,9 @@ may_hold kind.Null a = is_null a
 may_hold kind.TrueOrNull a = is_some (counter_in a)
 may_hold kind.IndexOrNull a = is_some (list_index_in a)
 may_hold kind.LabelOrNull a = is_some (label_in a)
+may_hold kind.Period a = is_some (period_in a)
+may_hold kind.TimeName a = is_time_name a
+may_hold kind.Data a = is_data a
 
 -- ---- the arguments of a node
 
@@ -70,11 +74,15 @@ abbrev pub arguments_agree : PlainNode → Bool
 arguments_agree n = if same_name n.process_id (codes "aggregate_temporal") then have_labels n.arguments else true
 
 -- An argument is refused exactly where it is not what its row says: a node of the main graph asks for something where
--- each of its arguments is held and they agree, and a node of a callback where each is held.
+-- each of its arguments is held and they agree, and a node of a callback, also of one of running sums, where each is
+-- held.
 pub record AskWhereHeld : Type 0 where
   pub in_graphs : (n : PlainNode) (process : CubeProcess) → cube_process_named n.process_id ≡ Some process
       → (row : Process) → process_named n.process_id ≡ Some row
       → is_some (cube_request_at n) ≡ (list_all (is_held n.arguments) row.parameters && arguments_agree n)
+  pub in_sums : (n : PlainNode) → (row : Process) → process_named n.process_id ≡ Some row
+      → same_name n.process_id (codes "cumsum") ≡ true
+      → is_some (running_sum_at n) ≡ list_all (is_held n.arguments) row.parameters
   pub in_callbacks : (n : PlainNode) (operation : Operation) → operation_named n.process_id ≡ Some operation
       → (row : Process) → process_named n.process_id ≡ Some row
       → is_some (cell_request_at n) ≡ list_all (is_held n.arguments) row.parameters

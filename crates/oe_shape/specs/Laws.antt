@@ -1,10 +1,12 @@
 -- What holds of every meaning.
 use Rattle.std.specs.Prelude.{◌≡◌, ◌⊎◌, ◌↔◌, ◌<◌, ◌≤◌, ℕ, ℤ, ◌||◌, Bool, true, Some, None, List, [], ◌∷◌, map, is_some, IfSome}
 use Rattle.std.specs.List.{list_any}
-use Rattle.oe_dims.specs.Cube.{Tuple, IsTuple, IsCube}
-use Rattle.oe_dims.specs.Dimensions.{Dimensions, IsShape}
+use Rattle.oe_cell.specs.declared.cell.Cell.{Cell}
+use Rattle.oe_dims.specs.Cube.{Cube, Tuple, IsTuple, IsCube}
+use Rattle.oe_dims.specs.Dimensions.{Dimensions, IsShape, number_labels}
 use Rattle.oe_dims.specs.Indices.{same_number}
 use Rattle.oe_dims.specs.Names.{same_name}
+use Rattle.oe_expr.specs.Callback.{Callback}
 use Rattle.oe_expr.specs.Nodes.{id_at}
 use Rattle.oe_graph.specs.Printed.{node_count}
 use Rattle.oe_graph.specs.References.{references_named}
@@ -15,12 +17,15 @@ use Rattle.oe_shape.specs.Checked.{CheckedGraph, AreFaultless, outline_of_node, 
 use Rattle.oe_shape.specs.Graphs.{Collections, collection_named, collection_rows, outline_at, meaning_at}
 use Rattle.oe_shape.specs.Labels.{sorted_labels, all_in_order, all_bands, merged_shape, differing, restrict}
 use Rattle.oe_shape.specs.Links.{links_of}
-use Rattle.oe_shape.specs.Meaning.{Datacube, operated, outline}
+use Rattle.oe_shape.specs.Meaning.{Datacube, aggregated, operated, outline, by_period}
 use Rattle.oe_shape.specs.Operations.{Operation, outline_of}
 use Rattle.oe_shape.specs.Requests.{CubeRequest, cube_ids, cube_request_at}
 use Rattle.oe_shape.specs.SoundNodes.{AreCollections}
 use Rattle.oe_shape.specs.Walked.{AreResolved, IsNodeOf}
 use Rattle.oe_shape.specs.Words.{share_tuple}
+use Rattle.oe_shape.specs.Periods.{period_intervals}
+use Rattle.oe_dims.specs.declared.kind.Kind.TheVariants.{Time}
+use Rattle.oe_periods.specs.declared.calendar.Period.{Period}
 
 -- The shape and the kind of a cube are found without cells: of what an operation gives, from those of the cubes that it
 -- works on, and of a node of any graph, from those of the collections.
@@ -68,6 +73,12 @@ pub record NeedResolvers : Type 0 where
 pub record ReferToCubes : Type 0 where
   pub each : (nodes : Nodes) → AreResolved nodes → (n : PlainNode) → IsNodeOf nodes n
       → (r : CubeRequest) → cube_request_at n ≡ Some r → references_named n.arguments ≡ cube_ids r
+
+-- The operation of `aggregate_temporal_period`, an aggregation over the periods as intervals, gives what calendar
+-- periods mean on a cube of a valid shape.
+pub record AggregateByPeriods : Type 0 where
+  pub each : (period : Period) (c : Callback) (cube : Cube Cell) → IsShape cube.shape
+      → aggregated (period_intervals period (number_labels cube.shape Time)) c cube ≡ by_period period c cube
 
 -- ---- graphs without a fault
 

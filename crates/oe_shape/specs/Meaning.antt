@@ -1,6 +1,6 @@
 -- What each process means on whole cubes (openEO Processes): the cube that it gives, from the labels of its result back
 -- to those of the cubes that it works on. Chunks, windows and orders of evaluation do not occur here.
-use Rattle.std.specs.Prelude.{ℕ, ℤ, ◌==◌, cond, unsigned_abs, List, [], ◌∷◌, map, Option, Some, None, find, unwrap_or}
+use Rattle.std.specs.Prelude.{ℕ, ℤ, Bool, ◌==◌, cond, filter, int_lt, unsigned_abs, List, [], ◌∷◌, map, Option, Some, None, find, unwrap_or}
 use Rattle.std.specs.Option.{option_map_or}
 use Rattle.oe_cell.specs.Fraction.{Fraction}
 use Rattle.oe_cell.specs.declared.cell.Cell.{Cell}
@@ -18,10 +18,14 @@ use Rattle.oe_kernel.specs.Kernels.{KernelValues}
 use Rattle.oe_kernel.specs.declared.border.Border.{Border}
 use Rattle.oe_expr.specs.Callback.{Callback, callback_value}
 use Rattle.oe_expr.specs.Scope.{no_labels}
+use Rattle.oe_periods.specs.Calendar.{period_number}
+use Rattle.oe_periods.specs.Sums.{running_sum}
+use Rattle.oe_periods.specs.declared.calendar.Period.{Period}
 use Rattle.oe_shape.specs.Extents.{Restriction, kept_shape, labels_in_time}
+use Rattle.oe_shape.specs.Periods.{period_shape}
 use Rattle.oe_shape.specs.declared.extent.TemporalExtent.{TemporalExtent}
 use Rattle.oe_shape.specs.Labels.{restrict, merged_shape}
-use Rattle.oe_shape.specs.Operations.{Operation, keep, each_cell, convolve, reduce, aggregate, merge, cover, give_back, Outline, no_dimensions, first_or, second_or, labels_along, without_dimension, aggregated_shape, operation_kind}
+use Rattle.oe_shape.specs.Operations.{Operation, keep, each_cell, convolve, reduce, aggregate, accumulate, merge, cover, give_back, Outline, no_dimensions, first_or, second_or, labels_along, without_dimension, aggregated_shape, operation_kind}
 use Rattle.oe_shape.specs.declared.extent.Interval.{Interval}
 
 -- the cell of a tuple; of one that the cube does not have, which is never asked for, null
@@ -112,6 +116,38 @@ aggregated intervals c cube =
     let labels = instants_inside cube.shape (extent_labelled intervals tuple.t) in
     value_on_list c (plain_instants labels) (cells_at cube tuple labels))
 
+-- ---- `aggregate_temporal_period`: each calendar period of the labels becomes a label, its first instant, whose cell
+-- is the value of the reducer on the list of the cells inside. The law `periods_are_aggregations` says that its
+-- operation, an aggregation, gives this cube.
+
+-- the labels that lie in one period with another
+abbrev pub labels_in_period_of : Period → ℤ → List ℤ → List ℤ
+labels_in_period_of period label labels =
+    filter (λ other. period_number period other == period_number period label) labels
+
+-- the same of a label of a tuple
+abbrev pub labels_in_period : Period → Dimensions → Option ℤ → List ℤ
+labels_in_period period d None = []
+labels_in_period period d (Some label) = labels_in_period_of period label (number_labels d Time)
+
+abbrev pub by_period : Period → Callback → Cube Cell → Cube Cell
+by_period period c cube =
+    tabulate (period_shape period cube.shape) (λ tuple.
+    let labels = labels_in_period period cube.shape tuple.t in
+    value_on_list c (plain_instants labels) (cells_at cube tuple labels))
+
+-- ---- `apply_dimension` by `cumsum`: each cell becomes the running sum at it, along t
+
+-- the labels before one, among labels that rise
+abbrev pub labels_before : Option ℤ → List ℤ → List ℤ
+labels_before None labels = []
+labels_before (Some label) labels = filter (λ other. int_lt other label) labels
+
+abbrev pub accumulated : Bool → Cube Cell → Cube Cell
+accumulated ignore cube =
+    tabulate cube.shape (λ tuple.
+    running_sum ignore (cells_at cube tuple (labels_before tuple.t (number_labels cube.shape Time))) (cell cube tuple))
+
 -- ---- `merge_cubes`: all labels of both cubes; a cube that lacks a dimension is repeated over it. A tuple that is in
 -- both has the value of the resolver, with `x` from the first cube and `y` from the second; one that is in one cube has
 -- its cell there. Rules of this profile: the resolver gets nulls too, and labels of t, y and x stand in their order.
@@ -166,6 +202,7 @@ cube_of (convolve kernel factor border replace) cubes =
     convolution kernel factor border replace (first_or no_cube cubes)
 cube_of (reduce kind c) cubes = reduced kind c (first_or no_cube cubes)
 cube_of (aggregate intervals c) cubes = aggregated intervals c (first_or no_cube cubes)
+cube_of (accumulate ignore) cubes = accumulated ignore (first_or no_cube cubes)
 cube_of (merge resolver) cubes = merged resolver (first_or no_cube cubes) (second_or no_cube cubes)
 cube_of (cover replacement) cubes = covered replacement (first_or no_cube cubes) (second_or no_cube cubes)
 cube_of give_back cubes = first_or no_cube cubes

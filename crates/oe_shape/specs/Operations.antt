@@ -1,6 +1,6 @@
 -- The operation that a request asks for, where the shapes and kinds of the cubes that it works on are known, and the
 -- shape and the kind of the cube that it gives: none of this looks at a cell.
-use Rattle.std.specs.Prelude.{ℕ, ℤ, ◌||◌, List, [], ◌∷◌, map, Option, Some, None, codes, is_some, option_map, slice_index_or, if◌then◌else◌}
+use Rattle.std.specs.Prelude.{ℕ, ℤ, Bool, ◌||◌, List, [], ◌∷◌, map, Option, Some, None, codes, is_some, option_map, slice_index_or, if◌then◌else◌}
 use Rattle.oe_cell.specs.Fraction.{Fraction}
 use Rattle.oe_cell.specs.declared.cell.Cell.{Cell}
 use Rattle.oe_dims.specs.Dimensions.{Dimensions, number_labels, band_names}
@@ -17,6 +17,8 @@ use Rattle.oe_expr.specs.Scope as scope
 use Rattle.oe_expr.specs.Scope.{PlainScope, count_labels}
 use Rattle.oe_shape.specs.Extents.{Restriction, kept_shape, part_in_time}
 use Rattle.oe_shape.specs.Labels.{is_below, sorted_labels, merged_shape}
+use Rattle.oe_shape.specs.Periods.{period_intervals}
+use Rattle.oe_shape.specs.RunningSums.{ignores_nulls}
 use Rattle.oe_shape.specs.declared.extent.Interval.{Interval}
 use Rattle.oe_shape.specs.Requests as request
 use Rattle.oe_shape.specs.Requests.{CubeRequest, Called}
@@ -46,6 +48,8 @@ pub data Operation : Type 0 where
   reduce : Kind → Callback → Operation
   -- the lists of cells inside each interval by a callback
   aggregate : List Interval → Callback → Operation
+  -- the running sums along t, with nulls ignored or not
+  accumulate : Bool → Operation
   -- two cubes, by a resolver where a tuple is in both
   merge : Option Callback → Operation
   -- a cube under a mask, with a replacement
@@ -115,6 +119,10 @@ operation_of (request.reduce_dimension data_id name c) cubes =
     (dimension_named name)
 operation_of (request.aggregate_temporal data_id intervals name c) cubes =
     Some (aggregate intervals (callback_under (interval_scope intervals (first_or no_outline cubes)) c))
+operation_of (request.aggregate_temporal_period data_id period name c) cubes =
+    let intervals = period_intervals period (number_labels (first_or no_outline cubes).shape Time) in
+    Some (aggregate intervals (callback_under (interval_scope intervals (first_or no_outline cubes)) c))
+operation_of (request.apply_dimension data_id g) cubes = Some (accumulate (ignores_nulls g))
 operation_of (request.merge_cubes one two resolver) cubes =
     Some (merge (option_map (callback_under (scope.merge (first_or no_outline cubes).kind)) resolver))
 operation_of (request.mask data_id mask_id replacement) cubes = Some (cover replacement)
@@ -144,6 +152,7 @@ shape_of (each_cell c) shapes = first_or no_dimensions shapes
 shape_of (convolve kernel factor border replace) shapes = first_or no_dimensions shapes
 shape_of (reduce kind c) shapes = without_dimension kind (first_or no_dimensions shapes)
 shape_of (aggregate intervals c) shapes = aggregated_shape intervals (first_or no_dimensions shapes)
+shape_of (accumulate ignore) shapes = first_or no_dimensions shapes
 shape_of (merge resolver) shapes = merged_shape (first_or no_dimensions shapes) (second_or no_dimensions shapes)
 shape_of (cover replacement) shapes = first_or no_dimensions shapes
 shape_of give_back shapes = first_or no_dimensions shapes
@@ -156,6 +165,7 @@ operation_kind (each_cell c) kinds = callback_kind c
 operation_kind (convolve kernel factor border replace) kinds = Numbers
 operation_kind (reduce kind c) kinds = callback_kind c
 operation_kind (aggregate intervals c) kinds = callback_kind c
+operation_kind (accumulate ignore) kinds = first_or Numbers kinds
 operation_kind (merge resolver) kinds = first_or Numbers kinds
 operation_kind (cover replacement) kinds = first_or Numbers kinds
 operation_kind give_back kinds = first_or Numbers kinds

@@ -21,6 +21,8 @@ use Rattle.oe_kernel.specs.declared.border.Border.{Border}
 use Rattle.oe_kernel.specs.declared.border.Border.TheVariants.{Value, Replicate, Reflect, ReflectPixel, Wrap}
 use Rattle.oe_expr.specs.Requests.{with_both, is_null, whole_cell}
 use Rattle.oe_expr.specs.Scope.{read_or_none}
+use Rattle.oe_periods.specs.Calendar.{period_named}
+use Rattle.oe_periods.specs.declared.calendar.Period.{Period}
 use Rattle.oe_shape.specs.declared.extent.BoundingBox.{BoundingBox}
 use Rattle.oe_shape.specs.declared.extent.Interval.{Interval}
 use Rattle.oe_shape.specs.declared.extent.TemporalExtent.{TemporalExtent}
@@ -61,6 +63,16 @@ callback_in _ = None
 abbrev pub text_in : Argument → Option (List ℕ)
 text_in (tree.text s) = Some s
 text_in _ = None
+
+-- the name of a calendar period
+abbrev pub period_in : Argument → Option Period
+period_in (tree.text s) = period_named s
+period_in _ = None
+
+-- the name of t alone
+abbrev pub is_time_name : Argument → Bool
+is_time_name (tree.text s) = same_name s (codes "t")
+is_time_name _ = false
 
 -- a whole number
 abbrev pub whole_in : Argument → Option ℤ

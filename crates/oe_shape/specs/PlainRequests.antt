@@ -7,12 +7,12 @@ use Rattle.oe_shape.specs.Extents as extent
 use Rattle.oe_shape.specs.Operations as operation
 use Rattle.oe_shape.specs.Requests as request
 use Rattle.oe_shape.specs.declared.operation.Operation.{Operation}
-use Rattle.oe_shape.specs.declared.operation.Operation.TheVariants.{Keep, EachCell, Convolve, Reduce, Aggregate, Merge, Cover, GiveBack}
+use Rattle.oe_shape.specs.declared.operation.Operation.TheVariants.{Keep, EachCell, Convolve, Reduce, Aggregate, Accumulate, Merge, Cover, GiveBack}
 use Rattle.oe_shape.specs.declared.operation.Restriction.{Restriction}
 use Rattle.oe_shape.specs.declared.request.Called.{Called}
 use Rattle.oe_shape.specs.declared.request.KernelRows.{KernelRows}
 use Rattle.oe_shape.specs.declared.request.Request.{Request}
-use Rattle.oe_shape.specs.declared.request.Request.TheVariants.{LoadCollection, FilterBbox, FilterTemporal, FilterBands, Apply, ApplyKernel, ReduceDimension, AggregateTemporal, MergeCubes, Mask, SaveResult}
+use Rattle.oe_shape.specs.declared.request.Request.TheVariants.{LoadCollection, FilterBbox, FilterTemporal, FilterBands, Apply, ApplyKernel, ReduceDimension, AggregateTemporal, AggregateTemporalPeriod, ApplyDimension, MergeCubes, Mask, SaveResult}
 
 -- ---- requests
 
@@ -36,6 +36,9 @@ plain_cube_request (ReduceDimension cube dimension reducer) =
     request.reduce_dimension cube.now dimension.now (plain_called reducer)
 plain_cube_request (AggregateTemporal cube intervals dimension reducer) =
     request.aggregate_temporal cube.now intervals.items (option_map (λ name. name.now) dimension) (plain_called reducer)
+plain_cube_request (AggregateTemporalPeriod cube period dimension reducer) =
+    request.aggregate_temporal_period cube.now period (option_map (λ name. name.now) dimension) (plain_called reducer)
+plain_cube_request (ApplyDimension cube process) = request.apply_dimension cube.now (plain_graph process.now)
 plain_cube_request (MergeCubes one two resolver) =
     request.merge_cubes one.now two.now (option_map plain_called resolver)
 plain_cube_request (Mask cube mask replacement) = request.mask cube.now mask.now replacement
@@ -53,6 +56,7 @@ plain_operation (Convolve kernel factor border replace_invalid) =
     operation.convolve kernel factor border replace_invalid
 plain_operation (Reduce kind callback) = operation.reduce kind callback
 plain_operation (Aggregate intervals callback) = operation.aggregate intervals.items callback
+plain_operation (Accumulate ignore) = operation.accumulate ignore
 plain_operation (Merge resolver) = operation.merge resolver
 plain_operation (Cover replacement) = operation.cover replacement
 plain_operation GiveBack = operation.give_back

@@ -21,7 +21,7 @@ use Rattle.oe_expr.specs.Scope.{scope_parameters}
 use Rattle.oe_shape.specs.Checked.{CheckedGraph, operation_of_node}
 use Rattle.oe_shape.specs.Labels.{differ_along}
 use Rattle.oe_shape.specs.Meaning.{value_on_list}
-use Rattle.oe_shape.specs.Operations.{Operation, keep, each_cell, convolve, reduce, aggregate, merge, cover, give_back, Outline, no_dimensions, first_or, second_or}
+use Rattle.oe_shape.specs.Operations.{Operation, keep, each_cell, convolve, reduce, aggregate, accumulate, merge, cover, give_back, Outline, no_dimensions, first_or, second_or}
 use Rattle.oe_shape.specs.Requests.{cube_request_at}
 use Rattle.oe_shape.specs.SoundNodes.{input_outlines}
 
@@ -38,14 +38,15 @@ abbrev pub is_wrap : Border → Bool
 is_wrap Wrap = true
 is_wrap _ = false
 
--- It needs the whole side: a reduction along the dimension, an aggregation along t, a kernel whose border wraps along x
--- and y, and a merge along a dimension that both cubes have with other label sets.
+-- It needs the whole side: a reduction along the dimension, an aggregation and running sums along t, a kernel whose
+-- border wraps along x and y, and a merge along a dimension that both cubes have with other label sets.
 abbrev pub needs_whole : Operation → List Dimensions → Kind → Bool
 needs_whole (keep restriction) shapes along = false
 needs_whole (each_cell c) shapes along = false
 needs_whole (convolve kernel factor border replace) shapes along = is_wrap border && is_spatial along
 needs_whole (reduce kind c) shapes along = same_kind kind along
 needs_whole (aggregate intervals c) shapes along = same_kind Time along
+needs_whole (accumulate ignore) shapes along = same_kind Time along
 needs_whole (merge resolver) shapes along =
     differ_along along (first_or no_dimensions shapes) (second_or no_dimensions shapes)
 needs_whole (cover replacement) shapes along = false

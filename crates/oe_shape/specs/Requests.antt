@@ -7,13 +7,14 @@ use Rattle.oe_dims.specs.Names.{same_name}
 use Rattle.oe_graph.specs.Tree.{Named, PlainGraph, PlainNode}
 use Rattle.oe_kernel.specs.Kernels.{KernelValues}
 use Rattle.oe_kernel.specs.declared.border.Border.{Border}
-use Rattle.oe_expr.specs.Requests.{with_both, read, passes, where_passed}
+use Rattle.oe_expr.specs.Requests.{with_both, read, passes, where_passed, is_null}
+use Rattle.oe_periods.specs.declared.calendar.Period.{Period}
 use Rattle.oe_shape.specs.declared.extent.BoundingBox.{BoundingBox}
 use Rattle.oe_shape.specs.declared.extent.TemporalExtent.{TemporalExtent}
-use Rattle.oe_shape.specs.Parameters.{cube_in, callback_in, text_in, number_in, literal_in, box_in, extent_in, instant_in, bands_in, some_bands_in, kernel_in, border_in, list_in, null_or, intervals_of, is_empty_list, is_empty_object, is_null_or_empty_object}
+use Rattle.oe_shape.specs.Parameters.{cube_in, callback_in, text_in, number_in, literal_in, box_in, extent_in, instant_in, bands_in, some_bands_in, kernel_in, border_in, list_in, null_or, period_in, is_time_name, intervals_of, is_empty_list, is_empty_object, is_null_or_empty_object}
 use Rattle.oe_shape.specs.declared.extent.Interval.{Interval}
 use Rattle.oe_shape.specs.declared.process.CubeProcess.{CubeProcess}
-use Rattle.oe_shape.specs.declared.process.CubeProcess.TheVariants.{AggregateTemporal, Apply, ApplyKernel, FilterBands, FilterBbox, FilterTemporal, LoadCollection, Mask, MergeCubes, ReduceDimension, SaveResult}
+use Rattle.oe_shape.specs.declared.process.CubeProcess.TheVariants.{AggregateTemporal, AggregateTemporalPeriod, Apply, ApplyDimension, ApplyKernel, FilterBands, FilterBbox, FilterTemporal, LoadCollection, Mask, MergeCubes, ReduceDimension, SaveResult}
 
 -- ---- the processes, by the ids that openEO Processes gives them
 
@@ -23,7 +24,9 @@ NamedProcess = List ℕ × CubeProcess
 abbrev pub cube_processes : List NamedProcess
 cube_processes =
     (codes "aggregate_temporal", AggregateTemporal)
+    ∷ (codes "aggregate_temporal_period", AggregateTemporalPeriod)
     ∷ (codes "apply", Apply)
+    ∷ (codes "apply_dimension", ApplyDimension)
     ∷ (codes "apply_kernel", ApplyKernel)
     ∷ (codes "filter_bands", FilterBands)
     ∷ (codes "filter_bbox", FilterBbox)
@@ -68,6 +71,10 @@ pub data CubeRequest : Type 0 where
   reduce_dimension : List ℕ → List ℕ → Called → CubeRequest
   -- perhaps with the name of the dimension
   aggregate_temporal : List ℕ → List Interval → Option (List ℕ) → Called → CubeRequest
+  -- perhaps with the name of the dimension
+  aggregate_temporal_period : List ℕ → Period → Option (List ℕ) → Called → CubeRequest
+  -- along t, by a callback of running sums
+  apply_dimension : List ℕ → PlainGraph → CubeRequest
   -- perhaps with a resolver
   merge_cubes : List ℕ → List ℕ → Option Called → CubeRequest
   -- data, mask and replacement
@@ -85,6 +92,8 @@ cube_ids (apply data_id callback) = data_id ∷ []
 cube_ids (apply_kernel data_id kernel factor border replace) = data_id ∷ []
 cube_ids (reduce_dimension data_id dimension callback) = data_id ∷ []
 cube_ids (aggregate_temporal data_id intervals dimension callback) = data_id ∷ []
+cube_ids (aggregate_temporal_period data_id period dimension callback) = data_id ∷ []
+cube_ids (apply_dimension data_id callback) = data_id ∷ []
 cube_ids (merge_cubes one two resolver) = one ∷ two ∷ []
 cube_ids (mask data_id mask_id replacement) = data_id ∷ mask_id ∷ []
 cube_ids (save_result data_id format) = data_id ∷ []
@@ -156,6 +165,20 @@ aggregate_request arguments =
     (read (null_or text_in) (codes "dimension") arguments) (called_in (codes "reducer") arguments))
     (intervals_in arguments)) (read cube_in (codes "data") arguments)
 
+abbrev pub period_request : Named → Option CubeRequest
+period_request arguments =
+    option_and_then (λ data_id. option_and_then (λ period. with_both (aggregate_temporal_period data_id period)
+    (read (null_or text_in) (codes "dimension") arguments) (called_in (codes "reducer") arguments))
+    (read period_in (codes "period") arguments)) (read cube_in (codes "data") arguments)
+
+-- `apply_dimension`: `dimension` is t, `target_dimension` null, and `context` a literal without effect
+abbrev pub apply_dimension_request : Named → Option CubeRequest
+apply_dimension_request arguments =
+    where_passed (passes is_time_name (codes "dimension") arguments)
+    (where_passed (passes is_null (codes "target_dimension") arguments)
+    (option_and_then (λ context. with_both apply_dimension (read cube_in (codes "data") arguments)
+    (read callback_in (codes "process") arguments)) (read literal_in (codes "context") arguments)))
+
 -- a resolver or null, with `context`
 abbrev pub resolver_in : Named → Option (Option Called)
 resolver_in arguments =
@@ -181,7 +204,9 @@ save_request arguments =
 
 abbrev pub cube_request_of : CubeProcess → Named → Option CubeRequest
 cube_request_of AggregateTemporal arguments = aggregate_request arguments
+cube_request_of AggregateTemporalPeriod arguments = period_request arguments
 cube_request_of Apply arguments = apply_request arguments
+cube_request_of ApplyDimension arguments = apply_dimension_request arguments
 cube_request_of ApplyKernel arguments = apply_kernel_request arguments
 cube_request_of FilterBands arguments = filter_bands_request arguments
 cube_request_of FilterBbox arguments = filter_bbox_request arguments

@@ -12,6 +12,7 @@ use Rattle.oe_dims.specs.Indices.{same_number}
 use Rattle.oe_dims.specs.Names.{same_name}
 use Rattle.oe_dims.specs.declared.dims.DimsRow.{DimsRow}
 use Rattle.oe_dims.specs.declared.kind.CellKind.{CellKind}
+use Rattle.oe_dims.specs.declared.kind.CellKind.TheVariants.{Numbers}
 use Rattle.oe_dims.specs.declared.kind.Kind.TheVariants.{Time, Bands}
 use Rattle.oe_kernel.specs.Kernels.{KernelValues, largest_size}
 use Rattle.oe_expr.specs.Callback.{Callback, callback_kind}
@@ -20,7 +21,7 @@ use Rattle.oe_expr.specs.Scope as scope
 use Rattle.oe_shape.specs.Extents.{is_empty_extent}
 use Rattle.oe_shape.specs.Labels.{are_among, are_distinct, differing}
 use Rattle.oe_shape.specs.Operations.{Operation, Outline, no_outline, first_or, second_or, callback_under, operation_of, shape_of}
-use Rattle.oe_shape.specs.Requests.{CubeRequest, Called, load_collection, filter_bbox, filter_temporal, filter_bands, apply, apply_kernel, reduce_dimension, aggregate_temporal, merge_cubes, mask, save_result}
+use Rattle.oe_shape.specs.Requests.{CubeRequest, Called, load_collection, filter_bbox, filter_temporal, filter_bands, apply, apply_kernel, reduce_dimension, aggregate_temporal, aggregate_temporal_period, apply_dimension, merge_cubes, mask, save_result}
 use Rattle.oe_shape.specs.ValidShapes.{labels_of, is_within_limits}
 use Rattle.oe_shape.specs.declared.extent.BoundingBox.{BoundingBox}
 use Rattle.oe_shape.specs.declared.extent.Interval.{Interval}
@@ -77,6 +78,9 @@ dimension_not_available (apply_kernel data_id kernel factor border replace) cube
 dimension_not_available (reduce_dimension data_id name c) cubes = lacks_named name (first_shape cubes)
 dimension_not_available (aggregate_temporal data_id intervals name c) cubes =
     lacks_dimension Time (first_shape cubes) || names_other name
+dimension_not_available (aggregate_temporal_period data_id period name c) cubes =
+    lacks_dimension Time (first_shape cubes) || names_other name
+dimension_not_available (apply_dimension data_id g) cubes = lacks_dimension Time (first_shape cubes)
 dimension_not_available (merge_cubes one two resolver) cubes = false
 dimension_not_available (mask data_id mask_id replacement) cubes = false
 dimension_not_available (save_result data_id format) cubes = false
@@ -169,11 +173,14 @@ abbrev pub is_of_another : CellKind → Cell → Bool
 is_of_another kind literal = option_map_or (λ other. not (same_cell_kind other kind)) (literal_kind literal) false
 
 -- `CellKindInvalid`: the two cubes of a merge differ in kind, its resolver gives another kind than that of the first,
--- or a replacement has another kind than the data. All other processes take cubes of either kind.
+-- or a replacement has another kind than the data; and running sums are of numbers. All other processes take cubes of
+-- either kind.
 abbrev pub cell_kind_invalid : CubeRequest → List Outline → Bool
 cell_kind_invalid (merge_cubes one two resolver) cubes =
     not (same_cell_kind (first_or no_outline cubes).kind (second_or no_outline cubes).kind)
     || resolves_to_another (first_or no_outline cubes).kind resolver
+cell_kind_invalid (apply_dimension data_id g) cubes =
+    not (same_cell_kind (first_or no_outline cubes).kind Numbers)
 cell_kind_invalid (mask data_id mask_id replacement) cubes =
     is_of_another (first_or no_outline cubes).kind replacement
 cell_kind_invalid _ cubes = false

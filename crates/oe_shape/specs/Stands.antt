@@ -3,7 +3,7 @@ use Rattle.std.specs.Prelude.{◌≡◌, ℕ, true, false, List, [], ◌∷◌, 
 use Rattle.oe_dims.specs.declared.dims.DimsRow.{DimsRow}
 use Rattle.oe_graph.specs.Form.{callback_name}
 use Rattle.oe_graph.specs.References.{references_named}
-use Rattle.oe_graph.specs.Tree.{Nodes, PlainNode}
+use Rattle.oe_graph.specs.Tree.{Nodes, PlainGraph, PlainNode}
 use Rattle.oe_graph.specs.declared.code.Code.{Code}
 use Rattle.oe_graph.specs.declared.code.Code.TheVariants.{ProcessParameterInvalid, CollectionNotFound, CrsUnsupported, FormatUnsupported, DimensionNotAvailable, TemporalExtentEmpty, BandFilterParameterMissing, BandNotAvailable, KernelDimensionsUneven, KernelTooLarge, DistinctDimensionLabelsRequired, MergeDimensionsDiffer, OverlapResolverMissing, MaskDimensionsDiffer, CellKindInvalid, CubeTooLarge}
 use Rattle.oe_expr.specs.Callback.{Callback, StandsInCallbackAt, IsFaultlessCallback}
@@ -11,7 +11,8 @@ use Rattle.oe_expr.specs.Nodes.{node_named}
 use Rattle.oe_expr.specs.Rows.{JudgedRow, first_row}
 use Rattle.oe_shape.specs.Graphs.{request_inputs, outline_named, outline_at}
 use Rattle.oe_shape.specs.Operations.{Operation, each_cell, reduce, aggregate, merge, Outline, operation_of}
-use Rattle.oe_shape.specs.Requests.{CubeRequest, cube_request_at}
+use Rattle.oe_shape.specs.Requests.{CubeRequest, apply_dimension, cube_request_at}
+use Rattle.oe_shape.specs.RunningSums.{AreSums, StandsInSums}
 use Rattle.oe_shape.specs.Rows.{collection_not_found, crs_unsupported, format_unsupported, dimension_not_available, temporal_extent_empty, band_filter_parameter_missing, band_not_available, kernel_dimensions_uneven, kernel_too_large, distinct_labels_required, merge_dimensions_differ, overlap_resolver_missing, mask_dimensions_differ, cell_kind_invalid, cube_too_large}
 
 -- ---- the table
@@ -46,6 +47,11 @@ callback_in _ = None
 abbrev pub callback_on : CubeRequest → List Outline → Option (List ℕ × Callback)
 callback_on r cubes = option_and_then callback_in (operation_of r cubes)
 
+-- the running sums of a request: the nodes of its callback
+abbrev pub sums_of : CubeRequest → Option PlainGraph
+sums_of (apply_dimension data_id g) = Some g
+sums_of _ = None
+
 -- ---- one node, where `at` has the outlines of the nodes that it refers to
 
 module _ (rows : List DimsRow) (at : List ℕ → Outline) where
@@ -60,7 +66,8 @@ module _ (rows : List DimsRow) (at : List ℕ → Outline) where
 
   -- no fault stands in the callback, where there is one
   abbrev pub HasFaultlessCallback : CubeRequest → Type 0
-  HasFaultlessCallback r = IfSome (callback_on r (cubes_of r)) (λ c. IsFaultlessCallback c.1)
+  HasFaultlessCallback r =
+      IfSome (callback_on r (cubes_of r)) (λ c. IsFaultlessCallback c.1) × IfSome (sums_of r) AreSums
 
   -- A fault stands at a node or in its callback. At the node it is the first row that holds; of kinds a row holds only
   -- where the callback has no fault, while the size of the cube does not wait for the callback.
@@ -72,6 +79,8 @@ module _ (rows : List DimsRow) (at : List ℕ → Outline) where
     inside : {r : CubeRequest} {argument : List ℕ} {c : Callback} {code : Code} {name : List ℕ}
         → Passes n r → callback_on r (cubes_of r) ≡ Some (argument, c)
         → StandsInCallbackAt c (callback_name n.id argument) code name → StandsHere n code name
+    in_sums : {r : CubeRequest} {g : PlainGraph} {code : Code} {name : List ℕ}
+        → Passes n r → sums_of r ≡ Some g → StandsInSums g n.id code name → StandsHere n code name
     of_kind : {r : CubeRequest}
         → Passes n r → HasFaultlessCallback r → cell_kind_invalid r (cubes_of r) ≡ true
         → StandsHere n CellKindInvalid n.id

@@ -1,7 +1,8 @@
 -- What ties the tables to one another: the processes of the catalogue to what code does for each, and the rows of faults
 -- to their numbers.
-use Rattle.std.specs.Prelude.{◌≡◌, ℕ, zero, suc, not, List, [], ◌∷◌, map, filter, Option, Some, None, codes}
+use Rattle.std.specs.Prelude.{◌≡◌, ℕ, zero, suc, Bool, ◌&&◌, not, List, [], ◌∷◌, map, filter, Option, Some, None, codes}
 use Rattle.oe_cell.specs.declared.cell.Cell.{Cell}
+use Rattle.oe_dims.specs.Names.{same_name}
 use Rattle.oe_dims.specs.declared.dims.DimsRow.{DimsRow}
 use Rattle.oe_dims.specs.declared.kind.CellKind.{CellKind}
 use Rattle.oe_dims.specs.declared.kind.CellKind.TheVariants.{Numbers, Flags}
@@ -81,17 +82,23 @@ abbrev pub numbers_from : ℕ → ℕ → List RowNumber
 numbers_from first zero = []
 numbers_from first (suc more) = (5, first) ∷ numbers_from (suc first) more
 
+-- the process that stands in callbacks of `apply_dimension` alone
+abbrev pub is_running_sum : Process → Bool
+is_running_sum p = same_name p.id (codes "cumsum")
+
 -- ---- all of them
 
--- The processes of the main graph, and those of callbacks with the cells that they take, are those of the catalogue; and
--- the rows of faults at one node stand by their numbers with none left out: of the main graph from 2 to 14, and in a
--- callback from 15 to 18.
+-- The processes of the main graph, and those of callbacks with the cells that they take, are those of the catalogue,
+-- which has `cumsum` besides; and the rows of faults at one node stand by their numbers with none left out: of the main
+-- graph from 2 to 14, and in a callback from 15 to 18.
 pub record AreTied : Type 0 where
   pub processes_of_graphs :
       map (λ (p : Process). p.id) (filter (λ (p : Process). not p.in_callback) catalogue)
       ≡ map (λ (p : NamedProcess). p.0) cube_processes
   pub processes_of_callbacks :
-      map process_in_row (filter (λ (p : Process). p.in_callback) catalogue) ≡ map process_in_code operations
+      map process_in_row (filter (λ (p : Process). p.in_callback && not (is_running_sum p)) catalogue)
+      ≡ map process_in_code operations
+  pub running_sums : map (λ (p : Process). p.id) (filter is_running_sum catalogue) ≡ codes "cumsum" ∷ []
   pub rows_of_graphs : (rows : List DimsRow) (r : CubeRequest) (cubes : List Outline)
       → numbers_of_rows (early_rows rows r cubes) ≡ numbers_from 2 13
   pub rows_of_callbacks : (scope : PlainScope) (context : Cell) (at : List ℕ → Option CellKind) (r : CellRequest)

@@ -5,7 +5,7 @@ use Rattle.oe_dims.specs.Dimensions.{Dimensions, IsShape, all_differ, all_betwee
 use Rattle.oe_dims.specs.Indices.{same_number}
 use Rattle.oe_dims.specs.Names.{is_name}
 use Rattle.oe_shape.specs.Labels.{are_distinct}
-use Rattle.oe_shape.specs.Operations.{Operation, keep, each_cell, convolve, reduce, aggregate, merge, cover, give_back, shape_of}
+use Rattle.oe_shape.specs.Operations.{Operation, keep, each_cell, convolve, reduce, aggregate, accumulate, merge, cover, give_back, shape_of}
 use Rattle.oe_shape.specs.declared.extent.Interval.{Interval}
 
 -- at most 65536 labels along each dimension, and at most 2^40 cells
@@ -32,6 +32,7 @@ BringsLabels (each_cell c) = ⊤
 BringsLabels (convolve kernel factor border replace) = ⊤
 BringsLabels (reduce kind c) = ⊤
 BringsLabels (aggregate intervals c) = AreIntervalLabels (labels_of intervals)
+BringsLabels (accumulate ignore) = ⊤
 BringsLabels (merge resolver) = ⊤
 BringsLabels (cover replacement) = ⊤
 BringsLabels give_back = ⊤

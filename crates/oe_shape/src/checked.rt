@@ -207,6 +207,7 @@ impl Checked {
             Operation::Convolve { border, .. } => is_wrap(*border) && is_spatial(along),
             Operation::Reduce(kind, _) => same_kind(*kind, along),
             Operation::Aggregate(..) => same_kind(Kind::Time, along),
+            Operation::Accumulate(_) => same_kind(Kind::Time, along),
             Operation::Merge(_) => self.merge_differs(node, along),
             Operation::Keep(_) => false,
             Operation::EachCell(_) => false,

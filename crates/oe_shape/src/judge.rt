@@ -1,5 +1,5 @@
 // The fault of one node, or what it is without one.
-ghost use Rattle.std.specs.Prelude.{◌≡◌, List, ◌∷◌, ℕ, Option, Some, IfOk, IfSome};
+ghost use Rattle.std.specs.Prelude.{◌≡◌, List, ◌∷◌, ℕ, Option, Some, IfOk, IfSome, ◌&&◌};
 ghost use Rattle.std.specs.Prelude.{IsTrue, ◌↔◌, is_none, length};
 ghost use Rattle.std.specs.Arc.{arc_value};
 ghost use Rattle.std.specs.Option.{option_map};
@@ -16,8 +16,10 @@ ghost use Rattle.oe_shape.specs.Operations as operations;
 ghost use Rattle.oe_shape.specs.Operations.{Outline};
 ghost use Rattle.oe_shape.specs.PlainRequests.{plain_operation, plain_cube_request};
 ghost use Rattle.oe_shape.specs.Requests as spec;
+ghost use Rattle.oe_shape.specs.Results as results;
 ghost use Rattle.oe_shape.specs.Results.{HasValidLabels, IsResultShape};
-ghost use Rattle.oe_shape.specs.Stands.{Passes, callback_on};
+ghost use Rattle.oe_shape.specs.RunningSums.{AreSums};
+ghost use Rattle.oe_shape.specs.Stands.{Passes, callback_on, sums_of};
 ghost use Rattle.oe_shape.specs.Walked.{AreKnown, IsVerdict, AreResolved, IsNodeOf};
 ghost use Rattle.oe_shape.specs.declared.walk.Verdict.TheVariants as verdicts;
 
@@ -106,12 +108,34 @@ fn judge_request(
         → IsVerdict rows at (plain_node node.now) verdict) }
 {
     let shape = shape_shared(alloc, states, request, one, two)?;
+    // so many periods are not made: their fault comes before every one of the callback
+    if are_too_many_periods(request, &shape) {
+        return stands(Code::CubeTooLarge, node);
+    }
     match operation_for(alloc, request, one.shape, one.kind, node.id.as_str()) {
         Ok(Some(operation)) => judge_operation(alloc, node, request, operation, shape, one, two),
         // the name of the dimension is one of the four, or it would have been refused before
         Ok(None) => stands(Code::DimensionNotAvailable, node),
         Err(Refusal::Fault(fault)) => least_with_size(node, shape.is_none(), fault),
         Err(Refusal::OutOfMemory) => Err(OutOfMemory),
+    }
+}
+
+/// Calendar periods that are too many for a cube.
+fn are_too_many_periods(request: &Request<'_>, shape: &Option<Arc<Shape>>) -> bool
+    ensures { result
+        ≡ (is_none shape.now && results.is_by_period (plain_cube_request request.now)) }
+{
+    shape.is_none() && is_by_period(request)
+}
+
+/// A request for calendar periods.
+fn is_by_period(request: &Request<'_>) -> bool
+    ensures { result ≡ results.is_by_period (plain_cube_request request.now) }
+{
+    match request {
+        Request::AggregateTemporalPeriod { .. } => true,
+        _ => false,
     }
 }
 
@@ -156,7 +180,8 @@ fn judge_operation(
         ≡ operations.operation_of (plain_cube_request request.now) (outline_in one ∷ others) }
     requires faultless { (others : List Outline) → IfSome
         (callback_on (plain_cube_request request.now) (outline_in one ∷ others))
-        (λ c. IsFaultlessCallback c.1) }
+        (λ c. IsFaultlessCallback c.1)
+        × IfSome (sums_of (plain_cube_request request.now)) AreSums }
     ensures { IfOk result (λ verdict. (rows : List DimsRow) (at : List ℕ → Outline)
         → Passes rows at (plain_node node.now) (plain_cube_request request.now)
         → WorksOn rows at (plain_cube_request request.now) (outline_in one.entry)

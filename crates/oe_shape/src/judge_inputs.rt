@@ -47,6 +47,8 @@ pub(crate) fn inputs_of<'a>(
         Request::ApplyKernel { cube, .. } => once(input_named(nodes, states, cube)),
         Request::ReduceDimension { cube, .. } => once(input_named(nodes, states, cube)),
         Request::AggregateTemporal { cube, .. } => once(input_named(nodes, states, cube)),
+        Request::AggregateTemporalPeriod { cube, .. } => once(input_named(nodes, states, cube)),
+        Request::ApplyDimension { cube, .. } => once(input_named(nodes, states, cube)),
         Request::MergeCubes { one, two, .. } => both(
             input_named(nodes, states, one),
             input_named(nodes, states, two),

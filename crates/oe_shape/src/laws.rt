@@ -4,7 +4,7 @@ ghost use Rattle.oe_shape.specs.contracts.checked.Checked as checked;
 ghost use Rattle.oe_shape.specs.Brings.{BringValidLabels};
 ghost use Rattle.oe_shape.specs.CellKinds.{GiveCellsOfKind};
 ghost use Rattle.oe_shape.specs.Held.{AskWhereHeld};
-ghost use Rattle.oe_shape.specs.Laws.{AreFoundWithoutCells, AreInOneAtLeast, GiveCubes, KeepAllLabels, NeedResolvers, ReferToCubes};
+ghost use Rattle.oe_shape.specs.Laws.{AggregateByPeriods, AreFoundWithoutCells, AreInOneAtLeast, GiveCubes, KeepAllLabels, NeedResolvers, ReferToCubes};
 ghost use Rattle.oe_shape.specs.Reach.{FoldDateByDate};
 ghost use Rattle.oe_shape.specs.Scopes.{GiveScopes};
 ghost use Rattle.oe_shape.specs.SoundNodes.{AreSound, UnfoldAtNodes};
@@ -106,6 +106,13 @@ pub fn nodes_give_cubes()
 #[tactic(auto, using(crate::proofs::ReachLemmas::fold_date_by_date))]
 pub fn folds_are_reductions()
     ensures { FoldDateByDate }
+{}
+
+/// Does nothing. Its contract says that an aggregation over the calendar periods of a cube's labels of t, each from its
+/// start to that of the next, gives each period the value of the reducer on the cells whose labels lie in it.
+#[tactic(auto, using(crate::proofs::PeriodLemmas::aggregate_by_periods))]
+pub fn periods_are_aggregations()
+    ensures { AggregateByPeriods }
 {}
 
 /// Does nothing. Its contract says that threads may share checked graphs and hand them on.

@@ -30,8 +30,10 @@ pub enum Operation {
     },
     /// The lists of cells along a dimension by a callback: `reduce_dimension`.
     Reduce(Kind, Expr),
-    /// The lists of cells inside each interval by a callback: `aggregate_temporal`.
+    /// The lists of cells inside each interval by a callback: `aggregate_temporal`, `aggregate_temporal_period`.
     Aggregate(Vec<Interval>, Expr),
+    /// The running sums along t, with nulls ignored or not: `apply_dimension` by `cumsum`.
+    Accumulate(bool),
     /// Two cubes, by a resolver where a label tuple is in both: `merge_cubes`.
     Merge(Option<Expr>),
     /// A cube under a mask, with a replacement: `mask`.

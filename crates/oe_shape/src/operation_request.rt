@@ -3,6 +3,7 @@ ghost use Rattle.std.specs.Prelude.{◌≡◌, ℕ, IfOk, IfErr, IfSome, Option,
 ghost use Rattle.std.specs.Option.{option_map};
 ghost use Rattle.oe_dims.specs.Dimensions.{Dimensions};
 ghost use Rattle.oe_graph.specs.Form.{callback_name};
+ghost use Rattle.oe_graph.specs.Plain.{plain_graph};
 ghost use Rattle.oe_graph.specs.Read.{IsFault};
 ghost use Rattle.oe_expr.specs.Callback.{IsFaultlessCallback, StandsInCallbackAt};
 ghost use Rattle.oe_expr.specs.Scope.{IsScope, scope_parameters, plain_scope};
@@ -12,18 +13,22 @@ ghost use Rattle.oe_shape.specs.Operations as spec;
 ghost use Rattle.oe_shape.specs.Operations.{Outline};
 ghost use Rattle.oe_shape.specs.PlainRequests.{plain_called, plain_kernel, plain_operation, plain_cube_request, plain_restriction};
 ghost use Rattle.oe_shape.specs.Requests as request;
-ghost use Rattle.oe_shape.specs.Stands.{callback_on};
+ghost use Rattle.oe_shape.specs.RunningSums.{AreSums, IsWellFormed};
+ghost use Rattle.oe_shape.specs.Stands.{callback_on, sums_of};
 
 use crate::extent::{BoundingBox, Interval, TemporalExtent};
 use crate::operation::{Operation, Restriction};
 use crate::operation_scope::{interval_scope, reduction_scope};
 use crate::request::{Called, KernelRows, Request};
 use crate::rows_words::dimension_named;
+use crate::running_sums::running_sum_in;
+use crate::shape_periods::period_intervals;
 use oe_dims::{CellKind, Kind, Shape, Text};
 use oe_expr::{Expr, Scope, build};
-use oe_graph::Refusal;
+use oe_graph::{Graph, Refusal};
 use oe_kernel::Kernel;
 use oe_memory::OutOfMemory;
+use oe_periods::Period;
 use std::alloc::Global;
 
 /// The name of the callback in an argument of a node.
@@ -76,8 +81,8 @@ pub fn operation_for(
     // no fault stands in its callback
     ensures faultless { IfOk result (λ r. (others : List Outline) → IfSome
         (callback_on (plain_cube_request request.now)
-        (record { shape = shape.now; kind = kind } ∷ others))
-        (λ c. IsFaultlessCallback c.1)) }
+        (record { shape = shape.now; kind = kind } ∷ others)) (λ c. IsFaultlessCallback c.1)
+        × IfSome (sums_of (plain_cube_request request.now)) AreSums) }
     // or the least of those that stand there
     ensures refused { IfErr result (IsFault (StandsInCallback id.now
         (plain_cube_request request.now)
@@ -118,6 +123,12 @@ pub fn operation_for(
             reducer,
             ..
         } => aggregation_for(alloc, intervals, reducer, shape, kind, id),
+        Request::AggregateTemporalPeriod {
+            period,
+            reducer,
+            ..
+        } => period_for(alloc, *period, reducer, shape, kind, id),
+        Request::ApplyDimension { process, .. } => sums_for(alloc, process, id),
         Request::MergeCubes { resolver, .. } => merge_for(alloc, resolver, kind, id),
         Request::Mask { replacement, .. } => Ok(Some(Operation::Cover(*replacement))),
         Request::SaveResult { .. } => Ok(Some(Operation::GiveBack)),
@@ -185,6 +196,37 @@ fn aggregation_for(
     let intervals = copy_intervals(alloc, intervals)?;
     let callback = callback_under(alloc, reducer, &scope, id, "reducer")?;
     Ok(Some(Operation::Aggregate(intervals, callback)))
+}
+
+/// An aggregation over the calendar periods of the cube's labels of t.
+fn period_for(
+    alloc: Global,
+    period: Period,
+    reducer: &Called<'_>,
+    shape: &Shape,
+    kind: CellKind,
+    id: &str,
+) -> Result<Option<Operation>, Refusal>
+    requires callback { IsResolvedCallback (codes "data" ∷ codes "context" ∷ [])
+        (plain_called reducer.now) }
+    ensures { (data_id : List ℕ) (name : Option (List ℕ)) → IsBuilt id.now
+        (request.aggregate_temporal_period data_id period name (plain_called reducer.now))
+        (record { shape = shape.now; kind = kind }) result }
+{
+    let intervals = period_intervals(alloc, period, shape)?;
+    let scope = interval_scope(alloc, &intervals, shape, kind)?;
+    let callback = callback_under(alloc, reducer, &scope, id, "reducer")?;
+    Ok(Some(Operation::Aggregate(intervals, callback)))
+}
+
+/// The running sums of a callback.
+fn sums_for(alloc: Global, process: &Graph, id: &str) -> Result<Option<Operation>, Refusal>
+    requires { IsWellFormed (plain_graph process.now) }
+    ensures { (data_id : List ℕ) (one : Outline) → IsBuilt id.now
+        (request.apply_dimension data_id (plain_graph process.now)) one result }
+{
+    let ignore = running_sum_in(alloc, process, id)?;
+    Ok(Some(Operation::Accumulate(ignore)))
 }
 
 /// A merge by a resolver, where there is one.

@@ -2,9 +2,11 @@
 ghost use Rattle.std.specs.Prelude.{◌≡◌, codes, map};
 ghost use Rattle.std.specs.List.{list_all};
 ghost use Rattle.std.specs.Option.{option_map, option_and_then};
+ghost use Rattle.oe_dims.specs.Names.{same_name};
 ghost use Rattle.oe_graph.specs.Plain.{plain_arg, plain_args, plain_graph, plain_named};
 ghost use Rattle.oe_graph.specs.References.{argument_named};
 ghost use Rattle.oe_graph.specs.Tree as tree;
+ghost use Rattle.oe_expr.specs.Requests as requests;
 ghost use Rattle.oe_expr.specs.Requests.{passes, read};
 ghost use Rattle.oe_shape.specs.Parameters as spec;
 
@@ -13,6 +15,7 @@ use oe_cell::{Cell, Frac, whole_cell};
 use oe_dims::{Text, is_name, read_instant};
 use oe_graph::{Arg, Graph};
 use oe_kernel::Border;
+use oe_periods::{Period, period_named};
 
 /// The argument of a name.
 pub(crate) fn argument<'a>(arguments: &'a Vec<(Text, Arg)>, name: &str) -> Option<&'a Arg>
@@ -88,6 +91,79 @@ pub(crate) fn text_or_null_at<'a>(
     match argument(arguments, name)? {
         Arg::Null => Some(None),
         Arg::Str(text) => Some(Some(text.as_str())),
+        _ => None,
+    }
+}
+
+/// The name of a calendar period.
+pub(crate) fn period_at(arguments: &Vec<(Text, Arg)>, name: &str) -> Option<Period>
+    ensures { result ≡ read spec.period_in name.now (plain_named arguments.now.items) }
+{
+    period_in(argument(arguments, name)?)
+}
+
+/// A calendar period by its name.
+fn period_in(arg: &Arg) -> Option<Period>
+    ensures { result ≡ spec.period_in (plain_arg arg.now) }
+{
+    match arg {
+        Arg::Str(name) => period_named(name.as_str()),
+        _ => None,
+    }
+}
+
+/// The name of t.
+fn names_time(name: &str) -> bool
+    ensures { result ≡ same_name name.now (codes "t") }
+{
+    name == "t"
+}
+
+/// Whether it is the name of t.
+fn is_time_name(arg: &Arg) -> bool
+    ensures { result ≡ spec.is_time_name (plain_arg arg.now) }
+{
+    match arg {
+        Arg::Str(name) => names_time(name.as_str()),
+        _ => false,
+    }
+}
+
+/// Whether the argument of a name is the name of t.
+#[tactic(auto, using(crate::proofs::ReadingLemmas::passes_by))]
+pub(crate) fn has_time_name(arguments: &Vec<(Text, Arg)>, name: &str) -> bool
+    ensures { result ≡ passes spec.is_time_name name.now (plain_named arguments.now.items) }
+{
+    match argument(arguments, name) {
+        Some(arg) => is_time_name(arg),
+        None => false,
+    }
+}
+
+/// Whether it is null.
+fn is_null(arg: &Arg) -> bool
+    ensures { result ≡ requests.is_null (plain_arg arg.now) }
+{
+    matches!(arg, Arg::Null)
+}
+
+/// Whether the argument of a name is null.
+#[tactic(auto, using(crate::proofs::ReadingLemmas::passes_by))]
+pub(crate) fn has_null(arguments: &Vec<(Text, Arg)>, name: &str) -> bool
+    ensures { result ≡ passes requests.is_null name.now (plain_named arguments.now.items) }
+{
+    match argument(arguments, name) {
+        Some(arg) => is_null(arg),
+        None => false,
+    }
+}
+
+/// A flag that is written.
+pub(crate) fn flag_at(arguments: &Vec<(Text, Arg)>, name: &str) -> Option<bool>
+    ensures { result ≡ read requests.flag_in name.now (plain_named arguments.now.items) }
+{
+    match argument(arguments, name)? {
+        Arg::Flag(flag) => Some(*flag),
         _ => None,
     }
 }

@@ -6,7 +6,9 @@ ghost use Rattle.oe_shape.specs.Requests as spec;
 #[derive(Clone, Copy, PartialEq, Eq)]
 pub enum CubeProcess {
     AggregateTemporal,
+    AggregateTemporalPeriod,
     Apply,
+    ApplyDimension,
     ApplyKernel,
     FilterBands,
     FilterBbox,
@@ -19,7 +21,7 @@ pub enum CubeProcess {
 }
 
 /// The number of processes that stand in the main graph.
-const PROCESS_COUNT: usize = 11;
+const PROCESS_COUNT: usize = 13;
 
 /// A process by its id.
 type ProcessEntry = (&'static str, CubeProcess);
@@ -27,7 +29,12 @@ type ProcessEntry = (&'static str, CubeProcess);
 /// The processes, by their ids.
 static PROCESSES: [ProcessEntry; PROCESS_COUNT] = [
     ("aggregate_temporal", CubeProcess::AggregateTemporal),
+    (
+        "aggregate_temporal_period",
+        CubeProcess::AggregateTemporalPeriod,
+    ),
     ("apply", CubeProcess::Apply),
+    ("apply_dimension", CubeProcess::ApplyDimension),
     ("apply_kernel", CubeProcess::ApplyKernel),
     ("filter_bands", CubeProcess::FilterBands),
     ("filter_bbox", CubeProcess::FilterBbox),

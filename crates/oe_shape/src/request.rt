@@ -8,8 +8,8 @@ ghost use Rattle.oe_shape.specs.Requests as spec;
 use crate::extent::{BoundingBox, Interval, TemporalExtent};
 use crate::parameter::{
     border_at, callback_at, callback_or_null_at, cube_at, extent_at, extent_or_null_at,
-    has_empty_list, has_empty_object, has_null_or_empty_object, literal_at, number_at, text_at,
-    text_or_null_at,
+    has_empty_list, has_empty_object, has_null, has_null_or_empty_object, has_time_name,
+    literal_at, number_at, period_at, text_at, text_or_null_at,
 };
 use crate::parameter_box::{box_at, box_or_null_at};
 use crate::parameter_list::{bands_at, intervals_in, kernel_at, some_bands_or_null_at};
@@ -19,6 +19,7 @@ use oe_dims::Text;
 use oe_graph::{Arg, Graph, Node};
 use oe_kernel::Border;
 use oe_memory::OutOfMemory;
+use oe_periods::Period;
 use std::alloc::Global;
 
 /// A callback with the literal `context` that it sees.
@@ -85,6 +86,18 @@ pub enum Request<'a> {
         dimension: Option<&'a str>,
         reducer: Called<'a>,
     },
+    /// Perhaps with the name of the dimension.
+    AggregateTemporalPeriod {
+        cube: &'a str,
+        period: Period,
+        dimension: Option<&'a str>,
+        reducer: Called<'a>,
+    },
+    /// Along `t`, by a callback of running sums.
+    ApplyDimension {
+        cube: &'a str,
+        process: &'a Graph,
+    },
     /// Perhaps with a resolver.
     MergeCubes {
         one: &'a str,
@@ -125,7 +138,9 @@ fn request_of(
 {
     match process {
         CubeProcess::AggregateTemporal => aggregate_request(alloc, arguments),
+        CubeProcess::AggregateTemporalPeriod => Ok(period_request(arguments)),
         CubeProcess::Apply => Ok(apply_request(arguments)),
+        CubeProcess::ApplyDimension => Ok(apply_dimension_request(arguments)),
         CubeProcess::ApplyKernel => apply_kernel_request(alloc, arguments),
         CubeProcess::FilterBands => filter_bands_request(alloc, arguments),
         CubeProcess::FilterBbox => Ok(filter_bbox_request(arguments)),
@@ -311,6 +326,41 @@ fn aggregate_request(
         })),
         None => Ok(None),
     }
+}
+
+fn period_request(arguments: &Vec<(Text, Arg)>) -> Option<Request<'_>>
+    ensures { option_map plain_cube_request result
+        ≡ spec.period_request (plain_named arguments.now.items) }
+{
+    let cube = cube_at(arguments, "data")?;
+    let period = period_at(arguments, "period")?;
+    let dimension = text_or_null_at(arguments, "dimension")?;
+    let Some(reducer) = called_at(arguments, "reducer") else {
+        return None;
+    };
+    Some(Request::AggregateTemporalPeriod {
+        cube,
+        period,
+        dimension,
+        reducer,
+    })
+}
+
+/// `dimension` is t, `target_dimension` null and `context` a literal.
+fn apply_dimension_request(arguments: &Vec<(Text, Arg)>) -> Option<Request<'_>>
+    ensures { option_map plain_cube_request result
+        ≡ spec.apply_dimension_request (plain_named arguments.now.items) }
+{
+    if !has_time_name(arguments, "dimension") {
+        return None;
+    }
+    if !has_null(arguments, "target_dimension") {
+        return None;
+    }
+    literal_at(arguments, "context")?;
+    let cube = cube_at(arguments, "data")?;
+    let process = callback_at(arguments, "process")?;
+    Some(Request::ApplyDimension { cube, process })
 }
 
 /// A resolver or null, with `context`.

@@ -5,7 +5,9 @@ ghost use Rattle.oe_cell.specs.Fraction.{Fraction};
 ghost use Rattle.oe_cell.specs.declared.cell.Cell.{Cell};
 ghost use Rattle.oe_dims.specs.Dimensions.{Dimensions};
 ghost use Rattle.oe_dims.specs.declared.kind.Kind.TheVariants.{Time, Bands};
+ghost use Rattle.oe_graph.specs.Tree.{PlainGraph};
 ghost use Rattle.oe_kernel.specs.declared.border.Border.{Border};
+ghost use Rattle.oe_periods.specs.declared.calendar.Period.{Period};
 ghost use Rattle.oe_shape.specs.Early.{IsEarlyFault};
 ghost use Rattle.oe_shape.specs.Extents as extents;
 ghost use Rattle.oe_shape.specs.PlainRequests.{plain_kernel, plain_cube_request};
@@ -217,6 +219,32 @@ fn aggregate_fault(
     })
 }
 
+/// `aggregate_temporal_period`.
+fn period_fault(dimension: Option<&str>, shape: &Shape) -> Option<Code>
+    ensures { (id : List ℕ) (period : Period) (c : request.Called) (two : Dimensions)
+        → IsEarlyFault (request.aggregate_temporal_period id period
+        (option_map (λ bytes. bytes.now) dimension.entry) c)
+        shape.now two result }
+{
+    if lacks(Kind::Time, shape) || names_other(dimension) {
+        Some(Code::DimensionNotAvailable)
+    } else {
+        None
+    }
+}
+
+/// `apply_dimension`.
+fn apply_dimension_fault(shape: &Shape) -> Option<Code>
+    ensures { (id : List ℕ) (process : PlainGraph) (two : Dimensions)
+        → IsEarlyFault (request.apply_dimension id process) shape.now two result }
+{
+    if lacks(Kind::Time, shape) {
+        Some(Code::DimensionNotAvailable)
+    } else {
+        None
+    }
+}
+
 /// A merge has no resolver and needs one. Where it has one, no label is looked at.
 fn lacks_resolver(
     alloc: Global,
@@ -317,6 +345,8 @@ pub fn early_fault(
             dimension,
             ..
         } => aggregate_fault(alloc, intervals.as_slice(), *dimension, one),
+        Request::AggregateTemporalPeriod { dimension, .. } => Ok(period_fault(*dimension, one)),
+        Request::ApplyDimension { .. } => Ok(apply_dimension_fault(one)),
         Request::MergeCubes { resolver, .. } => { merge_fault(alloc, resolver.is_some(), one, two) }
         Request::Mask { .. } => mask_fault(alloc, one, two),
         Request::SaveResult { format, .. } => Ok(save_fault(format)),

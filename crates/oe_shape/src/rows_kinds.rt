@@ -42,6 +42,7 @@ pub fn takes_other_kinds(operation: &Operation, first: CellKind, second: CellKin
         Operation::Merge(resolver) => {
             !same_cell_kind(first, second) || gives_another_kind(first, resolver)
         }
+        Operation::Accumulate(_) => !same_cell_kind(first, CellKind::Numbers),
         Operation::Cover(replacement) => is_of_another(first, *replacement),
         _ => false,
     }

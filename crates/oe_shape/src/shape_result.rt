@@ -14,6 +14,7 @@ use crate::rows_words::dimension_named;
 use crate::shape_aggregated::aggregated_shape;
 use crate::shape_kept::kept_shape;
 use crate::shape_merged::merged_shape;
+use crate::shape_periods::period_shape;
 use crate::shape_without::without;
 use oe_dims::{Shape, Text};
 use oe_memory::OutOfMemory;
@@ -131,7 +132,12 @@ pub fn result_shape(
         Request::AggregateTemporal { intervals, .. } => {
             aggregated_shape(alloc, intervals.as_slice(), one)
         }
+        Request::AggregateTemporalPeriod { period, .. } => period_shape(alloc, *period, one),
         Request::MergeCubes { .. } => merged_shape(alloc, one, two),
-        _ => same_shape(one),
+        Request::Apply { .. } => same_shape(one),
+        Request::ApplyDimension { .. } => same_shape(one),
+        Request::ApplyKernel { .. } => same_shape(one),
+        Request::Mask { .. } => same_shape(one),
+        Request::SaveResult { .. } => same_shape(one),
     }
 }

@@ -83,6 +83,7 @@ fn leaves_labels(request: &Request<'_>, one: &Shape, two: &Shape) -> bool
             ..
         } => true,
         Request::Apply { .. } => true,
+        Request::ApplyDimension { .. } => true,
         Request::ApplyKernel { .. } => true,
         Request::MergeCubes { .. } => adds_nothing(one, two),
         Request::Mask { .. } => true,

@@ -23,7 +23,7 @@ use Rattle.oe_plan.proofs.NodeLemmas.{has_operation, seen, whole_is}
 use Rattle.oe_shape.specs.Checked.{AreFaultless, CheckedGraph}
 use Rattle.oe_shape.specs.Links.{index_referred, links_of}
 use Rattle.oe_shape.specs.declared.extent.TemporalExtent.{TemporalExtent}
-use Rattle.oe_shape.specs.Operations.{Operation, keep, each_cell, convolve, reduce, aggregate, merge, cover, give_back, first_or, no_dimensions, second_or, shape_of}
+use Rattle.oe_shape.specs.Operations.{Operation, keep, each_cell, convolve, reduce, aggregate, accumulate, merge, cover, give_back, first_or, no_dimensions, second_or, shape_of}
 use Rattle.oe_shape.specs.Reach.{needs_whole, time_fold, time_fold_of_node}
 use Rattle.oe_shape.specs.Stands.{IsSound, sound}
 use Rattle.oe_shape.proofs.LinkLemmas.{index_is, links_arguments, named_at, referred, within_nodes}
@@ -66,6 +66,7 @@ undated_shape (reduce Bands callback) shapes h apart = first_undated shapes h
 undated_shape (reduce Y callback) shapes h apart = first_undated shapes h
 undated_shape (reduce X callback) shapes h apart = first_undated shapes h
 undated_shape (aggregate intervals callback) shapes h apart = absurd (apart refl)
+undated_shape (accumulate ignore) shapes h apart = first_undated shapes h
 undated_shape (merge resolver) shapes h apart =
     let one = first_undated shapes h in
     let two = second_undated shapes h in

@@ -16,9 +16,9 @@ use Rattle.oe_plan.specs.Steps.{arguments_of_node}
 use Rattle.oe_shape.specs.Checked.{AreFaultless, CheckedGraph, operation_of_node}
 use Rattle.oe_shape.specs.Graphs.{operation_at}
 use Rattle.oe_shape.specs.Links.{index_referred, links_of}
-use Rattle.oe_shape.specs.Operations.{Operation, keep, each_cell, convolve, reduce, aggregate, merge, cover, give_back, Outline, operation_of}
+use Rattle.oe_shape.specs.Operations.{Operation, keep, each_cell, convolve, reduce, aggregate, accumulate, merge, cover, give_back, Outline, operation_of}
 use Rattle.oe_shape.specs.Reach.{time_fold, time_fold_of_node}
-use Rattle.oe_shape.specs.Requests.{CubeRequest, aggregate_temporal, apply, apply_kernel, cube_ids, filter_bands, filter_bbox, filter_temporal, load_collection, mask, merge_cubes, reduce_dimension, cube_request_at, save_result}
+use Rattle.oe_shape.specs.Requests.{CubeRequest, aggregate_temporal, aggregate_temporal_period, apply_dimension, apply, apply_kernel, cube_ids, filter_bands, filter_bbox, filter_temporal, load_collection, mask, merge_cubes, reduce_dimension, cube_request_at, save_result}
 use Rattle.oe_shape.specs.SoundNodes.{input_outlines}
 use Rattle.oe_shape.proofs.CheckedLemmas.{refer}
 use Rattle.oe_shape.proofs.LinkLemmas.{links_arguments}
@@ -38,6 +38,7 @@ folds_reduce (reduce Bands callback) x e = absurd cc
 folds_reduce (reduce Y callback) x e = absurd cc
 folds_reduce (reduce X callback) x e = absurd cc
 folds_reduce (aggregate intervals callback) x e = absurd cc
+folds_reduce (accumulate ignore) x e = absurd cc
 folds_reduce (merge resolver) x e = absurd cc
 folds_reduce (cover replacement) x e = absurd cc
 folds_reduce give_back x e = absurd cc
@@ -53,6 +54,8 @@ reduces_one (apply data_id c) cubes callback e = refl
 reduces_one (apply_kernel data_id kernel factor border replace) cubes callback e = refl
 reduces_one (reduce_dimension data_id name c) cubes callback e = refl
 reduces_one (aggregate_temporal data_id intervals name c) cubes callback e = refl
+reduces_one (aggregate_temporal_period data_id period name c) cubes callback e = refl
+reduces_one (apply_dimension data_id g) cubes callback e = refl
 reduces_one (merge_cubes one two resolver) cubes callback e = absurd cc
 reduces_one (mask data_id mask_id replacement) cubes callback e = absurd cc
 reduces_one (save_result data_id format) cubes callback e = refl

@@ -23,8 +23,9 @@ use Rattle.oe_shape.specs.Callbacks.{IsResolvedCallback}
 use Rattle.oe_shape.specs.Checked.{AreFaultless, CheckedGraph, operation_of_node}
 use Rattle.oe_shape.specs.Graphs.{operation_at, outline_at}
 use Rattle.oe_shape.specs.Links.{index_referred, link_of, links_of, loaded_by, loaded_collection}
-use Rattle.oe_shape.specs.Operations.{Outline, callback_under, dimension_named, first_or, no_outline, operation_of, reduce, reduction_scope}
-use Rattle.oe_shape.specs.Requests.{Called, CubeRequest, aggregate_temporal, apply, apply_kernel, cube_ids, filter_bands, filter_bbox, filter_temporal, load_collection, mask, merge_cubes, reduce_dimension, cube_request_at, save_result}
+use Rattle.oe_shape.specs.Operations.{Outline, aggregate, callback_under, dimension_named, first_or, no_outline, operation_of, reduce, reduction_scope}
+use Rattle.oe_shape.specs.declared.extent.Interval.{Interval}
+use Rattle.oe_shape.specs.Requests.{Called, CubeRequest, aggregate_temporal, aggregate_temporal_period, apply_dimension, apply, apply_kernel, cube_ids, filter_bands, filter_bbox, filter_temporal, load_collection, mask, merge_cubes, reduce_dimension, cube_request_at, save_result}
 use Rattle.oe_shape.specs.SoundNodes.{input_outlines}
 use Rattle.oe_shape.specs.Stands.{HasNoFault, IsSound, asks_for_nothing, callback_in, cubes_of, early, early_rows, sound}
 use Rattle.oe_expr.specs.Rows.{first_row}
@@ -53,6 +54,10 @@ no_early_fault rows at n r asks none = by (first_row (early_rows rows r (cubes_o
     by None is = refl
     by (Some code) is = absurd (none code n.id (early asks is))
 
+-- an aggregation is no reduction
+not_reduced : (intervals : List Interval) (c callback : Callback) → Some (aggregate intervals c) ≡ Some (reduce Time callback) → ⊥
+not_reduced intervals c callback e = absurd cc
+
 -- what loads nothing takes a cube
 cube_taken : (r : CubeRequest) → loaded_by r ≡ None → (id : List ℕ) × Contains (cube_ids r) id
 cube_taken (load_collection id box time bands) e = absurd cc
@@ -63,6 +68,8 @@ cube_taken (apply data_id c) e = (data_id, (0, omega arith, refl))
 cube_taken (apply_kernel data_id kernel factor border replace) e = (data_id, (0, omega arith, refl))
 cube_taken (reduce_dimension data_id name c) e = (data_id, (0, omega arith, refl))
 cube_taken (aggregate_temporal data_id intervals name c) e = (data_id, (0, omega arith, refl))
+cube_taken (aggregate_temporal_period data_id period name c) e = (data_id, (0, omega arith, refl))
+cube_taken (apply_dimension data_id callback) e = (data_id, (0, omega arith, refl))
 cube_taken (merge_cubes one two resolver) e = (one, (0, omega arith, refl))
 cube_taken (mask data_id mask_id replacement) e = (data_id, (0, omega arith, refl))
 cube_taken (save_result data_id format) e = (data_id, (0, omega arith, refl))
@@ -171,6 +178,8 @@ module _ (c : CheckedGraph) (f : AreFaultless c) where
       (none_holds c.rows r (input_outlines c.rows c.nodes r) clean) tt in
       by_kind (first_or no_outline (input_outlines c.rows c.nodes r)) callback call (dimension_named name) is built.resolved
   resolved_by n index at callback (aggregate_temporal data_id intervals name call) asks is clean = absurd cc
+  resolved_by n index at callback (aggregate_temporal_period data_id period name call) asks is clean = absurd (not_reduced _ _ callback is)
+  resolved_by n index at callback (apply_dimension data_id sums) asks is clean = absurd cc
   resolved_by n index at callback (merge_cubes one two resolver) asks is clean = absurd cc
   resolved_by n index at callback (mask data_id mask_id replacement) asks is clean = absurd cc
   resolved_by n index at callback (save_result data_id format) asks is clean = absurd cc

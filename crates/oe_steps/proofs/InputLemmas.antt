@@ -14,7 +14,7 @@ use Rattle.oe_ops.specs.Nodes.{TakesInputs, FitsFirstKind}
 use Rattle.oe_ops.specs.Slices.{TakesPairs}
 use Rattle.oe_shape.specs.CellKinds.{IsSoundOn, ResolvesTo}
 use Rattle.oe_shape.specs.Meaning.{cube_of}
-use Rattle.oe_shape.specs.Operations.{Operation, keep, each_cell, convolve, reduce, aggregate, merge, cover, give_back, Outline, operation_kind, shape_of}
+use Rattle.oe_shape.specs.Operations.{Operation, keep, each_cell, convolve, reduce, aggregate, accumulate, merge, cover, give_back, Outline, operation_kind, shape_of}
 use Rattle.oe_steps.proofs.NodeLemmas.{cube_count}
 
 -- ---- an operation on one cube does not look at the second
@@ -26,6 +26,7 @@ sound_twice (each_cell c) a one s = s
 sound_twice (convolve kernel factor border replace) a one s = s
 sound_twice (reduce kind c) a one s = s
 sound_twice (aggregate intervals c) a one s = s
+sound_twice (accumulate ignore) a one s = s
 sound_twice (merge resolver) a one s = absurd (omega arith)
 sound_twice (cover replacement) a one s = s
 sound_twice give_back a one s = s
@@ -37,6 +38,7 @@ shape_twice (each_cell c) d one = refl
 shape_twice (convolve kernel factor border replace) d one = refl
 shape_twice (reduce kind c) d one = refl
 shape_twice (aggregate intervals c) d one = refl
+shape_twice (accumulate ignore) d one = refl
 shape_twice (merge resolver) d one = absurd (omega arith)
 shape_twice (cover replacement) d one = refl
 shape_twice give_back d one = refl
@@ -48,6 +50,7 @@ cube_twice (each_cell c) a one = refl
 cube_twice (convolve kernel factor border replace) a one = refl
 cube_twice (reduce kind c) a one = refl
 cube_twice (aggregate intervals c) a one = refl
+cube_twice (accumulate ignore) a one = refl
 cube_twice (merge resolver) a one = absurd (omega arith)
 cube_twice (cover replacement) a one = absurd (omega arith)
 cube_twice give_back a one = refl
@@ -60,6 +63,7 @@ kind_first (each_cell c) kind others = refl
 kind_first (convolve kernel factor border replace) kind others = refl
 kind_first (reduce along c) kind others = refl
 kind_first (aggregate intervals c) kind others = refl
+kind_first (accumulate ignore) kind others = refl
 kind_first (merge resolver) kind others = refl
 kind_first (cover replacement) kind others = refl
 kind_first give_back kind others = refl
@@ -71,6 +75,7 @@ needs_twice (each_cell c) d p q one n = n
 needs_twice (convolve kernel factor border replace) d p q one n = n
 needs_twice (reduce kind c) d p q one n = n
 needs_twice (aggregate intervals c) d p q one n = n
+needs_twice (accumulate ignore) d p q one n = n
 needs_twice (merge resolver) d p q one n = absurd (omega arith)
 needs_twice (cover replacement) d p q one n = n
 needs_twice give_back d p q one n = n
@@ -82,6 +87,7 @@ needs_second (each_cell c) d p q one n = n
 needs_second (convolve kernel factor border replace) d p q one n = n
 needs_second (reduce kind c) d p q one n = n
 needs_second (aggregate intervals c) d p q one n = n
+needs_second (accumulate ignore) d p q one n = n
 needs_second (merge resolver) d p q one n = absurd (omega arith)
 needs_second (cover replacement) d p q one n = n
 needs_second give_back d p q one n = n
@@ -109,6 +115,7 @@ takes_inputs (reduce along c) d e kind other one two s h k =
     (s.keeps, record { kind = kind; scope_is = s.scope_is; of_kind = h })
 takes_inputs (aggregate intervals c) d e kind other one two s h k =
     (s.0.keeps, record { kind = kind; scope_is = s.0.scope_is; of_kind = h })
+takes_inputs (accumulate ignore) d e kind other one two s h k = tt
 takes_inputs (merge resolver) d e kind other one two s h k =
     takes_pairs d kind resolver one two s.1 h (subst (λ (of : CellKind). All (IsOfKind of) two) s.0 k)
 takes_inputs (cover replacement) d e kind other one two s h k = tt
@@ -127,6 +134,7 @@ fits_kind (each_cell c) d e kind other two s k = tt
 fits_kind (convolve kernel factor border replace) d e kind other two s k = tt
 fits_kind (reduce along c) d e kind other two s k = tt
 fits_kind (aggregate intervals c) d e kind other two s k = tt
+fits_kind (accumulate ignore) d e kind other two s k = tt
 fits_kind (merge resolver) d e kind other two s k =
     (subst (λ (of : CellKind). All (IsOfKind of) two) s.0 k, resolves_kind d kind resolver s.1)
 fits_kind (cover replacement) d e kind other two s k = s

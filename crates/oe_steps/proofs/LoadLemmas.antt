@@ -77,6 +77,8 @@ module _ (c : CheckedGraph) (f : AreFaultless c) (index : ℕ) (below : index < 
   by (request.apply_kernel data_id kernel factor border replace) asks loads = absurd cc
   by (request.reduce_dimension data_id name callback) asks loads = absurd cc
   by (request.aggregate_temporal data_id intervals name callback) asks loads = absurd cc
+  by (request.aggregate_temporal_period data_id period name callback) asks loads = absurd cc
+  by (request.apply_dimension data_id callback) asks loads = absurd cc
   by (request.merge_cubes one two resolver) asks loads = absurd cc
   by (request.mask data_id mask_id replacement) asks loads = absurd cc
   by (request.save_result data_id format) asks loads = absurd cc

@@ -106,6 +106,8 @@ module _ (c : CheckedGraph) (f : AreFaultless c) (index : ℕ) (below : index < 
   missing (request.apply_kernel data_id kernel factor border replace) asks loads none s = absurd cc
   missing (request.reduce_dimension data_id name callback) asks loads none s = absurd cc
   missing (request.aggregate_temporal data_id intervals name callback) asks loads none s = absurd cc
+  missing (request.aggregate_temporal_period data_id period name callback) asks loads none s = absurd cc
+  missing (request.apply_dimension data_id callback) asks loads none s = absurd cc
   missing (request.merge_cubes one two resolver) asks loads none s = absurd cc
   missing (request.mask data_id mask_id replacement) asks loads none s = absurd cc
   missing (request.save_result data_id format) asks loads none s = absurd cc

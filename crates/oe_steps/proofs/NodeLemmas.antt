@@ -19,7 +19,7 @@ use Rattle.oe_shape.specs.CellKinds.{IsSoundOn}
 use Rattle.oe_shape.specs.Checked.{CheckedGraph, AreFaultless, operation_of_node, collection_of_node, outline_of_node}
 use Rattle.oe_shape.specs.Graphs.{request_inputs, outline_named, outline_at, request_outline, operation_at}
 use Rattle.oe_shape.specs.Links.{index_referred, loaded_by, loaded_collection}
-use Rattle.oe_shape.specs.Operations.{Operation, keep, each_cell, convolve, reduce, aggregate, merge, cover, give_back, Outline, callback_under, dimension_named, first_or, no_outline, operation_of, outline_of, reduction_scope}
+use Rattle.oe_shape.specs.Operations.{Operation, keep, each_cell, convolve, reduce, aggregate, accumulate, merge, cover, give_back, Outline, callback_under, dimension_named, first_or, no_outline, operation_of, outline_of, reduction_scope}
 use Rattle.oe_shape.specs.Requests.{CubeRequest, cube_ids, cube_request_at}
 use Rattle.oe_shape.specs.SoundNodes.{AreAcyclic, IsSoundNode, sound_node, IsSoundOperation, input_outlines}
 
@@ -30,6 +30,7 @@ cube_count (each_cell c) = 1
 cube_count (convolve kernel factor border replace) = 1
 cube_count (reduce kind c) = 1
 cube_count (aggregate intervals c) = 1
+cube_count (accumulate ignore) = 1
 cube_count (merge resolver) = 2
 cube_count (cover replacement) = 2
 cube_count give_back = 1
@@ -58,6 +59,8 @@ no_load collection at (request.apply data_id c) none = refl
 no_load collection at (request.apply_kernel data_id kernel factor border replace) none = refl
 no_load collection at (request.reduce_dimension data_id name c) none = refl
 no_load collection at (request.aggregate_temporal data_id intervals name c) none = refl
+no_load collection at (request.aggregate_temporal_period data_id period name c) none = refl
+no_load collection at (request.apply_dimension data_id callback) none = refl
 no_load collection at (request.merge_cubes one two resolver) none = refl
 no_load collection at (request.mask data_id mask_id replacement) none = refl
 no_load collection at (request.save_result data_id format) none = refl
@@ -82,6 +85,8 @@ count_of (request.apply_kernel data_id kernel factor border replace) cubes opera
 count_of (request.reduce_dimension data_id name c) cubes operation none e =
     reduction_count (λ kind. callback_under (reduction_scope kind (first_or no_outline cubes)) c) (dimension_named name) operation e
 count_of (request.aggregate_temporal data_id intervals name c) cubes operation none e = same_count _ operation e
+count_of (request.aggregate_temporal_period data_id period name c) cubes operation none e = same_count _ operation e
+count_of (request.apply_dimension data_id callback) cubes operation none e = same_count _ operation e
 count_of (request.merge_cubes one two resolver) cubes operation none e = same_count _ operation e
 count_of (request.mask data_id mask_id replacement) cubes operation none e = same_count _ operation e
 count_of (request.save_result data_id format) cubes operation none e = same_count _ operation e

@@ -9,7 +9,7 @@ use Rattle.oe_shape.specs.Checked.{CheckedGraph, operation_of_node, outline_of_n
 use Rattle.oe_shape.specs.Graphs.{Collections}
 use Rattle.oe_shape.specs.Laws.{meaning_of_node}
 use Rattle.oe_shape.specs.Meaning.{Datacube, cube_of, operated}
-use Rattle.oe_shape.specs.Operations.{Operation, Outline, keep, each_cell, convolve, reduce, aggregate, merge, cover, give_back, operation_kind, outline_of, shape_of}
+use Rattle.oe_shape.specs.Operations.{Operation, Outline, keep, each_cell, convolve, reduce, aggregate, accumulate, merge, cover, give_back, operation_kind, outline_of, shape_of}
 use Rattle.oe_steps.proofs.InputLemmas.{cube_twice, kind_first, needs_second, needs_twice, shape_twice, sound_twice}
 use Rattle.oe_steps.proofs.NodeLemmas.{WorksOn, cube_count}
 
@@ -40,6 +40,7 @@ at_most_two (each_cell c) = omega arith
 at_most_two (convolve kernel factor border replace) = omega arith
 at_most_two (reduce kind c) = omega arith
 at_most_two (aggregate intervals c) = omega arith
+at_most_two (accumulate ignore) = omega arith
 at_most_two (merge resolver) = omega arith
 at_most_two (cover replacement) = omega arith
 at_most_two give_back = omega arith
@@ -50,6 +51,7 @@ one_at_least (each_cell c) = omega arith
 one_at_least (convolve kernel factor border replace) = omega arith
 one_at_least (reduce kind c) = omega arith
 one_at_least (aggregate intervals c) = omega arith
+one_at_least (accumulate ignore) = omega arith
 one_at_least (merge resolver) = omega arith
 one_at_least (cover replacement) = omega arith
 one_at_least give_back = omega arith

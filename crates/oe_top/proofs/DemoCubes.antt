@@ -1,5 +1,5 @@
 -- No fault of the arguments and the cubes of the demonstration stands, and so none at all.
-use Rattle.std.proofs.Common.{◌≡◌, ℕ, ◌*◌, ◌≤◌, ◌&&◌, not, Bool, true, false, List, [], ◌∷◌, length, map, Some, None, codes, ℤ, pos, Contains, nat_le, refl, sym, ap, ◌∙◌, subst, true≢false, arith}
+use Rattle.std.proofs.Common.{◌≡◌, ℕ, ◌*◌, ◌≤◌, ◌&&◌, not, Bool, true, false, List, [], ◌∷◌, length, map, Some, None, is_some, codes, ℤ, pos, Contains, nat_le, refl, sym, ap, ◌∙◌, subst, true≢false, arith}
 use Rattle.std.specs.List.{range_with_len}
 use Rattle.std.proofs.lemmas.Bool.{le-leb}
 use Rattle.std.proofs.lemmas.List.{length-map}
@@ -131,7 +131,8 @@ module _ (rows : List DimsRow) (at : List ℕ → Outline) (n : PlainNode) (r : 
     (none_early : first_row (early_rows rows r (cubes_of rows at r)) ≡ None)
     (none_inside : (argument : List ℕ) (c : Callback) → callback_on r (cubes_of rows at r) ≡ Some (argument, c) → IsFaultlessCallback c)
     (of_its_kind : cell_kind_invalid r (cubes_of rows at r) ≡ false)
-    (small : cube_too_large r (cubes_of rows at r) ≡ false) where
+    (small : cube_too_large r (cubes_of rows at r) ≡ false)
+    (no_sums : stands.sums_of r ≡ None) where
   same_request : (q : CubeRequest) → cube_request_at n ≡ Some q → r ≡ q
   same_request q is = let both : Some r ≡ Some q = sym asks ∙ is in cc
 
@@ -145,6 +146,10 @@ module _ (rows : List DimsRow) (at : List ℕ → Outline) (n : PlainNode) (r : 
   nothing_stands code name (stands.inside {r = q} {argument = argument} {c = c} passes on inner) =
       let same = same_request q passes.asks in
       none_inside argument c (ap (λ (k : CubeRequest). callback_on k (cubes_of rows at k)) same ∙ on) _ code name inner
+  nothing_stands code name (stands.in_sums {r = q} {g = g} passes on inner) =
+      let same = same_request q passes.asks in
+      let both : None ≡ Some g = sym no_sums ∙ (ap stands.sums_of same ∙ on) in
+      true≢false (sym (ap is_some both))
   nothing_stands code name (stands.of_kind {r = q} passes faultless invalid) =
       let same = same_request q passes.asks in
       true≢false (sym invalid ∙ ap (λ (k : CubeRequest). cell_kind_invalid k (cubes_of rows at k)) (sym same) ∙ of_its_kind)
@@ -233,12 +238,12 @@ module _ (side : ℕ) (most : side ≤ 1024) where
 
   load_sound : HasNoFault rows at load
   load_sound =
-      nothing_stands rows at load to_load load_asks refl (λ argument c is. absurd cc) refl (ap not whole_small)
+      nothing_stands rows at load to_load load_asks refl (λ argument c is. absurd cc) refl (ap not whole_small) refl
 
   sum_sound : HasNoFault rows at sum
   unfolding down_from
   sum_sound =
-      nothing_stands rows at sum to_sum sum_asks refl (λ argument c is. absurd cc) refl (ap not whole_small)
+      nothing_stands rows at sum to_sum sum_asks refl (λ argument c is. absurd cc) refl (ap not whole_small) refl
 
   reducer_sound : (argument : List ℕ) (c : Callback) → callback_on to_top (whole ∷ []) ≡ Some (argument, c) → IsFaultlessCallback c
   reducer_sound argument c is =
@@ -247,7 +252,7 @@ module _ (side : ℕ) (most : side ≤ 1024) where
 
   top_sound : HasNoFault rows at top
   unfolding down_from
-  top_sound = nothing_stands rows at top to_top top_asks refl reducer_sound refl (ap not reduced_small)
+  top_sound = nothing_stands rows at top to_top top_asks refl reducer_sound refl (ap not reduced_small) refl
 
   each_sound : (n : PlainNode) → Contains (each_node filled) n → HasNoFault rows at n
   each_sound n has = of_three (HasNoFault rows at) load sum top load_sound sum_sound top_sound n has

@@ -3,7 +3,7 @@ use Rattle.std.specs.List.{All}
 use Rattle.oe_cell.specs.declared.cell.Cell.TheVariants.{Empty}
 use Rattle.oe_cube.specs.Kinds.{IsOfKind}
 use Rattle.oe_dims.specs.Dimensions.{Dimensions}
-use Rattle.oe_dims.specs.declared.kind.Kind.TheVariants.{Time}
+use Rattle.oe_dims.specs.declared.kind.Kind.TheVariants.{Time, X}
 use Rattle.oe_shape.specs.Meaning.{aggregated, cube_of}
 use Rattle.oe_shape.specs.Operations.{aggregated_shape, operation_kind}
 use Rattle.oe_shape.specs.PlainRequests.{plain_operation, plain_restriction}
@@ -13,7 +13,7 @@ use Rattle.oe_window.specs.Cells.{cells_on}
 use Rattle.oe_window.specs.Windows.{Holds, whole_window}
 use Rattle.oe_ops.specs.Lists.{TakesIntervals}
 use Rattle.oe_ops.specs.Nodes.{FitsFirstKind}
-use Rattle.oe_ops.proofs.NodeLemmas.{all_of_none, apply_need, aggregate_need, convolve_need, cover_need, cover_two_need, give_back_need, keep_need, list_room, merge_need, merge_two_need, node_as, nothing_there, reduce_need, resolver_keeps, resolver_takes, row_room}
+use Rattle.oe_ops.proofs.NodeLemmas.{accumulate_need, all_of_none, apply_need, aggregate_need, convolve_need, cover_need, cover_two_need, give_back_need, keep_need, list_room, merge_need, merge_two_need, node_as, nothing_there, reduce_need, resolver_keeps, resolver_takes, row_room}
 use Rattle.oe_ops.proofs.node.eval_node.Goals as goal
 
 pub returns-then-is_empty : goal.returns-then-is_empty
@@ -161,6 +161,33 @@ returns-in-Aggregate c =
       kinds = λ kind h fits.
           subst (λ (o : Operation). All (IsOfKind (operation_kind (plain_operation o) (kind ∷ []))) c.eval_aggregate.new.out) (sym k.is)
           (c.eval_aggregate.ensures.kinds);
+    }
+
+pub eval_accumulate-requires : goal.eval_accumulate-requires
+eval_accumulate-requires c =
+    let k = c.in-Accumulate in
+    let here = node_as c.args.shape.now c.args.one.shape.now c.args.two.shape.now c.args.one.slice c.args.two.slice c.args.window.now c.args.operation.now _ k.is c.requires.shape_is c.requires.takes c.requires.need c.requires.two_need in
+    let room = c.requires.shape_room X in
+    record {
+      valid = c.requires.shape_valid;
+      within = c.requires.within;
+      counted = c.requires.counted;
+      need = accumulate_need c.args.shape.now c.args.one.shape.now c.args.two.shape.now c.args.one.slice c.args.two.slice c.args.window.now _ here;
+      length = c.requires.length;
+      room = omega arith;
+    }
+
+pub returns-in-Accumulate : goal.returns-in-Accumulate
+returns-in-Accumulate c =
+    let k = c.in-Accumulate in
+    let here = node_as c.args.shape.now c.args.one.shape.now c.args.two.shape.now c.args.one.slice c.args.two.slice c.args.window.now c.args.operation.now _ k.is c.requires.shape_is c.requires.takes c.requires.need c.requires.two_need in
+    record {
+      value = λ first second whole same on two_whole two_same two_on.
+          subst (λ (o : Operation). c.eval_accumulate.new.out ≡ cells_on Empty (cube_of (plain_operation o) (first ∷ second ∷ [])) c.args.window.now) (sym k.is)
+          (c.eval_accumulate.ensures.value first whole (same ∙ sym here.shape_is) on);
+      kinds = λ kind h fits.
+          subst (λ (o : Operation). All (IsOfKind (operation_kind (plain_operation o) (kind ∷ []))) c.eval_accumulate.new.out) (sym k.is)
+          (c.eval_accumulate.ensures.kinds kind h);
     }
 
 pub eval_merge-requires : goal.eval_merge-requires

@@ -2,7 +2,7 @@ use Rattle.std.proofs.Common.{sym, subst}
 use Rattle.oe_shape.specs.PlainRequests.{plain_operation}
 use Rattle.oe_shape.specs.declared.operation.Operation.{Operation}
 use Rattle.oe_ops.specs.Nodes.{IsConvolution}
-use Rattle.oe_ops.proofs.NodeLemmas.{aggregate_needs, labels_needs, reach_needs, reduce_needs}
+use Rattle.oe_ops.proofs.NodeLemmas.{aggregate_needs, accumulate_needs, labels_needs, reach_needs, reduce_needs}
 use Rattle.oe_ops.proofs.node.need.Goals as goal
 
 pub need_pixels-requires : goal.need_pixels-requires
@@ -21,7 +21,11 @@ pub returns-in-Aggregate : goal.returns-in-Aggregate
 returns-in-Aggregate c = λ shapes number same is.
     aggregate_needs c.args.shape.now c.args.argument.now shapes number c.args.window.now c.need_beside-in-Aggregate.result is c.args.operation.now _ _ c.in-Aggregate.is same c.need_beside-in-Aggregate.ensures
 
+pub returns-in-Accumulate : goal.returns-in-Accumulate
+returns-in-Accumulate c = λ shapes number same is.
+    accumulate_needs c.args.shape.now c.args.argument.now shapes number c.args.window.now c.need_beside-in-Accumulate.result is c.args.operation.now _ c.in-Accumulate.is same c.need_beside-in-Accumulate.ensures
+
 pub returns-in_default : goal.returns-in_default
 returns-in_default c = λ shapes number same is.
     labels_needs c.args.shape.now c.args.argument.now shapes number c.args.window.now c.need_labels.result is c.args.operation.now
-    c.in_default.not-Convolve c.in_default.not-Reduce c.in_default.not-Aggregate same c.need_labels.ensures
+    c.in_default.not-Convolve c.in_default.not-Reduce c.in_default.not-Aggregate c.in_default.not-Accumulate same c.need_labels.ensures

@@ -46,6 +46,16 @@ returns-in-AggregateTemporal c = λ at.
     one_input (plain_nodes c.args.nodes.now) c.requires.resolved (plain_rows c.args.dims.now) c.args.states.now at _ _ c.in-AggregateTemporal.cube.now
     (option_map outline_in c.input_named-in-AggregateTemporal.result) _ (ap plain_cube_request c.in-AggregateTemporal.is) refl refl refl c.input_named-in-AggregateTemporal.ensures c.once-in-AggregateTemporal.ensures
 
+pub returns-in-AggregateTemporalPeriod : goal.returns-in-AggregateTemporalPeriod
+returns-in-AggregateTemporalPeriod c = λ at.
+    one_input (plain_nodes c.args.nodes.now) c.requires.resolved (plain_rows c.args.dims.now) c.args.states.now at _ _ c.in-AggregateTemporalPeriod.cube.now
+    (option_map outline_in c.input_named-in-AggregateTemporalPeriod.result) _ (ap plain_cube_request c.in-AggregateTemporalPeriod.is) refl refl refl c.input_named-in-AggregateTemporalPeriod.ensures c.once-in-AggregateTemporalPeriod.ensures
+
+pub returns-in-ApplyDimension : goal.returns-in-ApplyDimension
+returns-in-ApplyDimension c = λ at.
+    one_input (plain_nodes c.args.nodes.now) c.requires.resolved (plain_rows c.args.dims.now) c.args.states.now at _ _ c.in-ApplyDimension.cube.now
+    (option_map outline_in c.input_named-in-ApplyDimension.result) _ (ap plain_cube_request c.in-ApplyDimension.is) refl refl refl c.input_named-in-ApplyDimension.ensures c.once-in-ApplyDimension.ensures
+
 pub returns-in-SaveResult : goal.returns-in-SaveResult
 returns-in-SaveResult c = λ at.
     one_input (plain_nodes c.args.nodes.now) c.requires.resolved (plain_rows c.args.dims.now) c.args.states.now at _ _ c.in-SaveResult.cube.now

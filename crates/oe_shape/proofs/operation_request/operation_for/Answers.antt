@@ -29,6 +29,22 @@ returns-in-AggregateTemporal c =
     subst (λ r. IsBuilt c.args.id.now (plain_cube_request r) one c.aggregation_for.result) (sym k.is) (c.aggregation_for.ensures k.cube.now (option_map (λ name. name.now) k.dimension)) in
     record { built = b.built; faultless = b.faultless; refused = b.refused }
 
+pub returns-in-AggregateTemporalPeriod : goal.returns-in-AggregateTemporalPeriod
+returns-in-AggregateTemporalPeriod c =
+    let k = c.in-AggregateTemporalPeriod in
+    let one : Outline = record { shape = c.args.shape.now; kind = c.args.kind } in
+    let b : IsBuilt c.args.id.now (plain_cube_request c.args.request.now) one c.period_for.result =
+    subst (λ r. IsBuilt c.args.id.now (plain_cube_request r) one c.period_for.result) (sym k.is) (c.period_for.ensures k.cube.now (option_map (λ name. name.now) k.dimension)) in
+    record { built = b.built; faultless = b.faultless; refused = b.refused }
+
+pub returns-in-ApplyDimension : goal.returns-in-ApplyDimension
+returns-in-ApplyDimension c =
+    let k = c.in-ApplyDimension in
+    let one : Outline = record { shape = c.args.shape.now; kind = c.args.kind } in
+    let b : IsBuilt c.args.id.now (plain_cube_request c.args.request.now) one c.sums_for.result =
+    subst (λ r. IsBuilt c.args.id.now (plain_cube_request r) one c.sums_for.result) (sym k.is) (c.sums_for.ensures k.cube.now one) in
+    record { built = b.built; faultless = b.faultless; refused = b.refused }
+
 pub returns-in-MergeCubes : goal.returns-in-MergeCubes
 returns-in-MergeCubes c =
     let k = c.in-MergeCubes in

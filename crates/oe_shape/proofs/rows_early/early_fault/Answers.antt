@@ -1,6 +1,7 @@
 use Rattle.std.proofs.Common.{◌≡◌, ◌∙◌, sym, subst}
 use Rattle.std.specs.Prelude.{IfOk}
 use Rattle.std.specs.Option.{option_map}
+use Rattle.oe_graph.specs.Plain.{plain_graph}
 use Rattle.oe_shape.proofs.AmongLemmas.{mapped_some}
 use Rattle.oe_shape.specs.Early.{IsEarlyFault}
 use Rattle.oe_shape.specs.PlainRequests.{plain_called, plain_kernel, plain_cube_request}
@@ -43,6 +44,18 @@ returns-in-AggregateTemporal c =
     let k = c.in-AggregateTemporal in
     subst (λ r. IfOk c.aggregate_fault.result (IsEarlyFault (plain_cube_request r) c.args.one.now c.args.two.now)) (sym k.is)
     (rw c.as_slice-in-AggregateTemporal.ensures.value at c.aggregate_fault.ensures k.cube.now (plain_called k.reducer) c.args.two.now)
+
+pub returns-in-AggregateTemporalPeriod : goal.returns-in-AggregateTemporalPeriod
+returns-in-AggregateTemporalPeriod c =
+    let k = c.in-AggregateTemporalPeriod in
+    subst (λ r. IsEarlyFault (plain_cube_request r) c.args.one.now c.args.two.now c.period_fault.result) (sym k.is)
+    (c.period_fault.ensures k.cube.now k.period (plain_called k.reducer) c.args.two.now)
+
+pub returns-in-ApplyDimension : goal.returns-in-ApplyDimension
+returns-in-ApplyDimension c =
+    let k = c.in-ApplyDimension in
+    subst (λ r. IsEarlyFault (plain_cube_request r) c.args.one.now c.args.two.now c.apply_dimension_fault.result) (sym k.is)
+    (c.apply_dimension_fault.ensures k.cube.now (plain_graph k.process.now) c.args.two.now)
 
 pub returns-in-MergeCubes : goal.returns-in-MergeCubes
 returns-in-MergeCubes c =

@@ -3,9 +3,9 @@ use Rattle.std.specs.Option.{option_map_or}
 use Rattle.oe_graph.specs.Catalogue.{Process}
 use Rattle.oe_graph.specs.Plain.{plain_stored}
 use Rattle.oe_graph.specs.declared.tree.Node.{Node}
-use Rattle.oe_resolve.specs.Calls.{callee, row_meant, may_stand}
+use Rattle.oe_resolve.specs.Calls.{callee, row_meant, stands_in}
 use Rattle.oe_resolve.proofs.NodeLemmas.{node_parts}
-use Rattle.oe_resolve.proofs.calls.may_stand.Goals as goal
+use Rattle.oe_resolve.proofs.calls.stands_in.Goals as goal
 
 pub returns-else-is_call : goal.returns-else-is_call
 returns-else-is_call c =
@@ -15,4 +15,4 @@ returns-else-is_call c =
     let by_row : Bool = option_map_or (λ (p : Process). if c.args.in_callback then p.in_callback else not p.in_callback)
     (row_meant n.namespace n.process_id) false in
     c.row_may_stand.ensures
-    ∙ (sym (ap (λ b. b || by_row) none) ∙ sym (ap (may_stand (map plain_stored c.args.stored.now) c.args.in_callback) (node_parts n)))
+    ∙ (sym (ap (λ b. b || by_row) none) ∙ sym (ap (stands_in (map plain_stored c.args.stored.now) c.args.in_callback) (node_parts n)))
