@@ -2,6 +2,7 @@
 use crate::attempt::Failing;
 use crate::cubes::{named_cube, named_file};
 use crate::gate::CountGate;
+use crate::mosaics::named_mosaic;
 use crate::runs::none_failing;
 use oe_dims::Text;
 use oe_lines::{
@@ -101,6 +102,10 @@ pub(crate) fn answers_of<R: Threads + Sync>(
             "cube" | "collection" => {
                 let (id, cube) = named_cube(alloc, verb, rest, failing.reads)?;
                 mount_answer(catalogue.mount(id, Box::new(alloc, cube)?))?
+            }
+            "mosaic" | "remainder" => {
+                let (id, mosaic) = named_mosaic(alloc, verb, rest, failing.reads)?;
+                mount_answer(catalogue.mount(id, Box::new(alloc, mosaic)?))?
             }
             "replace" => {
                 let (id, cube) = named_cube(alloc, verb, rest, failing.reads)?;

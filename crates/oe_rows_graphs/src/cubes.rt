@@ -63,7 +63,11 @@ pub(crate) fn source_of(alloc: Global, line: &str) -> Result<(&str, MemoryCube),
 }
 
 /// The collection of a cube text, of which the reads of these numbers fail.
-fn cube_of_text(alloc: Global, text: &str, failing: &[u64]) -> Result<MemoryCube, Fault> {
+pub(crate) fn cube_of_text(
+    alloc: Global,
+    text: &str,
+    failing: &[u64],
+) -> Result<MemoryCube, Fault> {
     match read_cube_text(alloc, text.as_bytes()) {
         Ok(cube) => {
             let CubeText { shape, kind, cells } = cube;

@@ -42,6 +42,8 @@
 //! |---|---|
 //! | `catalogue` | forgets the collections before it |
 //! | `cube ID TEXT` | has a collection of this cube text |
+//! | `mosaic ID TEXT \| TEXT` | has the mosaic of the two collections of these cube texts, for calls of `openeo`; of its reads those of the second alone fail |
+//! | `remainder ID TEXT \| TEXT` | the same, after the first was taken out again |
 //! | `run SIZES < GRAPH` | evaluates a graph in chunks: the number of chunks, how many were evaluated, how often the gate was entered for each, with commas between, the text, and the bytes of the spool in hexadecimal digits |
 //! | `resume SIZES < GRAPH` | evaluates it again and again, while each read of a collection, then each call of the spool, then each write of the output fails once, and the run is taken up where it stands: how many chunks were evaluated each time, and `?` behind it where the records or the text are others than without the failure |
 //! | `fails OBJECT WORDS < INPUT` | calls `openeo` with these words and this input again and again, while each call of the object fails once: of the `input`, of collections (`reads`), of the `spool`, or of the output (`writes`) |
@@ -114,6 +116,7 @@ mod cubes;
 mod failures;
 mod gate;
 mod graphs;
+mod mosaics;
 mod needs;
 mod plans;
 mod repeated;

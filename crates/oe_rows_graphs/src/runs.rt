@@ -34,7 +34,7 @@ pub(crate) fn answer_runs<R: Threads + Sync>(
         match word {
             "#" => {}
             "catalogue" => cubes.clear(),
-            "cube" => cubes.push(line)?,
+            "cube" | "mosaic" | "remainder" => cubes.push(line)?,
             _ => answer_run(rt, alloc, word, rest, &cubes, answers)?,
         }
     }
