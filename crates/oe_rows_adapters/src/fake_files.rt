@@ -2,7 +2,8 @@
 ghost use Rattle.std.specs.Prelude.{◌≤◌, length};
 
 use crate::fake_file::{FakeFile, refuse};
-use crate::script::{Script, kind_of};
+use crate::kinds::error_of;
+use crate::script::Script;
 use std::alloc::{Allocator, Global};
 use std::cell::Cell;
 use std::fs::{Files, Metadata, OpenOptions};
@@ -32,8 +33,9 @@ impl<'a> FakeFiles<'a> {
         }
     }
 
-    pub(crate) fn calls(&self) -> usize {
-        self.calls.get()
+    /// How many calls there have been.
+    pub(crate) fn calls(&self) -> u64 {
+        self.calls.get() as u64
     }
 
     /// Counts a call of a path, and gives its answer where it is the next that is expected.
@@ -58,13 +60,6 @@ fn answer_of<'a>(step: &'a str, call: &str, path: &str) -> IoResult<&'a str> {
     match answer.strip_prefix('!') {
         Some(kind) => Err(error_of(kind)),
         None => Ok(answer),
-    }
-}
-
-pub(crate) fn error_of(kind: &str) -> Error {
-    match kind_of(kind) {
-        Ok(kind) => Error::from(kind),
-        Err(_) => Error::from(ErrorKind::Unsupported),
     }
 }
 

@@ -1,5 +1,6 @@
 // Which calls of an object fail, and in which way.
-use crate::fault::Fault;
+use crate::kinds::kind_of;
+use oe_lines::{Fault, number_of, parts_of};
 use std::alloc::Global;
 use std::cell::Cell;
 use std::io::{Error, ErrorKind, Result as IoResult};
@@ -23,9 +24,9 @@ impl Script {
     pub(crate) fn call(&self) -> IoResult<()> {
         let number = self.calls.get();
         self.calls.set(number.saturating_add(1));
-        for index in 0..self.failing.len() {
-            if self.failing[index].0 == number {
-                return Err(Error::from(self.failing[index].1));
+        for (call, kind) in &self.failing {
+            if *call == number {
+                return Err(Error::from(*kind));
             }
         }
         Ok(())
@@ -37,31 +38,17 @@ pub(crate) fn script_of(alloc: Global, word: &str) -> Result<Script, Fault> {
     let mut failing = Vec::new(alloc);
     if word != "-" {
         for call in word.split(',') {
-            let Some((number, kind)) = call.split_once(':') else {
-                return Err(Fault::Line);
-            };
-            failing.push((number_of(number)?, kind_of(kind)?))?;
+            failing.push(failing_of(call)?)?;
         }
     }
     Ok(Script::new(failing))
 }
 
-pub(crate) fn number_of(word: &str) -> Result<u64, Fault> {
-    match word.parse::<u64>() {
-        Ok(number) => Ok(number),
-        Err(_) => Err(Fault::Line),
-    }
-}
-
-pub(crate) fn kind_of(word: &str) -> Result<ErrorKind, Fault> {
-    match word {
-        "interrupted" => Ok(ErrorKind::Interrupted),
-        "missing" => Ok(ErrorKind::NotFound),
-        "denied" => Ok(ErrorKind::PermissionDenied),
-        "exists" => Ok(ErrorKind::AlreadyExists),
-        "memory" => Ok(ErrorKind::OutOfMemory),
-        "invalid" => Ok(ErrorKind::InvalidData),
-        "broken" => Ok(ErrorKind::BrokenPipe),
-        _ => Err(Fault::Line),
+/// The number and the kind of a call that fails.
+fn failing_of(call: &str) -> Result<(u64, ErrorKind), Fault> {
+    let (number, kind) = parts_of(call, ":")?;
+    match kind_of(kind) {
+        Some(kind) => Ok((number_of(number)?, kind)),
+        None => Err(Fault::Line),
     }
 }

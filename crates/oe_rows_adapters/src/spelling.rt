@@ -1,92 +1,64 @@
 // How answers are spelled.
-use crate::fault::Fault;
-use itoa::Buffer;
 use oe_adapters::Fault as ProgramFault;
+use oe_lines::{Answers, end_line, push, push_number};
 use oe_outside::Failed;
 
-/// Prints a line as it is.
-pub(crate) fn print_line(line: &str, answers: &mut Vec<u8>) -> Result<(), Fault> {
-    spell_word(line, answers)?;
-    answers.push(b'\n')?;
-    Ok(())
+/// Appends a line as it is.
+pub(crate) fn spell_line(line: &str, answers: &mut Answers) {
+    push(line, answers);
+    end_line(answers);
 }
 
-pub(crate) fn spell_word(word: &str, answers: &mut Vec<u8>) -> Result<(), Fault> {
-    answers.extend_from_slice(word.as_bytes())?;
-    Ok(())
-}
-
-/// Spells a number behind a blank.
-pub(crate) fn spell_number(number: u64, answers: &mut Vec<u8>) -> Result<(), Fault> {
-    answers.push(b' ')?;
-    answers.extend_from_slice(Buffer::new().format(number).as_bytes())?;
-    Ok(())
-}
-
-/// Spells bytes behind a blank, with `.` for a zero and `?` for the byte 255.
-pub(crate) fn spell_bytes(bytes: &[u8], answers: &mut Vec<u8>) -> Result<(), Fault> {
-    answers.extend_from_slice(b" \"")?;
-    for index in 0..bytes.len() {
-        answers.push(match bytes[index] {
-            0 => b'.',
-            255 => b'?',
-            byte => byte,
-        })?;
+/// Appends bytes behind a blank, with `.` for a zero and `?` for the byte 255.
+pub(crate) fn spell_bytes(bytes: &[u8], answers: &mut Answers) {
+    push(" \"", answers);
+    for byte in bytes {
+        spell_byte(*byte, answers);
     }
-    answers.push(b'"')?;
-    Ok(())
+    push("\"", answers);
 }
 
-/// Spells how many bytes there are, or that the call failed.
-pub(crate) fn spell_count(
-    outcome: Result<u64, Failed>,
-    answers: &mut Vec<u8>,
-) -> Result<(), Fault> {
-    match outcome {
-        Ok(count) => {
-            spell_word("ok", answers)?;
-            spell_number(count, answers)
-        }
-        Err(Failed) => spell_word("Failed", answers),
-    }
-}
-
-/// Spells what a read answered, and its buffer.
-pub(crate) fn spell_read(
-    outcome: Result<usize, Failed>,
-    buffer: &[u8],
-    answers: &mut Vec<u8>,
-) -> Result<(), Fault> {
-    let outcome = match outcome {
-        Ok(count) => Ok(count as u64),
-        Err(failed) => Err(failed),
+fn spell_byte(byte: u8, answers: &mut Answers) {
+    let shown = match byte {
+        0 => b'.',
+        255 => b'?',
+        _ => byte,
     };
-    spell_count(outcome, answers)?;
-    spell_bytes(buffer, answers)
+    answers.extend(&[shown]);
 }
 
-/// Spells whether a write failed.
-pub(crate) fn spell_write(outcome: Result<(), Failed>, answers: &mut Vec<u8>) -> Result<(), Fault> {
-    spell_word(if outcome.is_ok() { "ok" } else { "Failed" }, answers)
+/// Appends how many bytes there are, or that the call failed.
+pub(crate) fn spell_count(outcome: Result<u64, Failed>, answers: &mut Answers) {
+    match outcome {
+        Ok(count) => push_number("ok ", count, answers),
+        Err(_) => push("Failed", answers),
+    }
+}
+
+/// Appends what a read answered, and its buffer.
+pub(crate) fn spell_read(outcome: Result<usize, Failed>, buffer: &[u8], answers: &mut Answers) {
+    match outcome {
+        Ok(count) => push_number("ok ", count, answers),
+        Err(_) => push("Failed", answers),
+    }
+    spell_bytes(buffer, answers);
+}
+
+/// Appends whether a write failed.
+pub(crate) fn spell_write(outcome: Result<(), Failed>, answers: &mut Answers) {
+    push(if outcome.is_ok() { "ok" } else { "Failed" }, answers);
 }
 
 /// Ends a line with a number behind a bar.
-pub(crate) fn end_line(number: u64, answers: &mut Vec<u8>) -> Result<(), Fault> {
-    spell_word(" |", answers)?;
-    spell_number(number, answers)?;
-    answers.push(b'\n')?;
-    Ok(())
+pub(crate) fn end_with(number: u64, answers: &mut Answers) {
+    push_number(" | ", number, answers);
+    end_line(answers);
 }
 
-/// Spells a fault of the program behind so many calls: its status, and its line with the line feed.
-pub(crate) fn spell_fault(
-    fault: &ProgramFault,
-    calls: u64,
-    answers: &mut Vec<u8>,
-) -> Result<(), Fault> {
-    answers.extend_from_slice(Buffer::new().format(fault.status()).as_bytes())?;
-    spell_number(calls, answers)?;
-    answers.push(b' ')?;
-    answers.extend_from_slice(fault.line())?;
-    Ok(())
+/// Appends a fault of the program behind so many calls: its status, and its line with the line feed.
+pub(crate) fn spell_fault(fault: &ProgramFault, calls: u64, answers: &mut Answers) {
+    push_number("", fault.status(), answers);
+    push_number(" ", calls, answers);
+    push(" ", answers);
+    answers.extend(fault.line());
 }

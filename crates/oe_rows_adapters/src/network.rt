@@ -2,7 +2,8 @@
 ghost use Rattle.std.specs.Prelude.{◌≤◌, length};
 ghost use Rattle.std.specs.Io.{ReadsAtMost};
 
-use crate::fault::Fault;
+use crate::kinds::error_of;
+use oe_lines::{Answers, Fault, end_line, push};
 use std::alloc::Global;
 use std::cell::{Cell, RefCell};
 use std::io::{Error, ErrorKind, Result as IoResult};
@@ -34,14 +35,14 @@ impl Network {
         Duration::from_millis(self.milliseconds.get())
     }
 
-    /// What it was asked for since this was asked last, each behind a blank.
-    pub(crate) fn take_asked(&self, into: &mut Vec<u8>) -> IoResult<()> {
-        let Ok(mut asked) = self.asked.try_borrow_mut() else {
-            return Err(Error::from(ErrorKind::Other));
-        };
-        into.extend_from_slice(&asked)?;
-        asked.clear();
-        Ok(())
+    /// Ends a line with what it was asked for since the last one ended, each behind a blank.
+    pub(crate) fn end_line(&self, answers: &mut Answers) {
+        push(":", answers);
+        if let Ok(mut asked) = self.asked.try_borrow_mut() {
+            answers.extend(&asked);
+            asked.clear();
+        }
+        end_line(answers);
     }
 
     /// Prints a word of what it is asked for.
@@ -122,19 +123,11 @@ fn put_text(text: &str, into: &mut [u8]) -> usize
     count
 }
 
+/// The number of a word, 0 for `ok`, or the error of the kind that it spells.
 fn answer_of(word: &str) -> IoResult<usize> {
-    let kind = match word {
-        "ok" => return Ok(0),
-        "interrupted" => ErrorKind::Interrupted,
-        "reset" => ErrorKind::ConnectionReset,
-        "aborted" => ErrorKind::ConnectionAborted,
-        "waits" => ErrorKind::WouldBlock,
-        "refused" => ErrorKind::ConnectionRefused,
-        "broken" => ErrorKind::BrokenPipe,
-        _ => match word.parse::<usize>() {
-            Ok(count) => return Ok(count),
-            Err(_) => ErrorKind::Unsupported,
-        },
-    };
-    Err(Error::from(kind))
+    match word.parse::<usize>() {
+        Ok(count) => Ok(count),
+        Err(_) if word == "ok" => Ok(0),
+        Err(_) => Err(error_of(word)),
+    }
 }
