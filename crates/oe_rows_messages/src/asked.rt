@@ -3,7 +3,7 @@ use oe_book::{asset_ids, asset_name};
 use oe_dims::Text;
 use oe_graph::read_graph;
 use oe_jobs::{Book, Job};
-use oe_lines::{Answers, Fault, end_line, first_word, push, push_number};
+use oe_lines::{Answers, Fault, Line, end_line, push, push_number};
 use std::alloc::Global;
 
 /// Appends the id of a job, or `none`.
@@ -22,13 +22,13 @@ pub(crate) fn answer_busy(book: &Book, answers: &mut Answers) {
 
 /// Appends where the user's job of an id stands, or `none`.
 pub(crate) fn answer_place(
-    alloc: Global,
-    line: &str,
+    line: &mut Line,
     book: &Book,
     answers: &mut Answers,
 ) -> Result<(), Fault> {
-    let (user, id) = first_word(line);
-    match book.find(&Text::of(alloc, user)?, &Text::of(alloc, id)?) {
+    let user = Text::of(line.alloc(), line.word())?;
+    let id = Text::of(line.alloc(), line.rest())?;
+    match book.find(&user, &id) {
         Some(index) => push_number("", index, answers),
         None => push("none", answers),
     }

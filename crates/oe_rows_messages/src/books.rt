@@ -9,7 +9,7 @@ use crate::valid::{add_entry, add_owned, answer_valid, set};
 use oe_dims::Text;
 use oe_jobs::{Book, Change, Job, Verdict, decide, reopen};
 use oe_keeper::{job_text, read_job};
-use oe_lines::{Answers, Fault, end_line, first_word, number_of, push, push_all};
+use oe_lines::{Answers, Fault, Line, end_line, push, push_all};
 use std::alloc::Global;
 
 /// When commands are given.
@@ -19,65 +19,61 @@ const ASKED: i64 = 50;
 pub(crate) fn answer_jobs(alloc: Global, text: &str, answers: &mut Answers) {
     let mut book = empty_book(alloc, 1);
     for line in text.lines() {
-        let (word, rest) = first_word(line);
-        let outcome = answer_line(alloc, word, rest, &mut book, answers);
+        let mut line = Line::new(alloc, line);
+        let outcome = answer_line(&mut line, &mut book, answers);
         answers.settle(outcome);
+        line.report(answers);
     }
 }
 
-/// Appends the answer of a line that begins with this word.
-fn answer_line(
-    alloc: Global,
-    word: &str,
-    rest: &str,
-    book: &mut Book,
-    answers: &mut Answers,
-) -> Result<(), Fault> {
-    match word {
+/// Appends the answer of a line.
+fn answer_line(line: &mut Line, book: &mut Book, answers: &mut Answers) -> Result<(), Fault> {
+    match line.word() {
         "#" => Ok(()),
-        "book" => begin(alloc, rest, book),
-        "job" => add_job(alloc, rest, &mut book.jobs),
-        "restore" => add_entry(alloc, rest, &mut book.jobs),
-        "owned" => add_owned(alloc, rest, &mut book.processes),
-        "set" => set(alloc, rest, book),
-        _ => answer_question(alloc, word, rest, book, answers),
+        "book" => {
+            *book = empty_book(line.alloc(), line.number());
+            Ok(())
+        }
+        "job" => add_job(line, &mut book.jobs),
+        "restore" => add_entry(line, &mut book.jobs),
+        "owned" => add_owned(line, &mut book.processes),
+        "set" => set(line, book),
+        word => answer_question(word, line, book, answers),
     }
 }
 
 /// Appends the answer of a line that asks what is, by its word.
 fn answer_question(
-    alloc: Global,
     word: &str,
-    rest: &str,
+    line: &mut Line,
     book: &mut Book,
     answers: &mut Answers,
 ) -> Result<(), Fault> {
     match word {
-        "valid" => answer_valid(alloc, book, answers),
-        "keeper" => keep_both(alloc, rest, answers),
-        "entry" => read_entry(alloc, rest, answers),
-        "place" => answer_place(alloc, rest, book, answers),
-        "assets" => answer_assets(alloc, rest, answers),
-        _ => answer_change_of(alloc, word, rest, book, answers),
+        "valid" => answer_valid(line.alloc(), book, answers),
+        "keeper" => keep_both(line, answers),
+        "entry" => read_entry(line, answers),
+        "place" => answer_place(line, book, answers),
+        "assets" => answer_assets(line.alloc(), line.rest(), answers),
+        _ => answer_change_of(word, line, book, answers),
     }
 }
 
 /// Appends the answer of a line that changes the book, by its word.
 fn answer_change_of(
-    alloc: Global,
     word: &str,
-    rest: &str,
+    line: &mut Line,
     book: &mut Book,
     answers: &mut Answers,
 ) -> Result<(), Fault> {
     match word {
-        "event" => answer_change(change_of(alloc, rest, book)?, book, answers),
-        "reopen" => answer_change(reopen(alloc, book)?, book, answers),
+        "event" => answer_change(change_of(line, book)?, book, answers),
+        "reopen" => answer_change(reopen(line.alloc(), book)?, book, answers),
         "running" | "next" | "busy" => {
             answer_state(word, book, answers);
             Ok(())
         }
-        _ => ask(alloc, word, rest, book, answers),
+        _ => ask(word, line, book, answers),
     }
 }
 
@@ -90,12 +86,7 @@ fn answer_state(word: &str, book: &Book, answers: &mut Answers) {
     }
 }
 
-/// Begins a book without jobs and stored processes, and with this next number.
-fn begin(alloc: Global, next: &str, book: &mut Book) -> Result<(), Fault> {
-    *book = empty_book(alloc, number_of(next)?);
-    Ok(())
-}
-
+/// A book without jobs and stored processes, and with this next number.
 fn empty_book(alloc: Global, next: u64) -> Book {
     Book {
         next,
@@ -105,23 +96,17 @@ fn empty_book(alloc: Global, next: u64) -> Book {
 }
 
 /// Does a user's command, and appends what is answered, the change and the book after it.
-fn ask(
-    alloc: Global,
-    user: &str,
-    line: &str,
-    book: &mut Book,
-    answers: &mut Answers,
-) -> Result<(), Fault> {
-    let verdict = verdict_on(alloc, user, line, book)?;
+fn ask(user: &str, line: &mut Line, book: &mut Book, answers: &mut Answers) -> Result<(), Fault> {
+    let verdict = verdict_on(user, line, book)?;
     push_all(&[outcome_word(&verdict.outcome), " "], answers);
     let Verdict { change, outcome: _ } = verdict;
     answer_change(change, book, answers)
 }
 
-fn verdict_on(alloc: Global, user: &str, line: &str, book: &Book) -> Result<Verdict, Fault> {
-    let command = command_of(alloc, line)?;
-    let user = Text::of(alloc, user)?;
-    Ok(decide(alloc, book, &user, &command, ASKED)?)
+fn verdict_on(user: &str, line: &mut Line, book: &Book) -> Result<Verdict, Fault> {
+    let command = command_of(line)?;
+    let user = Text::of(line.alloc(), user)?;
+    Ok(decide(line.alloc(), book, &user, &command, ASKED)?)
 }
 
 /// Makes a change, and appends which it was and the book after it.
@@ -137,34 +122,30 @@ fn answer_change(
 }
 
 fn install(change: Option<Change>, book: &mut Book) -> Result<(), Fault> {
-    match change {
-        Some(change) => {
-            book.ready(&change)?;
-            book.install(change);
-            Ok(())
-        }
-        None => Ok(()),
+    if let Some(change) = change {
+        book.ready(&change)?;
+        book.install(change);
     }
+    Ok(())
 }
 
 /// Reads a text as the entry of the job j-3. Appends that job and, behind a bar, the entry that is written of it, or
 /// `none` where the text is no entry.
-fn read_entry(alloc: Global, text: &str, answers: &mut Answers) -> Result<(), Fault> {
-    let id = Text::of(alloc, "j-3")?;
-    match read_job(alloc, &id, text.as_bytes())? {
-        Some(job) => spell_entry(alloc, &job, answers),
-        None => {
-            push("none\n", answers);
-            Ok(())
-        }
+fn read_entry(line: &mut Line, answers: &mut Answers) -> Result<(), Fault> {
+    let id = Text::of(line.alloc(), "j-3")?;
+    match read_job(line.alloc(), &id, line.rest().as_bytes())? {
+        Some(job) => spell_entry(line.alloc(), &job, answers),
+        None => push("none", answers),
     }
-}
-
-fn spell_entry(alloc: Global, job: &Job, answers: &mut Answers) -> Result<(), Fault> {
-    spell_job(job, answers);
-    let entry = job_text(alloc, job)?;
-    push(" | ", answers);
-    push(entry.as_str(), answers);
     end_line(answers);
     Ok(())
+}
+
+fn spell_entry(alloc: Global, job: &Job, answers: &mut Answers) {
+    spell_job(job, answers);
+    push(" | ", answers);
+    match job_text(alloc, job) {
+        Ok(entry) => push(entry.as_str(), answers),
+        Err(_) => answers.note(Fault::OutOfMemory),
+    }
 }

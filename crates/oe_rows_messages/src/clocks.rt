@@ -1,6 +1,5 @@
 // Clocks that stand still, and gates that do nothing.
-use crate::objects::WORDS;
-use oe_lines::{Answers, Fault, end_line, number_of, push_number};
+use oe_lines::{Answers, Fault, Line, end_line, push_number};
 use oe_outside::{Clock, FixedClock, Gate, NoGate};
 
 /// The first and the last moment that a clock gives.
@@ -9,15 +8,14 @@ const FIRST: i64 = -62135596800;
 const LAST: i64 = 253402300799;
 
 /// Asks a clock twice.
-pub(crate) fn answer_clock(words: &[&str; WORDS], answers: &mut Answers) -> Result<(), Fault> {
-    let seconds = number_of(words[1])?;
+pub(crate) fn answer_clock(line: &mut Line, answers: &mut Answers) {
+    let seconds = line.number();
     if seconds < FIRST || seconds > LAST {
-        return Err(Fault::Line);
+        return line.note(Fault::Line);
     }
     let mut clock = FixedClock::new(seconds);
     spell_moment(passes(&mut clock, &NoGate), answers);
     spell_moment(passes(&mut clock, &NoGate), answers);
-    Ok(())
 }
 
 /// The moment that a clock gives, and a gate that is entered, through the bounds.

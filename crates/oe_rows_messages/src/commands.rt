@@ -6,8 +6,8 @@ ghost use Rattle.oe_jobs.specs.Valid.{IsStored};
 use crate::jobs::level_of;
 use oe_dims::Text;
 use oe_graph::{Refusal, StoredProcess, read_stored};
-use oe_jobs::{Command, Level};
-use oe_lines::{Fault, first_word};
+use oe_jobs::Command;
+use oe_lines::{Fault, Line};
 use std::alloc::Global;
 
 /// The process of every job, and of every stored process.
@@ -15,13 +15,14 @@ pub(crate) const PROCESS: &str =
     r#"{"process_graph":{"a":{"arguments":{},"process_id":"p","result":true}}}"#;
 
 /// A command, of the word of what it does and the words behind it.
-pub(crate) fn command_of(alloc: Global, line: &str) -> Result<Command, Fault> {
-    let (word, rest) = first_word(line);
-    match word {
-        "create" => create_of(alloc, rest),
-        "patch" => patch_of(alloc, rest),
-        "store" => store_of(alloc, rest),
-        _ => command_on(word, Text::of(alloc, rest)?),
+pub(crate) fn command_of(line: &mut Line) -> Result<Command, Fault> {
+    match line.word() {
+        "create" => create_of(line),
+        "patch" => patch_of(line),
+        "store" => Ok(Command::Store {
+            process: stored_of(line.alloc(), line.rest())?,
+        }),
+        word => command_on(word, Text::of(line.alloc(), line.rest())?),
     }
 }
 
@@ -37,14 +38,14 @@ fn command_on(word: &str, id: Text) -> Result<Command, Fault> {
 }
 
 /// A new job of a level and, where more words stand there, a title.
-fn create_of(alloc: Global, line: &str) -> Result<Command, Fault> {
-    let (level, title) = first_word(line);
-    let level = level_of(level)?;
-    let title = title_of(alloc, title)?;
+fn create_of(line: &mut Line) -> Result<Command, Fault> {
+    let level = level_of(line);
+    let process = Text::of(line.alloc(), PROCESS)?;
+    let title = title_of(line.alloc(), line.rest())?;
     Ok(Command::Create {
         title,
         description: None,
-        process: Text::of(alloc, PROCESS)?,
+        process,
         level,
     })
 }
@@ -59,27 +60,24 @@ fn title_of(alloc: Global, words: &str) -> Result<Option<Text>, Fault> {
 
 /// A job of an id and what is patched: nothing, `level L`, `title T`, `description D`, or `null` for no title and no
 /// description.
-fn patch_of(alloc: Global, line: &str) -> Result<Command, Fault> {
-    let (id, line) = first_word(line);
-    let (what, value) = first_word(line);
-    let level = new_level(what, value)?;
-    let title = new_text(alloc, what, "title", value)?;
-    let description = new_text(alloc, what, "description", value)?;
+fn patch_of(line: &mut Line) -> Result<Command, Fault> {
+    let id = Text::of(line.alloc(), line.word())?;
+    let what = line.word();
+    let level = if what == "level" {
+        Some(level_of(line))
+    } else {
+        None
+    };
+    let value = line.rest();
+    let title = new_text(line.alloc(), what, "title", value)?;
+    let description = new_text(line.alloc(), what, "description", value)?;
     Ok(Command::Patch {
-        id: Text::of(alloc, id)?,
+        id,
         title,
         description,
         process: None,
         level,
     })
-}
-
-fn new_level(what: &str, value: &str) -> Result<Option<Level>, Fault> {
-    if what == "level" {
-        Ok(Some(level_of(value)?))
-    } else {
-        Ok(None)
-    }
 }
 
 /// The value, where this text is patched.
@@ -96,12 +94,6 @@ fn new_text(
     } else {
         Ok(None)
     }
-}
-
-fn store_of(alloc: Global, id: &str) -> Result<Command, Fault> {
-    Ok(Command::Store {
-        process: stored_of(alloc, id)?,
-    })
 }
 
 /// A stored process of an id.

@@ -3,11 +3,10 @@ ghost use Rattle.std.specs.Prelude.{◌≡◌, ◌≤◌, ℕ, List, length, IsT
 ghost use Rattle.oe_outside.specs.Faults.{HasCauseOf};
 ghost use Rattle.oe_outside.specs.Visible.{Gave, Appends};
 
-use crate::objects::{WORDS, count_of, end_faults, spell_bytes};
-use crate::streams::{sink_of, source_of};
-use oe_lines::{Answers, Fault, number_of, push, push_number};
+use crate::objects::{count_of, end_faults, plain_bytes, spell_bytes};
+use crate::streams::{sink_of, source_giving, source_of};
+use oe_lines::{Answers, Fault, Line, push, push_number};
 use oe_outside::{CountSink, MemorySink, MemorySource, Sink, Source};
-use std::alloc::Global;
 
 /// Why a copy stopped early.
 #[derive(Clone, Copy)]
@@ -69,52 +68,40 @@ fn copy_word(outcome: Result<bool, Stopped>) -> &'static str {
     }
 }
 
-pub(crate) fn answer_copy(
-    alloc: Global,
-    words: &[&str; WORDS],
-    answers: &mut Answers,
-) -> Result<(), Fault> {
-    let mut source = source_of(alloc, words[1], words[2])?;
-    let mut sink = sink_of(alloc, words[3], words[4])?;
-    let room = count_of(words[5])?;
-    copy_times(&mut source, &mut sink, room, words[6], answers)
+pub(crate) fn answer_copy(line: &mut Line, answers: &mut Answers) -> Result<(), Fault> {
+    let mut source = source_of(line)?;
+    let mut sink = sink_of(line)?;
+    copy_times(&mut source, &mut sink, line, answers);
+    Ok(())
 }
 
 fn copy_times(
     source: &mut MemorySource,
     sink: &mut MemorySink,
-    room: usize,
-    rounds: &str,
+    line: &mut Line,
     answers: &mut Answers,
-) -> Result<(), Fault> {
-    for most in rounds.split(',') {
-        spell_copy(source, sink, room, number_of(most)?, answers);
+) {
+    let room = count_of(line);
+    for most in line.numbers::<u64>() {
+        spell_copy(source, sink, room, most, answers);
         spell_bytes(sink.bytes(), answers);
         push_number(" ", source.faults(), answers);
         end_faults(sink.faults(), answers);
     }
+}
+
+pub(crate) fn answer_count(line: &mut Line, answers: &mut Answers) -> Result<(), Fault> {
+    let bytes = plain_bytes(line.word());
+    let mut source = source_giving(line.alloc(), bytes, Vec::new(line.alloc()))?;
+    count_times(&mut source, line, answers);
     Ok(())
 }
 
-pub(crate) fn answer_count(
-    alloc: Global,
-    words: &[&str; WORDS],
-    answers: &mut Answers,
-) -> Result<(), Fault> {
-    let mut source = source_of(alloc, words[1], "-")?;
-    count_times(&mut source, count_of(words[2])?, words[3], answers)
-}
-
-fn count_times(
-    source: &mut MemorySource,
-    room: usize,
-    rounds: &str,
-    answers: &mut Answers,
-) -> Result<(), Fault> {
+fn count_times(source: &mut MemorySource, line: &mut Line, answers: &mut Answers) {
     let mut sink = CountSink::new();
-    for most in rounds.split(',') {
-        spell_copy(source, &mut sink, room, number_of(most)?, answers);
+    let room = count_of(line);
+    for most in line.numbers::<u64>() {
+        spell_copy(source, &mut sink, room, most, answers);
         end_faults(sink.count(), answers);
     }
-    Ok(())
 }

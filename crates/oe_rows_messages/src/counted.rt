@@ -3,9 +3,9 @@ ghost use Rattle.std.specs.Prelude.{◌<◌, ◌↔◌, length, IsTrue, IfOk, On
 ghost use Rattle.oe_outside.specs.Faults.{HasCause};
 ghost use Rattle.oe_outside.specs.Visible.{Appends, AppendsPrefix};
 
-use crate::objects::{Object, WORDS, answer_calls, end_faults, spell_bytes};
+use crate::objects::{Object, answer_calls, end_faults, spell_bytes};
 use crate::streams::{Buffered, long_piece, sink_call};
-use oe_lines::{Answers, Fault, end_line, push, push_number};
+use oe_lines::{Answers, Fault, Line, end_line, push, push_number};
 use oe_outside::{BoundedSink, CountSink, Failed, Sink};
 use std::alloc::Global;
 
@@ -21,11 +21,10 @@ pub(crate) fn answer_counter(
 }
 
 impl Object for Buffered<CountSink> {
-    fn call(&mut self, alloc: Global, call: &str, answers: &mut Answers) -> Result<(), Fault> {
-        sink_call(alloc, &mut self.out, &mut self.pending, call, answers)?;
+    fn call(&mut self, call: &mut Line, answers: &mut Answers) {
+        sink_call(&mut self.out, &mut self.pending, call, answers);
         push(" |", answers);
         end_faults(self.out.count(), answers);
-        Ok(())
     }
 }
 
@@ -37,8 +36,7 @@ pub(crate) fn answer_bounded(
 ) -> Result<(), Fault> {
     let mut sink = Buffered::new(alloc, BoundedSink::new(alloc)?)?;
     answer_calls(alloc, &mut sink, calls, answers);
-    let Buffered { out, pending: _ } = sink;
-    let bytes = out.into_bytes();
+    let bytes = sink.into_out().into_bytes();
     push_number("bytes ", bytes.len(), answers);
     spell_bytes(&bytes, answers);
     end_line(answers);
@@ -46,10 +44,9 @@ pub(crate) fn answer_bounded(
 }
 
 impl Object for Buffered<BoundedSink> {
-    fn call(&mut self, alloc: Global, call: &str, answers: &mut Answers) -> Result<(), Fault> {
-        sink_call(alloc, &mut self.out, &mut self.pending, call, answers)?;
+    fn call(&mut self, call: &mut Line, answers: &mut Answers) {
+        sink_call(&mut self.out, &mut self.pending, call, answers);
         push(full_word(&self.out), answers);
-        Ok(())
     }
 }
 
@@ -62,15 +59,11 @@ fn full_word(sink: &BoundedSink) -> &'static str {
 }
 
 /// Whether a text of so many bytes is too long.
-pub(crate) fn answer_over(
-    alloc: Global,
-    words: &[&str; WORDS],
-    answers: &mut Answers,
-) -> Result<(), Fault> {
-    let text = long_piece(alloc, words[1])?;
-    let over = is_over(alloc, &text)?;
-    push(if over { "over\n" } else { "within\n" }, answers);
-    Ok(())
+pub(crate) fn answer_over(line: &mut Line, answers: &mut Answers) {
+    match is_over(line.alloc(), &long_piece(line)) {
+        Ok(over) => push(if over { "over\n" } else { "within\n" }, answers),
+        Err(fault) => line.note(fault),
+    }
 }
 
 /// Whether the text has more than 1048576 bytes, as a writer finds that knows sinks alone.

@@ -3,8 +3,8 @@ ghost use Rattle.std.specs.Prelude.{All, IfOk};
 ghost use Rattle.oe_outside.specs.ScriptDoors.{IsSound};
 
 use crate::links::link_of;
-use crate::objects::{Object, WORDS, answer_calls, spell_bytes};
-use oe_lines::{Answers, Fault, end_line, first_word, numbers_of, push, push_number};
+use crate::objects::{Object, answer_calls, spell_bytes};
+use oe_lines::{Answers, Fault, Line, end_line, push, push_number};
 use oe_outside::{Door, Failed, Link, MemoryLink, Next, ScriptDoor};
 use std::alloc::Global;
 
@@ -13,12 +13,12 @@ const ROOM: usize = 9;
 
 /// Begins with a connection in hand that the door did not give.
 pub(crate) fn answer_door(
-    alloc: Global,
-    words: &[&str; WORDS],
+    line: &mut Line,
     calls: &str,
     answers: &mut Answers,
 ) -> Result<(), Fault> {
-    let door = door_of(alloc, words)?;
+    let alloc = line.alloc();
+    let door = door_of(line)?;
     let held = Some(link_of(alloc, Vec::new(alloc), 1, ROOM, "-")?);
     answer_calls(alloc, &mut Entry { door, held }, calls, answers);
     Ok(())
@@ -32,20 +32,22 @@ struct Entry {
 }
 
 impl Object for Entry {
-    fn call(&mut self, _alloc: Global, call: &str, answers: &mut Answers) -> Result<(), Fault> {
-        let (step, mark) = first_word(call);
-        let word = take_step(&mut self.door, &mut self.held, step, mark.as_bytes())?;
-        push(word, answers);
+    fn call(&mut self, call: &mut Line, answers: &mut Answers) {
+        let step = call.word();
+        let mark = call.rest().as_bytes();
+        match take_step(&mut self.door, &mut self.held, step, mark) {
+            Ok(word) => push(word, answers),
+            Err(fault) => call.note(fault),
+        }
         spell_door(&self.door, answers);
-        Ok(())
     }
 }
 
-fn door_of(alloc: Global, words: &[&str; WORDS]) -> Result<ScriptDoor, Fault> {
-    let failing = numbers_of(alloc, words[1])?;
-    let coming = links_of(alloc, words[2])?;
-    let dialled = links_of(alloc, words[3])?;
-    Ok(ScriptDoor::new(alloc, coming, dialled, failing)?)
+fn door_of(line: &mut Line) -> Result<ScriptDoor, Fault> {
+    let failing = line.numbers();
+    let coming = links_of(line.alloc(), line.word())?;
+    let dialled = links_of(line.alloc(), line.word())?;
+    Ok(ScriptDoor::new(line.alloc(), coming, dialled, failing)?)
 }
 
 /// A connection for each word, which gives nothing and whose call of that number fails.

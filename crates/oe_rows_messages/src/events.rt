@@ -9,28 +9,27 @@ ghost use Rattle.oe_jobs.specs.Plain.{plain_book, plain_job};
 use crate::jobs::asset_of;
 use oe_dims::Text;
 use oe_jobs::{Book, Change, Job, JobEvent, Status, is_same, reopen, step};
-use oe_lines::{Fault, first_word};
+use oe_lines::{Fault, Line};
 use std::alloc::Global;
 
 /// When events come.
 const HAPPENED: i64 = 60;
 
 /// What the event of a line changes, where it may come.
-pub(crate) fn change_of(alloc: Global, line: &str, book: &Book) -> Result<Option<Change>, Fault> {
-    let (id, words) = first_word(line);
-    let id = Text::of(alloc, id)?;
-    change_by(alloc, book, &id, event_of(alloc, words)?)
+pub(crate) fn change_of(line: &mut Line, book: &Book) -> Result<Option<Change>, Fault> {
+    let id = Text::of(line.alloc(), line.word())?;
+    let event = event_of(line)?;
+    change_by(line.alloc(), book, &id, event)
 }
 
 /// An event: `start`, `asset NAME`, `finish` or `fail CODE`.
-fn event_of(alloc: Global, line: &str) -> Result<JobEvent, Fault> {
-    let (word, rest) = first_word(line);
-    match word {
+fn event_of(line: &mut Line) -> Result<JobEvent, Fault> {
+    match line.word() {
         "start" => Ok(JobEvent::Start),
-        "asset" => Ok(JobEvent::Asset(asset_of(alloc, rest)?)),
+        "asset" => Ok(JobEvent::Asset(asset_of(line.alloc(), line.rest())?)),
         "finish" => Ok(JobEvent::Finish),
         "fail" => Ok(JobEvent::Fail {
-            code: Text::of(alloc, rest)?,
+            code: Text::of(line.alloc(), line.rest())?,
         }),
         _ => Err(Fault::Line),
     }

@@ -2,32 +2,27 @@
 use crate::commands::PROCESS;
 use oe_dims::Text;
 use oe_jobs::{Asset, Job, Level, LogEntry, Status};
-use oe_lines::{Fault, number_of, words_of};
+use oe_lines::{Fault, Line};
 use std::alloc::Global;
 
 /// Adds the job of an id, a user, a status, a level and so many assets, created at 10 and changed at 20, with the turn 3
 /// and an entry `old` in its logs.
-pub(crate) fn add_job(alloc: Global, line: &str, jobs: &mut Vec<Job>) -> Result<(), Fault> {
-    let [id, user, status, level, count, ..] = words_of(line);
-    let (status, level) = (status_of(status)?, level_of(level)?);
-    let mut job = job_of(alloc, id, user, status, level)?;
-    fill_job(alloc, number_of(count)?, &mut job)?;
+pub(crate) fn add_job(line: &mut Line, jobs: &mut Vec<Job>) -> Result<(), Fault> {
+    let mut job = job_of(line)?;
+    add_old(line.alloc(), &mut job.logs)?;
+    add_assets(line.alloc(), line.number(), &mut job.assets)?;
     jobs.push(job)?;
     Ok(())
 }
 
-/// Adds an entry `old` to the logs of a job, and so many assets.
-fn fill_job(alloc: Global, count: u64, job: &mut Job) -> Result<(), Fault> {
-    add_old(alloc, &mut job.logs)?;
-    add_assets(alloc, count, &mut job.assets)
-}
-
-/// A job without logs and assets.
-fn job_of(alloc: Global, id: &str, user: &str, status: Status, level: Level) -> Result<Job, Fault> {
-    let id = Text::of(alloc, id)?;
-    let user = Text::of(alloc, user)?;
-    let process = Text::of(alloc, PROCESS)?;
-    Ok(plain_job(alloc, id, user, process, status, level))
+/// A job without logs and assets, of the words `ID USER STATUS LEVEL`.
+fn job_of(line: &mut Line) -> Result<Job, Fault> {
+    let id = Text::of(line.alloc(), line.word())?;
+    let user = Text::of(line.alloc(), line.word())?;
+    let process = Text::of(line.alloc(), PROCESS)?;
+    let status = status_of(line);
+    let level = level_of(line);
+    Ok(plain_job(line.alloc(), id, user, process, status, level))
 }
 
 fn plain_job(
@@ -79,16 +74,22 @@ pub(crate) fn asset_of(alloc: Global, name: &str) -> Result<Asset, Fault> {
     })
 }
 
-fn status_of(word: &str) -> Result<Status, Fault> {
-    match Status::of(word) {
-        Some(status) => Ok(status),
-        None => Err(Fault::Line),
+fn status_of(line: &mut Line) -> Status {
+    match Status::of(line.word()) {
+        Some(status) => status,
+        None => {
+            line.note(Fault::Line);
+            Status::Created
+        }
     }
 }
 
-pub(crate) fn level_of(word: &str) -> Result<Level, Fault> {
-    match Level::of(word) {
-        Some(level) => Ok(level),
-        None => Err(Fault::Line),
+pub(crate) fn level_of(line: &mut Line) -> Level {
+    match Level::of(line.word()) {
+        Some(level) => level,
+        None => {
+            line.note(Fault::Line);
+            Level::Info
+        }
     }
 }

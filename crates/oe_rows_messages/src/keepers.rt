@@ -8,9 +8,7 @@ use crate::commands::stored_of;
 use oe_dims::Text;
 use oe_jobs::{Book, Change, Command, Keeper, KeeperFail, Verdict, decide};
 use oe_keeper::MemoryKeeper;
-use oe_lines::{
-    Answers, Fault, end_line, first_word, number_of, numbers_of, push, push_all, push_number,
-};
+use oe_lines::{Answers, Fault, Line, end_line, push, push_all, push_number};
 use std::alloc::Global;
 
 /// When the processes are stored.
@@ -21,24 +19,25 @@ const KEPT: i64 = 50;
 ///
 /// The line has the numbers of the calls that fail, with commas between them, or `-` for none; then the call in which
 /// the keeper stops with `kept` or `lost`, or `-` for none.
-pub(crate) fn keep_both(alloc: Global, line: &str, answers: &mut Answers) -> Result<(), Fault> {
-    let (failing, stop) = first_word(line);
-    let stop = stop_of(stop)?;
-    let failing = numbers_of(alloc, failing)?;
-    let mut keeper = MemoryKeeper::new(empty_book(alloc), failing, stop);
+pub(crate) fn keep_both(line: &mut Line, answers: &mut Answers) -> Result<(), Fault> {
+    let alloc = line.alloc();
+    let failing = line.numbers();
+    let mut keeper = MemoryKeeper::new(empty_book(alloc), failing, stop_of(line));
     answer_calls(alloc, &mut keeper, answers)?;
     spell_stored(&keeper.stopped(), answers);
     Ok(())
 }
 
-fn stop_of(line: &str) -> Result<Option<(u64, bool)>, Fault> {
-    let (call, flag) = first_word(line);
-    match flag {
-        "" => Ok(None),
-        "kept" => Ok(Some((number_of(call)?, true))),
-        "lost" => Ok(Some((number_of(call)?, false))),
-        _ => Err(Fault::Line),
+fn stop_of(line: &mut Line) -> Option<(u64, bool)> {
+    if line.takes("-") {
+        return None;
     }
+    let call = line.number();
+    let kept = line.takes("kept");
+    if !kept {
+        line.pass("lost");
+    }
+    Some((call, kept))
 }
 
 /// A book without jobs and stored processes.

@@ -1,7 +1,7 @@
 // Links in memory, as a line describes them.
 ghost use Rattle.std.specs.Prelude.{◌≡◌, IfOk};
 
-use oe_lines::{Answers, Fault, end_line, first_word, number_of, numbers_of, push_number};
+use oe_lines::{Answers, Fault, Line, end_line, number_of, numbers_of, push_number};
 use oe_outside::MemoryLink;
 use std::alloc::Global;
 
@@ -17,8 +17,9 @@ pub(crate) struct Links<'a> {
     pub(crate) calls: &'a str,
 }
 
-pub(crate) fn links_of(words: &str) -> Links<'_> {
-    let (pieces, calls) = first_word(words);
+pub(crate) fn links_of<'a>(line: &mut Line<'a>) -> Links<'a> {
+    let pieces = line.word();
+    let calls = line.rest();
     Links { pieces, calls }
 }
 

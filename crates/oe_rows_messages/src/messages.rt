@@ -3,7 +3,7 @@ use crate::client::{answer_call, answer_next};
 use crate::links::{Links, links_of};
 use crate::reading::{Message, answer_read, answer_texts};
 use crate::writing::answer_written;
-use oe_lines::{Answers, Fault, first_word};
+use oe_lines::{Answers, Line};
 use std::alloc::Global;
 
 /// Appends the answers to lines about messages.
@@ -13,31 +13,29 @@ pub(crate) fn answer_messages(alloc: Global, text: &str, answers: &mut Answers) 
         calls: "-",
     };
     for line in text.lines() {
-        let (word, rest) = first_word(line);
-        if word == "links" {
-            links = links_of(rest);
+        let mut line = Line::new(alloc, line);
+        if line.takes("links") {
+            links = links_of(&mut line);
         } else {
-            let outcome = answer_line(alloc, links, word, rest, answers);
-            answers.settle(outcome);
+            answer_line(links, &mut line, answers);
+            line.report(answers);
         }
     }
 }
 
 /// Appends the answer of a line.
-fn answer_line(
-    alloc: Global,
-    links: Links<'_>,
-    word: &str,
-    rest: &str,
-    answers: &mut Answers,
-) -> Result<(), Fault> {
-    match word {
+fn answer_line(links: Links<'_>, line: &mut Line, answers: &mut Answers) {
+    let outcome = match line.word() {
         "#" => Ok(()),
-        "texts" => answer_texts(alloc, answers),
-        "request" => answer_read(alloc, links, Message::Request, rest, answers),
-        "response" => answer_read(alloc, links, Message::Response, rest, answers),
-        "call" => answer_call(alloc, links, rest, answers),
-        "next" => answer_next(alloc, rest, answers),
-        _ => answer_written(alloc, links, word, rest, answers),
-    }
+        "texts" => {
+            answer_texts(line.alloc(), answers);
+            Ok(())
+        }
+        "request" => answer_read(links, Message::Request, line, answers),
+        "response" => answer_read(links, Message::Response, line, answers),
+        "call" => answer_call(links, line, answers),
+        "next" => answer_next(line, answers),
+        word => answer_written(links, word, line, answers),
+    };
+    answers.settle(outcome);
 }

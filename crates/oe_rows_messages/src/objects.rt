@@ -1,5 +1,5 @@
 // Objects in memory, some of whose calls fail, and how answers about them are spelled.
-ghost use Rattle.std.specs.Prelude.{◌≤◌, IfOk};
+ghost use Rattle.std.specs.Prelude.{◌≤◌};
 
 use crate::clocks::answer_clock;
 use crate::copies::{answer_copy, answer_count};
@@ -7,7 +7,7 @@ use crate::counted::{answer_bounded, answer_counter, answer_over};
 use crate::doors::answer_door;
 use crate::stores::answer_store;
 use crate::streams::{answer_link, answer_sink, answer_source};
-use oe_lines::{Answers, Fault, end_line, number_of, push, push_number, words_of};
+use oe_lines::{Answers, Fault, Line, end_line, push, push_number};
 use oe_outside::{Failed, ReadRefusal};
 use std::alloc::Global;
 use std::fmt::Display;
@@ -15,13 +15,10 @@ use std::fmt::Display;
 /// How many bytes of an object are spelled at most.
 const MOST: usize = 16;
 
-/// How many words an object or a call has at most.
-pub(crate) const WORDS: usize = 8;
-
 /// An object in memory, whose calls stand in a line.
 pub(crate) trait Object {
     /// Makes the call, and appends what it answered and what the object has then.
-    fn call(&mut self, alloc: Global, call: &str, answers: &mut Answers) -> Result<(), Fault>;
+    fn call(&mut self, call: &mut Line, answers: &mut Answers);
 }
 
 /// Makes the calls on an object that stand behind semicolons, and appends their answers.
@@ -32,8 +29,9 @@ pub(crate) fn answer_calls<O: Object>(
     answers: &mut Answers,
 ) {
     for call in calls.split("; ") {
-        let outcome = object.call(alloc, call, answers);
-        answers.settle(outcome);
+        let mut call = Line::new(alloc, call);
+        object.call(&mut call, answers);
+        call.report(answers);
     }
 }
 
@@ -41,52 +39,44 @@ pub(crate) fn answer_calls<O: Object>(
 pub(crate) fn answer_objects(alloc: Global, text: &str, answers: &mut Answers) {
     for line in text.lines() {
         let (object, calls) = line.split_once("; ").unwrap_or((line, ""));
-        let outcome = answer_line(alloc, &words_of(object), calls, answers);
-        answers.settle(outcome);
+        let mut line = Line::new(alloc, object);
+        answer_line(&mut line, calls, answers);
+        line.report(answers);
     }
 }
 
-fn answer_line(
-    alloc: Global,
-    words: &[&str; WORDS],
-    calls: &str,
-    answers: &mut Answers,
-) -> Result<(), Fault> {
-    match words[0] {
-        "#" => Ok(()),
-        "copy" => answer_copy(alloc, words, answers),
-        "count" => answer_count(alloc, words, answers),
-        "over" => answer_over(alloc, words, answers),
-        "clock" => answer_clock(words, answers),
-        "texts" => print_texts(alloc, answers),
-        _ => answer_object(alloc, words, calls, answers),
+fn answer_line(line: &mut Line, calls: &str, answers: &mut Answers) {
+    match line.word() {
+        "#" => {}
+        "over" => answer_over(line, answers),
+        "clock" => answer_clock(line, answers),
+        "texts" => print_texts(line.alloc(), answers),
+        word => answer_object(word, line, calls, answers),
     }
 }
 
-/// Appends the answers to the calls of an object.
-fn answer_object(
-    alloc: Global,
-    words: &[&str; WORDS],
-    calls: &str,
-    answers: &mut Answers,
-) -> Result<(), Fault> {
-    match words[0] {
-        "source" => answer_source(alloc, words, calls, answers),
-        "sink" => answer_sink(alloc, words, calls, answers),
-        "counter" => answer_counter(alloc, calls, answers),
-        "bounded" => answer_bounded(alloc, calls, answers),
-        "link" => answer_link(alloc, words, calls, answers),
-        "store" => answer_store(alloc, words, calls, answers),
-        "door" => answer_door(alloc, words, calls, answers),
+/// Appends the answers to the calls of an object, by its word.
+fn answer_object(word: &str, line: &mut Line, calls: &str, answers: &mut Answers) {
+    let outcome = match word {
+        "copy" => answer_copy(line, answers),
+        "count" => answer_count(line, answers),
+        "source" => answer_source(line, calls, answers),
+        "sink" => answer_sink(line, calls, answers),
+        "counter" => answer_counter(line.alloc(), calls, answers),
+        "bounded" => answer_bounded(line.alloc(), calls, answers),
+        "link" => answer_link(line, calls, answers),
+        "store" => answer_store(line, calls, answers),
+        "door" => answer_door(line, calls, answers),
         _ => Err(Fault::Line),
-    }
+    };
+    answers.settle(outcome);
 }
 
 /// How many bytes there are.
-pub(crate) fn count_of(word: &str) -> Result<usize, Fault>
-    ensures { IfOk result (λ count. count ≤ 65535) }
+pub(crate) fn count_of(line: &mut Line) -> usize
+    ensures { result ≤ 65535 }
 {
-    Ok(usize::from(number_of::<u16>(word)?))
+    usize::from(line.number::<u16>())
 }
 
 /// The bytes that a word spells as they are, or none for `-`.
@@ -98,21 +88,19 @@ pub(crate) fn plain_bytes(word: &str) -> &[u8] {
 }
 
 /// Prints the text of the fault, and those of a refusal to read.
-fn print_texts(alloc: Global, answers: &mut Answers) -> Result<(), Fault> {
-    print_text(alloc, &Failed, answers)?;
-    print_text(alloc, &ReadRefusal::Failed, answers)?;
-    print_text(alloc, &ReadRefusal::OutOfMemory, answers)
+fn print_texts(alloc: Global, answers: &mut Answers) {
+    print_text(alloc, &Failed, answers);
+    print_text(alloc, &ReadRefusal::Failed, answers);
+    print_text(alloc, &ReadRefusal::OutOfMemory, answers);
 }
 
 /// Prints a text of one line.
-pub(crate) fn print_text<T: Display>(
-    alloc: Global,
-    value: &T,
-    answers: &mut Answers,
-) -> Result<(), Fault> {
-    push(value.to_string(alloc)?.as_str(), answers);
+pub(crate) fn print_text<T: Display>(alloc: Global, value: &T, answers: &mut Answers) {
+    match value.to_string(alloc) {
+        Ok(text) => push(text.as_str(), answers),
+        Err(_) => answers.note(Fault::OutOfMemory),
+    }
     end_line(answers);
-    Ok(())
 }
 
 /// Spells the first of the bytes behind a blank.

@@ -3,7 +3,7 @@ use crate::links::{Links, incoming_link, spell_end};
 use crate::objects::print_text;
 use oe_dims::Text;
 use oe_http::{Request, RequestRefusal, Response, ResponseRefusal, read_request, read_response};
-use oe_lines::{Answers, Fault, escaped_bytes, last_other, push, push_number, push_quoted};
+use oe_lines::{Answers, Fault, Line, escaped_bytes, last_other, push, push_number, push_quoted};
 use oe_outside::MemoryLink;
 use std::alloc::Global;
 
@@ -16,13 +16,13 @@ pub(crate) enum Message {
 
 /// Reads a message from each link, and appends the answers, each that is not the one before it.
 pub(crate) fn answer_read(
-    alloc: Global,
     links: Links<'_>,
     message: Message,
-    spelled: &str,
+    line: &mut Line,
     answers: &mut Answers,
 ) -> Result<(), Fault> {
-    let bytes = escaped_bytes(alloc, spelled)?;
+    let alloc = line.alloc();
+    let bytes = escaped_bytes(alloc, line.rest())?;
     let mut before = answers.bytes().len();
     for piece in links.pieces.split(',') {
         let from = answers.bytes().len();
@@ -110,12 +110,7 @@ fn response_refusal(refusal: ResponseRefusal) -> &'static str {
 }
 
 /// Appends the text of each refusal of a request, then of each refusal of a response, one a line.
-pub(crate) fn answer_texts(alloc: Global, answers: &mut Answers) -> Result<(), Fault> {
-    request_texts(alloc, answers)?;
-    response_texts(alloc, answers)
-}
-
-fn request_texts(alloc: Global, answers: &mut Answers) -> Result<(), Fault> {
+pub(crate) fn answer_texts(alloc: Global, answers: &mut Answers) {
     for refusal in [
         RequestRefusal::Malformed,
         RequestRefusal::HeadTooLong,
@@ -125,12 +120,12 @@ fn request_texts(alloc: Global, answers: &mut Answers) -> Result<(), Fault> {
         RequestRefusal::LinkFailed,
         RequestRefusal::OutOfMemory,
     ] {
-        print_text(alloc, &refusal, answers)?;
+        print_text(alloc, &refusal, answers);
     }
-    Ok(())
+    response_texts(alloc, answers);
 }
 
-fn response_texts(alloc: Global, answers: &mut Answers) -> Result<(), Fault> {
+fn response_texts(alloc: Global, answers: &mut Answers) {
     for refusal in [
         ResponseRefusal::Malformed,
         ResponseRefusal::TooLong,
@@ -138,7 +133,6 @@ fn response_texts(alloc: Global, answers: &mut Answers) -> Result<(), Fault> {
         ResponseRefusal::LinkFailed,
         ResponseRefusal::OutOfMemory,
     ] {
-        print_text(alloc, &refusal, answers)?;
+        print_text(alloc, &refusal, answers);
     }
-    Ok(())
 }

@@ -1,58 +1,38 @@
 // Stores.
 use crate::objects::{
-    Object, WORDS, answer_calls, count_of, plain_bytes, spell_bytes, spell_count, spell_held,
+    Object, answer_calls, count_of, plain_bytes, spell_bytes, spell_count, spell_held,
     spell_outcome, spell_read,
 };
-use oe_lines::{Answers, Fault, number_of, numbers_of, push, words_of};
+use oe_lines::{Answers, Fault, Line, push};
 use oe_outside::{Failed, MemoryStore, Store, fill_at};
-use std::alloc::Global;
 
 pub(crate) fn answer_store(
-    alloc: Global,
-    words: &[&str; WORDS],
+    line: &mut Line,
     calls: &str,
     answers: &mut Answers,
 ) -> Result<(), Fault> {
-    let failing = numbers_of(alloc, words[3])?;
-    let bytes = plain_bytes(words[1]).to_vec(alloc)?;
-    let mut store = MemoryStore::new(bytes, count_of(words[2])?, failing)?;
-    answer_calls(alloc, &mut store, calls, answers);
+    let bytes = plain_bytes(line.word()).to_vec(line.alloc())?;
+    let mut store = MemoryStore::new(bytes, count_of(line), line.numbers())?;
+    answer_calls(line.alloc(), &mut store, calls, answers);
     Ok(())
 }
 
 impl Object for MemoryStore {
-    fn call(&mut self, _alloc: Global, call: &str, answers: &mut Answers) -> Result<(), Fault> {
-        store_call(self, call, answers)?;
+    fn call(&mut self, call: &mut Line, answers: &mut Answers) {
+        store_call(self, call, answers);
         spell_held(self.bytes(), self.faults(), answers);
-        Ok(())
     }
 }
 
 /// One call, through the bound.
-fn store_call<S: Store>(store: &mut S, call: &str, answers: &mut Answers) -> Result<(), Fault> {
-    if call == "length" {
-        spell_count(store.length(), answers);
-        return Ok(());
+fn store_call<S: Store>(store: &mut S, call: &mut Line, answers: &mut Answers) {
+    match call.word() {
+        "length" => spell_count(store.length(), answers),
+        "write" => write(store, call.number(), call.word(), answers),
+        "read" => read(store, call.number(), count_of(call), answers),
+        "fill" => fill(store, call.number(), count_of(call), answers),
+        _ => call.note(Fault::Line),
     }
-    let [word, at, rest, ..] = words_of(call);
-    call_at(store, word, number_of(at)?, rest, answers)
-}
-
-/// A call at a byte of the store.
-fn call_at<S: Store>(
-    store: &mut S,
-    word: &str,
-    at: u64,
-    rest: &str,
-    answers: &mut Answers,
-) -> Result<(), Fault> {
-    match word {
-        "write" => write(store, at, rest, answers),
-        "read" => read(store, at, count_of(rest)?, answers),
-        "fill" => fill(store, at, count_of(rest)?, answers),
-        _ => return Err(Fault::Line),
-    }
-    Ok(())
 }
 
 fn write<S: Store>(store: &mut S, at: u64, word: &str, answers: &mut Answers) {

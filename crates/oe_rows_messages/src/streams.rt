@@ -3,10 +3,10 @@ ghost use Rattle.std.specs.Prelude.{◌≤◌};
 
 use crate::links::link_of;
 use crate::objects::{
-    Object, WORDS, answer_calls, count_of, end_faults, plain_bytes, spell_bytes, spell_held,
+    Object, answer_calls, count_of, end_faults, plain_bytes, spell_bytes, spell_held,
     spell_outcome, spell_read,
 };
-use oe_lines::{Answers, Fault, first_word, number_of, numbers_of, parts_of, push};
+use oe_lines::{Answers, Fault, Line, push};
 use oe_outside::{
     Link, MemoryLink, MemorySink, MemorySource, Pending, ReadRefusal, Sink, Source, flush,
     read_up_to, send,
@@ -14,10 +14,16 @@ use oe_outside::{
 use std::alloc::Global;
 
 /// A sink and the bytes that are pending for it.
-#[derive(Drop)]
 pub(crate) struct Buffered<O: Drop> {
     pub(crate) out: O,
     pub(crate) pending: Pending,
+}
+
+/// Written out, so that a sink that ends is one call wherever it does.
+impl<O: Drop> Drop for Buffered<O> {
+    fn drop(self) {
+        let Buffered { out: _, pending: _ } = self;
+    }
 }
 
 impl<O: Drop> Buffered<O> {
@@ -25,50 +31,56 @@ impl<O: Drop> Buffered<O> {
         let pending = Pending::new(alloc)?;
         Ok(Buffered { out, pending })
     }
+
+    /// The sink, without what is pending.
+    pub(crate) fn into_out(self) -> O {
+        let Buffered { out, pending: _ } = self;
+        out
+    }
 }
 
 // ---- sources
 
-pub(crate) fn source_of(alloc: Global, bytes: &str, calls: &str) -> Result<MemorySource, Fault> {
-    let failing = numbers_of(alloc, calls)?;
-    Ok(MemorySource::new(plain_bytes(bytes).to_vec(alloc)?, failing)?)
+/// A source of the words `BYTES CALLS`.
+pub(crate) fn source_of(line: &mut Line) -> Result<MemorySource, Fault> {
+    let bytes = plain_bytes(line.word());
+    source_giving(line.alloc(), bytes, line.numbers())
+}
+
+/// A source that gives these bytes, of which these calls fail.
+pub(crate) fn source_giving(
+    alloc: Global,
+    bytes: &[u8],
+    failing: Vec<u64>,
+) -> Result<MemorySource, Fault> {
+    Ok(MemorySource::new(bytes.to_vec(alloc)?, failing)?)
 }
 
 pub(crate) fn answer_source(
-    alloc: Global,
-    words: &[&str; WORDS],
+    line: &mut Line,
     calls: &str,
     answers: &mut Answers,
 ) -> Result<(), Fault> {
-    let mut source = source_of(alloc, words[1], words[2])?;
-    answer_calls(alloc, &mut source, calls, answers);
+    let mut source = source_of(line)?;
+    answer_calls(line.alloc(), &mut source, calls, answers);
     Ok(())
 }
 
 impl Object for MemorySource {
-    fn call(&mut self, alloc: Global, call: &str, answers: &mut Answers) -> Result<(), Fault> {
-        source_call(alloc, self, call, answers)?;
+    fn call(&mut self, call: &mut Line, answers: &mut Answers) {
+        source_call(self, call, answers);
         push(" |", answers);
         end_faults(self.faults(), answers);
-        Ok(())
     }
 }
 
 /// One call, through the bound.
-fn source_call<S: Source>(
-    alloc: Global,
-    source: &mut S,
-    call: &str,
-    answers: &mut Answers,
-) -> Result<(), Fault> {
-    let (word, count) = parts_of(call, " ")?;
-    let count = count_of(count)?;
-    match word {
-        "read" => read_source(source, count, answers),
-        "all" => read_all(alloc, source, count, answers),
-        _ => return Err(Fault::Line),
+fn source_call<S: Source>(source: &mut S, call: &mut Line, answers: &mut Answers) {
+    match call.word() {
+        "read" => read_source(source, count_of(call), answers),
+        "all" => read_all(call.alloc(), source, count_of(call), answers),
+        _ => call.note(Fault::Line),
     }
-    Ok(())
 }
 
 fn read_source<S: Source>(source: &mut S, room: usize, answers: &mut Answers) {
@@ -94,95 +106,87 @@ fn read_all<S: Source>(alloc: Global, source: &mut S, limit: usize, answers: &mu
 
 // ---- sinks
 
-pub(crate) fn sink_of(alloc: Global, capacity: &str, calls: &str) -> Result<MemorySink, Fault> {
-    let failing = numbers_of(alloc, calls)?;
-    Ok(MemorySink::new(alloc, count_of(capacity)?, failing)?)
+/// A sink of the words `CAPACITY CALLS`.
+pub(crate) fn sink_of(line: &mut Line) -> Result<MemorySink, Fault> {
+    let capacity = count_of(line);
+    Ok(MemorySink::new(line.alloc(), capacity, line.numbers())?)
 }
 
 pub(crate) fn answer_sink(
-    alloc: Global,
-    words: &[&str; WORDS],
+    line: &mut Line,
     calls: &str,
     answers: &mut Answers,
 ) -> Result<(), Fault> {
-    let mut sink = Buffered::new(alloc, sink_of(alloc, words[1], words[2])?)?;
-    answer_calls(alloc, &mut sink, calls, answers);
+    let mut sink = Buffered::new(line.alloc(), sink_of(line)?)?;
+    answer_calls(line.alloc(), &mut sink, calls, answers);
     Ok(())
 }
 
 impl Object for Buffered<MemorySink> {
-    fn call(&mut self, alloc: Global, call: &str, answers: &mut Answers) -> Result<(), Fault> {
-        sink_call(alloc, &mut self.out, &mut self.pending, call, answers)?;
+    fn call(&mut self, call: &mut Line, answers: &mut Answers) {
+        sink_call(&mut self.out, &mut self.pending, call, answers);
         spell_held(self.out.bytes(), self.out.faults(), answers);
-        Ok(())
     }
 }
 
 /// One call, through the bound.
 pub(crate) fn sink_call<O: Sink>(
-    alloc: Global,
     out: &mut O,
     pending: &mut Pending,
-    call: &str,
+    call: &mut Line,
     answers: &mut Answers,
-) -> Result<(), Fault> {
-    let (word, piece) = first_word(call);
-    let outcome = match word {
-        "write" => out.write(plain_bytes(piece)),
-        "send" => send(out, pending, plain_bytes(piece)),
-        "long" => send(out, pending, &long_piece(alloc, piece)?),
+) {
+    let outcome = match call.word() {
+        "write" => out.write(plain_bytes(call.rest())),
+        "send" => send(out, pending, plain_bytes(call.rest())),
+        "long" => send(out, pending, &long_piece(call)),
         "flush" => flush(out, pending),
-        _ => return Err(Fault::Line),
+        _ => return call.note(Fault::Line),
     };
     spell_outcome(outcome, answers);
-    Ok(())
 }
 
 /// So many `x`.
-pub(crate) fn long_piece(alloc: Global, word: &str) -> Result<Vec<u8>, Fault> {
-    let count = number_of::<u32>(word)?;
-    Ok(vec![in alloc; b'x'; count as usize]?)
+pub(crate) fn long_piece(line: &mut Line) -> Vec<u8> {
+    let count = line.number::<u32>() as usize;
+    match vec![in line.alloc(); b'x'; count] {
+        Ok(bytes) => bytes,
+        Err(_) => {
+            line.note(Fault::OutOfMemory);
+            Vec::new(line.alloc())
+        }
+    }
 }
 
 // ---- links
 
 pub(crate) fn answer_link(
-    alloc: Global,
-    words: &[&str; WORDS],
+    line: &mut Line,
     calls: &str,
     answers: &mut Answers,
 ) -> Result<(), Fault> {
-    let piece = count_of(words[2])?;
-    let capacity = count_of(words[3])?;
-    let bytes = plain_bytes(words[1]).to_vec(alloc)?;
-    let link = link_of(alloc, bytes, piece, capacity, words[4])?;
-    let mut link = Buffered::new(alloc, link)?;
-    answer_calls(alloc, &mut link, calls, answers);
+    let bytes = plain_bytes(line.word()).to_vec(line.alloc())?;
+    let piece = count_of(line);
+    let capacity = count_of(line);
+    let link = link_of(line.alloc(), bytes, piece, capacity, line.word())?;
+    let mut link = Buffered::new(line.alloc(), link)?;
+    answer_calls(line.alloc(), &mut link, calls, answers);
     Ok(())
 }
 
 impl Object for Buffered<MemoryLink> {
-    fn call(&mut self, alloc: Global, call: &str, answers: &mut Answers) -> Result<(), Fault> {
-        link_call(alloc, &mut self.out, &mut self.pending, call, answers)?;
+    fn call(&mut self, call: &mut Line, answers: &mut Answers) {
+        link_call(&mut self.out, &mut self.pending, call, answers);
         spell_held(self.out.written(), self.out.faults(), answers);
-        Ok(())
     }
 }
 
 /// One call, through the bound.
-fn link_call<L: Link>(
-    alloc: Global,
-    link: &mut L,
-    pending: &mut Pending,
-    call: &str,
-    answers: &mut Answers,
-) -> Result<(), Fault> {
-    match call.strip_prefix("read ") {
-        Some(room) => {
-            read_link(link, count_of(room)?, answers);
-            Ok(())
-        }
-        None => sink_call(alloc, link, pending, call, answers),
+fn link_call<L: Link>(link: &mut L, pending: &mut Pending, call: &mut Line, answers: &mut Answers) {
+    if call.takes("read") {
+        read_link(link, count_of(call), answers);
+    } else {
+        sink_call(link, pending, call, answers);
     }
 }
 

@@ -5,7 +5,7 @@ use oe_dims::Text;
 use oe_graph::{Graph, ParameterRow, Refusal, StoredProcess, read_stored};
 use oe_jobs::{Asset, Book, Job, Owned};
 use oe_keeper::read_job;
-use oe_lines::{Answers, Fault, first_word, number_of, push};
+use oe_lines::{Answers, Fault, Line, push};
 use std::alloc::Global;
 
 /// What a text argument that makes a process long stands between.
@@ -21,9 +21,9 @@ pub(crate) fn answer_valid(alloc: Global, book: &Book, answers: &mut Answers) ->
 }
 
 /// Adds the job of an id and of the entry behind it.
-pub(crate) fn add_entry(alloc: Global, line: &str, jobs: &mut Vec<Job>) -> Result<(), Fault> {
-    let (id, entry) = first_word(line);
-    match read_job(alloc, &Text::of(alloc, id)?, entry.as_bytes())? {
+pub(crate) fn add_entry(line: &mut Line, jobs: &mut Vec<Job>) -> Result<(), Fault> {
+    let id = Text::of(line.alloc(), line.word())?;
+    match read_job(line.alloc(), &id, line.rest().as_bytes())? {
         Some(job) => {
             jobs.push(job)?;
             Ok(())
@@ -33,15 +33,10 @@ pub(crate) fn add_entry(alloc: Global, line: &str, jobs: &mut Vec<Job>) -> Resul
 }
 
 /// Adds the stored process of a user and an id that the text behind them is.
-pub(crate) fn add_owned(
-    alloc: Global,
-    line: &str,
-    processes: &mut Vec<Owned>,
-) -> Result<(), Fault> {
-    let (user, rest) = first_word(line);
-    let (id, text) = first_word(rest);
-    let user = Text::of(alloc, user)?;
-    let process = stored_in(alloc, id, text)?;
+pub(crate) fn add_owned(line: &mut Line, processes: &mut Vec<Owned>) -> Result<(), Fault> {
+    let user = Text::of(line.alloc(), line.word())?;
+    let id = line.word();
+    let process = stored_in(line.alloc(), id, line.rest())?;
     processes.push(Owned { user, process })?;
     Ok(())
 }
@@ -55,19 +50,18 @@ fn stored_in(alloc: Global, id: &str, text: &str) -> Result<StoredProcess, Fault
 }
 
 /// Changes the last job, or a stored process: a word says what, and the rest of the line to what.
-pub(crate) fn set(alloc: Global, line: &str, book: &mut Book) -> Result<(), Fault> {
-    let (what, value) = first_word(line);
-    match what {
+pub(crate) fn set(line: &mut Line, book: &mut Book) -> Result<(), Fault> {
+    match line.word() {
         "stored" => match book.processes.last_mut() {
-            Some(owned) => set_process(alloc, value, &mut owned.process),
+            Some(owned) => set_process(line, &mut owned.process),
             None => Err(Fault::Line),
         },
         "ran" => match last_ran(&mut book.jobs) {
-            Some(process) => set_process(alloc, value, process),
+            Some(process) => set_process(line, process),
             None => Err(Fault::Line),
         },
-        _ => match book.jobs.last_mut() {
-            Some(job) => set_job(alloc, what, value, job),
+        what => match book.jobs.last_mut() {
+            Some(job) => set_job(what, line, job),
             None => Err(Fault::Line),
         },
     }
@@ -86,14 +80,14 @@ fn last_ran(jobs: &mut Vec<Job>) -> Option<&mut StoredProcess> {
 
 /// Sets the id or the text of a stored process, or its graph or parameters to those of a text, or the process to one of
 /// so many bytes.
-fn set_process(alloc: Global, line: &str, process: &mut StoredProcess) -> Result<(), Fault> {
-    let (what, value) = first_word(line);
-    match what {
-        "id" => process.id = Text::of(alloc, value)?,
-        "text" => process.text = Text::of(alloc, value)?,
-        "graph" => process.graph = graph_in(alloc, value)?,
-        "parameters" => process.parameters = parameters_in(alloc, value)?,
-        "long" => *process = long_stored(alloc, number_of(value)?)?,
+fn set_process(line: &mut Line, process: &mut StoredProcess) -> Result<(), Fault> {
+    let alloc = line.alloc();
+    match line.word() {
+        "id" => process.id = Text::of(alloc, line.rest())?,
+        "text" => process.text = Text::of(alloc, line.rest())?,
+        "graph" => process.graph = graph_in(alloc, line.rest())?,
+        "parameters" => process.parameters = parameters_in(alloc, line.rest())?,
+        "long" => *process = long_stored(alloc, line.number())?,
         _ => return Err(Fault::Line),
     }
     Ok(())
@@ -115,16 +109,16 @@ fn long_stored(alloc: Global, length: usize) -> Result<StoredProcess, Fault> {
 }
 
 /// Sets a moment of a job, or one of its texts to one of so many bytes.
-fn set_job(alloc: Global, what: &str, value: &str, job: &mut Job) -> Result<(), Fault> {
+fn set_job(what: &str, line: &mut Line, job: &mut Job) -> Result<(), Fault> {
     match what {
-        "created" => job.created = number_of(value)?,
-        "updated" => job.updated = number_of(value)?,
-        _ => return set_long(alloc, what, number_of(value)?, job),
+        "created" => job.created = line.number(),
+        "updated" => job.updated = line.number(),
+        _ => return set_long(line.alloc(), what, line.number(), job),
     }
     Ok(())
 }
 
-/// Sets one of the texts of a job to one of so many bytes.
+/// Sets one of the texts of a job to one of so many bytes, or adds an asset of so many.
 fn set_long(alloc: Global, what: &str, length: usize, job: &mut Job) -> Result<(), Fault> {
     match what {
         "title" => job.title = Some(text_of(alloc, "", length, "")?),

@@ -6,25 +6,22 @@ use crate::links::{Links, outgoing_link, spell_end};
 use http::{Method, StatusCode};
 use oe_dims::Text;
 use oe_http::{Request, Response, write_head, write_request, write_response};
-use oe_lines::{
-    Answers, Fault, escaped_bytes, escaped_text, number_of, parts_of, push_quoted, words_of,
-};
+use oe_lines::{Answers, Fault, Line, escaped_bytes, escaped_text, push_quoted};
 use oe_outside::{Failed, MemoryLink};
 use std::alloc::Global;
 
 /// Writes what a line that begins with this word describes, and appends what was written.
 pub(crate) fn answer_written(
-    alloc: Global,
     links: Links<'_>,
     word: &str,
-    rest: &str,
+    line: &mut Line,
     answers: &mut Answers,
 ) -> Result<(), Fault> {
-    let mut link = outgoing_link(alloc, links.calls)?;
+    let mut link = outgoing_link(line.alloc(), links.calls)?;
     let outcome = match word {
-        "reply" => write_reply(alloc, rest, &mut link, answers)?,
-        "head" => write_reply_head(rest, &mut link)?,
-        "written" => write_to_host(alloc, rest, &mut link, answers)?,
+        "reply" => write_reply(line, &mut link, answers)?,
+        "head" => write_reply_head(line, &mut link)?,
+        "written" => write_to_host(line, &mut link, answers)?,
         _ => return Err(Fault::Line),
     };
     push_quoted(written_word(outcome), link.written(), answers);
@@ -42,12 +39,11 @@ fn written_word(outcome: Result<(), Failed>) -> &'static str {
 
 /// Writes a reply.
 fn write_reply(
-    alloc: Global,
-    rest: &str,
+    line: &mut Line,
     link: &mut MemoryLink,
     answers: &mut Answers,
 ) -> Result<Result<(), Failed>, Fault> {
-    let response = response_of(alloc, rest, answers)?;
+    let response = response_of(line, answers);
     if has_phrase(response.status) {
         Ok(write_response(link, &response))
     } else {
@@ -56,9 +52,9 @@ fn write_reply(
 }
 
 /// Writes the head of a reply.
-fn write_reply_head(rest: &str, link: &mut MemoryLink) -> Result<Result<(), Failed>, Fault> {
-    let (status, length) = parts_of(rest, " ")?;
-    let (status, length) = (number_of(status)?, number_of(length)?);
+fn write_reply_head(line: &mut Line, link: &mut MemoryLink) -> Result<Result<(), Failed>, Fault> {
+    let status = line.number();
+    let length = line.number();
     if has_phrase(status) {
         Ok(write_head(link, status, length))
     } else {
@@ -68,13 +64,12 @@ fn write_reply_head(rest: &str, link: &mut MemoryLink) -> Result<Result<(), Fail
 
 /// Writes a request to a host.
 fn write_to_host(
-    alloc: Global,
-    rest: &str,
+    line: &mut Line,
     link: &mut MemoryLink,
     answers: &mut Answers,
 ) -> Result<Result<(), Failed>, Fault> {
-    let (host, rest) = parts_of(rest, " ")?;
-    let request = request_of(alloc, rest, answers)?;
+    let host = line.word();
+    let request = request_of(line, answers)?;
     Ok(write_request(link, &request, host))
 }
 
@@ -89,38 +84,39 @@ fn has_phrase(status: u16) -> bool
 }
 
 /// The reply that `STATUS TYPE LOCATION IDENTIFIER BODY` spell.
-fn response_of(alloc: Global, rest: &str, answers: &mut Answers) -> Result<Response, Fault> {
-    let [status, kind, location, identifier, body, ..] = words_of(rest);
-    let (status, json) = (number_of(status)?, is_json(kind)?);
-    Ok(Response {
+fn response_of(line: &mut Line, answers: &mut Answers) -> Response {
+    let status = line.number();
+    let json = line.takes("json");
+    if !json {
+        line.pass("-");
+    }
+    let location = text_in(line.alloc(), line.word(), answers);
+    let identifier = text_in(line.alloc(), line.word(), answers);
+    let body = body_in(line.alloc(), line.word(), answers);
+    Response {
         status,
-        location: text_in(alloc, location, answers),
-        identifier: text_in(alloc, identifier, answers),
+        location,
+        identifier,
         json,
-        body: body_in(alloc, body, answers),
-    })
-}
-
-fn is_json(word: &str) -> Result<bool, Fault> {
-    match word {
-        "json" => Ok(true),
-        "-" => Ok(false),
-        _ => Err(Fault::Line),
+        body,
     }
 }
 
 /// The request that `METHOD PATH QUERY AUTHORIZATION BODY` spell.
-fn request_of(alloc: Global, rest: &str, answers: &mut Answers) -> Result<Request, Fault> {
-    let [method, path, query, authorization, body, ..] = words_of(rest);
-    let path = escaped_text(alloc, path)?;
+fn request_of(line: &mut Line, answers: &mut Answers) -> Result<Request, Fault> {
+    let alloc = line.alloc();
+    let method = method_of(alloc, line.word())?;
+    let path = escaped_text(alloc, line.word())?;
+    let query = line.word();
     let query = escaped_text(alloc, if query == "-" { "" } else { query })?;
-    let method = method_of(alloc, method)?;
+    let authorization = text_in(alloc, line.word(), answers);
+    let body = body_in(alloc, line.word(), answers);
     Ok(Request {
         method,
         path,
         query,
-        authorization: text_in(alloc, authorization, answers),
-        body: body_in(alloc, body, answers),
+        authorization,
+        body,
     })
 }
 
