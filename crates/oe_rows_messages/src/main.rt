@@ -1,10 +1,10 @@
-//! HTTP messages and a client's calls, the job book and its keepers, and objects in memory.
+//! HTTP messages and a client's calls, the job book and its keepers, objects in memory, and the command `client`.
 //!
 //! The input has parts, each of which begins with a line `== NAME`, and a line for each step; a line that begins with
 //! `#` says what the next ones show, and has no answer. `oe_lines` says how words are spelled.
 //!
-//! **`messages`**: HTTP messages that are read from links in memory and written to them, whose answers were found by hand
-//! from RFC 9112, RFC 9110 and the limits of this profile. Each line but those of links has lines of answers.
+//! **`messages`**: HTTP messages that are read from links in memory and written to them, whose answers were found by
+//! hand from RFC 9112, RFC 9110 and the limits of this profile. Each line but those of links has lines of answers.
 //!
 //! | Line | What it does |
 //! |---|---|
@@ -59,8 +59,9 @@
 //! crash leaves; `entry` by the job that was read and, behind a bar, the entry that is written of it, or by `none`.
 //!
 //! **`objects`**: calls of the objects in memory, some of which fail by a script, and of small callers of them, whose
-//! answers were found by hand from what the objects promise. A line has an object, and the calls on it behind semicolons;
-//! the output has a line for each call: for each number of rounds of a copy, two of a clock and three of the texts.
+//! answers were found by hand from what the objects promise. A line has an object, and the calls on it behind
+//! semicolons; the output has a line for each call: for each number of rounds of a copy, two of a clock and three of
+//! the texts.
 //!
 //! | Line | What it makes, and its calls |
 //! |---|---|
@@ -75,7 +76,7 @@
 //! | `store BYTES CAPACITY CALLS` | `read AT N`, `fill AT N`, `write AT BYTES`, `length` |
 //! | `door CALLS LINKS DIALLED` | `next MARK`, `busy MARK`, `dial MARK`, `done` |
 //! | `clock SECONDS` | a clock that stands still, which is asked twice |
-//! | `texts` | nothing: the text of the fault is printed, and those of two refusals to read |
+//! | `texts` | nothing: the text of the fault is printed, then those of two refusals to read, and that of want of memory |
 //!
 //! CALLS has the numbers of the calls that fail, with commas between them. LINKS and DIALLED are `none`, or have for
 //! each connection the number of its one call that fails. ROUNDS has how many rounds each copy takes at most. `-` is no
@@ -91,6 +92,24 @@
 //! how many bytes, the first 16 of them, with `.` for a zero, and how many calls failed; of a copy the bytes, and the
 //! faults of the source and of the sink; of a door the faults of `next`, of `dial` and of connections, and what was
 //! written to each connection that was given back.
+//!
+//! **`client`**: the command `client` over a door, an input and outputs in memory, some of whose calls fail. What is
+//! sent, written and said was found by hand from the table of verbs, RFC 9112 and the table of exit statuses, by no
+//! code of these crates. Each line but those of commands says what the lines behind it work on, and has no answer.
+//!
+//! | Line | What it does |
+//! |---|---|
+//! | `peer BYTES` | the peer gives these bytes, and ends |
+//! | `more BYTES` | so does the peer that is dialled behind those before it |
+//! | `input BYTES` | the input has these bytes |
+//! | `piece N` | a read of the connection gives at most so many bytes |
+//! | `fails DIAL LINK INPUT OUT ERR` | which calls fail of `dial`, of a connection, of the input and of both outputs: their numbers, counted from 0 and with commas between them, `-` for none |
+//! | `client WORDS`, or any other line | the command of these words |
+//!
+//! Bytes and words are spelled as those of messages are; a word has no blanks (a blank is `\20`). The answer is `Usage`
+//! where the words spell no call. Else it is the exit status; what was sent, where a connection was given back; what
+//! stands on the output and on the error output; the bytes of the input that were left, where there are any; and the
+//! counters of failed dials and connections that are not 0.
 #![tactic(auto)]
 
 mod asked;
@@ -100,6 +119,7 @@ mod clocks;
 mod commands;
 mod copies;
 mod counted;
+mod dialled;
 mod doors;
 mod events;
 mod jobs;
@@ -108,6 +128,7 @@ mod links;
 mod messages;
 mod objects;
 mod reading;
+mod setting;
 mod spelling;
 mod stores;
 mod streams;
@@ -115,6 +136,7 @@ mod valid;
 mod writing;
 
 use books::answer_jobs;
+use dialled::answer_dialled;
 use messages::answer_messages;
 use objects::answer_objects;
 use oe_lines::{Answers, Fault};
@@ -154,6 +176,7 @@ fn answer_part(alloc: Global, name: &str, lines: &str, answers: &mut Answers) {
         "messages" => answer_messages(alloc, lines, answers),
         "jobs" => answer_jobs(alloc, lines, answers),
         "objects" => answer_objects(alloc, lines, answers),
+        "client" => answer_dialled(alloc, lines, answers),
         _ => answers.note(Fault::Line),
     }
 }

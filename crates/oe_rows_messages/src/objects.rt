@@ -8,6 +8,7 @@ use crate::doors::answer_door;
 use crate::stores::answer_store;
 use crate::streams::{answer_link, answer_sink, answer_source};
 use oe_lines::{Answers, Fault, Line, end_line, push, push_number};
+use oe_memory::OutOfMemory;
 use oe_outside::{Failed, ReadRefusal};
 use std::alloc::Global;
 use std::fmt::Display;
@@ -87,11 +88,12 @@ pub(crate) fn plain_bytes(word: &str) -> &[u8] {
     }
 }
 
-/// Prints the text of the fault, and those of a refusal to read.
+/// Prints the texts of the fault, of a refusal to read and of want of memory.
 fn print_texts(alloc: Global, answers: &mut Answers) {
     print_text(alloc, &Failed, answers);
     print_text(alloc, &ReadRefusal::Failed, answers);
     print_text(alloc, &ReadRefusal::OutOfMemory, answers);
+    print_text(alloc, &OutOfMemory, answers);
 }
 
 /// Prints a text of one line.

@@ -3,11 +3,12 @@ ghost use Rattle.std.specs.Prelude.{◌≡◌, ℕ, All, IfOk, List};
 ghost use Rattle.oe_dial.specs.Words.{SpellsCall, plain_call};
 ghost use Rattle.oe_outside.specs.ScriptDoors.{IsSound};
 
-use crate::setting::{Setting, Spelled};
+use crate::links::link_of;
+use crate::setting::{Setting, Spelled, fails_of, spelling};
 use oe_dial::{ClientCall, client, read_call};
 use oe_dims::Text;
 use oe_lines::{
-    Answers, Fault, end_line, escaped_bytes, escaped_text, number_of, numbers_of, push,
+    Answers, Fault, end_line, escaped_bytes, escaped_text, first_word, number_of, numbers_of, push,
     push_number, push_quoted,
 };
 use oe_outside::{MemoryLink, MemorySink, MemorySource, ScriptDoor, Source};
@@ -19,8 +20,47 @@ const SENT_ROOM: usize = 1049600;
 /// How many bytes the outputs have room for: those of the longest body and more.
 const OUT_ROOM: usize = 16778240;
 
+/// Appends the answers to lines about the command.
+pub(crate) fn answer_dialled(alloc: Global, text: &str, answers: &mut Answers) {
+    let mut peers = Vec::new(alloc);
+    let mut input = spelling("");
+    let mut piece = spelling("65536");
+    let mut fails = fails_of("- - - - -");
+    for line in text.lines() {
+        let (word, rest) = first_word(line);
+        match word {
+            "#" => {}
+            "peer" => {
+                peers.clear();
+                add_peer(&mut peers, rest, answers);
+            }
+            "more" => add_peer(&mut peers, rest, answers),
+            "input" => input = spelling(rest),
+            "piece" => piece = spelling(rest),
+            "fails" => fails = fails_of(rest),
+            _ => {
+                let setting = Setting {
+                    peers: peers.as_slice(),
+                    input,
+                    piece,
+                    fails,
+                };
+                let outcome = answer_command(alloc, setting, line, answers);
+                answers.settle(outcome);
+            }
+        }
+    }
+}
+
+/// Adds the bytes of one more peer.
+fn add_peer<'a>(peers: &mut Vec<Spelled<'a>>, bytes: &'a str, answers: &mut Answers) {
+    if peers.push(spelling(bytes)).is_err() {
+        answers.note(Fault::OutOfMemory);
+    }
+}
+
 /// Carries out the command of these words, and appends its status and what became of all that it was lent.
-pub(crate) fn answer_client(
+fn answer_command(
     alloc: Global,
     setting: Setting<'_>,
     line: &str,
@@ -147,7 +187,6 @@ fn peer_of(alloc: Global, peer: Spelled<'_>, setting: Setting<'_>) -> Result<Mem
     ensures { IfOk result (λ peer. peer.faults ≡ 0) }
 {
     let bytes = escaped_bytes(alloc, peer.text)?;
-    let piece: usize = number_of(setting.piece.text)?;
-    let calls = numbers_of(alloc, setting.fails.link)?;
-    Ok(MemoryLink::new(alloc, bytes, piece.max(1), SENT_ROOM, calls)?)
+    let piece = number_of(setting.piece.text)?;
+    link_of(alloc, bytes, piece, SENT_ROOM, setting.fails.link)
 }
