@@ -1,7 +1,7 @@
 //! Worked values of cells, reducers, kernels, shapes, instants, windows and the order of a run, of result texts, and of
-//! records in stores, taken from outside: those of the examples in openEO Processes, those of the public texts, and
-//! others by hand or by short programs, which share no code with these crates: of exact fractions, and one that spells
-//! the bytes of stores and outputs where they are over 4096.
+//! records in stores, and what threads share of them, taken from outside: those of the examples in openEO Processes,
+//! those of the public texts, and others by hand or by short programs, which share no code with these crates: of exact
+//! fractions, and one that spells the bytes of stores and outputs where they are over 4096.
 //!
 //! The input has a line for each call, the output a line for each answer. A line that begins with `#` says what the
 //! next ones show, and has no answer, nor has `given`. `oe_lines` says how words are spelled.
@@ -47,12 +47,18 @@
 //! | `write BASE SIZE CALLS CELLS \| WINDOW` | cells that are written to a window, from byte BASE on of a store of SIZE bytes 9 whose calls of these numbers fail |
 //! | `chunks BASE SIZE T Y X CELLS` | all cells of the shape likewise, in chunks of these sides |
 //! | `lesser A B` | the lesser of two numbers, of which either may be missing, or `none` |
+//! | `threads shape NAME SHAPE` | what two threads find that share a shape and a name: how many cells, and how many bytes |
+//! | `threads bands NAME SHAPE` | where the band of the name stands, as a thread finds by an index of the bands, and another by a walk, or `none` |
+//! | `threads taken NAME SHAPE` | the same, as a thread finds that takes both for its own, and how many bytes another finds `B03` to have |
+//! | `threads grid SHAPE` | how many chunks of one position a shape has, and whether their sides are 1 |
+//! | `threads references` | whether the references of a graph of one load give it the order 0, and none |
+//! | `threads kernels` | width and height of a row of three ones that threads share, and then the width of it and the height of a column of three that each takes one of |
 //!
 //! Answers spell a cell as result texts do, and over 16 equal ones side by side as `N*X`, in each row by itself where
-//! they are found row by row. A rendering is answered by `written` or why it was refused, and the bytes on the output; a
-//! window or chunks by `written` or `failed`, how many calls of the store failed, the least number of a cell that is out
-//! of range, and the bytes of the store in hexadecimal digits. Of over 4096 bytes the answer has their number and their
-//! MD5 digest. All renderings are lent the same cells and the same pending bytes, as those before left them.
+//! they are found row by row. A rendering is answered by `written` or why it was refused, and the bytes on the output;
+//! a window or chunks by `written` or `failed`, how many calls of the store failed, the least number of a cell that is
+//! out of range, and the bytes of the store in hexadecimal digits. Of over 4096 bytes the answer has their number and
+//! their MD5 digest. All renderings are lent the same cells and the same pending bytes, as those before left them.
 #![tactic(auto)]
 
 mod kernels;
@@ -63,6 +69,7 @@ mod records;
 mod reducers;
 mod rendering;
 mod shapes;
+mod shared;
 mod store;
 mod windows;
 mod written;
@@ -73,6 +80,7 @@ use rendering::Lent;
 use std::alloc::Global;
 use std::io::{Read, Write};
 use std::process::ExitCode;
+use std::thread::Threads;
 
 /// What lines refer to: the shapes so far and what renderings are lent.
 #[derive(Drop)]
@@ -97,7 +105,7 @@ fn main(rt: HostRuntime) -> ExitCode {
     }
     let mut answers = Answers::new(alloc);
     match Kept::new(alloc) {
-        Ok(mut kept) => answer_lines(alloc, &text, &mut kept, &mut answers),
+        Ok(mut kept) => answer_lines(&rt, alloc, &text, &mut kept, &mut answers),
         Err(fault) => answers.note(fault),
     }
     if let Some(fault) = answers.fault() {
@@ -110,10 +118,20 @@ fn main(rt: HostRuntime) -> ExitCode {
 }
 
 /// Appends the answers to all lines, of which the first ones refer to no shape.
-fn answer_lines(alloc: Global, text: &str, kept: &mut Kept, answers: &mut Answers) {
+fn answer_lines<R: Threads>(
+    rt: &R,
+    alloc: Global,
+    text: &str,
+    kept: &mut Kept,
+    answers: &mut Answers,
+) {
     for line in text.lines() {
         let mut line = Line::new(alloc, line);
-        answer_line(&mut line, kept, answers);
+        if line.takes("threads") {
+            shared::shared(rt, &mut line, answers);
+        } else {
+            answer_line(&mut line, kept, answers);
+        }
         line.report(answers);
     }
 }

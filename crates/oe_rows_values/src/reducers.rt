@@ -7,25 +7,31 @@ use oe_fold::{Pass, Reducer, fold, fold_columns};
 use oe_lines::{Answers, Fault, Line, push_cell, push_cells};
 use std::alloc::Global;
 
+/// The words of reducers.
+static REDUCERS: [(&str, Reducer); 12] = [
+    ("sum", Reducer::Sum),
+    ("product", Reducer::Product),
+    ("mean", Reducer::Mean),
+    ("min", Reducer::Min),
+    ("max", Reducer::Max),
+    ("median", Reducer::Median),
+    ("first", Reducer::First),
+    ("last", Reducer::Last),
+    ("any", Reducer::Any),
+    ("all", Reducer::All),
+    ("count", Reducer::Count),
+    ("count_all", Reducer::CountAll),
+];
+
 fn reducer_of(line: &mut Line) -> Reducer {
-    match line.word() {
-        "sum" => Reducer::Sum,
-        "product" => Reducer::Product,
-        "mean" => Reducer::Mean,
-        "min" => Reducer::Min,
-        "max" => Reducer::Max,
-        "median" => Reducer::Median,
-        "first" => Reducer::First,
-        "last" => Reducer::Last,
-        "any" => Reducer::Any,
-        "all" => Reducer::All,
-        "count" => Reducer::Count,
-        "count_all" => Reducer::CountAll,
-        _ => {
-            line.note(Fault::Line);
-            Reducer::Sum
+    let word = line.word();
+    for (name, reducer) in &REDUCERS {
+        if *name == word {
+            return *reducer;
         }
     }
+    line.note(Fault::Line);
+    Reducer::Sum
 }
 
 /// Whether nulls are left out: `ignore` or `keep`.
