@@ -54,24 +54,45 @@ impl Disks {
         answers: &mut Answers,
     ) -> Disks {
         let Disks { files } = self;
-        if files.may_be_used() {
-            let mut options = Options::new(1);
-            options.checkpoint_frames = pages;
-            match Connection::open_files(alloc, files, options) {
-                Ok(conn) => Disks {
-                    files: close(take(alloc, conn, line, answers)),
-                },
-                Err((_, left)) => {
-                    push("not opened\n", answers);
-                    Disks {
-                        files: left.into_files(),
-                    }
-                }
-            }
-        } else {
-            push("not opened\n", answers);
-            Disks { files }
+        Disks {
+            files: files_after(alloc, files, pages, line, answers),
         }
+    }
+}
+
+// Generic, as what follows is, so that what is said of a database is not proved of these disks.
+/// The files after a line, likewise.
+fn files_after<D: Disk + Drop>(
+    alloc: Global,
+    files: Files<D>,
+    pages: usize,
+    line: &str,
+    answers: &mut Answers,
+) -> Files<D> {
+    match open(alloc, files, pages) {
+        Ok(conn) => close(take(alloc, conn, line, answers)),
+        Err(files) => {
+            push("not opened\n", answers);
+            files
+        }
+    }
+}
+
+/// The database on files, whose log is copied once it has so many pages. Refuses: files that may not be used, or on which
+/// there is none that can be opened.
+fn open<D: Disk + Drop>(
+    alloc: Global,
+    files: Files<D>,
+    pages: usize,
+) -> Result<Connection<FileStore<D>>, Files<D>> {
+    if !files.may_be_used() {
+        return Err(files);
+    }
+    let mut options = Options::new(1);
+    options.checkpoint_frames = pages;
+    match Connection::open_files(alloc, files, options) {
+        Ok(conn) => Ok(conn),
+        Err((_, left)) => Err(left.into_files()),
     }
 }
 
