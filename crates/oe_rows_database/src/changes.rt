@@ -3,37 +3,33 @@ use oe_dims::Text;
 use oe_graph::{Refusal, StoredProcess, read_stored};
 use oe_jobs::{Asset, Change, Job, Level, LogEntry, Owned};
 use oe_keeper::read_job;
-use oe_lines::{Answers, Fault, first_word, number_of, push};
+use oe_lines::{Answers, Fault, Line, push};
 use std::alloc::Global;
 
 /// The change of a step. Refuses: words that spell none; out of memory.
-pub(crate) fn change_of(alloc: Global, step: &str) -> Result<Change, Fault> {
-    let (word, rest) = first_word(step);
-    match word {
-        "put" => put_of(alloc, rest),
-        "asset" => asset_for(alloc, rest),
-        "drop" => drop_of(alloc, rest),
-        "store" => store_of(alloc, rest),
-        "forget" => forget_of(alloc, rest),
+pub(crate) fn change_of(line: &mut Line) -> Result<Change, Fault> {
+    match line.word() {
+        "put" => put_of(line),
+        "asset" => asset_for(line),
+        "drop" => drop_of(line),
+        "store" => store_of(line),
+        "forget" => forget_of(line),
         _ => Err(Fault::Line),
     }
 }
 
-fn put_of(alloc: Global, line: &str) -> Result<Change, Fault> {
-    let (next, rest) = first_word(line);
-    let (length, rest) = first_word(rest);
-    let next = number_of(next)?;
-    let length = number_of(length)?;
-    let job = job_of(alloc, rest, length)?;
+fn put_of(line: &mut Line) -> Result<Change, Fault> {
+    let next = line.number();
+    let job = job_of(line)?;
     Ok(Change::PutJob { job, next })
 }
 
-/// The job of an id and an entry, with an asset of a length but where that is 0.
-fn job_of(alloc: Global, line: &str, length: usize) -> Result<Job, Fault> {
-    let (id, entry) = first_word(line);
-    let assets = assets_of(alloc, length)?;
-    let id = Text::of(alloc, id)?;
-    match read_job(alloc, &id, entry.as_bytes())? {
+/// The job of an id and an entry, with an asset of the length before them but where that is 0.
+fn job_of(line: &mut Line) -> Result<Job, Fault> {
+    let alloc = line.alloc();
+    let assets = assets_of(alloc, line.number())?;
+    let id = Text::of(alloc, line.word())?;
+    match read_job(alloc, &id, line.rest().as_bytes())? {
         Some(job) => Ok(with_assets(job, assets)),
         None => Err(Fault::Line),
     }
@@ -68,15 +64,12 @@ fn digits_of(alloc: Global, length: usize) -> Result<Text, Fault> {
     digits.into_text(alloc)
 }
 
-fn asset_for(alloc: Global, line: &str) -> Result<Change, Fault> {
-    let (id, rest) = first_word(line);
-    let (length, rest) = first_word(rest);
-    let (updated, message) = first_word(rest);
-    let length = number_of(length)?;
-    let updated = number_of(updated)?;
-    let job = Text::of(alloc, id)?;
-    let log = log_of(alloc, message)?;
-    let asset = asset_of(alloc, length)?;
+fn asset_for(line: &mut Line) -> Result<Change, Fault> {
+    let alloc = line.alloc();
+    let job = Text::of(alloc, line.word())?;
+    let asset = asset_of(alloc, line.number())?;
+    let updated = line.number();
+    let log = log_of(alloc, line.rest())?;
     Ok(Change::AddAsset {
         job,
         asset,
@@ -97,16 +90,15 @@ fn log_of(alloc: Global, message: &str) -> Result<Option<LogEntry>, Fault> {
     }))
 }
 
-fn drop_of(alloc: Global, id: &str) -> Result<Change, Fault> {
-    let id = Text::of(alloc, id)?;
+fn drop_of(line: &mut Line) -> Result<Change, Fault> {
+    let id = Text::of(line.alloc(), line.word())?;
     Ok(Change::DropJob { id })
 }
 
-fn store_of(alloc: Global, line: &str) -> Result<Change, Fault> {
-    let (user, rest) = first_word(line);
-    let (id, text) = first_word(rest);
-    let process = stored_of(alloc, id, text)?;
-    let user = Text::of(alloc, user)?;
+fn store_of(line: &mut Line) -> Result<Change, Fault> {
+    let user = Text::of(line.alloc(), line.word())?;
+    let id = line.word();
+    let process = stored_of(line.alloc(), id, line.rest())?;
     Ok(Change::PutProcess {
         owned: Owned { user, process },
     })
@@ -120,9 +112,8 @@ fn stored_of(alloc: Global, id: &str, text: &str) -> Result<StoredProcess, Fault
     }
 }
 
-fn forget_of(alloc: Global, line: &str) -> Result<Change, Fault> {
-    let (user, id) = first_word(line);
-    let user = Text::of(alloc, user)?;
-    let id = Text::of(alloc, id)?;
+fn forget_of(line: &mut Line) -> Result<Change, Fault> {
+    let user = Text::of(line.alloc(), line.word())?;
+    let id = Text::of(line.alloc(), line.rest())?;
     Ok(Change::DropProcess { user, id })
 }

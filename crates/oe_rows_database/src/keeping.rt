@@ -3,7 +3,7 @@ use crate::changes::change_of;
 use crate::spelling::spell_book;
 use oe_database::SqliteKeeper;
 use oe_jobs::{Keeper, KeeperFail};
-use oe_lines::{Answers, Fault, end_line, first_word, push, push_number};
+use oe_lines::{Answers, Fault, Line, end_line, first_word, push, push_number};
 use sqlite::{Alter, Connection, Row};
 use std::alloc::Global;
 
@@ -108,7 +108,9 @@ fn answer_commit<S: Alter>(
     step: &str,
     answers: &mut Answers,
 ) -> Result<(), Fault> {
-    let change = change_of(alloc, step)?;
+    let mut line = Line::new(alloc, step);
+    let change = change_of(&mut line)?;
+    line.report(answers);
     match keeper.commit(&change) {
         Ok(()) => push("kept", answers),
         Err(fail) => spell_fail(fail, keeper.faults(), answers),
