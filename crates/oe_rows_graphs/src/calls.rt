@@ -32,8 +32,20 @@ struct Objects {
     gate: CountGate,
 }
 
+impl Objects {
+    /// The answer to a call that ended with a status.
+    fn into_answer(self, status: u8) -> Answer {
+        let Objects { out, err, gate, .. } = self;
+        Answer::Call(Called {
+            status,
+            out,
+            err,
+            gate,
+        })
+    }
+}
+
 /// What a call left: its status, what stands on the output and on the error output, and how often it entered the gate.
-#[derive(Drop)]
 pub(crate) struct Called {
     pub(crate) status: u8,
     pub(crate) out: MemorySink,
@@ -41,12 +53,39 @@ pub(crate) struct Called {
     pub(crate) gate: CountGate,
 }
 
+/// Written out, so that what a call left ends by one call wherever it does; so is the one below.
+impl Drop for Called {
+    fn drop(self) {
+        let Called {
+            status: _,
+            out: _,
+            err: _,
+            gate: _,
+        } = self;
+    }
+}
+
 /// The answer to a line.
-#[derive(Drop)]
 pub(crate) enum Answer {
     /// A word, or none.
     Word(&'static str),
     Call(Called),
+}
+
+impl Drop for Answer {
+    fn drop(self) {
+        let _ended = self.into_call();
+    }
+}
+
+impl Answer {
+    /// What a call left, if it is one of a call.
+    pub(crate) fn into_call(self) -> Option<Called> {
+        match self {
+            Answer::Word(_) => None,
+            Answer::Call(called) => Some(called),
+        }
+    }
 }
 
 /// Appends the answers to lines about calls.
@@ -134,7 +173,7 @@ pub(crate) fn answers_of<R: Threads + Sync>(
                     &mut catalogue,
                     &mut objects.spool,
                 );
-                call_answer(status, objects)
+                objects.into_answer(status)
             }
         };
         answers.push(answer)?;
@@ -164,17 +203,6 @@ fn detach_answer(outcome: Option<Box<dyn CubeSource>>) -> Answer {
         Some(_) => Answer::Word(""),
         None => Answer::Word("none\n"),
     }
-}
-
-/// The answer to a call that ended with a status.
-fn call_answer(status: u8, objects: Objects) -> Answer {
-    let Objects { out, err, gate, .. } = objects;
-    Answer::Call(Called {
-        status,
-        out,
-        err,
-        gate,
-    })
 }
 
 /// The words of a call and its objects, of which these calls fail. The input has blanks behind it up to as many bytes as

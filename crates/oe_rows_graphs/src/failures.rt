@@ -58,9 +58,17 @@ fn call_over<'a, R: Threads + Sync>(
 ) -> Result<Called, Fault> {
     let mut lines = cubes.to_vec(alloc)?;
     lines.push(line)?;
-    match answers_of(rt, alloc, &lines, failing)?.pop() {
-        Some(Answer::Call(called)) => Ok(called),
-        _ => Err(Fault::Line),
+    let mut answers = answers_of(rt, alloc, &lines, failing)?;
+    match answers.pop() {
+        Some(answer) => called_by(answer),
+        None => Err(Fault::Line),
+    }
+}
+
+fn called_by(answer: Answer) -> Result<Called, Fault> {
+    match answer.into_call() {
+        Some(called) => Ok(called),
+        None => Err(Fault::Line),
     }
 }
 

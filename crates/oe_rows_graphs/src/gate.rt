@@ -11,12 +11,22 @@ const MOST_CHUNKS: u64 = 64;
 const MOST_LOOKS: u64 = 1000000000;
 
 /// A gate that counts for each chunk how often it was entered.
-#[derive(Drop)]
 pub(crate) struct CountGate {
     entered: Vec<AtomicU64>,
     /// Whether the first two chunks wait for each other, and how often one looked in vain.
     is_meeting: bool,
     missed: AtomicU64,
+}
+
+/// Written out, so that a gate that ends is one call wherever it does.
+impl Drop for CountGate {
+    fn drop(self) {
+        let CountGate {
+            entered: _,
+            is_meeting: _,
+            missed: _,
+        } = self;
+    }
 }
 
 impl CountGate {

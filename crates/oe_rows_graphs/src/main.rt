@@ -171,7 +171,10 @@ fn answer_part<R: Threads + Sync>(
 ) -> Result<(), Fault> {
     match name {
         "" => Ok(()),
-        "graphs" => answer_graphs(alloc, lines, answers),
+        "graphs" => {
+            answer_graphs(alloc, lines, answers);
+            Ok(())
+        }
         "plans" => answer_plans(rt, alloc, lines, answers),
         "runs" => answer_runs(rt, alloc, lines, answers),
         "sources" => answer_sources(alloc, lines, answers),

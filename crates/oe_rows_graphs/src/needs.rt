@@ -2,38 +2,30 @@
 use oe_cell::Frac;
 use oe_dims::{Kind, Shape};
 use oe_kernel::{Border, Kernel};
-use oe_lines::{Answers, Fault, end_line, parts_of, push, push_window, valid_shape_of, window_of};
+use oe_lines::{Answers, Fault, Line, push, push_window, valid_shape_of};
 use oe_ops::{need_beside, need_labels, need_pixels};
 use oe_window::{Window, holds, whole};
-use std::alloc::Global;
 
 /// Appends the window that one of a result needs: `labels` or `bands` of the words `WINDOW | SHAPE | ARGUMENT`, or a
 /// border and `WINDOW | SHAPE`, for a kernel of 3 × 3 ones.
-pub(crate) fn answer_need(
-    alloc: Global,
-    word: &str,
-    line: &str,
-    answers: &mut Answers,
-) -> Result<(), Fault> {
-    let (window, shapes) = parts_of(line, " | ")?;
-    let of = window_of(window)?;
+pub(crate) fn answer_need(line: &mut Line, answers: &mut Answers) {
+    let word = line.word();
+    let of = line.window();
+    line.pass("|");
     let need = match word {
-        "labels" | "bands" => needed(alloc, word == "labels", shapes, &of)?,
-        _ => needed_pixels(alloc, border_of(word)?, shapes, &of)?,
+        "labels" | "bands" => needed(word == "labels", line, &of),
+        _ => needed_pixels(border_of(word), line, &of),
     };
-    match need {
+    match line.value_or(need, None) {
         Some(window) => push_window("", &window, answers),
         None => push("none", answers),
     }
-    end_line(answers);
-    Ok(())
 }
 
 /// What it needs of an argument by its labels, or with all bands.
-fn needed(alloc: Global, labels: bool, shapes: &str, of: &Window) -> Result<Option<Window>, Fault> {
-    let (shape, argument) = parts_of(shapes, " | ")?;
-    let shape = valid_shape_of(alloc, shape)?;
-    let argument = valid_shape_of(alloc, argument)?;
+fn needed(labels: bool, line: &mut Line, of: &Window) -> Result<Option<Window>, Fault> {
+    let shape = valid_shape_of(line.alloc(), line.before(" | "))?;
+    let argument = valid_shape_of(line.alloc(), line.rest())?;
     if labels {
         Ok(by_labels(&shape, &argument, of))
     } else {
@@ -43,24 +35,24 @@ fn needed(alloc: Global, labels: bool, shapes: &str, of: &Window) -> Result<Opti
 
 /// What it needs with the pixels around, for a kernel of ones.
 fn needed_pixels(
-    alloc: Global,
-    border: Border,
-    shape: &str,
+    border: Option<Border>,
+    line: &mut Line,
     of: &Window,
 ) -> Result<Option<Window>, Fault> {
-    let ones = vec![in alloc; Frac::whole(1); 9]?;
-    match Kernel::new(3, 3, ones) {
-        Ok(kernel) => Ok(with_pixels(&kernel, border, &valid_shape_of(alloc, shape)?, of)),
-        Err(_) => Err(Fault::Line),
+    let shape = valid_shape_of(line.alloc(), line.rest())?;
+    let ones = vec![in line.alloc(); Frac::whole(1); 9]?;
+    match (Kernel::new(3, 3, ones), border) {
+        (Ok(kernel), Some(border)) => Ok(with_pixels(&kernel, border, &shape, of)),
+        _ => Err(Fault::Line),
     }
 }
 
-fn border_of(word: &str) -> Result<Border, Fault> {
+fn border_of(word: &str) -> Option<Border> {
     match word {
-        "replicate" => Ok(Border::Replicate),
-        "reflect" => Ok(Border::Reflect),
-        "wrap" => Ok(Border::Wrap),
-        _ => Err(Fault::Line),
+        "replicate" => Some(Border::Replicate),
+        "reflect" => Some(Border::Reflect),
+        "wrap" => Some(Border::Wrap),
+        _ => None,
     }
 }
 

@@ -7,10 +7,7 @@ use crate::repeated::spell_repeated;
 use crate::resolved::spell_resolved;
 use crate::windows::spell_windows;
 use oe_dims::{CellKind, Dims, DimsRow, Shape, Text};
-use oe_lines::{
-    Answers, Fault, end_line, first_word, names_of, number_of, parts_of, push, push_number,
-    push_window, words_of,
-};
+use oe_lines::{Answers, Fault, Line, end_line, names_of, push, push_number, push_window};
 use oe_plan::{Plan, PlanFail, figures};
 use oe_shape::Checked;
 use oe_slab::{SlabNumbersFail, slab_figures};
@@ -36,22 +33,25 @@ pub(crate) fn answer_plans(
         rows: Vec::new(alloc),
     };
     for line in text.lines() {
-        let (verb, rest) = first_word(line);
-        match verb {
+        let mut line = Line::new(alloc, line);
+        match line.word() {
             "#" => {}
-            "collection" => dims.rows.push(row_of(alloc, rest)?)?,
-            _ => answer_to(rt, alloc, verb, rest, &dims, answers)?,
+            "collection" => dims.rows.push(row_of(&mut line)?)?,
+            verb => answer_to(rt, verb, &mut line, &dims, answers)?,
         }
+        line.report(answers);
     }
     Ok(())
 }
 
 /// The row of the words `ID DATES BANDS SIDE`.
-fn row_of(alloc: Global, line: &str) -> Result<DimsRow, Fault> {
-    let [id, dates, bands, side, ..] = words_of(line);
-    let shape = shape_of_sides(alloc, number_of(dates)?, bands, number_of(side)?)?;
+fn row_of(line: &mut Line) -> Result<DimsRow, Fault> {
+    let id = Text::of(line.alloc(), line.word())?;
+    let dates = line.number();
+    let bands = line.word();
+    let shape = shape_of_sides(line.alloc(), dates, bands, line.number())?;
     Ok(DimsRow {
-        id: Text::of(alloc, id)?,
+        id,
         shape,
         kind: CellKind::Numbers,
     })
@@ -81,13 +81,14 @@ fn steps(alloc: Global, first: i64, step: i64, count: u32) -> Result<Vec<i64>, F
 
 fn answer_to(
     rt: &impl Threads,
-    alloc: Global,
     verb: &str,
-    line: &str,
+    line: &mut Line,
     dims: &Dims,
     answers: &mut Answers,
 ) -> Result<(), Fault> {
-    let (words, graph) = parts_of(line, " < ")?;
+    let alloc = line.alloc();
+    let words = line.before(" < ");
+    let graph = line.rest();
     match verb {
         "resolve" => return spell_resolved(alloc, words, graph, answers),
         "repeated" => return spell_repeated(alloc, words, graph, answers),
