@@ -78,7 +78,7 @@ pub(crate) fn cube_of_text(
     }
 }
 
-fn cube_of(
+pub(crate) fn cube_of(
     alloc: Global,
     shape: Shape,
     kind: CellKind,

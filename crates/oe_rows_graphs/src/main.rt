@@ -1,6 +1,6 @@
-//! Graphs that are read, resolved, planned and run, collections that are mounted and read, and calls of `openeo` over
-//! objects in memory. The answers were taken from outside: by hand, from the public texts and `docs/formats.md`, or from
-//! references that share no code with these crates.
+//! Graphs that are read, resolved, planned and run, collections that are mounted and read, calls of `openeo` over
+//! objects in memory, and parts of mosaics. The answers were taken from outside: by hand, from the public texts and
+//! `docs/formats.md`, or from references that share no code with these crates.
 //!
 //! The input has parts, each of which begins with a line `== NAME`, and a line for each step; a line that begins with
 //! `#` says what the next ones show, and has no answer. `oe_lines` says how words are spelled. SIZES are the sides of
@@ -107,6 +107,25 @@
 //! nothing. The answer of a call is the status, then the bytes of the output and, behind a bar, those of the error
 //! output, where there are any. Bytes are spelled as they are, with `\n` for a line feed, if each is printable, and else
 //! in hexadecimal digits.
+//!
+//! **`parts`**: parts that are added, replaced and taken out, mosaics that are made of them and read, and the files of
+//! mosaics. The cells of a label tuple are those of the first part that has it.
+//!
+//! | Line | What it does |
+//! |---|---|
+//! | `parts` | begins without a part, and without a mosaic |
+//! | `push PART` | adds a part: `pushed`; or `kind`, `dimensions` or `full`, with the part that is handed back |
+//! | `replace PLACE PART` | puts a part into the place of another: `replaced` with the old one, or `refused` with the given one |
+//! | `remove PLACE` | takes a part out: `removed` with the part, or `none` |
+//! | `count` | how many parts there are |
+//! | `mosaic` | makes the mosaic of the parts: `mosaic` with what it reads as, and the parts stay; or `no parts`, or `too large` |
+//! | `nest` | adds the mosaic of the parts to the mosaics: `nested`; then there is no part |
+//! | `mosaics` | the same as `mosaic` of the mosaics |
+//! | `file BYTES` | the id and the files that a file names, or `invalid` with the number of the first bad line |
+//!
+//! A PART is `CALLS KIND SHAPE CELLS`: the numbers of its reads that fail, from 0 on and `-` for none, `number` or
+//! `boolean`, its shape and its cells. A part or a mosaic is spelled as its labels along t, y and x, where it has the
+//! dimension, and all its cells, or `failed` where their read fails.
 #![tactic(auto)]
 
 mod attempt;
@@ -118,6 +137,7 @@ mod gate;
 mod graphs;
 mod mosaics;
 mod needs;
+mod parts;
 mod plans;
 mod repeated;
 mod resolved;
@@ -128,6 +148,7 @@ mod windows;
 use calls::answer_calls;
 use graphs::answer_graphs;
 use oe_lines::{Answers, Fault};
+use parts::answer_mosaics;
 use plans::answer_plans;
 use runs::answer_runs;
 use sources::answer_sources;
@@ -179,6 +200,10 @@ fn answer_part<R: Threads + Sync>(
         "runs" => answer_runs(rt, alloc, lines, answers),
         "sources" => answer_sources(alloc, lines, answers),
         "calls" => answer_calls(rt, alloc, lines, answers),
+        "parts" => {
+            answer_mosaics(alloc, lines, answers);
+            Ok(())
+        }
         _ => Err(Fault::Line),
     }
 }

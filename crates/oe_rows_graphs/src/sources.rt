@@ -99,7 +99,7 @@ fn read_row(
 }
 
 /// Room for the cells of a shape.
-fn room_for(alloc: Global, shape: &Shape) -> Result<Vec<Cell>, Fault>
+pub(crate) fn room_for(alloc: Global, shape: &Shape) -> Result<Vec<Cell>, Fault>
     ensures { IfOk result (λ cells. length cells.items ≡ cell_count shape.now) }
 {
     let count = shape.cells();
