@@ -1,143 +1,111 @@
-// One script: what its lines set, and the answers of its lives.
-use crate::cubes::{cube_of, file_of};
-use crate::life::live;
-use oe_dims::Text;
-use oe_jobs::Book;
-use oe_keeper::MemoryKeeper;
-use oe_lines::{Answers, Fault, first_word, number_of, numbers_of};
+// What the lines so far have made: collections, users, and a job book at a moment.
+use crate::events::change_of;
+use oe_dims::{CellKind, Dims, DimsRow, Text};
+use oe_jobs::{Book, Change};
+use oe_lines::{Fault, first_word, number_of, valid_shape_of};
 use oe_routes::{Site, Tokens};
-use oe_sources::{Catalogue, CubeSource, MountFail};
+use serde_json::Value;
 use std::alloc::Global;
-use std::thread::Threads;
 
-/// What the lines so far have set: the moment, which calls of the next life fail, the call in which its keeper stops and
-/// whether it keeps what that call commits, whether the chunks of its runs are told, and the lines of its connections; and
-/// a keeper of the book that the last life left.
-#[derive(Drop)]
 pub(crate) struct Known {
+    pub(crate) dims: Dims,
     pub(crate) site: Site,
+    pub(crate) book: Book,
     pub(crate) now: i64,
-    pub(crate) room: usize,
-    pub(crate) spool_calls: Vec<u64>,
-    pub(crate) keeper_calls: Vec<u64>,
-    pub(crate) stop: Option<(u64, bool)>,
-    pub(crate) door_calls: Vec<u64>,
-    pub(crate) tells_chunks: bool,
-    pub(crate) links: String,
-    pub(crate) keeper: MemoryKeeper,
 }
 
-/// Appends the answers of the lines of a script.
-pub(crate) fn answer_script<R: Threads + Sync>(
-    rt: &R,
-    alloc: Global,
-    lines: &[&str],
-    answers: &mut Answers,
-) -> Result<(), Fault> {
-    let mut known = nothing(alloc)?;
-    answer_lines(rt, alloc, lines, &mut known, answers)
-}
-
-// Boxes for collections are made, taken out and dropped here, where their catalogue is: a function that is lent a catalogue
-// and takes a box out may hand it on.
-/// Appends the answers of lines that begin with an empty catalogue.
-fn answer_lines<R: Threads + Sync>(
-    rt: &R,
-    alloc: Global,
-    lines: &[&str],
-    known: &mut Known,
-    answers: &mut Answers,
-) -> Result<(), Fault> {
-    let mut catalogue = Catalogue::new(alloc);
-    for line in lines {
-        let (verb, rest) = first_word(line);
-        let (id, text) = first_word(rest);
-        match verb {
-            "cube" => mounted(catalogue.mount(id, Box::new(alloc, cube_of(alloc, text)?)?))?,
-            "file" => mounted(catalogue.mount(id, Box::new(alloc, file_of(alloc, text)?)?))?,
-            "gone" => taken_out(catalogue.detach(id))?,
-            "serve" => live(rt, alloc, rest, known, &mut catalogue, answers)?,
-            _ => set(alloc, line, known)?,
-        }
-    }
-    Ok(())
-}
-
-fn mounted(outcome: Result<(), MountFail>) -> Result<(), Fault> {
-    match outcome {
-        Ok(()) => Ok(()),
-        Err(_) => Err(Fault::Line),
+/// Written out, so that what was made is one call wherever it ends.
+impl Drop for Known {
+    fn drop(self) {
+        let Known {
+            dims: _,
+            site: _,
+            book: _,
+            now: _,
+        } = self;
     }
 }
 
-/// Where a collection was taken out, it is dropped here.
-fn taken_out(outcome: Option<Box<dyn CubeSource>>) -> Result<(), Fault> {
-    match outcome {
-        Some(_) => Ok(()),
-        None => Err(Fault::Line),
-    }
-}
-
-/// The moment 0, an empty book, and no call fails.
-fn nothing(alloc: Global) -> Result<Known, Fault> {
+/// Nothing yet: no collections, users and jobs.
+pub(crate) fn nothing(alloc: Global) -> Result<Known, Fault> {
     Ok(Known {
-        site: site(alloc)?,
+        dims: Dims {
+            rows: Vec::new(alloc),
+        },
+        site: site_of(alloc, b"")?,
+        book: Book::empty(alloc),
         now: 0,
-        room: 65536,
-        spool_calls: Vec::new(alloc),
-        keeper_calls: Vec::new(alloc),
-        stop: None,
-        door_calls: Vec::new(alloc),
-        tells_chunks: false,
-        links: String::new(alloc),
-        keeper: MemoryKeeper::new(Book::empty(alloc), Vec::new(alloc), None),
     })
 }
 
-fn site(alloc: Global) -> Result<Site, Fault> {
-    match Tokens::read(alloc, b"u abc\nv xyz\n") {
+fn site_of(alloc: Global, tokens: &[u8]) -> Result<Site, Fault> {
+    match Tokens::read(alloc, tokens) {
         Ok(tokens) => Ok(Site {
             base: Text::of(alloc, "http://127.0.0.1:12345/")?,
             tokens,
         }),
-        Err(_) => Err(Fault::OutOfMemory),
+        Err(_) => Err(Fault::Line),
     }
 }
 
-/// Sets what a line says.
-fn set(alloc: Global, line: &str, known: &mut Known) -> Result<(), Fault> {
-    let (verb, rest) = first_word(line);
-    let (first, behind) = first_word(rest);
-    match verb {
-        "now" => known.now = number_of(first)?,
-        "spool" => {
-            known.room = number_of(first)?;
-            known.spool_calls = numbers_of(alloc, behind)?;
-        }
-        "keeper" => {
-            known.keeper_calls = numbers_of(alloc, first)?;
-            known.stop = stop_of(behind)?;
-        }
-        "door" => known.door_calls = numbers_of(alloc, first)?,
-        "gate" => known.tells_chunks = true,
-        _ => push_line(line, &mut known.links)?,
+/// Takes away all that was made.
+pub(crate) fn clear(alloc: Global, known: &mut Known) -> Result<(), Fault> {
+    *known = nothing(alloc)?;
+    Ok(())
+}
+
+/// Sets the file of tokens, a JSON text.
+pub(crate) fn set_tokens(alloc: Global, text: &str, known: &mut Known) -> Result<(), Fault> {
+    match Value::from_str(alloc, text) {
+        Ok(Value::String(file)) => known.site = site_of(alloc, file.as_bytes())?,
+        _ => return Err(Fault::Line),
     }
     Ok(())
 }
 
-fn push_line(line: &str, lines: &mut String) -> Result<(), Fault> {
-    lines.push_str(line)?;
-    lines.push('\n')?;
+/// Sets where the service stands.
+pub(crate) fn set_base(alloc: Global, text: &str, known: &mut Known) -> Result<(), Fault> {
+    known.site.base = Text::of(alloc, text)?;
     Ok(())
 }
 
-/// The call of a keeper in which it stops, and whether it keeps what that call commits.
-fn stop_of(line: &str) -> Result<Option<(u64, bool)>, Fault> {
-    let (call, flag) = first_word(line);
-    match flag {
-        "" => Ok(None),
-        "kept" => Ok(Some((number_of(call)?, true))),
-        "lost" => Ok(Some((number_of(call)?, false))),
-        _ => Err(Fault::Line),
+/// Sets the moment.
+pub(crate) fn set_now(text: &str, known: &mut Known) -> Result<(), Fault> {
+    known.now = number_of(text)?;
+    Ok(())
+}
+
+/// Mounts a collection of an id, a kind and a shape.
+pub(crate) fn add_collection(alloc: Global, line: &str, known: &mut Known) -> Result<(), Fault> {
+    let (id, line) = first_word(line);
+    let (kind, line) = first_word(line);
+    known.dims.rows.push(row_of(alloc, id, kind, line)?)?;
+    Ok(())
+}
+
+fn row_of(alloc: Global, id: &str, kind: &str, shape: &str) -> Result<DimsRow, Fault> {
+    Ok(DimsRow {
+        id: Text::of(alloc, id)?,
+        shape: valid_shape_of(alloc, shape)?,
+        kind: if kind == "boolean" {
+            CellKind::Flags
+        } else {
+            CellKind::Numbers
+        },
+    })
+}
+
+/// Makes the change of an event, where it may come.
+pub(crate) fn add_event(alloc: Global, line: &str, known: &mut Known) -> Result<(), Fault> {
+    match change_of(alloc, line, &known.book, known.now)? {
+        Some(change) => make(known, change),
+        None => Err(Fault::Line),
     }
+}
+
+/// Makes a change in the book.
+pub(crate) fn make(known: &mut Known, change: Change) -> Result<(), Fault> {
+    known.book.ready(&change)?;
+    known.book.install(change);
+    Ok(())
 }

@@ -3,8 +3,8 @@ ghost use Rattle.std.specs.Prelude.{◌≤◌, IfOk};
 ghost use Rattle.oe_plan.specs.Ranges.{IsWithinRanges};
 
 use crate::gate::CountGate;
-use crate::known::Known;
 use crate::links::door_of;
+use crate::scripts::Script;
 use crate::spell::{ending_word, spell_count, spell_jobs, spell_links};
 use oe_jobs::Book;
 use oe_keeper::MemoryKeeper;
@@ -24,12 +24,36 @@ const FIRST: i64 = -62135596800;
 const LAST: i64 = 253402300799;
 
 /// What is outside of a life.
-#[derive(Drop)]
 struct Objects {
     keeper: MemoryKeeper,
     spool: MemoryStore,
     door: ScriptDoor,
     clock: FixedClock,
+}
+
+/// Written out, so that objects that end are one call wherever they do.
+impl Drop for Objects {
+    fn drop(self) {
+        let Objects {
+            keeper: _,
+            spool: _,
+            door: _,
+            clock: _,
+        } = self;
+    }
+}
+
+impl Objects {
+    /// The keeper and the door.
+    fn into_keeper_and_door(self) -> (MemoryKeeper, ScriptDoor) {
+        let Objects {
+            keeper,
+            spool: _,
+            door,
+            clock: _,
+        } = self;
+        (keeper, door)
+    }
 }
 
 /// A life of the words `CX CY CT W TURNS`. Appends what was written to each connection, how the life ended, and the jobs
@@ -38,48 +62,48 @@ pub(crate) fn live<R: Threads + Sync>(
     rt: &R,
     alloc: Global,
     line: &str,
-    known: &mut Known,
+    script: &mut Script,
     catalogue: &mut Catalogue,
     answers: &mut Answers,
 ) -> Result<(), Fault> {
     let command = command_of(line)?;
-    let mut objects = objects_of(alloc, known)?;
+    let mut objects = objects_of(alloc, script)?;
     let gate = CountGate::new();
     let ended = serve_over(
         rt,
         alloc,
-        &known.site,
+        &script.site,
         &gate,
         command,
         &mut objects,
         catalogue,
     );
-    end_life(alloc, ended, gate.entered(), objects, known, answers);
+    end_life(alloc, ended, gate.entered(), objects, script, answers);
     Ok(())
 }
 
 /// The objects of the next life. Its book and the lines of its connections are taken.
-fn objects_of(alloc: Global, known: &mut Known) -> Result<Objects, Fault> {
-    let door = door_of(alloc, known.links.as_str(), &known.door_calls)?;
-    known.links.clear();
+fn objects_of(alloc: Global, script: &mut Script) -> Result<Objects, Fault> {
+    let door = door_of(alloc, script.links.as_str(), &script.door_calls)?;
+    script.links.clear();
     Ok(Objects {
-        keeper: next_keeper(alloc, known)?,
-        spool: spool_of(alloc, known)?,
+        keeper: next_keeper(alloc, script)?,
+        spool: spool_of(alloc, script)?,
         door,
-        clock: clock_at(known.now)?,
+        clock: clock_at(script.now)?,
     })
 }
 
-fn next_keeper(alloc: Global, known: &mut Known) -> Result<MemoryKeeper, Fault> {
-    let calls = known.keeper_calls.to_vec(alloc)?;
+fn next_keeper(alloc: Global, script: &mut Script) -> Result<MemoryKeeper, Fault> {
+    let calls = script.keeper_calls.to_vec(alloc)?;
     let none = MemoryKeeper::new(Book::empty(alloc), Vec::new(alloc), None);
-    let last = mem::replace(&mut known.keeper, none);
-    Ok(MemoryKeeper::new(last.stopped(), calls, known.stop))
+    let last = mem::replace(&mut script.keeper, none);
+    Ok(MemoryKeeper::new(last.stopped(), calls, script.stop))
 }
 
-fn spool_of(alloc: Global, known: &Known) -> Result<MemoryStore, Fault> {
-    let calls = known.spool_calls.to_vec(alloc)?;
-    Ok(MemoryStore::new(Vec::new(alloc), known.room, calls)?)
+fn spool_of(alloc: Global, script: &Script) -> Result<MemoryStore, Fault> {
+    let calls = script.spool_calls.to_vec(alloc)?;
+    Ok(MemoryStore::new(Vec::new(alloc), script.room, calls)?)
 }
 
 fn clock_at(now: i64) -> Result<FixedClock, Fault> {
@@ -124,21 +148,21 @@ fn end_life(
     ended: Result<(), ServeFail>,
     chunks: u64,
     objects: Objects,
-    known: &mut Known,
+    script: &mut Script,
     answers: &mut Answers,
 ) {
-    let Objects { keeper, door, .. } = objects;
+    let (keeper, door) = objects.into_keeper_and_door();
     spell_links(door.given_back(), answers);
     push(ending_word(ended), answers);
     spell_count(" door faults ", door.faults(), answers);
     spell_count(" link faults ", door.link_faults(), answers);
     spell_count(" keeper faults ", keeper.faults(), answers);
-    if known.tells_chunks {
+    if script.tells_chunks {
         spell_count(" chunks ", chunks, answers);
     }
     let book = keeper.stopped();
     spell_jobs(&book, answers);
-    known.keeper = MemoryKeeper::new(book, Vec::new(alloc), None);
+    script.keeper = MemoryKeeper::new(book, Vec::new(alloc), None);
     end_line(answers);
 }
 

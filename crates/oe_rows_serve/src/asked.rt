@@ -1,16 +1,61 @@
 // Requests, and what they are answered.
-use crate::known::{Known, make};
+use crate::known::{
+    Known, add_collection, add_event, clear, make, nothing, set_base, set_now, set_tokens,
+};
 use crate::requested::request_of;
+use crate::values::answer_value;
 use oe_book::is_book;
 use oe_dims::{Text, is_instant};
 use oe_http::{Request, Response};
 use oe_jobs::{Book, Job};
-use oe_lines::{Answers, Fault, end_line, push, push_number};
+use oe_lines::{Answers, Fault, end_line, first_word, push, push_number};
 use oe_routes::{Action, EstimateGraph, route};
 use std::alloc::Global;
 
+/// Appends the answers of lines about requests.
+pub(crate) fn answer_requests(alloc: Global, text: &str, answers: &mut Answers) {
+    match nothing(alloc) {
+        Ok(mut known) => answer_lines(alloc, text, &mut known, answers),
+        Err(fault) => answers.note(fault),
+    }
+}
+
+fn answer_lines(alloc: Global, text: &str, known: &mut Known, answers: &mut Answers) {
+    for line in text.lines() {
+        let (word, rest) = first_word(line);
+        if word == "ask" {
+            ask(alloc, rest, known, answers);
+        } else {
+            let outcome = answer_line(alloc, word, rest, known, answers);
+            answers.settle(outcome);
+        }
+    }
+}
+
+/// Makes known what a line that begins with this word says, or appends its answer.
+fn answer_line(
+    alloc: Global,
+    word: &str,
+    rest: &str,
+    known: &mut Known,
+    answers: &mut Answers,
+) -> Result<(), Fault> {
+    match word {
+        "clear" => clear(alloc, known),
+        "tokens" => set_tokens(alloc, rest, known),
+        "base" => set_base(alloc, rest, known),
+        "now" => set_now(rest, known),
+        "collection" => add_collection(alloc, rest, known),
+        "event" => add_event(alloc, rest, known),
+        _ => {
+            answer_value(alloc, word, rest, answers);
+            Ok(())
+        }
+    }
+}
+
 /// Appends what a request is answered: `METHOD TARGET [AUTHORIZATION,BODY,COUNT]`.
-pub(crate) fn ask(alloc: Global, line: &str, known: &mut Known, answers: &mut Answers) {
+fn ask(alloc: Global, line: &str, known: &mut Known, answers: &mut Answers) {
     match asked_action(alloc, line, known) {
         Ok(action) => carry_out(action, known, answers),
         Err(fault) => answers.note(fault),
