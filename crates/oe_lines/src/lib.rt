@@ -36,5 +36,5 @@ pub use cells::{cell_of, cells_of, cells_of_kind, frac_of, fraction_of};
 pub use fault::Fault;
 pub use labels::{labels_of, names_of, shape_of, valid_shape_of};
 pub use line::Line;
-pub use windows::{push_window, side_of, window_of};
-pub use words::{bytes_of, first_word, number_of, numbers_of, pair_of, parts_of, words_of};
+pub use windows::push_window;
+pub use words::{bytes_of, first_word, number_of, numbers_of, parts_of, words_of};

@@ -45,12 +45,6 @@ where
     }
 }
 
-/// Two numbers with a separator between them.
-pub fn pair_of(word: &str, separator: &str) -> Result<(u32, u32), Fault> {
-    let (one, two) = parts_of(word, separator)?;
-    Ok((number_of(one)?, number_of(two)?))
-}
-
 /// Numbers with commas between them, or none for `-`.
 pub fn numbers_of<T: FromStr + Drop>(alloc: Global, word: &str) -> Result<Vec<T>, Fault>
 where

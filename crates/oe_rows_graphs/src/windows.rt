@@ -1,5 +1,5 @@
 // The answers to lines about the windows of steps.
-use oe_lines::{Answers, Fault, push_number, push_window, window_of};
+use oe_lines::{Answers, Fault, Line, push_number, push_window};
 use oe_order::order;
 use oe_plan::{Schedule, windows_of};
 use oe_shape::Checked;
@@ -15,7 +15,10 @@ pub(crate) fn spell_windows(
     words: &str,
     answers: &mut Answers,
 ) -> Result<(), Fault> {
-    let windows = windows_for(rt, alloc, &checked, &window_of(words)?, answers)?;
+    let mut line = Line::new(alloc, words);
+    let chunk = line.window();
+    line.report(answers);
+    let windows = windows_for(rt, alloc, &checked, &chunk, answers)?;
     for window in &windows {
         push_window(" | ", window, answers);
     }
