@@ -9,7 +9,7 @@ use crate::mosaics::open_mosaic;
 use crate::streams::read_again;
 use oe_dims::Text;
 use oe_outside::Store;
-use oe_sources::{FileSource, MountFail, OpenFail};
+use oe_sources::{Catalogue, FileSource, MountFail, OpenFail};
 use std::alloc::Global;
 use std::fs::{File, Files, metadata};
 use std::io::{ErrorKind, Read, Result as IoResult, Seek};
@@ -97,7 +97,7 @@ fn push(names: &mut Vec<Vec<u8>>, name: Vec<u8>) -> Result<(), Fault>
 
 /// The id that a file of the folder gives, and what it has as a collection: a mosaic of the cube files that it names
 /// where its name ends in `.mosaic`, and else the cube that it is. Only a plain file is opened: opening a pipe would wait
-/// for what is never written.
+/// for what is never written. Labels that a mounted collection has along a dimension too stand in memory once for both.
 ///
 /// Refuses: the set-up fault of the file where it, or a file that it names, is no plain file, could not be opened or is
 /// not valid, or where the files that it names are no mosaic; that of the folder where its name is not UTF-8; out of
@@ -106,6 +106,7 @@ pub fn open_collection<R: Files>(
     alloc: Global,
     files: &R,
     name: &[u8],
+    mounted: &Catalogue,
 ) -> Result<(Text, CubeOrMosaic<FileSource<FileStore<R::File>>>), Fault>
 where
     R::File: FileExt,
@@ -117,10 +118,11 @@ where
     };
     let file = open_in_folder(alloc, files, text, name)?;
     if name.ends_with(MOSAIC) {
-        let (id, mosaic) = open_mosaic(alloc, files, file, name)?;
+        let (id, mosaic) = open_mosaic(alloc, files, file, name, mounted)?;
         return Ok((id, CubeOrMosaic::Mosaic(mosaic)));
     }
-    let cube = open_cube(alloc, file, name)?;
+    let mut cube = open_cube(alloc, file, name)?;
+    cube.share_labels(mounted);
     Ok((
         Text::of(alloc, cube.id().as_str())?,
         CubeOrMosaic::Cube(cube),

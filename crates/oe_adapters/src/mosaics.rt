@@ -8,7 +8,7 @@ use crate::files::FileStore;
 use oe_dims::Text;
 use oe_mosaic::{Mosaic, MosaicFail, MosaicText, MosaicTextFail, PartFail, Parts, read_mosaic};
 use oe_outside::Store;
-use oe_sources::CubeSource;
+use oe_sources::{Catalogue, CubeSource};
 use std::alloc::Global;
 use std::fs::Files;
 use std::io::Seek;
@@ -26,13 +26,14 @@ pub(crate) fn open_mosaic<R: Files>(
     files: &R,
     file: R::File,
     name: &[u8],
+    mounted: &Catalogue,
 ) -> Result<(Text, Mosaic<CubeFile<R::File>>), Fault>
 where
     R::File: FileExt,
     ensures { IfErr result (IsSetupFault name.now) }
 {
     let text = read_text(alloc, file, name)?;
-    mosaic_of(alloc, files, text, name)
+    mosaic_of(alloc, files, text, name, mounted)
 }
 
 /// The id that the text of a mosaic gives, and the mosaic of the cube files that it names.
@@ -44,6 +45,7 @@ fn mosaic_of<R: Files>(
     files: &R,
     text: MosaicText,
     name: &[u8],
+    mounted: &Catalogue,
 ) -> Result<(Text, Mosaic<CubeFile<R::File>>), Fault>
 where
     R::File: FileExt,
@@ -51,7 +53,7 @@ where
     ensures parts { IfOk result (λ made. length made.1.parts ≡ length text.files.items) }
     ensures refused { IfErr result (IsSetupFault name.now) }
 {
-    let parts = open_parts(alloc, files, &text.files, name)?;
+    let parts = open_parts(alloc, files, &text.files, name, mounted)?;
     match Mosaic::of(alloc, parts) {
         Ok(mosaic) => Ok((text.id, mosaic)),
         Err(fail) => Err(mosaic_fault(alloc, name, &fail)),
@@ -84,6 +86,7 @@ fn open_parts<R: Files>(
     files: &R,
     names: &[Text],
     mosaic: &[u8],
+    mounted: &Catalogue,
 ) -> Result<Parts<CubeFile<R::File>>, Fault>
 where
     R::File: FileExt,
@@ -93,7 +96,8 @@ where
     let mut parts = Parts::new(alloc);
     for index in 0..names.len() {
         let file = open_in_folder(alloc, files, names[index].as_str(), mosaic)?;
-        let part = open_cube(alloc, file, mosaic)?;
+        let mut part = open_cube(alloc, file, mosaic)?;
+        part.share_labels(mounted);
         push_outcome(alloc, mosaic, parts.push(part))?;
     }
     Ok(parts)

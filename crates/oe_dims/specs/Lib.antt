@@ -1,6 +1,7 @@
 pub mod Calendar
 pub mod Cube
 pub mod Dimensions
+pub mod Held
 pub mod Indices
 pub mod Instant
 pub mod Lists

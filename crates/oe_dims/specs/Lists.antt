@@ -24,7 +24,7 @@ dimensions_with epsg t bands y x = record {
 
 -- the dimensions that the lists give
 abbrev pub dimensions_of : Lists → Dimensions
-dimensions_of s = dimensions_with s.epsg s.t s.bands s.y s.x
+dimensions_of s = record { epsg = s.epsg; t = s.t; bands = s.bands; y = s.y; x = s.x }
 
 -- both have the dimension with the same labels in the same order, or both lack it
 abbrev pub HaveSameLabels : Dimensions → Dimensions → Kind → Type 0

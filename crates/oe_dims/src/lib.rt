@@ -12,6 +12,7 @@ mod dims;
 mod distinct;
 mod instant;
 mod kind;
+mod label_list;
 mod lists;
 mod name;
 mod order;

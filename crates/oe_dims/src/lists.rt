@@ -1,5 +1,5 @@
 // Lists of labels that may become a shape.
-ghost use Rattle.std.specs.Prelude.{◌≡◌, ◌↔◌, IsTrue, ◌<◌, ◌≤◌, ◌^◌, length, SomeIff, None, filter, IfSome, IfOk};
+ghost use Rattle.std.specs.Prelude.{◌≡◌, ◌↔◌, IsTrue, ◌<◌, ◌≤◌, ◌^◌, length, SomeIff, None, filter, IfSome, IfOk, Some};
 ghost use Rattle.std.specs.List.{slice_range};
 ghost use Rattle.std.specs.Option.{option_map};
 ghost use Rattle.oe_dims.specs.Dimensions.{Dimensions, shape_fault, order_fault, range_fault, limit_fault, epsg_fault, cells_fault, is_ordered, is_in_range, is_within_limit, has_fitting_epsg, label_count, cell_count, extent, most_labels, most_cells, number_labels, band_names, of_labels, rises, falls, all_differ, all_between};
@@ -9,6 +9,7 @@ ghost use Rattle.oe_dims.specs.Lists.{items_of, dimensions_of, HaveSameLabels};
 
 use crate::distinct::all_differ;
 use crate::instant::{FIRST_INSTANT, LAST_INSTANT};
+use crate::label_list::LabelList;
 use crate::order::{all_between, all_names, falls, index_of_name, rises};
 use crate::search::{index_in_falling, index_in_rising, run_in_falling, run_in_rising};
 use crate::{Kind, ShapeFault, Text};
@@ -30,66 +31,118 @@ const MOST_CELLS: u64 = 1 << 40;
 #[derive(Drop)]
 pub struct Lists {
     pub epsg: u32,
-    pub t: Option<Vec<i64>>,
-    pub bands: Option<Vec<Text>>,
-    pub y: Option<Vec<i64>>,
-    pub x: Option<Vec<i64>>,
+    pub t: Option<LabelList<i64>>,
+    pub bands: Option<LabelList<Text>>,
+    pub y: Option<LabelList<i64>>,
+    pub x: Option<LabelList<i64>>,
 }
 
-/// How many labels a dimension has, if it is there.
-fn count_of<T>(labels: &Option<Vec<T>>) -> Option<usize>
-    ensures { result ≡ option_map length (option_map items_of labels.now) }
+/// Labels as a shape keeps them, if the dimension is there.
+pub fn listed<T>(labels: Option<Vec<T>>) -> Option<LabelList<T>>
+    ensures { result ≡ option_map items_of labels }
 {
     match labels {
         None => None,
-        Some(labels) => Some(labels.len()),
+        Some(labels) => Some(LabelList::of(labels)),
+    }
+}
+
+/// How many labels a dimension has, if it is there.
+fn count_of<T>(labels: &Option<LabelList<T>>) -> Option<usize>
+    ensures { result ≡ option_map length labels.now }
+{
+    match labels {
+        None => None,
+        Some(labels) => Some(labels.as_slice().len()),
     }
 }
 
 /// How many indices a dimension gives.
-fn extent_of<T>(labels: &Option<Vec<T>>) -> usize
-    ensures { result ≡ extent (option_map items_of labels.now) }
+fn extent_of<T>(labels: &Option<LabelList<T>>) -> usize
+    ensures { result ≡ extent labels.now }
 {
     match labels {
         None => 1,
-        Some(labels) => labels.len(),
+        Some(labels) => labels.as_slice().len(),
     }
 }
 
-/// A copy of labels, if the dimension is there.
-fn copy_numbers(labels: &Option<Vec<i64>>) -> Result<Option<Vec<i64>>, OutOfMemory>
-    ensures { IfOk result (λ c. option_map items_of c ≡ option_map items_of labels.now) }
+/// Whether there are labels that are one shape's alone.
+fn is_alone<T>(labels: &Option<LabelList<T>>) -> bool {
+    match labels {
+        None => false,
+        Some(labels) => labels.is_alone(),
+    }
+}
+
+/// Labels in the same memory, `None` where they are one shape's alone or the dimension is missing.
+fn taken_over<T>(labels: &Option<LabelList<T>>) -> Option<LabelList<T>>
+    ensures { IfSome result (λ l. labels.now ≡ Some l) }
+{
+    match labels {
+        None => None,
+        Some(labels) => labels.taken_over(),
+    }
+}
+
+/// Lets others take labels over from now on, if the dimension is there.
+fn share<T: Drop>(labels: &mut Option<LabelList<T>>)
+    ensures { labels.new ≡ labels.old }
+{
+    if let Some(own) = labels.take() {
+        *labels = Some(own.shared());
+    }
+}
+
+/// A copy of numbers.
+fn copy_list(labels: &LabelList<i64>) -> Result<LabelList<i64>, OutOfMemory>
+    ensures { IfOk result (λ c. c ≡ labels.now) }
+{
+    let copy = Vec::from_slice(labels.allocator(), labels.as_slice())?;
+    Ok(LabelList::of(copy))
+}
+
+/// A copy of labels, if the dimension is there. Shared ones are taken over.
+fn copy_numbers(labels: &Option<LabelList<i64>>) -> Result<Option<LabelList<i64>>, OutOfMemory>
+    ensures { IfOk result (λ c. c ≡ labels.now) }
 {
     match labels {
         None => Ok(None),
-        Some(labels) => Ok(Some(Vec::from_slice(*labels.allocator(), labels.as_slice())?)),
+        Some(labels) => match labels.taken_over() {
+            Some(shared) => Ok(Some(shared)),
+            None => Ok(Some(copy_list(labels)?)),
+        },
     }
 }
 
 /// A copy of names.
-fn copy_texts(names: &Vec<Text>) -> Result<Vec<Text>, OutOfMemory>
-    ensures { IfOk result (λ c. c.items ≡ names.now.items) }
+fn copy_texts(names: &LabelList<Text>) -> Result<LabelList<Text>, OutOfMemory>
+    ensures { IfOk result (λ c. c ≡ names.now) }
 {
-    let mut copies = Vec::with_capacity(*names.allocator(), names.len())?;
-    for name in names {
+    let all = names.as_slice();
+    let mut copies = Vec::with_capacity(names.allocator(), all.len())?;
+    for name in all {
         copies.push(name.copy()?)?;
     }
-    Ok(copies)
+    Ok(LabelList::of(copies))
 }
 
-/// A copy of names, if the dimension is there.
-fn copy_names(names: &Option<Vec<Text>>) -> Result<Option<Vec<Text>>, OutOfMemory>
-    ensures { IfOk result (λ c. option_map items_of c ≡ option_map items_of names.now) }
+/// A copy of names, if the dimension is there. Shared ones are taken over.
+fn copy_names(names: &Option<LabelList<Text>>) -> Result<Option<LabelList<Text>>, OutOfMemory>
+    ensures { IfOk result (λ c. c ≡ names.now) }
 {
     match names {
         None => Ok(None),
-        Some(names) => Ok(Some(copy_texts(names)?)),
+        Some(names) => match names.taken_over() {
+            Some(shared) => Ok(Some(shared)),
+            None => Ok(Some(copy_texts(names)?)),
+        },
     }
 }
 
 /// Whether both dimensions have the same numbers, or both are missing.
-fn has_same_numbers(a: &Option<Vec<i64>>, b: &Option<Vec<i64>>) -> bool
-    ensures { IsTrue result ↔ (option_map items_of a.now ≡ option_map items_of b.now) }
+fn has_same_numbers(a: &Option<LabelList<i64>>, b: &Option<LabelList<i64>>) -> bool
+    ensures { IsTrue result ↔ (a.now ≡ b.now) }
 {
     match (a, b) {
         (None, None) => true,
@@ -99,13 +152,35 @@ fn has_same_numbers(a: &Option<Vec<i64>>, b: &Option<Vec<i64>>) -> bool
 }
 
 /// Whether both dimensions have the same names, or both are missing.
-fn has_same_names(a: &Option<Vec<Text>>, b: &Option<Vec<Text>>) -> bool
-    ensures { IsTrue result ↔ (option_map items_of a.now ≡ option_map items_of b.now) }
+fn has_same_names(a: &Option<LabelList<Text>>, b: &Option<LabelList<Text>>) -> bool
+    ensures { IsTrue result ↔ (a.now ≡ b.now) }
 {
     match (a, b) {
         (None, None) => true,
         (Some(a), Some(b)) => a.as_slice() == b.as_slice(),
         _ => false,
+    }
+}
+
+/// Takes the numbers of another dimension over, where they are the same and shared, and none was taken over before.
+fn take_numbers(own: &mut Option<LabelList<i64>>, other: &Option<LabelList<i64>>)
+    ensures { own.new ≡ own.old }
+{
+    if is_alone(own) && has_same_numbers(own, other) {
+        if let Some(shared) = taken_over(other) {
+            *own = Some(shared);
+        }
+    }
+}
+
+/// Takes the names of another dimension over, where they are the same and shared, and none was taken over before.
+fn take_names(own: &mut Option<LabelList<Text>>, other: &Option<LabelList<Text>>)
+    ensures { own.new ≡ own.old }
+{
+    if is_alone(own) && has_same_names(own, other) {
+        if let Some(shared) = taken_over(other) {
+            *own = Some(shared);
+        }
     }
 }
 
@@ -123,7 +198,27 @@ impl Lists {
         }
     }
 
-    /// A copy with equal contents.
+    /// Lets copies, and others with the same labels along a dimension, take the labels over from now on.
+    pub fn share(&mut self)
+        ensures { dimensions_of self.new ≡ dimensions_of self.old }
+    {
+        share(&mut self.t);
+        share(&mut self.bands);
+        share(&mut self.y);
+        share(&mut self.x);
+    }
+
+    /// Takes the labels of each dimension over from others that have the same and share them.
+    pub fn take_over(&mut self, others: &Lists)
+        ensures { dimensions_of self.new ≡ dimensions_of self.old }
+    {
+        take_numbers(&mut self.t, &others.t);
+        take_names(&mut self.bands, &others.bands);
+        take_numbers(&mut self.y, &others.y);
+        take_numbers(&mut self.x, &others.x);
+    }
+
+    /// A copy with equal contents, which takes over what is shared.
     pub fn copy(&self) -> Result<Lists, OutOfMemory>
         ensures { IfOk result (λ c. dimensions_of c ≡ dimensions_of self.now) }
     {
@@ -235,19 +330,19 @@ impl Lists {
         match kind {
             Kind::Time => match &self.t {
                 None => true,
-                Some(labels) => rises(labels),
+                Some(labels) => rises(labels.as_slice()),
             },
             Kind::Bands => match &self.bands {
                 None => true,
-                Some(names) => all_differ(names),
+                Some(names) => all_differ(names.as_slice()),
             },
             Kind::Y => match &self.y {
                 None => true,
-                Some(labels) => falls(labels),
+                Some(labels) => falls(labels.as_slice()),
             },
             Kind::X => match &self.x {
                 None => true,
-                Some(labels) => rises(labels),
+                Some(labels) => rises(labels.as_slice()),
             },
         }
     }
@@ -259,19 +354,27 @@ impl Lists {
         match kind {
             Kind::Time => match &self.t {
                 None => true,
-                Some(labels) => all_between(FIRST_INSTANT, LAST_INSTANT, labels),
+                Some(labels) => all_between(FIRST_INSTANT, LAST_INSTANT, labels.as_slice()),
             },
             Kind::Bands => match &self.bands {
                 None => true,
-                Some(names) => all_names(names),
+                Some(names) => all_names(names.as_slice()),
             },
             Kind::Y => match &self.y {
                 None => true,
-                Some(labels) => all_between(-FARTHEST_COORDINATE, FARTHEST_COORDINATE, labels),
+                Some(labels) => all_between(
+                    -FARTHEST_COORDINATE,
+                    FARTHEST_COORDINATE,
+                    labels.as_slice(),
+                ),
             },
             Kind::X => match &self.x {
                 None => true,
-                Some(labels) => all_between(-FARTHEST_COORDINATE, FARTHEST_COORDINATE, labels),
+                Some(labels) => all_between(
+                    -FARTHEST_COORDINATE,
+                    FARTHEST_COORDINATE,
+                    labels.as_slice(),
+                ),
             },
         }
     }

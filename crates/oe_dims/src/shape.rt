@@ -10,7 +10,7 @@ ghost use Rattle.oe_dims.specs.Indices.{same_number, index_where, IsIndexOf, cou
 ghost use Rattle.oe_dims.specs.Lists.{dimensions_with, HaveSameLabels};
 ghost use Rattle.oe_dims.specs.Rules.{IsInOrder, KeepsEveryRule, IsFirstFault};
 
-use crate::lists::Lists;
+use crate::lists::{Lists, listed};
 use crate::{Kind, Text};
 use oe_memory::OutOfMemory;
 use std::marker::Model;
@@ -81,10 +81,10 @@ impl Shape {
     {
         let lists = Lists {
             epsg,
-            t,
-            bands,
-            y,
-            x,
+            t: listed(t),
+            bands: listed(bands),
+            y: listed(y),
+            x: listed(x),
         };
         match lists.fault() {
             Some(fault) => Err(fault),
@@ -220,7 +220,23 @@ impl Shape {
         (first as u32, end as u32)
     }
 
-    /// A copy with equal contents. Refuses: out of memory.
+    /// Lets copies, and shapes that [`Shape::take_labels`] over from this one, keep its labels in the same memory from now
+    /// on. Where memory for that is refused, a dimension stays as it was.
+    pub fn share_labels(&mut self)
+        ensures { self.new ≡ self.old }
+    {
+        self.lists.share();
+    }
+
+    /// Keeps the labels of each dimension in the memory of those of another shape, where they are the same and shared.
+    /// It takes no memory.
+    pub fn take_labels(&mut self, other: &Shape)
+        ensures { self.new ≡ self.old }
+    {
+        self.lists.take_over(&other.lists);
+    }
+
+    /// A copy with equal contents. Shared labels are not copied. Refuses: out of memory.
     pub fn copy(&self) -> Result<Shape, OutOfMemory>
         ensures { IfOk result (λ s. s ≡ self.now) }
     {

@@ -5,6 +5,7 @@ use oe_adapters::{
     Fault as ProgramFault, collection_files, hold_standard, open_collection, open_spool,
 };
 use oe_lines::{Answers, push};
+use oe_sources::Catalogue;
 use std::alloc::Global;
 
 pub(crate) fn answer_names(alloc: Global, system: &str, answers: &mut Answers) {
@@ -24,7 +25,7 @@ pub(crate) fn answer_names(alloc: Global, system: &str, answers: &mut Answers) {
 pub(crate) fn answer_open(alloc: Global, rest: &str, answers: &mut Answers) {
     let (name, system) = rest.split_once(' ').unwrap_or((rest, ""));
     let files = FakeFiles::new(alloc, system);
-    match open_collection(alloc, &files, name_of(name)) {
+    match open_collection(alloc, &files, name_of(name), &Catalogue::new(alloc)) {
         Ok((id, _source)) => {
             push("ok", answers);
             spell_bytes(id.as_str().as_bytes(), answers);

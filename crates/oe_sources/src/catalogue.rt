@@ -323,6 +323,18 @@ impl Catalogue {
         shape_of(&self.rows[place as usize].cube)
     }
 
+    /// Keeps the labels of each dimension of a shape in the memory of those of a mounted collection, where one shares the
+    /// same, and shares the others, so that they stand in memory once for all collections that have them. It copies no
+    /// label.
+    pub fn share_labels(&self, shape: &mut Shape)
+        ensures { shape.new ≡ shape.old }
+    {
+        for row in &self.rows {
+            shape.take_labels(shape_of(&row.cube));
+        }
+        shape.share_labels();
+    }
+
     /// The kind of its cells.
     pub fn kind(&self, place: u32) -> CellKind
         requires mounted { place < length (rows_in seen self.now) }

@@ -20,7 +20,7 @@ use crate::head::{Head, MOST_HEADER, START, Version, read_header};
 use crate::packing::{ROOM, room};
 use crate::sections::{Sections, Spot};
 use crate::stored::read_stored;
-use crate::{CubeSource, SourceFail};
+use crate::{Catalogue, CubeSource, SourceFail};
 use oe_cell::Cell;
 use oe_dims::{CellKind, Shape, Text};
 use oe_outside::{Store, fill_at};
@@ -123,6 +123,14 @@ impl<S: Store + Drop> FileSource<S> {
         ensures { result.now ≡ self.now.id }
     {
         &self.file.head.id
+    }
+
+    /// Keeps its labels in memory once with those of the mounted collections that have the same along a dimension, as
+    /// [`Catalogue::share_labels`] does.
+    pub fn share_labels(&mut self, catalogue: &Catalogue)
+        ensures { self.new ≡ self.old }
+    {
+        self.file.head.share_labels(catalogue);
     }
 }
 

@@ -17,6 +17,7 @@ ghost use Rattle.oe_sources.specs.Head as spec;
 ghost use Rattle.oe_sources.specs.Packed.{packed_head};
 ghost use Rattle.oe_sources.specs.HeadRead.{HasWidthsOf, IsHeadOf, ListsWidths, SaysHead, SaysKind, SaysShape, SaysWidths, SpellsWidth, text_in, widths_seen};
 
+use crate::Catalogue;
 use crate::gather::Gather;
 use oe_dims::{CellKind, Kind, Shape, Text, is_name};
 use oe_memory::OutOfMemory;
@@ -68,6 +69,13 @@ impl Model for Head {
 }
 
 impl Head {
+    /// Keeps its labels in memory once with those of the mounted collections that have the same along a dimension.
+    pub(crate) fn share_labels(&mut self, catalogue: &Catalogue)
+        ensures { self.new ≡ self.old }
+    {
+        catalogue.share_labels(&mut self.shape);
+    }
+
     /// The width of the records of a section.
     pub(crate) fn width_of(&self, section: usize) -> Width
         requires { section < length (spec.section_widths self.now) }

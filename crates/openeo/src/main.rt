@@ -36,7 +36,7 @@ fn main(rt: HostRuntime) -> ExitCode {
     let mut catalogue = Catalogue::new(alloc);
     for index in 0..start.names.len() {
         let name = start.names[index].as_slice();
-        let outcome = match open_collection(alloc, &rt, name) {
+        let outcome = match open_collection(alloc, &rt, name, &catalogue) {
             Ok((id, source)) => match Box::new(alloc, source) {
                 Ok(cube) => mount_outcome(alloc, name, catalogue.mount(id.as_str(), cube)),
                 Err(_) => Err(Fault::OutOfMemory),

@@ -5,4 +5,4 @@ use Rattle.oe_dims.proofs.lists.has_same_names.Goals as goal
 pub returns-in-Some-Some : goal.returns-in-Some-Some
 returns-in-Some-Some c =
     rw (c.in-Some-Some.is-0, c.in-Some-Some.is-1)
-    (Decides-some c.in-Some-Some.a.items c.in-Some-Some.b.items c.eq.result (slice_eq-Decides bytes_eq-Decides c.in-Some-Some.a.items c.in-Some-Some.b.items c.eq.result (rw (c.as_slice.ensures.value, c.as_slice-in-Some-Some.ensures.value) at c.eq.ensures)))
+    (Decides-some c.in-Some-Some.a c.in-Some-Some.b c.eq.result (slice_eq-Decides bytes_eq-Decides c.in-Some-Some.a c.in-Some-Some.b c.eq.result (rw (c.as_slice.ensures, c.as_slice-in-Some-Some.ensures) at c.eq.ensures)))

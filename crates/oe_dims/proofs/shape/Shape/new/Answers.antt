@@ -10,7 +10,8 @@ returns-in-Some-clause-rules c =
 
 pub returns-in-Some-clause-first : goal.returns-in-Some-clause-first
 returns-in-Some-clause-first c =
-    IsFirstFault-shape_fault (dimensions_with c.args.epsg c.args.t c.args.bands c.args.y c.args.x) c.in-Some.fault (sym c.in-Some.ensures)
+    let found = rw (c.listed.ensures, c.listed-2.ensures, c.listed-3.ensures, c.listed-4.ensures) at c.in-Some.ensures in
+    IsFirstFault-shape_fault (dimensions_with c.args.epsg c.args.t c.args.bands c.args.y c.args.x) c.in-Some.fault (sym found)
 
 pub returns-in-None-clause-rules : goal.returns-in-None-clause-rules
 returns-in-None-clause-rules c =
