@@ -35,7 +35,7 @@ pub(crate) fn shape_shared(
     match shape_left(states, request, one, two) {
         Some(kept) => Ok(Some(kept.clone()?)),
         None => match result_shape(alloc, request, one.shape, two.shape)? {
-            Some(shape) => Ok(Some(shared(alloc, states, shape)?)),
+            Some(shape) => Ok(Some(shared(alloc, states, beside(shape, one.shape))?)),
             None => Ok(None),
         },
     }
@@ -90,6 +90,16 @@ fn leaves_labels(request: &Request<'_>, one: &Shape, two: &Shape) -> bool
         Request::SaveResult { .. } => true,
         _ => false,
     }
+}
+
+/// The shape with the labels of each dimension that its cube has too in the memory of those, and all to be taken over.
+fn beside(shape: Shape, cube: &Shape) -> Shape
+    ensures { result ≡ shape }
+{
+    let mut shape = shape;
+    shape.take_labels(cube);
+    shape.share_labels();
+    shape
 }
 
 /// The shape, as it is kept of a node that has an equal one, or by itself.
