@@ -1,5 +1,5 @@
 -- What an operation needs and asks, told for each of them.
-use Rattle.std.proofs.Common.{◌≡◌, Bool, ℕ, ◌+◌, ◌*◌, ◌<◌, ◌≤◌, List, [], ◌∷◌, length, refl, sym, subst, arith, Option, Some, None, IfSome, Vec, Global}
+use Rattle.std.proofs.Common.{◌≡◌, Bool, ℕ, ◌+◌, ◌*◌, ◌<◌, ◌≤◌, List, [], ◌∷◌, length, refl, sym, subst, arith, Option, Some, None, IfSome}
 use Rattle.std.specs.List.{All}
 use Rattle.std.specs.Option.{unwrap_or}
 use Rattle.oe_cell.specs.Fraction.{Fraction}
@@ -74,12 +74,12 @@ module _ (shape argument : Dimensions) (shapes : List Dimensions) (number : ℕ)
       (same_need (HasLabelsBeside along (shape_of (reduce along e) shapes) (argument_shape shapes number)) (Needs (reduce along e) shapes number) window box (λ p q m. m) (λ p q m. m)
       (beside_same along (shape_of (reduce along e) shapes) here h))
 
-  pub aggregate_needs : (o : declared.Operation) (i : Vec Interval Global) (e : Callback) → o ≡ Aggregate i e → shape ≡ shape_of (plain_operation o) shapes → IsNeed (HasLabelsBeside Time shape argument) window box → IsNeed (Needs (plain_operation o) shapes number) window box
+  pub aggregate_needs : (o : declared.Operation) (i : List Interval) (e : Callback) → o ≡ Aggregate i e → shape ≡ shape_of (plain_operation o) shapes → IsNeed (HasLabelsBeside Time shape argument) window box → IsNeed (Needs (plain_operation o) shapes number) window box
   aggregate_needs o i e which same h =
-      let here : shape ≡ shape_of (aggregate i.items e) shapes = subst (λ (g : declared.Operation). shape ≡ shape_of (plain_operation g) shapes) which same in
+      let here : shape ≡ shape_of (aggregate i e) shapes = subst (λ (g : declared.Operation). shape ≡ shape_of (plain_operation g) shapes) which same in
       subst (λ (g : declared.Operation). IsNeed (Needs (plain_operation g) shapes number) window box) (sym which)
-      (same_need (HasLabelsBeside Time (shape_of (aggregate i.items e) shapes) (argument_shape shapes number)) (Needs (aggregate i.items e) shapes number) window box (λ p q m. m) (λ p q m. m)
-      (beside_same Time (shape_of (aggregate i.items e) shapes) here h))
+      (same_need (HasLabelsBeside Time (shape_of (aggregate i e) shapes) (argument_shape shapes number)) (Needs (aggregate i e) shapes number) window box (λ p q m. m) (λ p q m. m)
+      (beside_same Time (shape_of (aggregate i e) shapes) here h))
 
   pub accumulate_needs : (o : declared.Operation) (ignore : Bool) → o ≡ Accumulate ignore → shape ≡ shape_of (plain_operation o) shapes → IsNeed (HasLabelsBeside Time shape argument) window box → IsNeed (Needs (plain_operation o) shapes number) window box
   accumulate_needs o ignore which same h =
@@ -93,7 +93,7 @@ module _ (shape argument : Dimensions) (shapes : List Dimensions) (number : ℕ)
   labels_same o same h =
       subst (λ (a : Dimensions). IsNeed (HasLabelsOf (shape_of o shapes) a) window box) is (subst (λ (d : Dimensions). IsNeed (HasLabelsOf d argument) window box) same h)
 
-  pub labels_needs : (o : declared.Operation) → ((k : KernelValues) (f : Fraction) (b : Border) (r : Fraction) → o ≡ Convolve k f b r → ⊥) → ((along : Kind) (e : Callback) → o ≡ Reduce along e → ⊥) → ((i : Vec Interval Global) (e : Callback) → o ≡ Aggregate i e → ⊥) → ((ignore : Bool) → o ≡ Accumulate ignore → ⊥) → shape ≡ shape_of (plain_operation o) shapes → IsNeed (HasLabelsOf shape argument) window box → IsNeed (Needs (plain_operation o) shapes number) window box
+  pub labels_needs : (o : declared.Operation) → ((k : KernelValues) (f : Fraction) (b : Border) (r : Fraction) → o ≡ Convolve k f b r → ⊥) → ((along : Kind) (e : Callback) → o ≡ Reduce along e → ⊥) → ((i : List Interval) (e : Callback) → o ≡ Aggregate i e → ⊥) → ((ignore : Bool) → o ≡ Accumulate ignore → ⊥) → shape ≡ shape_of (plain_operation o) shapes → IsNeed (HasLabelsOf shape argument) window box → IsNeed (Needs (plain_operation o) shapes number) window box
   labels_needs (Keep r) not_c not_r not_a not_s same h = same_need _ (Needs (keep (plain_restriction r)) shapes number) window box (λ p q m. m) (λ p q m. m) (labels_same (keep (plain_restriction r)) same h)
   labels_needs (EachCell e) not_c not_r not_a not_s same h = same_need _ (Needs (each_cell e) shapes number) window box (λ p q m. m) (λ p q m. m) (labels_same (each_cell e) same h)
   labels_needs (Convolve k f b r) not_c not_r not_a not_s same h = absurd (not_c k f b r refl)

@@ -1,5 +1,5 @@
 // `aggregate_temporal`: the lists of cells inside each interval by a callback.
-ghost use Rattle.std.specs.Prelude.{◌≡◌, true, ℕ, ◌+◌, ◌*◌, ◌<◌, ◌≤◌, length, slice_get};
+ghost use Rattle.std.specs.Prelude.{◌≡◌, true, ℕ, ◌+◌, ◌*◌, ◌<◌, ◌≤◌, Some, length, slice_get};
 ghost use Rattle.std.specs.List.{All};
 ghost use Rattle.oe_cell.specs.declared.cell.Cell.{Cell};
 ghost use Rattle.oe_cell.specs.declared.cell.Cell.TheVariants.{Empty};
@@ -13,6 +13,7 @@ ghost use Rattle.oe_shape.specs.Labels.{are_distinct};
 ghost use Rattle.oe_shape.specs.Meaning.{aggregated};
 ghost use Rattle.oe_shape.specs.Operations.{aggregated_shape};
 ghost use Rattle.oe_shape.specs.ValidShapes.{labels_of};
+ghost use Rattle.oe_shape.specs.declared.extent.Interval.{Interval};
 ghost use Rattle.oe_window.specs.Cells.{cells_on};
 ghost use Rattle.oe_window.specs.Windows.{Holds, IsAlong, extent_along, position_count, whole_window};
 ghost use Rattle.oe_ops.specs.Lists.{TakesIntervals, interval_labelled, is_labelled_at};
@@ -26,7 +27,7 @@ use crate::slice::{Slice, indices};
 use oe_cell::Cell;
 use oe_dims::{Kind, Shape};
 use oe_expr::Expr;
-use oe_shape::{Interval, part_in_time};
+use oe_shape::{Interval, Intervals, TemporalExtent, part_in_time};
 use oe_window::Window;
 
 /// The interval has a label.
@@ -58,9 +59,8 @@ fn first_interval_of(intervals: &[Interval], label: i64) -> usize
     intervals.len()
 }
 
-/// The same, where no two intervals have one label. The number `near` is looked at first: where the labels of intervals
-/// rise, as they mostly do, the label of an index of the result is that of the interval of this number.
-fn interval_of(intervals: &[Interval], label: i64, near: usize) -> usize
+/// The same, where no two intervals have one label. The number `near` is looked at first.
+fn interval_near(intervals: &[Interval], label: i64, near: usize) -> usize
     requires differ { are_distinct same_number (labels_of intervals.now) ≡ true }
     ensures { slice_get intervals.now result ≡ interval_labelled intervals.now label }
 {
@@ -71,10 +71,27 @@ fn interval_of(intervals: &[Interval], label: i64, near: usize) -> usize
     }
 }
 
+/// The same for the label of an index of the result, whose labels are those of the intervals in their order.
+fn interval_of(intervals: &Intervals, label: i64, index: u32) -> usize
+    requires differ { are_distinct same_number (labels_of intervals.now) ≡ true }
+    ensures { slice_get intervals.now result ≡ interval_labelled intervals.now label }
+{
+    interval_near(intervals.as_slice(), label, intervals.near(index))
+}
+
+/// The extent of an interval.
+fn extent_at(intervals: &Intervals, number: usize) -> TemporalExtent
+    requires { number < length intervals.now }
+    ensures { (i : Interval) → slice_get intervals.now number ≡ Some i
+        → result ≡ i.extent }
+{
+    intervals.as_slice()[number].extent
+}
+
 /// The values of the callback on a window with one index along `t`: the lists are those inside the interval of its
 /// label.
 fn eval_interval(
-    intervals: &[Interval],
+    intervals: &Intervals,
     expr: &Expr,
     shape: &Shape,
     argument: &Shape,
@@ -102,8 +119,8 @@ fn eval_interval(
     ensures kinds { All (IsOfKind (callback_kind expr.now)) out.new }
 {
     let label = shape.label_at(Kind::Time, window.t.from);
-    let list = interval_of(intervals, label, window.t.from as usize);
-    let part = part_in_time(&intervals[list].extent, argument.labels(Kind::Time));
+    let list = interval_of(intervals, label, window.t.from);
+    let part = part_in_time(&extent_at(intervals, list), argument.labels(Kind::Time));
     let rows = ListRows {
         expr,
         slice,
@@ -132,7 +149,7 @@ fn window_at(window: &Window, t: u32) -> Window
 /// result, which has the shape `shape`, from a slice of the cube (`aggregate_temporal` of openEO Processes). `scratch`
 /// has 192 cells at least and two more for each label of `t`.
 pub fn eval_aggregate(
-    intervals: &[Interval],
+    intervals: &Intervals,
     expr: &Expr,
     shape: &Shape,
     argument: &Shape,
@@ -167,7 +184,7 @@ pub fn eval_aggregate(
 
 /// The same, where there is a position.
 fn eval_intervals(
-    intervals: &[Interval],
+    intervals: &Intervals,
     expr: &Expr,
     shape: &Shape,
     argument: &Shape,

@@ -7,6 +7,7 @@ use Rattle.oe_dims.specs.contracts.shape.Shape as shape
 use Rattle.oe_kernel.specs.contracts.kernel.Kernel as kernel
 use Rattle.oe_expr.specs.contracts.expr.Expr as expr
 use Rattle.oe_order.specs.contracts.Links as links
+use Rattle.oe_shape.specs.contracts.intervals.Intervals as intervals
 use Rattle.oe_shape.specs.contracts.operation.Operation as operation
 use Rattle.oe_shape.specs.contracts.checked.CheckedNode as node
 use Rattle.oe_shape.specs.contracts.checked.State as state
@@ -33,8 +34,11 @@ kernel_send = search (crosses, sendable) depth 30
 expr_send : IsSend expr.the_row
 expr_send = search (crosses, sendable) depth 80 fits 50000
 
+intervals_send : IsSend intervals.the_row
+intervals_send = search (crosses, sendable) depth 30
+
 operation_send : IsSend operation.the_row
-operation_send = search (crosses, sendable, text_send, kernel_send, expr_send) depth 30
+operation_send = search (crosses, sendable, text_send, kernel_send, intervals_send, expr_send) depth 30
 
 node_send : IsSend node.the_row
 node_send = declared_send node.the_type (
@@ -59,8 +63,11 @@ kernel_sync = search (crosses, sendable) depth 30
 expr_sync : IsSync expr.the_row
 expr_sync = search (crosses, sendable) depth 80 fits 50000
 
+intervals_sync : IsSync intervals.the_row
+intervals_sync = search (crosses, sendable) depth 30
+
 operation_sync : IsSync operation.the_row
-operation_sync = search (crosses, sendable, text_sync, kernel_sync, expr_sync) depth 30
+operation_sync = search (crosses, sendable, text_sync, kernel_sync, intervals_sync, expr_sync) depth 30
 
 node_sync : IsSync node.the_row
 node_sync = declared_sync node.the_type (

@@ -55,7 +55,7 @@ plain_operation (EachCell callback) = operation.each_cell callback
 plain_operation (Convolve kernel factor border replace_invalid) =
     operation.convolve kernel factor border replace_invalid
 plain_operation (Reduce kind callback) = operation.reduce kind callback
-plain_operation (Aggregate intervals callback) = operation.aggregate intervals.items callback
+plain_operation (Aggregate intervals callback) = operation.aggregate intervals callback
 plain_operation (Accumulate ignore) = operation.accumulate ignore
 plain_operation (Merge resolver) = operation.merge resolver
 plain_operation (Cover replacement) = operation.cover replacement

@@ -9,6 +9,7 @@ mod checked;
 mod extent;
 mod graph_check;
 mod input;
+mod intervals;
 mod judge;
 mod judge_inputs;
 mod laws;
@@ -42,6 +43,7 @@ mod walk;
 pub use checked::Checked;
 pub use extent::{BoundingBox, Interval, TemporalExtent};
 pub use graph_check::check;
+pub use intervals::Intervals;
 pub use laws::{
     arguments_are_held, callbacks_have_scopes, cells_are_of_their_kind, faults_stand_lowest,
     folds_are_reductions, graphs_cross_threads, labels_are_kept, meanings_are_sound,

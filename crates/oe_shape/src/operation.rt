@@ -1,5 +1,6 @@
 // The operation that a request asks for on cubes of known shapes and kinds.
-use crate::extent::{BoundingBox, Interval, TemporalExtent};
+use crate::extent::{BoundingBox, TemporalExtent};
+use crate::intervals::Intervals;
 use oe_cell::{Cell, Frac};
 use oe_dims::{Kind, Text};
 use oe_expr::Expr;
@@ -31,7 +32,7 @@ pub enum Operation {
     /// The lists of cells along a dimension by a callback: `reduce_dimension`.
     Reduce(Kind, Expr),
     /// The lists of cells inside each interval by a callback: `aggregate_temporal`, `aggregate_temporal_period`.
-    Aggregate(Vec<Interval>, Expr),
+    Aggregate(Intervals, Expr),
     /// The running sums along t, with nulls ignored or not: `apply_dimension` by `cumsum`.
     Accumulate(bool),
     /// Two cubes, by a resolver where a label tuple is in both: `merge_cubes`.

@@ -17,6 +17,7 @@ ghost use Rattle.oe_shape.specs.RunningSums.{AreSums, IsWellFormed};
 ghost use Rattle.oe_shape.specs.Stands.{callback_on, sums_of};
 
 use crate::extent::{BoundingBox, Interval, TemporalExtent};
+use crate::intervals::Intervals;
 use crate::operation::{Operation, Restriction};
 use crate::operation_scope::{interval_scope, reduction_scope};
 use crate::request::{Called, KernelRows, Request};
@@ -193,7 +194,8 @@ fn aggregation_for(
         (record { shape = shape.now; kind = kind }) result }
 {
     let scope = interval_scope(alloc, intervals, shape, kind)?;
-    let intervals = copy_intervals(alloc, intervals)?;
+    let copies = copy_intervals(alloc, intervals)?;
+    let intervals = Intervals::of(alloc, copies)?;
     let callback = callback_under(alloc, reducer, &scope, id, "reducer")?;
     Ok(Some(Operation::Aggregate(intervals, callback)))
 }
@@ -213,8 +215,9 @@ fn period_for(
         (request.aggregate_temporal_period data_id period name (plain_called reducer.now))
         (record { shape = shape.now; kind = kind }) result }
 {
-    let intervals = period_intervals(alloc, period, shape)?;
-    let scope = interval_scope(alloc, &intervals, shape, kind)?;
+    let periods = period_intervals(alloc, period, shape)?;
+    let scope = interval_scope(alloc, &periods, shape, kind)?;
+    let intervals = Intervals::of(alloc, periods)?;
     let callback = callback_under(alloc, reducer, &scope, id, "reducer")?;
     Ok(Some(Operation::Aggregate(intervals, callback)))
 }

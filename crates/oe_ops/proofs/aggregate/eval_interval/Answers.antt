@@ -1,5 +1,5 @@
 use Rattle.std.proofs.Common.{◌≡◌, ◌+◌, true, ap, ◌∙◌, arith, map, rules, subst, sym}
-use Rattle.std.proofs.lemmas.Option.{get_or_from_slice_get, slice_get_within}
+use Rattle.std.proofs.lemmas.Option.{slice_get_within}
 use Rattle.oe_dims.specs.Dimensions.{number_labels, rises}
 use Rattle.oe_dims.specs.declared.kind.Kind.TheVariants.{Time}
 use Rattle.oe_dims.proofs.ShapeLemmas.{t_rises}
@@ -7,7 +7,7 @@ use Rattle.oe_expr.specs.Callback.{callback_kind}
 use Rattle.oe_expr.specs.declared.scope.ListPart.{ListPart}
 use Rattle.oe_window.specs.Windows.{IsIn, positions}
 use Rattle.oe_shape.specs.Extents.{part_in_time}
-use Rattle.oe_shape.specs.declared.extent.Interval.{Interval}
+use Rattle.oe_shape.specs.declared.extent.TemporalExtent.{TemporalExtent}
 use Rattle.oe_ops.specs.Lists.{TakesList, list_from, value_of_list, with_index}
 use Rattle.oe_ops.proofs.AggregateLemmas.{aggregated_is, count_of, few_intervals, first_label, from_of, held_inside, labelled_by, takes_interval, to_of}
 use Rattle.oe_ops.proofs.ColumnLemmas.{value_fits}
@@ -21,23 +21,13 @@ label_at-label-requires c = first_label c.args.intervals.now c.args.argument.now
 pub interval_of-list-requires : goal.interval_of-list-requires
 interval_of-list-requires c = record { differ = intervals_differ c.args.intervals.now c.args.argument.now c.args.shape.now c.requires.aggregated c.requires.shape_valid }
 
-pub bounds-intervals-list : goal.bounds-intervals-list
-bounds-intervals-list c =
+pub extent_at-requires : goal.extent_at-requires
+extent_at-requires c =
     let intervals = c.args.intervals.now in
     let d = c.args.argument.now in
     let list = c.interval_of-list.result in
     let found = labelled_by intervals d c.args.shape.now c.label_at-label.result c.args.window.now.t.from list c.requires.aggregated c.label_at-label.ensures.value (search rules) c.interval_of-list.ensures in
     slice_get_within intervals list found.interval found.there
-
-pub offset_bounds-intervals-list : goal.offset_bounds-intervals-list
-offset_bounds-intervals-list c =
-    let intervals = c.args.intervals.now in
-    let d = c.args.argument.now in
-    let list = c.interval_of-list.result in
-    let found = labelled_by intervals d c.args.shape.now c.label_at-label.result c.args.window.now.t.from list c.requires.aggregated c.label_at-label.ensures.value (search rules) c.interval_of-list.ensures in
-    let few = few_intervals intervals d c.args.shape.now c.requires.aggregated c.requires.shape_valid in
-    let within = slice_get_within intervals list found.interval found.there in
-    omega (arith, few, within)
 
 pub part_in_time-part-requires-clause-rise : goal.part_in_time-part-requires-clause-rise
 part_in_time-part-requires-clause-rise c =
@@ -62,7 +52,7 @@ fill-requires-clause-serves c = λ p h.
     let e = found.interval.extent in
     let part : c.part_in_time-part.result ≡ part_in_time e (number_labels d Time) =
     c.part_in_time-part.ensures
-    ∙ ap (λ (i : Interval). part_in_time i.extent c.labels.result.now) (get_or_from_slice_get intervals list found.interval _ found.there)
+    ∙ ap (λ (x : TemporalExtent). part_in_time x c.labels.result.now) (c.extent_at.ensures found.interval found.there)
     ∙ ap (part_in_time e) c.labels.ensures.value in
     let from : c.part_in_time-part.result.from ≡ from_of e d = ap (λ (p : ListPart). p.from) part in
     let to : c.part_in_time-part.result.to ≡ to_of e d = ap (λ (p : ListPart). p.to) part in
@@ -85,7 +75,7 @@ returns-clause-value c = λ cube whole same on.
     let e = found.interval.extent in
     let part : c.part_in_time-part.result ≡ part_in_time e (number_labels d Time) =
     c.part_in_time-part.ensures
-    ∙ ap (λ (i : Interval). part_in_time i.extent c.labels.result.now) (get_or_from_slice_get intervals list found.interval _ found.there)
+    ∙ ap (λ (x : TemporalExtent). part_in_time x c.labels.result.now) (c.extent_at.ensures found.interval found.there)
     ∙ ap (part_in_time e) c.labels.ensures.value in
     let from : c.part_in_time-part.result.from ≡ from_of e d = ap (λ (p : ListPart). p.from) part in
     let to : c.part_in_time-part.result.to ≡ to_of e d = ap (λ (p : ListPart). p.to) part in
@@ -104,7 +94,7 @@ returns-clause-kinds c =
     let e = found.interval.extent in
     let part : c.part_in_time-part.result ≡ part_in_time e (number_labels d Time) =
     c.part_in_time-part.ensures
-    ∙ ap (λ (i : Interval). part_in_time i.extent c.labels.result.now) (get_or_from_slice_get intervals list found.interval _ found.there)
+    ∙ ap (λ (x : TemporalExtent). part_in_time x c.labels.result.now) (c.extent_at.ensures found.interval found.there)
     ∙ ap (part_in_time e) c.labels.ensures.value in
     let from : c.part_in_time-part.result.from ≡ from_of e d = ap (λ (p : ListPart). p.from) part in
     let to : c.part_in_time-part.result.to ≡ to_of e d = ap (λ (p : ListPart). p.to) part in

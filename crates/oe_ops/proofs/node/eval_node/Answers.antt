@@ -1,17 +1,15 @@
-use Rattle.std.proofs.Common.{◌≡◌, ◌<◌, ◌∷◌, [], List, length, arith, rules, ◌∙◌, sym, subst}
+use Rattle.std.proofs.Common.{◌≡◌, ◌<◌, ◌∷◌, [], length, arith, rules, ◌∙◌, sym, subst}
 use Rattle.std.specs.List.{All}
 use Rattle.oe_cell.specs.declared.cell.Cell.TheVariants.{Empty}
 use Rattle.oe_cube.specs.Kinds.{IsOfKind}
 use Rattle.oe_dims.specs.Dimensions.{Dimensions}
 use Rattle.oe_dims.specs.declared.kind.Kind.TheVariants.{Time, X}
-use Rattle.oe_shape.specs.Meaning.{aggregated, cube_of}
-use Rattle.oe_shape.specs.Operations.{aggregated_shape, operation_kind}
+use Rattle.oe_shape.specs.Meaning.{cube_of}
+use Rattle.oe_shape.specs.Operations.{operation_kind}
 use Rattle.oe_shape.specs.PlainRequests.{plain_operation, plain_restriction}
-use Rattle.oe_shape.specs.declared.extent.Interval.{Interval}
 use Rattle.oe_shape.specs.declared.operation.Operation.{Operation}
 use Rattle.oe_window.specs.Cells.{cells_on}
 use Rattle.oe_window.specs.Windows.{Holds, whole_window}
-use Rattle.oe_ops.specs.Lists.{TakesIntervals}
 use Rattle.oe_ops.specs.Nodes.{FitsFirstKind}
 use Rattle.oe_ops.proofs.NodeLemmas.{accumulate_need, all_of_none, apply_need, aggregate_need, convolve_need, cover_need, cover_two_need, give_back_need, keep_need, list_room, merge_need, merge_two_need, node_as, nothing_there, reduce_need, resolver_keeps, resolver_takes, row_room}
 use Rattle.oe_ops.proofs.node.eval_node.Goals as goal
@@ -140,9 +138,9 @@ eval_aggregate-requires c =
     record {
       valid = c.requires.valid;
       shape_valid = c.requires.shape_valid;
-      aggregated = subst (λ (l : List Interval). c.args.shape.now ≡ aggregated_shape l c.args.one.shape.now) (sym c.deref.ensures.value) here.shape_is;
+      aggregated = here.shape_is;
       keeps = here.takes.0;
-      takes = subst (λ (l : List Interval). TakesIntervals k.expr l c.args.one.shape.now c.args.one.slice.cells.now) (sym c.deref.ensures.value) here.takes.1;
+      takes = here.takes.1;
       within = c.requires.within;
       counted = c.requires.counted;
       need = aggregate_need c.args.shape.now c.args.one.shape.now c.args.two.shape.now c.args.one.slice c.args.two.slice c.args.window.now _ _ here;
@@ -157,7 +155,7 @@ returns-in-Aggregate c =
     record {
       value = λ first second whole same on two_whole two_same two_on.
           subst (λ (o : Operation). c.eval_aggregate.new.out ≡ cells_on Empty (cube_of (plain_operation o) (first ∷ second ∷ [])) c.args.window.now) (sym k.is)
-          (subst (λ (l : List Interval). c.eval_aggregate.new.out ≡ cells_on Empty (aggregated l k.expr first) c.args.window.now) c.deref.ensures.value (c.eval_aggregate.ensures.value first whole same on));
+          (c.eval_aggregate.ensures.value first whole same on);
       kinds = λ kind h fits.
           subst (λ (o : Operation). All (IsOfKind (operation_kind (plain_operation o) (kind ∷ []))) c.eval_aggregate.new.out) (sym k.is)
           (c.eval_aggregate.ensures.kinds);

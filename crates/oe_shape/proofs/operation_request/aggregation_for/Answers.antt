@@ -37,6 +37,6 @@ returns c = λ data_id name.
     sym (k.ensures.built ∙ ap (λ s. spec.callback_under s called) value) in
     built_by c.args.id.now (request.aggregate_temporal data_id intervals name called) one
     (Aggregate c.in_ok-intervals.intervals k.callback) (codes "reducer") k.callback
-    (λ others. ap (λ l. Some (spec.aggregate l (spec.callback_under (spec.interval_scope intervals one) called))) (sym c.in_ok-intervals.ensures)
-    ∙ ap (λ x. Some (spec.aggregate c.in_ok-intervals.intervals.items x)) same)
+    (λ others. ap (λ l. Some (spec.aggregate l (spec.callback_under (spec.interval_scope intervals one) called))) (sym (c.in_ok-intervals.ensures ∙ c.in_ok-copies.ensures))
+    ∙ ap (λ x. Some (spec.aggregate c.in_ok-intervals.intervals x)) same)
     refl k.ensures.faultless

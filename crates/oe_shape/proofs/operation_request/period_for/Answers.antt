@@ -21,7 +21,7 @@ returns-in_err-callback c = λ data_id name.
     let intervals = period_intervals c.args.period (number_labels c.args.shape.now Time) in
     let e = c.in_err-callback in
     let path = callback_name c.args.id.now (codes "reducer") in
-    let value = c.in_ok-scope.ensures.value ∙ ap (λ l. spec.interval_scope l one) (c.deref.ensures.value ∙ c.in_ok-intervals.ensures.value) in
+    let value = c.in_ok-scope.ensures.value ∙ ap (λ l. spec.interval_scope l one) (c.deref.ensures.value ∙ c.in_ok-periods.ensures.value) in
     let refused : IsFault (StandsInCallbackAt (spec.callback_under (spec.interval_scope intervals one) called) path) e.field-0.0 =
     subst (λ s. IsFault (StandsInCallbackAt (spec.callback_under s called) path) e.field-0.0) value e.ensures.refused in
     refused_by c.args.id.now (request.aggregate_temporal_period data_id c.args.period name called) one (codes "reducer")
@@ -34,11 +34,11 @@ returns c = λ data_id name.
     let one : spec.Outline = record { shape = c.args.shape.now; kind = c.args.kind } in
     let intervals = period_intervals c.args.period (number_labels c.args.shape.now Time) in
     let k = c.in_ok-callback in
-    let value = c.in_ok-scope.ensures.value ∙ ap (λ l. spec.interval_scope l one) (c.deref.ensures.value ∙ c.in_ok-intervals.ensures.value) in
+    let value = c.in_ok-scope.ensures.value ∙ ap (λ l. spec.interval_scope l one) (c.deref.ensures.value ∙ c.in_ok-periods.ensures.value) in
     let same : spec.callback_under (spec.interval_scope intervals one) called ≡ k.callback =
     sym (k.ensures.built ∙ ap (λ s. spec.callback_under s called) value) in
     built_by c.args.id.now (request.aggregate_temporal_period data_id c.args.period name called) one
     (Aggregate c.in_ok-intervals.intervals k.callback) (codes "reducer") k.callback
-    (λ others. ap (λ l. Some (spec.aggregate l (spec.callback_under (spec.interval_scope intervals one) called))) (sym c.in_ok-intervals.ensures.value)
-    ∙ ap (λ x. Some (spec.aggregate c.in_ok-intervals.intervals.items x)) same)
+    (λ others. ap (λ l. Some (spec.aggregate l (spec.callback_under (spec.interval_scope intervals one) called))) (sym (c.in_ok-intervals.ensures ∙ c.in_ok-periods.ensures.value))
+    ∙ ap (λ x. Some (spec.aggregate c.in_ok-intervals.intervals x)) same)
     refl k.ensures.faultless

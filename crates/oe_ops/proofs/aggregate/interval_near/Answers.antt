@@ -1,7 +1,7 @@
 use Rattle.std.proofs.Common.{◌∙◌, FitsSigned, sym, w64}
 use Rattle.std.proofs.lemmas.Int.{to_z-of_z}
 use Rattle.oe_ops.proofs.IntervalLemmas.{labelled_first}
-use Rattle.oe_ops.proofs.aggregate.interval_of.Goals as goal
+use Rattle.oe_ops.proofs.aggregate.interval_near.Goals as goal
 
 pub returns-then-has_label_at : goal.returns-then-has_label_at
 returns-then-has_label_at c =
