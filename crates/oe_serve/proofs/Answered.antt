@@ -99,7 +99,7 @@ module _ (r after : RunOf) (rows rows_after : List Row) (store store_after store
         → ResultRefused r.plan.graph r.plan.size r.plan.workers first last why
     cause (PlanTooLarge cells) is = absurd is
     cause ReadFault is = (record { fits = going.planned.bounded; reads = c.reads }, is)
-    cause (SourceDamaged load position) is = (record { fits = going.planned.bounded; reads = c.reads }, is)
+    cause (SourceDamaged load number) is = (record { fits = going.planned.bounded; reads = c.reads }, is)
     cause SpoolFault is = (record { fits = going.planned.bounded; reads = c.reads }, is)
     cause (NumberOverflow number) is = (record { fits = going.planned.bounded; reads = c.reads }, is)
     cause (SpoolDamaged number) is = (record { fits = going.planned.bounded; reads = c.reads }, is)
@@ -129,7 +129,7 @@ pub can_be_named : (c : CheckedGraph) (rows rows_after : List Row) (store : Opti
     (refusal : ResultRefusal) → RunRefused c rows rows_after store faults faults_after refusal → CanBeNamed c refusal
 can_be_named c rows rows_after store faults faults_after (PlanTooLarge cells) is = tt
 can_be_named c rows rows_after store faults faults_after ReadFault is = tt
-can_be_named c rows rows_after store faults faults_after (SourceDamaged load position) is =
+can_be_named c rows rows_after store faults faults_after (SourceDamaged load number) is =
     node_there c load is.id (subst (λ (n : ℕ). collection_of_node c n ≡ Some is.id) is.node_is is.loaded.loads)
 can_be_named c rows rows_after store faults faults_after SpoolFault is = tt
 can_be_named c rows rows_after store faults faults_after (NumberOverflow number) is = tt

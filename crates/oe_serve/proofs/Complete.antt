@@ -66,7 +66,7 @@ module _ (before after : Outside) (link link_after : LinkOf) (shown : IsVisible 
         → IsOfGraph refusal
     of_graph c (refusals.PlanTooLarge cells) why = tt
     of_graph c refusals.ReadFault why = absurd (none.collections c why.1)
-    of_graph c (refusals.SourceDamaged load position) why = tt
+    of_graph c (refusals.SourceDamaged load number) why = tt
     of_graph c refusals.SpoolFault why = absurd (none.spool why.1)
     of_graph c (refusals.NumberOverflow number) why = tt
     of_graph c (refusals.SpoolDamaged number) why = absurd (subst IsVisible why.1.hidden shown)

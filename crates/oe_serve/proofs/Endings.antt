@@ -84,7 +84,7 @@ module _ (r after : RunOf) (rows rows_after : List Row) (store store_after : Opt
   rounds_cause : (fail : RunFail) → Evaluates r after rows rows_after store store_after faults faults_after (Err fail)
       → RunRefused r.plan.graph rows rows_after store faults faults_after (of_run fail)
   rounds_cause run.SourceFailed e = e.through.read_cause refl
-  rounds_cause (run.SourceDamaged load position) e = e.through.says load position refl
+  rounds_cause (run.SourceDamaged load number) e = e.through.says load number refl
   rounds_cause run.SpoolFailed e = e.through.spool_cause.failed refl
   rounds_cause (run.Overflow number) e = λ visible.
       let over = e.overflow number refl in
@@ -120,7 +120,7 @@ module _ (r after : RunOf) (rows rows_after : List Row) (store store_after : Opt
         → RunRefused r.plan.graph rows rows_after store faults faults_last refusal
     text_cause (PlanTooLarge cells) cause = absurd cause
     text_cause ReadFault cause = absurd cause
-    text_cause (SourceDamaged load position) cause = absurd cause
+    text_cause (SourceDamaged load number) cause = absurd cause
     text_cause SpoolFault cause = then-Rose e.through.spool_cause.count cause
     text_cause (NumberOverflow number) cause = absurd cause
     text_cause (SpoolDamaged number) cause = record {

@@ -88,7 +88,7 @@ pub record Evaluates (before after : RunOf) (rows rows_after : List Row) (store 
 abbrev pub TextRefused : Option (List ℕ) → ℕ → ℕ → ℕ → ResultRefusal → Type 0
 TextRefused store cells faults faults_after (PlanTooLarge held) = ⊥
 TextRefused store cells faults faults_after ReadFault = ⊥
-TextRefused store cells faults faults_after (SourceDamaged load position) = ⊥
+TextRefused store cells faults faults_after (SourceDamaged load number) = ⊥
 TextRefused store cells faults faults_after SpoolFault = Rose faults faults_after
 TextRefused store cells faults faults_after (NumberOverflow number) = ⊥
 TextRefused store cells faults faults_after (SpoolDamaged number) = (store ≡ None) × (number < cells)
@@ -150,7 +150,7 @@ served_of render.SinkFailed = LinkFailed
 abbrev pub CanBeNamed : CheckedGraph → ResultRefusal → Type 0
 CanBeNamed c (PlanTooLarge cells) = ⊤
 CanBeNamed c ReadFault = ⊤
-CanBeNamed c (SourceDamaged load position) = load < node_count c.nodes
+CanBeNamed c (SourceDamaged load number) = load < node_count c.nodes
 CanBeNamed c SpoolFault = ⊤
 CanBeNamed c (NumberOverflow number) = ⊤
 CanBeNamed c (SpoolDamaged number) = ⊤

@@ -27,7 +27,7 @@ pub record NoneRose (before after : Outside) (link link_after : LinkOf) : Type 0
 abbrev pub IsOfGraph : ResultRefusal → Type 0
 IsOfGraph (refusals.PlanTooLarge cells) = ⊤
 IsOfGraph refusals.ReadFault = ⊥
-IsOfGraph (refusals.SourceDamaged load position) = ⊤
+IsOfGraph (refusals.SourceDamaged load number) = ⊤
 IsOfGraph refusals.SpoolFault = ⊥
 IsOfGraph (refusals.NumberOverflow number) = ⊤
 IsOfGraph (refusals.SpoolDamaged number) = ⊥

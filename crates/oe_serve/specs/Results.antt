@@ -35,7 +35,7 @@ use Rattle.oe_serve.specs.declared.served.Served.TheVariants.{Answered, Cut, Lin
 abbrev pub code_of : ResultRefusal → ReplyCode
 code_of (PlanTooLarge cells) = code.PlanTooLarge
 code_of ReadFault = code.ReadFault
-code_of (SourceDamaged load position) = code.SourceDamaged
+code_of (SourceDamaged load number) = code.SourceDamaged
 code_of SpoolFault = code.SpoolFault
 code_of (NumberOverflow number) = code.NumberOverflow
 code_of (SpoolDamaged number) = code.SpoolDamaged
@@ -44,7 +44,7 @@ code_of (SpoolDamaged number) = code.SpoolDamaged
 abbrev pub detail_of : CheckedGraph → ResultRefusal → List ℕ
 detail_of c (PlanTooLarge cells) = decimal cells
 detail_of c ReadFault = []
-detail_of c (SourceDamaged load position) = unwrap_or (collection_of_node c load) [] ++ codes " " ++ decimal position
+detail_of c (SourceDamaged load number) = unwrap_or (collection_of_node c load) [] ++ codes " " ++ decimal number
 detail_of c SpoolFault = []
 detail_of c (NumberOverflow number) = decimal number
 detail_of c (SpoolDamaged number) = decimal number
@@ -59,7 +59,7 @@ result_head count = reply_head 200 None None true count
 -- why a run has no result, by why its rounds were refused
 abbrev pub of_run : RunFail → ResultRefusal
 of_run run.SourceFailed = ReadFault
-of_run (run.SourceDamaged load position) = SourceDamaged load position
+of_run (run.SourceDamaged load number) = SourceDamaged load number
 of_run run.SpoolFailed = SpoolFault
 of_run (run.Overflow number) = NumberOverflow number
 
@@ -91,7 +91,7 @@ module _ (c : CheckedGraph) (rows rows_after : List Row) (spool : Option (List �
   abbrev pub RunRefused : ResultRefusal → Type 0
   RunRefused (PlanTooLarge cells) = ⊥
   RunRefused ReadFault = LoadRose c rows rows_after
-  RunRefused (SourceDamaged load position) = KeepsDamage c rows load position
+  RunRefused (SourceDamaged load number) = KeepsDamage c rows load number
   RunRefused SpoolFault = Rose faults faults_after
   RunRefused (NumberOverflow number) = OfMeaning rows c (IsOverFirst number)
   RunRefused (SpoolDamaged number) = IsSpoolDamaged number
@@ -122,7 +122,7 @@ module _ (c : CheckedGraph) (size : ChunkSize) (workers : ℕ) (before after : O
   abbrev pub ResultRefused : ResultRefusal → Type 0
   ResultRefused (PlanTooLarge cells) = IsTooLarge c size workers cells
   ResultRefused ReadFault = RunStops ReadFault
-  ResultRefused (SourceDamaged load position) = RunStops (SourceDamaged load position)
+  ResultRefused (SourceDamaged load number) = RunStops (SourceDamaged load number)
   ResultRefused SpoolFault = RunStops SpoolFault
   ResultRefused (NumberOverflow number) = RunStops (NumberOverflow number)
   ResultRefused (SpoolDamaged number) = RunStops (SpoolDamaged number)

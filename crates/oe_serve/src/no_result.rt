@@ -33,8 +33,8 @@ pub(crate) fn answer_refusal<L: Link>(
             answer_number(alloc, ReplyCode::PlanTooLarge, cells, link)
         }
         ResultRefusal::ReadFault => answer_code(alloc, link, ReplyCode::ReadFault, ""),
-        ResultRefusal::SourceDamaged { load, position } => {
-            answer_damage(alloc, id_of(checked, load), position, link)
+        ResultRefusal::SourceDamaged { load, number } => {
+            answer_damage(alloc, id_of(checked, load), number, link)
         }
         ResultRefusal::SpoolFault => answer_code(alloc, link, ReplyCode::SpoolFault, ""),
         ResultRefusal::NumberOverflow(number) => {
@@ -71,23 +71,23 @@ fn id_of(checked: &Checked, load: u32) -> &str
 }
 
 /// Answers that a position of the collection of an id is damaged.
-fn answer_damage<L: Link>(alloc: Global, id: &str, position: u64, link: &mut L) -> Served
+fn answer_damage<L: Link>(alloc: Global, id: &str, number: u64, link: &mut L) -> Served
     ensures { let of = link_of L.left L.written L.faults in
-        SendsCode ReplyCode.SourceDamaged (id.now ++ codes " " ++ decimal position) (of link.old)
+        SendsCode ReplyCode.SourceDamaged (id.now ++ codes " " ++ decimal number) (of link.old)
         (of link.new) result }
 {
-    match damage_text(alloc, id, position) {
+    match damage_text(alloc, id, number) {
         Ok(detail) => answer_code(alloc, link, ReplyCode::SourceDamaged, detail.as_str()),
         Err(OutOfMemory) => answer_out_of_memory(link),
     }
 }
 
 /// An id, a blank and a number. Refuses: out of memory.
-fn damage_text(alloc: Global, id: &str, position: u64) -> Result<String, OutOfMemory>
-    ensures { IfOk result (λ text. string_bytes text ≡ id.now ++ codes " " ++ decimal position) }
+fn damage_text(alloc: Global, id: &str, number: u64) -> Result<String, OutOfMemory>
+    ensures { IfOk result (λ text. string_bytes text ≡ id.now ++ codes " " ++ decimal number) }
 {
     let mut text = String::from_str(alloc, id)?;
     text.push_str(" ")?;
-    text.push_str(Buffer::new().format(position))?;
+    text.push_str(Buffer::new().format(number))?;
     Ok(text)
 }

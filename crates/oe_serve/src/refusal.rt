@@ -12,7 +12,7 @@ pub enum ResultRefusal {
     /// A read of a collection failed.
     ReadFault,
     /// The node `load` keeps this position of its collection, by its row-major number, which is damaged.
-    SourceDamaged { load: u32, position: u64 },
+    SourceDamaged { load: u32, number: u64 },
     /// A call of the spool failed.
     SpoolFault,
     /// The cell of this row-major number, the first one, is no number in range.
@@ -28,9 +28,9 @@ impl ResultRefusal {
     {
         match fail {
             RunFail::SourceFailed => ResultRefusal::ReadFault,
-            RunFail::SourceDamaged { load, position } => ResultRefusal::SourceDamaged {
+            RunFail::SourceDamaged { load, number } => ResultRefusal::SourceDamaged {
                 load,
-                position,
+                number,
             },
             RunFail::SpoolFailed => ResultRefusal::SpoolFault,
             RunFail::Overflow(number) => ResultRefusal::NumberOverflow(number),

@@ -125,7 +125,7 @@ module _ (c : CheckedGraph) (before after : List Row) (same : map without_counts
 
   pub says_same : (refusal : RunFail) → RefusalSays c before refusal → RefusalSays c after refusal
   says_same SourceFailed says = says
-  says_same (SourceDamaged load position) says = damage_same load position says
+  says_same (SourceDamaged load number) says = damage_same load number says
   says_same SpoolFailed says = says
   says_same (Overflow number) says = says
 

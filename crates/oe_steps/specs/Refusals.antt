@@ -28,13 +28,13 @@ pub record KeepsDamage (c : CheckedGraph) (rows : List Row) (node number : ℕ) 
 -- what a refusal says: of a damaged position which it is, and it is never an overflow
 abbrev pub RefusalSays : CheckedGraph → List Row → RunFail → Type 0
 RefusalSays c rows SourceFailed = ⊤
-RefusalSays c rows (SourceDamaged load position) = KeepsDamage c rows load position
+RefusalSays c rows (SourceDamaged load number) = KeepsDamage c rows load number
 RefusalSays c rows SpoolFailed = ⊤
 RefusalSays c rows (Overflow number) = ⊥
 
 -- a refusal that comes before anything is evaluated
 abbrev pub IsOfSource : RunFail → Type 0
 IsOfSource SourceFailed = ⊤
-IsOfSource (SourceDamaged load position) = ⊤
+IsOfSource (SourceDamaged load number) = ⊤
 IsOfSource SpoolFailed = ⊥
 IsOfSource (Overflow number) = ⊥

@@ -232,9 +232,6 @@ fn read_box(
     match catalogue.read(place, source, into) {
         Ok(()) => Ok(()),
         Err(SourceFail::Failed) => Err(RunFail::SourceFailed),
-        Err(SourceFail::Damaged(position)) => Err(RunFail::SourceDamaged {
-            load: node,
-            position,
-        }),
+        Err(SourceFail::Damaged(number)) => Err(RunFail::SourceDamaged { load: node, number }),
     }
 }

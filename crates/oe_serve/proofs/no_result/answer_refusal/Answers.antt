@@ -24,7 +24,7 @@ returns-in-SourceDamaged g c =
     subst (λ (r : ResultRefusal). SendsCode (code_of r) (detail_of c.args.checked.now r)
     (link_of g.L.Link.left g.L.Link.written g.L.Link.faults c.args.link.now)
     (link_of g.L.Link.left g.L.Link.written g.L.Link.faults c.answer_damage.new.link) c.answer_damage.result) (sym c.in-SourceDamaged.is)
-    (subst (λ (id : List ℕ). SendsCode code.SourceDamaged (id ++ codes " " ++ decimal c.in-SourceDamaged.position)
+    (subst (λ (id : List ℕ). SendsCode code.SourceDamaged (id ++ codes " " ++ decimal c.in-SourceDamaged.number)
     (link_of g.L.Link.left g.L.Link.written g.L.Link.faults c.args.link.now)
     (link_of g.L.Link.left g.L.Link.written g.L.Link.faults c.answer_damage.new.link) c.answer_damage.result) c.id_of.ensures
     c.answer_damage.ensures)
