@@ -4,9 +4,11 @@ use Rattle.std.specs.List.{slice_get}
 use Rattle.std.proofs.lemmas.Bool.{cases_lt}
 use Rattle.std.proofs.lemmas.List.{length-map}
 use Rattle.oe_dims.specs.Dimensions.{Dimensions}
+use Rattle.oe_mosaic.specs.MosaicLaws.{HasAllLabels}
 use Rattle.oe_mosaic.specs.Mosaics.{Part, part_of, parts_of}
-use Rattle.oe_mosaic.specs.Places.{HasBox, HasNoTupleOf}
+use Rattle.oe_mosaic.specs.Places.{HasBox, HasNoTupleOf, HasNumbersOf}
 use Rattle.oe_mosaic.specs.Readings.{AreApart, IsFoundIn}
+use Rattle.oe_mosaic.proofs.LawLemmas.{contains, has_at}
 use Rattle.oe_sources.specs.Source.{Source}
 use Rattle.oe_window.specs.declared.window.Window.{Window}
 
@@ -39,3 +41,11 @@ all_apart seen items d window n is apart =
 
 pub place_within : {S : Type 0} (seen : S → Source) (items : List S) (k : ℕ) → k < length items → k < length (parts_of seen items)
 place_within seen items k below = omega (arith, below, length-map items (λ s. part_of (seen s)))
+
+-- dimensions that have all labels of the parts have those of each
+pub numbers_of_part : {S : Type 0} (seen : S → Source) (items : List S) (d : Dimensions) (k : ℕ) (item : S) → k < length items → item ≡ get_or items k item
+    → HasAllLabels (parts_of seen items) d → HasNumbersOf d (seen item).shape
+numbers_of_part seen items d k item below is all kind label in_ =
+    let part = part_of (seen item) in
+    let there = contains (parts_of seen items) part (has_at (parts_of seen items) k part (part_at seen items k item below is)) in
+    (all.labels kind label).1 (part, there, in_)

@@ -67,20 +67,20 @@ neither_before X a b h k = grind (arith, ints)
 
 -- ---- in order, by cases on the list
 
-abbrev IsFirst : Kind → ℤ → List ℤ → Type 0
+abbrev pub IsFirst : Kind → ℤ → List ℤ → Type 0
 IsFirst kind a labels = (x : ℤ) → Has labels x → stands_before kind a x ≡ true
 
-abbrev Ordered : Kind → List ℤ → Type 0
+abbrev pub Ordered : Kind → List ℤ → Type 0
 Ordered kind [] = ⊤
 Ordered kind (a ∷ labels) = IsFirst kind a labels × Ordered kind labels
 
-abbrev Later : Kind → List ℤ → Type 0
+abbrev pub Later : Kind → List ℤ → Type 0
 Later kind labels = (i j : ℕ) (a b : ℤ) → i < j → slice_get labels i ≡ Some a → slice_get labels j ≡ Some b → stands_before kind a b ≡ true
 
 is_less : (a b : ℤ) → lt_z a b ≡ true → a <ℤ b
 is_less a b h = grind (arith, ints)
 
-later : (kind : Kind) (labels : List ℤ) → IsInOrder kind labels → Later kind labels
+pub later : (kind : Kind) (labels : List ℤ) → IsInOrder kind labels → Later kind labels
 later Time labels h i j a b lt ea eb = from_lt a b (h i j a b lt ea eb)
 later Bands labels h i j a b lt ea eb = from_lt a b (h i j a b lt ea eb)
 later Y labels h i j a b lt ea eb = from_lt b a (h i j a b lt ea eb)
@@ -92,7 +92,7 @@ in_order Bands labels h = λ i j a b lt ea eb. is_less a b (h i j a b lt ea eb)
 in_order Y labels h = λ i j a b lt ea eb. is_less b a (h i j a b lt ea eb)
 in_order X labels h = λ i j a b lt ea eb. is_less a b (h i j a b lt ea eb)
 
-ordered_later : (kind : Kind) (labels : List ℤ) → Later kind labels → Ordered kind labels
+pub ordered_later : (kind : Kind) (labels : List ℤ) → Later kind labels → Ordered kind labels
 ordered_later kind [] h = tt
 ordered_later kind (a ∷ labels) h = (
   (λ x in_. let at = at_has labels x in_ in h 0 (suc at.0) a x (omega arith) refl at.1),
@@ -174,7 +174,7 @@ to_merge kind (a ∷ one) (b ∷ two) x h =
     ]
 
 -- a label stands before all of a list where it stands before its first
-before_all : (kind : Kind) (a b : ℤ) (two : List ℤ) → stands_before kind a b ≡ true → IsFirst kind b two → IsFirst kind a (b ∷ two)
+pub before_all : (kind : Kind) (a b : ℤ) (two : List ℤ) → stands_before kind a b ≡ true → IsFirst kind b two → IsFirst kind a (b ∷ two)
 before_all kind a b two h first x (inl e) = subst (λ v. stands_before kind a v ≡ true) e h
 before_all kind a b two h first x (inr in_) = before_later kind a b x h (first x in_)
 

@@ -1,4 +1,5 @@
 mod BoxLemmas
+mod CountLemmas
 mod DecideLemmas
 mod FaultLemmas
 mod FindLemmas

@@ -43,7 +43,7 @@ get_take [] (suc n) j below = refl
 get_take (x ∷ xs) (suc n) zero below = refl
 get_take (x ∷ xs) (suc n) (suc j) below = get_take xs n j (omega (arith, below))
 
-get_piece : {L : Type 0} (xs : List L) (n a j : ℕ) → j < n → slice_get (take n (drop a xs)) j ≡ slice_get xs (a + j)
+pub get_piece : {L : Type 0} (xs : List L) (n a j : ℕ) → j < n → slice_get (take n (drop a xs)) j ≡ slice_get xs (a + j)
 get_piece xs n a j below = get_take (drop a xs) n j below ∙ get_drop xs a j
 
 there_or_not : {L : Type 0} (xs : List L) (i : ℕ) → i < length xs → (x : L) × (slice_get xs i ≡ Some x)
@@ -61,7 +61,7 @@ take_back [] (suc n) i x h = h
 take_back (y ∷ xs) (suc n) zero x h = h
 take_back (y ∷ xs) (suc n) (suc i) x h = take_back xs n i x h
 
-piece_back : {L : Type 0} (xs : List L) (n a i : ℕ) (x : L) → slice_get (take n (drop a xs)) i ≡ Some x → slice_get xs (a + i) ≡ Some x
+pub piece_back : {L : Type 0} (xs : List L) (n a i : ℕ) (x : L) → slice_get (take n (drop a xs)) i ≡ Some x → slice_get xs (a + i) ≡ Some x
 piece_back xs n a i x h = sym (get_drop xs a i) ∙ take_back (drop a xs) n i x h
 
 -- a piece of labels that stand in order is in order
@@ -157,7 +157,7 @@ ends_falling labels d falling some k below =
 
 -- ---- labels that all stand before those of a part, or all behind them
 
-inside_parts : (from to label : ℤ) → is_inside from to label ≡ true → (from ≤ℤ label) × (label ≤ℤ to)
+pub inside_parts : (from to label : ℤ) → is_inside from to label ≡ true → (from ≤ℤ label) × (label ≤ℤ to)
 inside_parts from to label h = (grind (arith, ints, h), grind (arith, ints, h))
 
 -- labels between two numbers, and those of a part between two others, where no number is between both

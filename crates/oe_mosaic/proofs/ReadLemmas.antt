@@ -13,6 +13,7 @@ use Rattle.oe_dims.specs.Dimensions.{Dimensions, IsShape}
 use Rattle.oe_dims.specs.Positions.{Position, number_of, tuple_of}
 use Rattle.oe_dims.specs.declared.kind.CellKind.{CellKind}
 use Rattle.oe_dims.proofs.ShapeLemmas.{cell_count_within}
+use Rattle.oe_mosaic.specs.MosaicLaws.{HasAllLabels}
 use Rattle.oe_mosaic.specs.Mosaics.{Part, deciding_part, fault_counts, first_kind, is_damaged_at, mosaic_cell, part_of, parts_of}
 use Rattle.oe_mosaic.specs.PartFaults.{NoneFalls, SomeRose}
 use Rattle.oe_mosaic.specs.Parts.{ArePartsOfOne}
@@ -264,6 +265,9 @@ few_positions d window valid holds = omega (arith, count_within d window holds, 
 
 pub parts_after : {S : Type 0} (seen : S → Source) (items after : List S) → OnlyReads seen items after → ArePartsOfOne (parts_of seen items) → ArePartsOfOne (parts_of seen after)
 parts_after seen items after only h = subst ArePartsOfOne (sym only.same) h
+
+pub labels_after : {S : Type 0} (seen : S → Source) (items after : List S) (d : Dimensions) → OnlyReads seen items after → HasAllLabels (parts_of seen items) d → HasAllLabels (parts_of seen after) d
+labels_after seen items after d only h = subst (λ (parts : List Part). HasAllLabels parts d) (sym only.same) h
 
 pub old_item : {S : Type 0} (items : List S) (k : ℕ) (item : S) → get_or items k item ≡ item → get_or items k item ≡ get_or items k (get_or items k item)
 old_item items k item is = sym (ap (get_or items k) is)

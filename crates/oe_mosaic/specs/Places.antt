@@ -1,9 +1,9 @@
 -- For private functions. How the positions of a window lie in a part, and how a window is cut.
-use Rattle.std.specs.Prelude.{◌≡◌, ◌⊎◌, ⊤, ℕ, ◌+◌, ◌-◌, ◌<◌, ◌≤◌, Bool, true, false, ◌||◌, ◌++◌, List, length, slice_get, Option, None, IfSome}
-use Rattle.std.specs.List.{slice_range}
+use Rattle.std.specs.Prelude.{◌≡◌, ◌⊎◌, ⊤, ℕ, ℤ, ◌+◌, ◌-◌, ◌<◌, ◌≤◌, Bool, true, false, ◌||◌, ◌++◌, List, length, slice_get, Option, None, IfSome}
+use Rattle.std.specs.List.{Contains, slice_range}
 use Rattle.oe_dims.specs.Cube.{index_along, row_major}
-use Rattle.oe_dims.specs.Dimensions.{Dimensions, extent}
-use Rattle.oe_dims.specs.Indices.{index_where, same_number}
+use Rattle.oe_dims.specs.Dimensions.{Dimensions, extent, number_labels}
+use Rattle.oe_dims.specs.Indices.{index_where, is_inside, same_number}
 use Rattle.oe_dims.specs.Names.{same_name}
 use Rattle.oe_dims.specs.Positions.{Position, label_of, tuple_of}
 use Rattle.oe_dims.specs.declared.kind.Kind.{Kind}
@@ -26,6 +26,12 @@ LieAmong same labels own Apart =
     (k : ℕ) → k < length labels → IfSome (slice_get labels k) (λ label. index_where (same label) own ≡ None)
 LieAmong same labels own (From first) = slice_range own first (first + length labels) ≡ labels
 LieAmong same labels own Across = 1 < length labels
+
+-- labels have each label of a part that lies between two of them
+abbrev pub HaveAllBetween : List ℤ → List ℤ → Type 0
+HaveAllBetween labels own =
+    (from to label : ℤ) → Contains labels from → Contains labels to → Contains own label
+    → is_inside from to label ≡ true → Contains labels label
 
 -- the index in a part where an index of a span stands, from a first one on
 abbrev pub index_from : ℕ → Span → ℕ → ℕ
@@ -55,6 +61,11 @@ IsOfNumbers Y = ⊤
 IsOfNumbers X = ⊤
 
 -- ---- along all of them
+
+-- dimensions have each label of a part along t, y and x
+abbrev pub HasNumbersOf : Dimensions → Dimensions → Type 0
+HasNumbersOf d own =
+    (kind : Kind) (label : ℤ) → Contains (number_labels own kind) label → Contains (number_labels d kind) label
 
 -- how the four spans of a window lie in a part
 abbrev pub is_apart : Along → Bool

@@ -1,12 +1,12 @@
 // How a window lies in a part.
 ghost use Rattle.std.specs.Prelude.{◌≡◌, ◌+◌, ◌<◌, ◌≤◌, ℕ, true, length, slice_get, IfSome};
-ghost use Rattle.std.specs.List.{slice_range};
+ghost use Rattle.std.specs.List.{Contains, slice_range};
 ghost use Rattle.oe_dims.specs.Dimensions.{band_names, extent, number_labels};
 ghost use Rattle.oe_dims.specs.Indices.{is_inside, same_number};
 ghost use Rattle.oe_dims.specs.Names.{same_name};
 ghost use Rattle.oe_dims.specs.Rules.{IsInOrder};
 ghost use Rattle.oe_mosaic.specs.Labels.{numbers_along};
-ghost use Rattle.oe_mosaic.specs.Places.{HasNoTupleOf, IsOfNumbers, LieAlong, LieAmong, LiesAlong, LiesIn, first_index, has_across, has_apart, is_across, is_apart, span_in_part};
+ghost use Rattle.oe_mosaic.specs.Places.{HasNoTupleOf, HasNumbersOf, HaveAllBetween, IsOfNumbers, LieAlong, LieAmong, LiesAlong, LiesIn, first_index, has_across, has_apart, is_across, is_apart, span_in_part};
 ghost use Rattle.oe_window.specs.Windows.{Holds, IsEmpty, span_length, whole_window};
 
 use oe_dims::{Kind, Shape, Text};
@@ -43,16 +43,7 @@ pub struct Sides {
     pub x: Along,
 }
 
-/// The labels stand among those of a part from an index on, in the same order and one behind the other.
-fn numbers_stand_from(labels: &[i64], own: &[i64], first: usize) -> bool
-    ensures { result ≡ true → slice_range own.now first (first + length labels.now) ≡ labels.now }
-{
-    first <= own.len()
-        && labels.len() <= own.len() - first
-        && &own[first..first + labels.len()] == labels
-}
-
-/// The same of names.
+/// The names stand among those of a part from an index on, in the same order and one behind the other.
 fn names_stand_from(names: &[Text], own: &[Text], first: usize) -> bool
     ensures { result ≡ true → slice_range own.now first (first + length names.now) ≡ names.now }
 {
@@ -66,8 +57,10 @@ fn names_stand_from(names: &[Text], own: &[Text], first: usize) -> bool
 fn ends_of(kind: Kind, labels: &[i64]) -> (i64, i64)
     requires order { IsInOrder kind labels.now }
     requires some { 0 < length labels.now }
-    ensures { (k : ℕ) → k < length labels.now →
+    ensures inside { (k : ℕ) → k < length labels.now →
         IfSome (slice_get labels.now k) (λ label. is_inside result.0 result.1 label ≡ true) }
+    ensures least { Contains labels.now result.0 }
+    ensures greatest { Contains labels.now result.1 }
 {
     let first = labels[0];
     let last = labels[labels.len() - 1];
@@ -113,11 +106,13 @@ fn is_beside_along(shape: &Shape, part: &Shape, kind: Kind, span: Span) -> bool
     }
 }
 
-/// How labels of t, y or x lie among those of a part.
+/// How labels of t, y or x lie among those of a part. Each label of the part between the ends of these is one of them,
+/// so that as many as these are these, and none is compared.
 #[tactic(auto, using(crate::proofs::PlaceLemmas::single_from, crate::proofs::PlaceLemmas::single_apart, crate::proofs::PlaceLemmas::range_apart))]
 fn numbers_among(labels: &[i64], part: &Shape, kind: Kind) -> Along
     requires some { 0 < length labels.now }
     requires order { IsInOrder kind labels.now }
+    requires all { HaveAllBetween labels.now (number_labels part.now kind) }
     ensures { LieAmong same_number labels.now (number_labels part.now kind) result }
 {
     if labels.len() == 1 {
@@ -130,7 +125,7 @@ fn numbers_among(labels: &[i64], part: &Shape, kind: Kind) -> Along
     let (first, end) = part.range_of(kind, least, greatest);
     if first == end {
         Along::Apart
-    } else if numbers_stand_from(labels, part.labels(kind), first as usize) {
+    } else if (end - first) as usize == labels.len() {
         Along::From(first)
     } else {
         Along::Across
@@ -143,6 +138,7 @@ fn numbers_along(shape: &Shape, part: &Shape, kind: Kind, span: Span) -> Along
     requires numbers { IsOfNumbers kind }
     requires some { span.from < span.to }
     requires within { span.to ≤ extent (numbers_along kind shape.now) }
+    requires all { HasNumbersOf shape.now part.now }
     ensures { LiesAlong same_number (numbers_along kind shape.now) (numbers_along kind part.now)
         span result }
 {
@@ -222,6 +218,7 @@ fn bands_along(shape: &Shape, part: &Shape, span: Span) -> Along
 fn sides_of(shape: &Shape, part: &Shape, window: &Window) -> Sides
     requires inside { Holds (whole_window shape.now) window.now }
     requires filled { ¬ IsEmpty window.now }
+    requires all { HasNumbersOf shape.now part.now }
     ensures { LieAlong shape.now part.now window.now result }
 {
     Sides {
@@ -294,11 +291,12 @@ fn is_beside(shape: &Shape, part: &Shape, window: &Window) -> bool
         || is_beside_along(shape, part, Kind::Time, window.t)
 }
 
-/// How a window of a cube lies in a part.
+/// How a window of a cube, which has all labels of the part, lies in the part.
 #[tactic(auto, using(crate::proofs::PlaceLemmas::across_lies, crate::proofs::PlaceLemmas::box_lies))]
 pub fn place_of(shape: &Shape, part: &Shape, window: &Window) -> Place
     requires inside { Holds (whole_window shape.now) window.now }
     requires filled { ¬ IsEmpty window.now }
+    requires all { HasNumbersOf shape.now part.now }
     ensures { LiesIn shape.now part.now window.now result }
 {
     if is_beside(shape, part, window) {

@@ -2,6 +2,7 @@
 ghost use Rattle.std.specs.Prelude.{◌≡◌, ◌<◌, ℕ, length, slice_index_or};
 ghost use Rattle.oe_dims.specs.Dimensions.{IsShape, extent};
 ghost use Rattle.oe_dims.specs.Positions.{number_of};
+ghost use Rattle.oe_mosaic.specs.MosaicLaws.{HasAllLabels};
 ghost use Rattle.oe_mosaic.specs.Mosaics.{fault_counts, parts_of};
 ghost use Rattle.oe_mosaic.specs.Parts.{ArePartsOfOne};
 ghost use Rattle.oe_mosaic.specs.Places.{first_of, side_sum};
@@ -42,6 +43,7 @@ pub enum Tried {
 fn find<S: CubeSource>(items: &[S], shape: &Shape, window: &Window) -> Found
     requires inside { Holds (whole_window shape.now) window.now }
     requires filled { ¬ IsEmpty window.now }
+    requires labels { HasAllLabels (parts_of S.seen items.now) shape.now }
     ensures { Finds (parts_of S.seen items.now) shape.now window.now result }
 {
     for index in 0..items.len() {
@@ -117,6 +119,7 @@ fn try_window<S: CubeSource>(
     requires filled { ¬ IsEmpty window.now }
     requires room { length into.old ≡ position_count window.now }
     requires parts { ArePartsOfOne (parts_of S.seen items.old) }
+    requires labels { HasAllLabels (parts_of S.seen items.old) shape.now }
     ensures tried { IsTried (parts_of S.seen items.old) shape.now window.now into.new
         (fault_counts S.seen items.old) (fault_counts S.seen items.new) result }
     ensures reads { OnlyReads S.seen items.old items.new }
@@ -153,6 +156,7 @@ fn read_window<S: CubeSource>(
     requires filled { ¬ IsEmpty window.now }
     requires room { length into.old ≡ position_count window.now }
     requires parts { ArePartsOfOne (parts_of S.seen items.old) }
+    requires labels { HasAllLabels (parts_of S.seen items.old) shape.now }
     ensures answer { IsAnswer (parts_of S.seen items.old) shape.now window.now into.new
         (fault_counts S.seen items.old) (fault_counts S.seen items.new) result }
     ensures reads { OnlyReads S.seen items.old items.new }
@@ -182,6 +186,7 @@ pub fn read_any<S: CubeSource>(
     requires inside { Holds (whole_window shape.now) window.now }
     requires room { length into.old ≡ position_count window.now }
     requires parts { ArePartsOfOne (parts_of S.seen items.old) }
+    requires labels { HasAllLabels (parts_of S.seen items.old) shape.now }
     ensures answer { IsAnswer (parts_of S.seen items.old) shape.now window.now into.new
         (fault_counts S.seen items.old) (fault_counts S.seen items.new) result }
     ensures reads { OnlyReads S.seen items.old items.new }

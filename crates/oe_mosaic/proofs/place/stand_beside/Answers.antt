@@ -13,7 +13,7 @@ returns-then-greatest-own_least c = λ is.
     let less = simp to_z-of_z at is in
     subst (λ (own : List ℤ). LieAmong same_number c.args.labels.now own Apart) c.labels-own.ensures.value
     (below_apart c.args.labels.now c.labels-own.result.now c.ends_of-least.result.0 c.ends_of-least.result.1 c.ends_of-own_least.result.0 c.ends_of-own_least.result.1
-    c.ends_of-least.ensures c.ends_of-own_least.ensures less)
+    c.ends_of-least.ensures.inside c.ends_of-own_least.ensures.inside less)
 
 pub returns-else-greatest-own_least : goal.returns-else-greatest-own_least
 returns-else-greatest-own_least c = λ is.
@@ -22,4 +22,4 @@ returns-else-greatest-own_least c = λ is.
     let less = simp to_z-of_z at is in
     subst (λ (own : List ℤ). LieAmong same_number c.args.labels.now own Apart) c.labels-own.ensures.value
     (above_apart c.args.labels.now c.labels-own.result.now c.ends_of-least.result.0 c.ends_of-least.result.1 c.ends_of-own_least.result.0 c.ends_of-own_least.result.1
-    c.ends_of-least.ensures c.ends_of-own_least.ensures less)
+    c.ends_of-least.ensures.inside c.ends_of-own_least.ensures.inside less)

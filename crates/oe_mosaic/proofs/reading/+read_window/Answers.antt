@@ -2,7 +2,7 @@ use Rattle.std.proofs.Common.{◌≡◌, List, length, rules, subst, arith}
 use Rattle.oe_mosaic.specs.Mosaics.{Part, fault_counts, parts_of}
 use Rattle.oe_mosaic.specs.Readings.{IsAnswer, IsRead}
 use Rattle.oe_window.specs.Windows.{position_count}
-use Rattle.oe_mosaic.proofs.ReadLemmas.{back_answers, back_holds, fails_earlier, few_positions, front_fails, front_holds, half_counts, only_trans, parts_after}
+use Rattle.oe_mosaic.proofs.ReadLemmas.{back_answers, back_holds, fails_earlier, few_positions, front_fails, front_holds, half_counts, labels_after, only_trans, parts_after}
 use Rattle.oe_mosaic.proofs.reading.+read_window.Goals as goal
 
 pub size-requires : goal.size-requires
@@ -30,7 +30,8 @@ read_window-requires g t c κs within =
     let filled = halves.front_filled in
     let room : length c.split_at_mut-first.result.0.now ≡ position_count front = omega (arith, c.split_at_mut-first.ensures.front_len, c.size.ensures.value) in
     let parts = parts_after seen items tried c.try_window.ensures.reads c.requires.parts in
-    (omega arith, search (rules, within, inside, filled, room, parts) depth 24)
+    let labels = labels_after seen items tried d c.try_window.ensures.reads c.requires.labels in
+    (omega arith, search (rules, within, inside, filled, room, parts, labels) depth 28)
 
 pub read_window-requires-in-Ok : goal.read_window-requires-in-Ok
 read_window-requires-in-Ok g t c κs within =
@@ -48,7 +49,8 @@ read_window-requires-in-Ok g t c κs within =
     let filled = halves.back_filled in
     let room : length c.split_at_mut-first.result.1.now ≡ position_count back = omega (arith, c.split_at_mut-first.ensures.back_len, c.size.ensures.value, count, c.try_window.auto.into, c.requires.room) in
     let parts = parts_after seen tried c.read_window.new.items c.read_window.ensures.reads (parts_after seen items tried c.try_window.ensures.reads c.requires.parts) in
-    (omega arith, search (rules, within, inside, filled, room, parts) depth 24)
+    let labels = labels_after seen tried c.read_window.new.items d c.read_window.ensures.reads (labels_after seen items tried d c.try_window.ensures.reads c.requires.labels) in
+    (omega arith, search (rules, within, inside, filled, room, parts, labels) depth 28)
 
 pub returns-in-Ok-clause-answer : goal.returns-in-Ok-clause-answer
 returns-in-Ok-clause-answer g t c =

@@ -2,10 +2,12 @@ use Rattle.std.proofs.Common.{◌≡◌, List, length, vec_len, sym, ap, subst, 
 use Rattle.std.specs.Vec.{with_items}
 use Rattle.std.proofs.lemmas.List.{with_items_is}
 use Rattle.oe_dims.specs.Dimensions.{Dimensions}
+use Rattle.oe_mosaic.specs.MosaicLaws.{HasAllLabels}
 use Rattle.oe_mosaic.specs.Mosaics.{fault_counts, mosaic_source, parts_of}
 use Rattle.oe_mosaic.specs.MosaicStates.{MosaicState, source_of}
 use Rattle.oe_mosaic.specs.PartFaults.{SomeRose}
 use Rattle.oe_mosaic.specs.Readings.{IsAnswer, OnlyReads}
+use Rattle.oe_mosaic.proofs.LawLemmas.{have_all_labels}
 use Rattle.oe_mosaic.proofs.MosaicLemmas.{failed_rose, reads_at}
 use Rattle.oe_sources.specs.Source.{Reads, asked_after}
 use Rattle.oe_window.specs.Windows.{Holds, position_count, whole_window}
@@ -16,6 +18,14 @@ read_any-requires-clause-inside g c =
     let seen = g.S.CubeSource.seen in
     subst (λ (e : Dimensions). Holds (whole_window e) c.args.window.now) (sym c.self.invariant.1)
     (subst (λ (m : MosaicState _). Holds (whole_window (source_of seen m).shape) c.args.window.now) (sym c.self.view_is) c.requires.inside)
+
+pub read_any-requires-clause-labels : goal.read_any-requires-clause-labels
+read_any-requires-clause-labels g c =
+    let seen = g.S.CubeSource.seen in
+    let items = c.self.inside.items.items in
+    subst (λ (l : List _). HasAllLabels (parts_of seen l) c.self.inside.shape) (sym c.as_mut_slice.ensures.value)
+    (subst (HasAllLabels (parts_of seen items)) (sym c.self.invariant.1)
+    (have_all_labels (parts_of seen items) (λ part in_. (c.self.invariant.0.sound part in_).valid)))
 
 pub returns-clause-reads : goal.returns-clause-reads
 returns-clause-reads g c =
