@@ -14,6 +14,7 @@ pub mod CubeLemmas
 pub mod DoneLemmas
 pub mod NextChunkLemmas
 pub mod WrittenLemmas
+pub mod PartLemmas
 pub mod RenderLemmas
 pub mod CatalogueLemmas
 pub mod LawLemmas

@@ -20,7 +20,7 @@ use Rattle.oe_shape.specs.Graphs.{Collections}
 use Rattle.oe_shape.specs.Laws.{AreCollectionsOf}
 use Rattle.oe_shape.specs.Operations.{Outline}
 use Rattle.oe_shape.proofs.CheckedLemmas.{give_cubes}
-use Rattle.oe_spool.specs.Spooled.{HoldsRecord, IsInSome}
+use Rattle.oe_spool.specs.Spooled.{HoldsCube, HoldsRecord, IsInSome}
 use Rattle.oe_spool.proofs.CubeRecords.{cells_counted, cube_from_positions, cube_from_windows}
 use Rattle.oe_engine.specs.Runs.{HasDone, HasRunRecords, HasSome, RunOf, ShowsDone, chunk_total, chunks_from, result_cube, result_shape}
 use Rattle.oe_engine.proofs.GridLemmas.{all_inside}
@@ -48,6 +48,16 @@ list_of P (suc n) found =
 if_some : (X : Type 0) (store : Option (List ℕ)) → X → IfSome store (λ _. X)
 if_some X None x = tt
 if_some X (Some bytes) x = x
+
+-- cells whose records stand in visible bytes where those of a cube's cells stand are the cube's
+pub cells_of_cube : (bytes : List ℕ) (base : ℕ) (cube : Cube Cell) → HoldsCube (Some bytes) base cube → All IsCell cube.cells
+    → (count : ℕ) → count ≡ cell_count cube.shape → (cells : List Cell) → AreStored (Some bytes) base count cells → cells ≡ cube.cells
+cells_of_cube bytes base cube holds valid count same cells are =
+    let many : length cells ≡ length cube.cells = are.counted ∙ same ∙ sym holds.counted in
+    let long : length (records_of cells) ≡ length (records_of cube.cells) =
+    length-records_of cells ∙ ap (λ n. 17 * n) many ∙ sym (length-records_of cube.cells) in
+    records_of-injective cells cube.cells are.read.fit valid many
+    (sym are.read.held ∙ ap (λ n. take n (drop base bytes)) long ∙ holds.held)
 
 -- the record of a valid cell, that is not Over, stands at its number
 record IsStoredCell (store : Option (List ℕ)) (base k : ℕ) (c : Cell) : Type 0 where
@@ -116,14 +126,10 @@ module _ (p : PlanOf) (is : IsPlan p) (r : RunOf) (plan_is : r.plan ≡ p) (comp
     same_cells : (bytes : List ℕ) → HasDone r (Some bytes) cube → (cells : List Cell)
         → AreStored (Some bytes) r.base (cell_count (result_shape p)) cells → cells ≡ cube.cells
     same_cells bytes done cells are =
-        let held = (cube_from_windows (Some bytes) r.base cube (chunks_from r.plan 0 r.done) whole
-        (λ q h. all_done q (subst (λ d. IsPosition d q) of_shape h)) done.records).held in
-        let many : length cells ≡ length cube.cells =
-        are.counted ∙ ap cell_count (sym of_shape) ∙ sym (cells_counted cube whole) in
-        let long : length (records_of cells) ≡ length (records_of cube.cells) =
-        length-records_of cells ∙ ap (λ n. 17 * n) many ∙ sym (length-records_of cube.cells) in
-        records_of-injective cells cube.cells are.read.fit (valid_cells (Some bytes) done) many
-        (sym are.read.held ∙ ap (λ n. take n (drop r.base bytes)) long ∙ held)
+        cells_of_cube bytes r.base cube
+        (cube_from_windows (Some bytes) r.base cube (chunks_from r.plan 0 r.done) whole
+        (λ q h. all_done q (subst (λ d. IsPosition d q) of_shape h)) done.records)
+        (valid_cells (Some bytes) done) (cell_count (result_shape p)) (ap cell_count (sym of_shape)) cells are
 
     same_cube : (cells : List Cell) → cells ≡ cube.cells → cube_text (record { shape = result_shape p; cells = cells }) ≡ cube_text cube
     same_cube cells same =

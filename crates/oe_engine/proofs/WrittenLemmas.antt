@@ -1,5 +1,5 @@
--- What a run has written: the records of the chunks that are done, and of those of one round more.
-use Rattle.std.proofs.Common.{◌≡◌, ◌≢◌, ℕ, zero, suc, ◌+◌, ◌-◌, ◌<◌, ◌≤◌, List, [], ◌∷◌, ◌++◌, length, Option, Some, None, inl, inr, refl, sym, ap, ◌∙◌, subst, arith}
+-- What a part of a run has written: the records of its chunks that are done, and of those of one round more.
+use Rattle.std.proofs.Common.{◌≡◌, ◌≢◌, ℕ, zero, suc, ◌+◌, ◌-◌, ◌<◌, ◌≤◌, List, [], ◌∷◌, ◌++◌, length, Option, Some, None, inl, inr, refl, sym, ap, subst, arith}
 use Rattle.std.specs.List.{slice_get}
 use Rattle.oe_cell.specs.Cells.{IsCell}
 use Rattle.oe_cell.specs.Record.{record_of}
@@ -20,24 +20,21 @@ use Rattle.oe_spool.proofs.LeastLemmas.{least_of_lists}
 use Rattle.oe_window.specs.Cells.{cell_at, cells_on}
 use Rattle.oe_engine.specs.Benches.{BenchOf, IsDone, chunk_of}
 use Rattle.oe_engine.specs.Chunks.{EachBench, HasNoOver, HasOnChunk, HasRecordsOf, HasValidCells, IsAtDone, IsLeastOf}
-use Rattle.oe_engine.specs.Runs.{HasDone, HasRunRecords, HasSome, RunOf, chunks_from, result_cube, result_shape}
+use Rattle.oe_engine.specs.Parts.{HasPartDone, HasPartRecords, run_of}
+use Rattle.oe_engine.specs.Runs.{HasSome, PartRunOf, chunks_from, result_cube, result_shape}
 use Rattle.oe_engine.proofs.DoneLemmas.{cell_of_window, given_on, on_result}
 use Rattle.oe_engine.proofs.GridLemmas.{IsInOne, chunks_apart, chunks_both, chunks_inside, in_one}
 
-abbrev pub run : PlanOf → ℕ → ℕ → ℕ → Option ℕ → RunOf
-run p base done evaluations over = record { plan = p; base = base; done = done; evaluations = evaluations; over = over }
-
--- at its start nothing is done of a run
-pub none_done : (p : PlanOf) (base evaluations : ℕ) (store : Option (List ℕ)) (cube : Cube Cell)
-    → HasDone (run p base 0 evaluations None) store cube
-none_done p base evaluations store cube = record {
-  records = λ q h. absurd h;
-  valid = λ q h. absurd h;
-  least = λ q h. absurd h;
+abbrev pub part : PlanOf → ℕ → ℕ → ℕ → ℕ → ℕ → Option ℕ → PartRunOf
+part p base first total done evaluations over = record {
+  plan = p;
+  base = base;
+  first = first;
+  count = total;
+  done = done;
+  evaluations = evaluations;
+  over = over;
 }
-
-pub none_recorded : (p : PlanOf) (base evaluations : ℕ) (store : Option (List ℕ)) → HasRunRecords (run p base 0 evaluations None) store
-none_recorded p base evaluations store q h = absurd h
 
 pub none_first : (a b : Option ℕ) → lesser_of a b ≡ None → a ≡ None
 none_first None b e = refl
@@ -71,105 +68,103 @@ record HasWritten (p : PlanOf) (store : Option (List ℕ)) (base k : ℕ) (b : B
   records : HasRecordsOf p store base k b
   valid : HasValidCells p k b
 
-module _ (p : PlanOf) (is : IsPlan p) (base done before after count : ℕ) (over : Option ℕ) (old new : Option (List ℕ))
-    (changes : ChangesOnly base (result_shape p) (IsInSome (chunks_from p done count)) old new) where
-  none_more : 0 + done ≤ done
+module _ (p : PlanOf) (is : IsPlan p) (base first total done before after count : ℕ) (over : Option ℕ) (old new : Option (List ℕ))
+    (changes : ChangesOnly base (result_shape p) (IsInSome (chunks_from p (first + done) count)) old new) where
+  none_more : first + done ≤ first + done
   none_more = omega arith
 
   -- ---- what stands stays
 
-  records_left : (cube : Cube Cell) → cube.shape ≡ result_shape p → HoldsRecords old base cube (IsInSome (chunks_from p 0 done))
-      → HoldsRecords new base cube (IsInSome (chunks_from p 0 done))
+  records_left : (cube : Cube Cell) → cube.shape ≡ result_shape p → HoldsRecords old base cube (IsInSome (chunks_from p first done))
+      → HoldsRecords new base cube (IsInSome (chunks_from p first done))
   records_left cube of_shape held =
-      others_kept old new base cube (IsInSome (chunks_from p 0 done)) (IsInSome (chunks_from p done count))
-      (λ q h. subst (λ d. IsPosition d q) (sym of_shape) (chunks_inside p is 0 done q h))
-      (λ q h. subst (λ d. IsPosition d q) (sym of_shape) (chunks_inside p is done count q h))
-      (chunks_apart p is 0 done done count none_more)
-      (subst (λ d. ChangesOnly base d (IsInSome (chunks_from p done count)) old new) (sym of_shape) changes) held
+      others_kept old new base cube (IsInSome (chunks_from p first done)) (IsInSome (chunks_from p (first + done) count))
+      (λ q h. subst (λ d. IsPosition d q) (sym of_shape) (chunks_inside p is first done q h))
+      (λ q h. subst (λ d. IsPosition d q) (sym of_shape) (chunks_inside p is (first + done) count q h))
+      (chunks_apart p is first done (first + done) count none_more)
+      (subst (λ d. ChangesOnly base d (IsInSome (chunks_from p (first + done) count)) old new) (sym of_shape) changes) held
 
-  some_left : (least : Option ℕ) (q : Position) → (least ≡ None → over ≡ None) → (later : ℕ) → IsInSome (chunks_from p 0 done) q
-      → HasSome (run p base done before over) old q → HasSome (run p base later after least) new q
+  some_left : (least : Option ℕ) (q : Position) → (least ≡ None → over ≡ None) → (later : ℕ) → IsInSome (chunks_from p first done) q
+      → HasSome (run_of (part p base first total done before over)) old q → HasSome (run_of (part p base first total later after least)) new q
   some_left least q none later h some = record {
     cell = some.cell;
     valid = some.valid;
-    held = store_piece_kept (IsRecordByte base (result_shape p) (IsInSome (chunks_from p done count))) old new
+    held = store_piece_kept (IsRecordByte base (result_shape p) (IsInSome (chunks_from p (first + done) count))) old new
         (record_offset base (number_of (result_shape p) q)) (record_of some.cell) changes
-        (λ k low high. no_common_byte base (result_shape p) (IsInSome (chunks_from p 0 done)) (IsInSome (chunks_from p done count))
-        (chunks_inside p is 0 done) (chunks_inside p is done count) (chunks_apart p is 0 done done count none_more) k
+        (λ k low high. no_common_byte base (result_shape p) (IsInSome (chunks_from p first done)) (IsInSome (chunks_from p (first + done) count))
+        (chunks_inside p is first done) (chunks_inside p is (first + done) count) (chunks_apart p is first done (first + done) count none_more) k
         (record { p = q; inside = h; begun = low; before = omega (arith, length-record_of some.cell) })) some.held;
     numbered = λ e. some.numbered (none e);
   }
 
-  -- the records of a cube, where the run goes on from the same chunks
-  pub done_stays : (cube : Cube Cell) → cube.shape ≡ result_shape p → HasDone (run p base done before over) old cube
-      → HasDone (run p base done after over) new cube
+  -- the records of a cube, where the part goes on from the same chunks
+  pub done_stays : (cube : Cube Cell) → cube.shape ≡ result_shape p → HasPartDone (part p base first total done before over) old cube
+      → HasPartDone (part p base first total done after over) new cube
   done_stays cube of_shape h = record { records = records_left cube of_shape h.records; valid = h.valid; least = h.least }
 
   -- the records of some cells
-  pub records_stay : HasRunRecords (run p base done before over) old → HasRunRecords (run p base done after over) new
+  pub records_stay : HasPartRecords (part p base first total done before over) old → HasPartRecords (part p base first total done after over) new
   records_stay records q h = some_left over q (λ e. e) done h (records q h)
 
   -- ---- the records of one round more
 
-  all_chunks : chunks_from p 0 (done + count) ≡ chunks_from p 0 done ++ chunks_from p done count
-  all_chunks =
-      let none : 0 + done ≡ done = omega arith in
-      chunks_both p 0 done count ∙ ap (λ from. chunks_from p 0 done ++ chunks_from p from count) none
+  all_chunks : chunks_from p first (done + count) ≡ chunks_from p first done ++ chunks_from p (first + done) count
+  all_chunks = chunks_both p first done count
 
   module _ (benches : List BenchOf) (many : length benches ≡ count)
-      (written : EachBench done (HasRecordsOf p new base) benches) (valid : EachBench done (HasValidCells p) benches)
-      (least : Option ℕ) (is_least : IsLeastOf p done benches least) where
-    each_written : EachBench done (HasWritten p new base) benches
+      (written : EachBench (first + done) (HasRecordsOf p new base) benches) (valid : EachBench (first + done) (HasValidCells p) benches)
+      (least : Option ℕ) (is_least : IsLeastOf p (first + done) benches least) where
+    each_written : EachBench (first + done) (HasWritten p new base) benches
     each_written i b at = record { records = written i b at; valid = valid i b at }
 
     -- of a cube that has the cells of the benches
-    pub done_more : (cube : Cube Cell) → cube.shape ≡ result_shape p → EachBench done (HasOnChunk p cube) benches
-        → HasDone (run p base done before over) old cube → HasDone (run p base (done + count) after (lesser_of over least)) new cube
+    pub done_more : (cube : Cube Cell) → cube.shape ≡ result_shape p → EachBench (first + done) (HasOnChunk p cube) benches
+        → HasPartDone (part p base first total done before over) old cube → HasPartDone (part p base first total (done + count) after (lesser_of over least)) new cube
     done_more cube of_shape on h = record {
-      records = λ q among. elim (in_either (chunks_from p 0 done) (chunks_from p done count) q (subst (λ ws. IsInSome ws q) all_chunks among)) [
+      records = λ q among. elim (in_either (chunks_from p first done) (chunks_from p (first + done) count) q (subst (λ ws. IsInSome ws q) all_chunks among)) [
         | inl earlier ↦ records_left cube of_shape h.records q earlier
         | inr later ↦
-            let one = in_one p done count q later in
+            let one = in_one p (first + done) count q later in
             let most = one.most in
             let long = many in
-            let b = bench_of done (λ k b. HasWritten p new base k b × HasOnChunk p cube k b) benches
+            let b = bench_of (first + done) (λ k b. HasWritten p new base k b × HasOnChunk p cube k b) benches
             (λ i b at. (each_written i b at, on i b at)) one.chunk one.least (omega arith) in
             b.holds.0.records cube b.holds.1 q one.inside
       ];
-      valid = λ q among. elim (in_either (chunks_from p 0 done) (chunks_from p done count) q (subst (λ ws. IsInSome ws q) all_chunks among)) [
+      valid = λ q among. elim (in_either (chunks_from p first done) (chunks_from p (first + done) count) q (subst (λ ws. IsInSome ws q) all_chunks among)) [
         | inl earlier ↦ h.valid q earlier
         | inr later ↦
-            let one = in_one p done count q later in
+            let one = in_one p (first + done) count q later in
             let most = one.most in
             let long = many in
-            let b = bench_of done (λ k b. HasWritten p new base k b × HasOnChunk p cube k b) benches
+            let b = bench_of (first + done) (λ k b. HasWritten p new base k b × HasOnChunk p cube k b) benches
             (λ i b at. (each_written i b at, on i b at)) one.chunk one.least (omega arith) in
             cell_of_window IsCell cube (chunk_of p one.chunk) q one.inside
             (b.holds.0.valid (cells_on Empty cube (chunk_of p one.chunk)) b.holds.1.cells)
       ];
       least = subst (λ ws. IsLeastOver cube (IsInSome ws) (lesser_of over least)) (sym all_chunks)
-          (least_of_lists cube (chunks_from p 0 done) (chunks_from p done count) over least h.least
-          (subst (λ n. IsLeastOver cube (IsInSome (chunks_from p done n)) least) many (is_least.of_cubes cube on)));
+          (least_of_lists cube (chunks_from p first done) (chunks_from p (first + done) count) over least h.least
+          (subst (λ n. IsLeastOver cube (IsInSome (chunks_from p (first + done) n)) least) many (is_least.of_cubes cube on)));
     }
 
     -- of the result's cube over collections for which they are done
-    pub values_more : (collections : Collections) → AreCollectionsOf p.graph collections → EachBench done (IsDone p collections) benches
-        → HasDone (run p base done before over) old (result_cube collections p)
-        → HasDone (run p base (done + count) after (lesser_of over least)) new (result_cube collections p)
+    pub values_more : (collections : Collections) → AreCollectionsOf p.graph collections → EachBench (first + done) (IsDone p collections) benches
+        → HasPartDone (part p base first total done before over) old (result_cube collections p)
+        → HasPartDone (part p base first total (done + count) after (lesser_of over least)) new (result_cube collections p)
     values_more collections has each h =
         done_more (result_cube collections p)
         (ap (λ (o : Outline). o.shape)
         (give_cubes.cube p.graph is.faultless collections has p.graph.result is.faultless.has_result).outline_is)
-        (λ i b at. on_result p is (done + i) b collections has (each i b at)) h
+        (λ i b at. on_result p is (first + done + i) b collections has (each i b at)) h
 
     -- of some cells
-    some_more : EachBench done (IsAtDone p) benches → (q : Position) → IsInOne p done count q
-        → HasSome (run p base (done + count) after (lesser_of over least)) new q
+    some_more : EachBench (first + done) (IsAtDone p) benches → (q : Position) → IsInOne p (first + done) count q
+        → HasSome (run_of (part p base first total (done + count) after (lesser_of over least))) new q
     some_more each q one =
         let most = one.most in
         let long = many in
         let k = one.chunk in
-        let b = bench_of done (λ k b. IsAtDone p k b × HasWritten p new base k b × (least ≡ None → HasNoOver p k b)) benches
+        let b = bench_of (first + done) (λ k b. IsAtDone p k b × HasWritten p new base k b × (least ≡ None → HasNoOver p k b)) benches
         (λ i b at. (each i b at, each_written i b at, λ e. is_least.none e i b at)) k one.least (omega arith) in
         let given = given_on p is k b.bench b.holds.0 in
         let cells = cells_on Empty given.0 (chunk_of p k) in
@@ -182,10 +177,10 @@ module _ (p : PlanOf) (is : IsPlan p) (base done before after count : ℕ) (over
               (b.holds.2 (none_second over least e) cells given.1.cells);
         }
 
-    pub records_more : EachBench done (IsAtDone p) benches → HasRunRecords (run p base done before over) old
-        → HasRunRecords (run p base (done + count) after (lesser_of over least)) new
+    pub records_more : EachBench (first + done) (IsAtDone p) benches → HasPartRecords (part p base first total done before over) old
+        → HasPartRecords (part p base first total (done + count) after (lesser_of over least)) new
     records_more each records q among =
-        elim (in_either (chunks_from p 0 done) (chunks_from p done count) q (subst (λ ws. IsInSome ws q) all_chunks among)) [
+        elim (in_either (chunks_from p first done) (chunks_from p (first + done) count) q (subst (λ ws. IsInSome ws q) all_chunks among)) [
           | inl earlier ↦ some_left (lesser_of over least) q (none_first over least) (done + count) earlier (records q earlier)
-          | inr later ↦ some_more each q (in_one p done count q later)
+          | inr later ↦ some_more each q (in_one p (first + done) count q later)
         ]

@@ -2,6 +2,7 @@ pub mod Benches
 pub mod Runs
 pub mod Rounds
 pub mod Loads
+pub mod Parts
 pub mod Workspaces
 pub mod Chunks
 pub mod Hulls

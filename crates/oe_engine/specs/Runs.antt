@@ -31,6 +31,16 @@ pub record RunOf : Type 0 where
   pub evaluations : ℕ
   pub over : Option ℕ
 
+-- what contracts see of a part of a run: so many of its chunks, from a first one on, of which so many are done
+pub record PartRunOf : Type 0 where
+  pub plan : PlanOf
+  pub base : ℕ
+  pub first : ℕ
+  pub count : ℕ
+  pub done : ℕ
+  pub evaluations : ℕ
+  pub over : Option ℕ
+
 -- how many chunks a plan has
 abbrev pub chunk_total : PlanOf → ℕ
 chunk_total p = chunks_of p.graph p.size

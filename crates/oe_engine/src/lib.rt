@@ -13,6 +13,7 @@ mod hulls;
 mod laws;
 mod lead;
 mod over;
+mod part_run;
 mod round_table;
 mod rounds;
 mod steps;
@@ -28,5 +29,6 @@ pub use laws::{
 };
 pub use oe_steps::RunFail;
 pub use over::first_over;
+pub use part_run::PartRun;
 pub use rounds::{Progress, Run};
 pub use workspace::Workspace;

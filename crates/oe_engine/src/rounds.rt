@@ -1,8 +1,5 @@
 // A run: rounds of chunks, from collections to the records of a spool.
-use crate::bench::Bench;
-use crate::chunks::{least_of_chunks, write_chunks};
-use crate::round_table::Crew;
-use crate::taken::{evaluate_taken, load_taken};
+use crate::part_run::PartRun;
 use crate::workspace::Workspace;
 use oe_dims::Shape;
 use oe_outside::{Gate, Pending, Sink, Store};
@@ -10,7 +7,6 @@ use oe_plan::Plan;
 use oe_render::RenderFail;
 use oe_shape::Checked;
 use oe_sources::Catalogue;
-use oe_spool::lesser;
 use oe_steps::RunFail;
 use std::marker::Model;
 use std::thread::Threads;
@@ -24,23 +20,16 @@ pub enum Progress {
     Complete,
 }
 
-/// A plan that is carried out in a workspace. From its start on nothing takes memory, but for what the system takes for
-/// a thread.
+/// A plan that is carried out in a workspace: the part of its run that has all chunks. From its start on nothing takes
+/// memory, but for what the system takes for a thread.
 #[derive(Drop)]
 pub struct Run {
-    plan: Plan,
-    benches: Vec<Bench>,
-    crew: Crew,
-    base: u64,
-    done: u64,
-    evaluations: u64,
-    over: Option<u64>,
+    part: PartRun,
 }
 
 impl Model for Run {
-    ghost use Rattle.std.specs.Prelude.{◌≡◌, ◌≤◌, ◌^◌};
-    ghost use Rattle.oe_engine.specs.Runs.{RunOf, chunk_total};
-    ghost use Rattle.oe_engine.specs.Workspaces.{AreBenchesFor};
+    ghost use Rattle.oe_engine.specs.Parts.{IsWhole, run_of};
+    ghost use Rattle.oe_engine.specs.Runs.{RunOf};
     ghost use Rattle.oe_expr.specs.Codes.{nodes_code};
     ghost use Rattle.std.specs.Coded.{codes};
 
@@ -48,16 +37,9 @@ impl Model for Run {
 
     ghost coded = { Prim.hlevel (codes, nodes_code (Prim.hlevel codes)) };
 
-    ghost view = { λ r. record {
-      plan = r.plan;
-      base = r.base;
-      done = r.done;
-      evaluations = r.evaluations;
-      over = r.over;
-    } };
+    ghost view = { λ r. run_of r.part };
 
-    ghost invariant = { λ r. (r.base ≤ 2 ^ 62) × (r.done ≤ chunk_total r.plan)
-        × AreBenchesFor r.plan r.benches.items × (r.crew ≡ r.plan.workers) };
+    ghost invariant = { λ r. IsWhole r.part };
 }
 
 impl Run {
@@ -87,15 +69,9 @@ impl Run {
         ensures { result
             ≡ record { plan = plan; base = base; done = 0; evaluations = 0; over = None } }
     {
-        let (benches, crew) = workspace.into_parts();
+        let chunks = plan.chunks();
         Run {
-            plan,
-            benches,
-            crew,
-            base,
-            done: 0,
-            evaluations: 0,
-            over: None,
+            part: PartRun::start(plan, workspace, base, 0, chunks),
         }
     }
 
@@ -122,29 +98,7 @@ impl Run {
         ensures causes { HasCauses self.old (rows_of seen catalogue.old)
             (rows_of seen catalogue.new) (P.faults spool.old) (P.faults spool.new) result }
     {
-        let left = self.plan.chunks() - self.done;
-        let count = left.min(self.benches.len() as u64);
-        let end = count as usize;
-        load_taken(&self.plan, &mut self.benches, end, catalogue, self.done)?;
-        self.evaluations = evaluate_taken(
-            rt,
-            &mut self.crew,
-            &self.plan,
-            &mut self.benches,
-            end,
-            gate,
-            self.done,
-            self.evaluations,
-        );
-        let benches = &self.benches[..end];
-        write_chunks(&self.plan, benches, spool, self.base, self.done)?;
-        self.over = lesser(self.over, least_of_chunks(&self.plan, benches, self.done));
-        self.done += count;
-        if count == left {
-            Ok(Progress::Complete)
-        } else {
-            Ok(Progress::More)
-        }
+        self.part.round(rt, catalogue, spool, gate)
     }
 
     /// Whether no cell of the result is out of the range of numbers.
@@ -154,7 +108,7 @@ impl Run {
         requires { self.now.done ≡ chunk_total self.now.plan }
         ensures { result ≡ overflow_of self.now.over }
     {
-        match self.over {
+        match self.part.over() {
             Some(number) => Err(RunFail::Overflow(number)),
             None => Ok(()),
         }
@@ -206,9 +160,9 @@ impl Run {
         ensures same { P.bytes spool.new ≡ P.bytes spool.old }
         ensures run { self.new ≡ self.old }
     {
-        // A plan has a worker at least, so that there is a bench.
-        let _workers = self.plan.workers();
-        self.benches[0].render(&self.plan, spool, self.base, out, pending)
+        // A plan is valid.
+        let _workers = self.part.plan().workers();
+        self.part.render(spool, out, pending)
     }
 
     /// How many chunks it has, up to 2^48.
@@ -216,7 +170,7 @@ impl Run {
         ensures value { result ≡ chunk_total self.now.plan }
         ensures most { result ≤ 2 ^ 48 }
     {
-        self.plan.chunks()
+        self.part.plan().chunks()
     }
 
     /// How many of them are done.
@@ -224,7 +178,7 @@ impl Run {
         ensures value { result ≡ self.now.done }
         ensures most { result ≤ chunk_total self.now.plan }
     {
-        self.done
+        self.part.done()
     }
 
     /// The byte of the spool at which its records end, one of 17 bytes for each cell of the result: those of another
@@ -233,27 +187,27 @@ impl Run {
         ensures value { result ≡ spec.records_end self.now }
         ensures most { result ≤ self.now.base + 2 ^ 45 }
     {
-        self.base + 17 * self.plan.shape().cells()
+        self.part.base() + 17 * self.part.plan().shape().cells()
     }
 
     /// How many chunks were evaluated, up to 2^64 − 1.
     pub fn evaluations(&self) -> u64
         ensures { result ≡ self.now.evaluations }
     {
-        self.evaluations
+        self.part.evaluations()
     }
 
     /// The shape of the result.
     pub fn shape(&self) -> &Shape
         ensures { result.now ≡ shape_of_node self.now.plan.graph self.now.plan.graph.result }
     {
-        self.plan.shape()
+        self.part.plan().shape()
     }
 
     /// The graph.
     pub fn checked(&self) -> &Checked
         ensures { result.now ≡ self.now.plan.graph }
     {
-        self.plan.checked()
+        self.part.plan().checked()
     }
 }

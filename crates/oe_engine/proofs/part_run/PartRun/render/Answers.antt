@@ -1,0 +1,54 @@
+use Rattle.std.proofs.Common.{IfErr, OnErr, OnOk, sym, ◌∙◌, subst}
+use Rattle.std.proofs.lemmas.List.{length-set}
+use Rattle.std.proofs.lemmas.List.Elements.{All-set}
+use Rattle.oe_dims.specs.Dimensions.{cell_count}
+use Rattle.oe_render.specs.Rendered.{AppendsCube, AppendsCubePrefix, CountsCube, CountsCubePrefix, IsRefusalWithin}
+use Rattle.oe_render.specs.Stored.{HasCells}
+use Rattle.oe_engine.specs.Benches.{IsBenchFor}
+use Rattle.oe_engine.specs.Runs.{PartRunOf, result_shape}
+use Rattle.oe_engine.proofs.part_run.PartRun.render.Goals as goal
+
+pub render-requires-clause-stored : goal.render-requires-clause-stored
+render-requires-clause-stored g c =
+    subst (λ (r : PartRunOf). HasCells (g.P.Store.bytes c.args.spool.now) r.base (cell_count (result_shape r.plan)))
+    (sym c.self.view_is) c.requires.stored
+
+pub returns-clause-text : goal.returns-clause-text
+returns-clause-text g c =
+    subst (λ (r : PartRunOf). OnOk c.render.result (AppendsCube (g.P.Store.bytes c.args.spool.now) r.base (result_shape r.plan)
+    (g.O.Sink.written c.args.out.now) (g.O.Sink.written c.render.new.out))) c.self.view_is c.render.ensures.text
+
+pub returns-clause-prefix : goal.returns-clause-prefix
+returns-clause-prefix g c =
+    subst (λ (r : PartRunOf). OnErr c.render.result (AppendsCubePrefix (g.P.Store.bytes c.args.spool.now) r.base (result_shape r.plan)
+    (g.O.Sink.written c.args.out.now) (g.O.Sink.written c.render.new.out))) c.self.view_is c.render.ensures.prefix
+
+pub returns-clause-counted : goal.returns-clause-counted
+returns-clause-counted g c =
+    subst (λ (r : PartRunOf). OnOk c.render.result (CountsCube (g.P.Store.bytes c.args.spool.now) r.base (result_shape r.plan)
+    (g.O.Sink.size c.args.out.now) (g.O.Sink.size c.render.new.out))) c.self.view_is c.render.ensures.counted
+
+pub returns-clause-counted_prefix : goal.returns-clause-counted_prefix
+returns-clause-counted_prefix g c =
+    subst (λ (r : PartRunOf). OnErr c.render.result (CountsCubePrefix (g.P.Store.bytes c.args.spool.now) r.base (result_shape r.plan)
+    (g.O.Sink.size c.args.out.now) (g.O.Sink.size c.render.new.out))) c.self.view_is c.render.ensures.counted_prefix
+
+pub returns-clause-damage : goal.returns-clause-damage
+returns-clause-damage g c =
+    subst (λ (r : PartRunOf). IfErr c.render.result (IsRefusalWithin (g.P.Store.bytes c.args.spool.now) 0
+    (cell_count (result_shape r.plan)))) c.self.view_is c.render.ensures.damage
+
+pub invariant_of-self : goal.invariant_of-self
+invariant_of-self g c =
+    let p = c.self.inside.plan in
+    let benches = c.self.inside.benches.items in
+    let made = c.self.invariant.3 in (
+      c.self.invariant.0,
+      c.self.invariant.1,
+      c.self.invariant.2,
+      record {
+        as_many = length-set benches 0 c.render.new.self ∙ made.as_many;
+        each = All-set (IsBenchFor p) benches 0 c.render.new.self c.render.ensures.bench made.each;
+      },
+      c.self.invariant.4,
+    )
