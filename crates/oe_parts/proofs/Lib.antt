@@ -1,0 +1,26 @@
+pub mod CellLemmas
+pub mod ChangedLemmas
+pub mod ChunkLemmas
+pub mod FileLemmas
+pub mod HeadOne
+pub mod HeadSizes
+pub mod HeadText
+pub mod LaidLemmas
+pub mod LayLemmas
+pub mod LaySteps
+pub mod OpenLemmas
+pub mod PartSizes
+pub mod PartSteps
+pub mod PartedTexts
+pub mod ReadLemmas
+pub mod RowLaidLemmas
+pub mod RowLemmas
+pub mod RowSteps
+pub mod SentLemmas
+pub mod ShownLemmas
+pub mod SizeLemmas
+pub mod SliceLemmas
+pub mod SoundLemmas
+pub mod WholeLemmas
+pub mod WriteLemmas
+mod Worked

@@ -1,0 +1,117 @@
+use Rattle.std.proofs.Common.{◌≡◌, ◌<◌, ◌+◌, ◌*◌, ℕ, List, Option, Ok, length, take, drop, sym, ap, ◌∙◌, subst, arith}
+use Rattle.std.proofs.lemmas.List.{length-take}
+use Rattle.oe_cell.specs.Record.{records_of}
+use Rattle.oe_cell.specs.declared.cell.Cell.{Cell}
+use Rattle.oe_cell.specs.declared.cell.Cell.TheVariants.{Empty}
+use Rattle.oe_outside.proofs.Causes.{NeverFalls-trans}
+use Rattle.oe_render.specs.Rendered.{HasRendered}
+use Rattle.oe_window.specs.Cells.{cells_on}
+use Rattle.oe_window.specs.Parts.{row_count, row_of}
+use Rattle.oe_window.specs.Windows.{position_count, span_length}
+use Rattle.oe_window.proofs.WholeLemmas.{count_within}
+use Rattle.oe_parts.specs.Rows.{Shows}
+use Rattle.oe_parts.specs.Spooled.{TellsNoRecordFrom}
+use Rattle.oe_parts.proofs.ShownLemmas.{row_size, rows_all, rows_more}
+use Rattle.oe_parts.proofs.WriteLemmas.{cause_then, row_refuses, row_text, rows_rest, text_more, text_stops}
+use Rattle.oe_parts.proofs.write.write_chunk.Goals as goal
+
+pub rows-number-end-requires : goal.rows-number-end-requires
+rows-number-end-requires g c =
+    omega (arith, count_within c.args.shape.now c.args.window.now c.requires.within, c.cells-cells.ensures.value, c.cells-cells.ensures.most)
+
+pub write_row-requires-clause-few : goal.write_row-requires-clause-few
+write_row-requires-clause-few g c =
+    let d = c.args.shape.now in
+    let w = c.args.window.now in
+    let n = c.loop-number.number in
+    let row = c.row_at-first.result.0 in
+    let first = c.row_at-first.result.1 in
+    let is = c.row_at-first.ensures.row in
+    let numbers = c.row_at-first.ensures.numbers in
+    let below : n < row_count w = omega (arith, c.loop-number-test.true, c.rows-number-end.ensures.value) in
+    let count : position_count row ≡ span_length w.x = row_size w row n is in
+    let size : length (take c.size-count.result c.loop-number.cells) ≡ position_count row = omega (arith, length-take c.size-count.result c.loop-number.cells, c.size-count.ensures.value, c.loop-number.auto.cells, c.requires.cells, c.requires.short, count) in
+    omega (arith, size, c.row_at-first.ensures.end, c.cells-cells.ensures.value, c.cells-cells.ensures.most)
+
+pub returns-in-Err-clause-sent : goal.returns-in-Err-clause-sent
+returns-in-Err-clause-sent g c cube same shown =
+    let d = c.args.shape.now in
+    let w = c.args.window.now in
+    let n = c.loop-number.number in
+    let row = c.row_at-first.result.0 in
+    let first = c.row_at-first.result.1 in
+    let is = c.row_at-first.ensures.row in
+    let numbers = c.row_at-first.ensures.numbers in
+    let below : n < row_count w = omega (arith, c.loop-number-test.true, c.rows-number-end.ensures.value) in
+    let count : position_count row ≡ span_length w.x = row_size w row n is in
+    let size : length (take c.size-count.result c.loop-number.cells) ≡ position_count row = omega (arith, length-take c.size-count.result c.loop-number.cells, c.size-count.ensures.value, c.loop-number.auto.cells, c.requires.cells, c.requires.short, count) in
+    let cells = cells_on Empty cube w in
+    let len = span_length w.x in
+    let spool = g.P.Store.bytes c.args.spool.now in
+    let text = row_text spool c.args.base first n cube d w row same is numbers below shown in
+    let shows : Shows (g.P.Store.bytes c.loop-number.spool) (c.args.base + 17 * first) (cells_on Empty cube (row_of w n)) = subst (λ (o : Option (List ℕ)). Shows o (c.args.base + 17 * first) (cells_on Empty cube (row_of w n))) (sym c.loop-number.invariant.same) text.shown in
+    text_stops g.O.Sink.written g.O.Sink.size g.O.Sink.faults c.args.out.now c.loop-number.out c.write_row.new.out c.args.pending.now c.loop-number.pending c.write_row.new.pending
+    (records_of (take (n * len) cells)) (records_of (cells_on Empty cube (row_of w n))) (records_of (take ((n + 1) * len) cells)) (records_of (drop ((n + 1) * len) cells)) (records_of cells) c.in-Err.fail
+    (rows_more cube w n below) (rows_rest cube w n) (c.loop-number.invariant.sent cube same shown)
+    (c.in-Err.ensures.sent (cells_on Empty cube (row_of w n)) text.valid (text.long ∙ sym size) shows)
+
+pub returns-in-Err-clause-spool_cause : goal.returns-in-Err-clause-spool_cause
+returns-in-Err-clause-spool_cause g c = cause_then c.loop-number.invariant.spool_falls c.in-Err.ensures.spool_cause
+
+pub returns-in-Err-clause-sink_cause : goal.returns-in-Err-clause-sink_cause
+returns-in-Err-clause-sink_cause g c = cause_then c.loop-number.invariant.sink_falls c.in-Err.ensures.sink_cause
+
+pub returns-in-Err-clause-damage : goal.returns-in-Err-clause-damage
+returns-in-Err-clause-damage g c =
+    let d = c.args.shape.now in
+    let w = c.args.window.now in
+    let n = c.loop-number.number in
+    let row = c.row_at-first.result.0 in
+    let first = c.row_at-first.result.1 in
+    let is = c.row_at-first.ensures.row in
+    let numbers = c.row_at-first.ensures.numbers in
+    let below : n < row_count w = omega (arith, c.loop-number-test.true, c.rows-number-end.ensures.value) in
+    let count : position_count row ≡ span_length w.x = row_size w row n is in
+    let size : length (take c.size-count.result c.loop-number.cells) ≡ position_count row = omega (arith, length-take c.size-count.result c.loop-number.cells, c.size-count.ensures.value, c.loop-number.auto.cells, c.requires.cells, c.requires.short, count) in
+    row_refuses (g.P.Store.bytes c.args.spool.now) c.args.base first n d w row c.in-Err.fail is numbers below
+    (subst (λ (o : Option (List ℕ)). TellsNoRecordFrom o c.args.base first (first + position_count row) c.in-Err.fail) c.loop-number.invariant.same
+    (subst (λ (m : ℕ). TellsNoRecordFrom (g.P.Store.bytes c.loop-number.spool) c.args.base first (first + m) c.in-Err.fail) size c.in-Err.ensures.damage))
+
+pub loop-number-preserved : goal.loop-number-preserved
+loop-number-preserved g c =
+    let d = c.args.shape.now in
+    let w = c.args.window.now in
+    let n = c.loop-number.number in
+    let row = c.row_at-first.result.0 in
+    let first = c.row_at-first.result.1 in
+    let is = c.row_at-first.ensures.row in
+    let numbers = c.row_at-first.ensures.numbers in
+    let below : n < row_count w = omega (arith, c.loop-number-test.true, c.rows-number-end.ensures.value) in
+    let count : position_count row ≡ span_length w.x = row_size w row n is in
+    let size : length (take c.size-count.result c.loop-number.cells) ≡ position_count row = omega (arith, length-take c.size-count.result c.loop-number.cells, c.size-count.ensures.value, c.loop-number.auto.cells, c.requires.cells, c.requires.short, count) in
+    record {
+      sent = λ cube same shown. (
+          let cells = cells_on Empty cube w in
+          let len = span_length w.x in
+          let spool = g.P.Store.bytes c.args.spool.now in
+          let text = row_text spool c.args.base first n cube d w row same is numbers below shown in
+          let shows : Shows (g.P.Store.bytes c.loop-number.spool) (c.args.base + 17 * first) (cells_on Empty cube (row_of w n)) = subst (λ (o : Option (List ℕ)). Shows o (c.args.base + 17 * first) (cells_on Empty cube (row_of w n))) (sym c.loop-number.invariant.same) text.shown in
+          text_more g.O.Sink.written g.O.Sink.size g.O.Sink.faults c.args.out.now c.loop-number.out c.write_row.new.out c.args.pending.now c.loop-number.pending c.write_row.new.pending
+          (records_of (take (n * len) cells)) (records_of (cells_on Empty cube (row_of w n))) (records_of (take ((n + 1) * len) cells))
+          (rows_more cube w n below) (c.loop-number.invariant.sent cube same shown)
+          (c.in-Ok.ensures.sent (cells_on Empty cube (row_of w n)) text.valid (text.long ∙ sym size) shows));
+      same = c.in-Ok.ensures.same ∙ c.loop-number.invariant.same;
+      spool_falls = NeverFalls-trans c.loop-number.invariant.spool_falls c.in-Ok.ensures.spool_cause.count;
+      sink_falls = NeverFalls-trans c.loop-number.invariant.sink_falls c.in-Ok.ensures.sink_cause.count;
+    }
+
+pub returns-clause-sent : goal.returns-clause-sent
+returns-clause-sent g c cube same shown =
+    let w = c.args.window.now in
+    let cells = cells_on Empty cube w in
+    let len = span_length w.x in
+    let rows = c.rows-number-end.result in
+    let last : c.loop-number.number ≡ rows = omega (arith, c.loop-number-test.false, c.loop-number.auto.number-end) in
+    let all : take (c.loop-number.number * len) cells ≡ cells = ap (λ (m : ℕ). take (m * len) cells) last ∙ rows_all cube w rows c.rows-number-end.ensures.all in
+    subst (λ (cs : List Cell). HasRendered g.O.Sink.written g.O.Sink.size g.O.Sink.faults c.args.out.now c.args.pending.now (records_of cs) c.loop-number.out c.loop-number.pending (Ok (tt {0}))) all
+    (c.loop-number.invariant.sent cube same shown)

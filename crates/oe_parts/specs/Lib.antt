@@ -1,0 +1,10 @@
+pub mod Changed
+pub mod Head
+pub mod HeadRead
+pub mod Laid
+pub mod Opening
+pub mod PartFile
+pub mod Parts
+pub mod Rows
+pub mod Spooled
+pub mod Whole

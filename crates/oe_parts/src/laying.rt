@@ -1,0 +1,308 @@
+// The records of parts laid into a spool, each at its number in the whole result.
+ghost use Rattle.std.specs.Prelude.{◌≡◌, ◌≤◌, ◌<◌, ◌+◌, ◌*◌, ◌^◌, List, IfErr, IfOk, OnOk, length};
+ghost use Rattle.std.specs.List.{All};
+ghost use Rattle.oe_cell.specs.Cells.{IsCell};
+ghost use Rattle.oe_cell.specs.Record.{records_of};
+ghost use Rattle.oe_cell.specs.declared.cell.Cell.{Cell};
+ghost use Rattle.oe_cell.specs.declared.cell.Cell.TheVariants.{Empty};
+ghost use Rattle.oe_dims.specs.Cube.{Cube};
+ghost use Rattle.oe_dims.specs.Positions.{IsPosition};
+ghost use Rattle.oe_outside.specs.Faults.{HasCauseOf, NeverFalls};
+ghost use Rattle.oe_outside.specs.Stored.{StaysOutside, StoreHolds};
+ghost use Rattle.oe_spool.specs.Spooled.{ChangesOnly};
+ghost use Rattle.oe_window.specs.Cells.{cells_on};
+ghost use Rattle.oe_window.specs.Runs.{window_numbers};
+ghost use Rattle.oe_window.specs.Windows.{Holds, IsIn, position_count, span_length, whole_window};
+ghost use Rattle.oe_parts.specs.Head.{IsPartHead};
+ghost use Rattle.oe_parts.specs.Laid.{AreLaid, HaveRecords, IsInPart, IsUndamaged, LayStops, Lays, PartStops, TellsPiece, TellsRow, fail_at};
+ghost use Rattle.oe_parts.specs.PartFile.{cells_on_all, chunks_of, part_cells, part_numbers};
+ghost use Rattle.oe_parts.specs.Parts.{ArePartsRead, IsPartRead, ShowsPartOf, heads_of};
+ghost use Rattle.oe_parts.specs.Rows.{HaveRecordsAt, Shows};
+ghost use Rattle.oe_parts.specs.Whole.{AreWhole};
+
+use crate::head::PartHead;
+use crate::part::RunPart;
+use crate::parts::RunParts;
+use crate::read::{BYTES, CELLS, ReadFail, read_cells};
+use crate::rows::row_at;
+use oe_cell::Cell;
+use oe_dims::Shape;
+use oe_outside::Store;
+use oe_spool::{least_over, lesser};
+use oe_window::{Window, size};
+
+/// Why the records of parts were not laid out.
+#[derive(Clone, Copy, PartialEq, Eq)]
+pub enum LayFail {
+    /// The part at an index could not be read: its fault counter rose.
+    PartFailed(usize),
+    /// What the part at an index has for the position of this row-major number of the result is no record.
+    PartDamaged { part: usize, number: u64 },
+    /// The spool could not be written: its fault counter rose.
+    SpoolFailed,
+}
+
+/// The same within one part.
+#[derive(Clone, Copy, PartialEq, Eq)]
+enum PieceFail {
+    Failed,
+    Damaged(u64),
+    SpoolFailed,
+}
+
+/// Lays the records of parts that are a whole into a spool, from byte `base` on, and answers the least row-major number
+/// of a cell that is `Over`. It takes no memory; the parts keep their bytes.
+///
+/// Refuses: `PartFailed` and `SpoolFailed` only where the fault counter of that part or of the spool rose; `PartDamaged`
+/// only with a position for which that part has no record.
+pub fn lay<S: Store + Drop, P: Store>(
+    parts: &mut RunParts<S>,
+    shape: &Shape,
+    spool: &mut P,
+    base: u64,
+) -> Result<Option<u64>, LayFail>
+    requires whole { (run : _) × (run.shape ≡ shape.now) × AreWhole run (heads_of parts.old) }
+    requires base { base ≤ 2 ^ 62 }
+    ensures laid { IfOk result (Lays base shape.now parts.old (P.bytes spool.new)) }
+    ensures stops { IfErr result (LayStops parts.old parts.new (P.faults spool.old)
+        (P.faults spool.new)) }
+    ensures read { ArePartsRead parts.old parts.new }
+    ensures changes { ChangesOnly base shape.now (IsPosition shape.now) (P.bytes spool.old)
+        (P.bytes spool.new) }
+    ensures count { NeverFalls (P.faults spool.old) (P.faults spool.new) }
+{
+    lay_all(parts.items.as_mut_slice(), shape, spool, base)
+}
+
+/// Lays out the records of all parts, one part behind the other.
+fn lay_all<S: Store + Drop, P: Store>(
+    parts: &mut [RunPart<S>],
+    shape: &Shape,
+    spool: &mut P,
+    base: u64,
+) -> Result<Option<u64>, LayFail>
+    requires whole { (run : _) × (run.shape ≡ shape.now) × AreWhole run (heads_of parts.old) }
+    requires base { base ≤ 2 ^ 62 }
+    ensures laid { IfOk result (Lays base shape.now parts.old (P.bytes spool.new)) }
+    ensures stops { IfErr result (LayStops parts.old parts.new (P.faults spool.old)
+        (P.faults spool.new)) }
+    ensures read { ArePartsRead parts.old parts.new }
+    ensures changes { ChangesOnly base shape.now (IsPosition shape.now) (P.bytes spool.old)
+        (P.bytes spool.new) }
+    ensures count { NeverFalls (P.faults spool.old) (P.faults spool.new) }
+{
+    // A shape is valid, so that each of its positions lies in a chunk.
+    let _cells = shape.cells();
+    let mut bytes = [0; BYTES];
+    let mut cells = [Cell::Empty; CELLS];
+    let mut least = None;
+    for index in 0..parts.len() {
+        match lay_one(&mut parts[index], spool, base, &mut bytes, &mut cells) {
+            Ok(number) => least = lesser(least, number),
+            Err(fail) => return Err(fail_at(index, fail)),
+        }
+    }
+    Ok(least)
+}
+
+/// What stops all where the part at an index stops.
+fn fail_at(index: usize, fail: PieceFail) -> LayFail
+    ensures { result ≡ fail_at index fail }
+{
+    match fail {
+        PieceFail::Failed => LayFail::PartFailed(index),
+        PieceFail::Damaged(number) => LayFail::PartDamaged {
+            part: index,
+            number,
+        },
+        PieceFail::SpoolFailed => LayFail::SpoolFailed,
+    }
+}
+
+/// Lays out the records of one part, through buffers of the caller.
+fn lay_one<S: Store + Drop, P: Store>(
+    part: &mut RunPart<S>,
+    spool: &mut P,
+    base: u64,
+    bytes: &mut [u8],
+    cells: &mut [Cell],
+) -> Result<Option<u64>, PieceFail>
+    requires base { base ≤ 2 ^ 62 }
+    requires bytes { length bytes.old ≡ 69632 }
+    requires cells { length cells.old ≡ 4096 }
+    ensures cube { IfOk result (λ least. (cube : Cube Cell) → ShowsPartOf cube part.old →
+        AreLaid (P.bytes spool.new) base cube (IsInPart part.old.head) least) }
+    ensures some { IfOk result (HaveRecords (P.bytes spool.new) base part.old.head.shape
+        (IsInPart part.old.head)) }
+    ensures sound { OnOk result (IsUndamaged part.old) }
+    ensures stops { IfErr result (PartStops part.old part.new (P.faults spool.old)
+        (P.faults spool.new)) }
+    ensures changes { ChangesOnly base part.old.head.shape (IsInPart part.old.head)
+        (P.bytes spool.old) (P.bytes spool.new) }
+    ensures read { IsPartRead part.old part.new }
+    ensures count { NeverFalls (P.faults spool.old) (P.faults spool.new) }
+{
+    lay_part(
+        &mut part.store,
+        &part.head,
+        part.base,
+        spool,
+        base,
+        bytes,
+        cells,
+    )
+}
+
+/// Lays out the records of one part, which stand from an offset on, chunk by chunk.
+fn lay_part<S: Store, P: Store>(
+    store: &mut S,
+    head: &PartHead,
+    at: u64,
+    spool: &mut P,
+    base: u64,
+    bytes: &mut [u8],
+    cells: &mut [Cell],
+) -> Result<Option<u64>, PieceFail>
+    requires valid { IsPartHead head.now }
+    requires at { at ≤ 2 ^ 32 }
+    requires base { base ≤ 2 ^ 62 }
+    requires bytes { length bytes.old ≡ 69632 }
+    requires cells { length cells.old ≡ 4096 }
+    ensures cube { IfOk result (λ least. (cube : Cube Cell) → cube.shape ≡ head.now.shape →
+        All IsCell (cells_on_all cube (chunks_of head.now)) →
+        Shows (S.bytes store.old) at (cells_on_all cube (chunks_of head.now)) →
+        AreLaid (P.bytes spool.new) base cube (IsInPart head.now) least) }
+    ensures some { IfOk result (HaveRecords (P.bytes spool.new) base head.now.shape
+        (IsInPart head.now)) }
+    ensures sound { OnOk result (HaveRecordsAt (S.bytes store.old) at (part_cells head.now)) }
+    ensures damage { IfErr result (TellsPiece (S.bytes store.old) at (part_numbers head.now)) }
+    ensures changes { ChangesOnly base head.now.shape (IsInPart head.now) (P.bytes spool.old)
+        (P.bytes spool.new) }
+    ensures part_cause { HasCauseOf PieceFail.Failed (S.faults store.old) (S.faults store.new)
+        result }
+    ensures spool_cause { HasCauseOf PieceFail.SpoolFailed (P.faults spool.old)
+        (P.faults spool.new) result }
+    ensures same { S.bytes store.new ≡ S.bytes store.old }
+{
+    let grid = head.grid();
+    let mut least = None;
+    let mut done = 0;
+    for chunk in head.first..head.end {
+        let window = grid.chunk(chunk);
+        let offset = at + 17 * done;
+        match lay_chunk(
+            store,
+            offset,
+            &head.shape,
+            &window,
+            spool,
+            base,
+            bytes,
+            cells,
+        ) {
+            Ok(found) => least = lesser(least, found),
+            Err(fail) => return Err(fail),
+        }
+        done += size(&window);
+    }
+    Ok(least)
+}
+
+/// Lays out the records of a chunk, which stand from an offset on, row by row.
+fn lay_chunk<S: Store, P: Store>(
+    store: &mut S,
+    at: u64,
+    shape: &Shape,
+    window: &Window,
+    spool: &mut P,
+    base: u64,
+    bytes: &mut [u8],
+    cells: &mut [Cell],
+) -> Result<Option<u64>, PieceFail>
+    requires at { at ≤ 2 ^ 62 }
+    requires within { Holds (whole_window shape.now) window.now }
+    requires short { span_length window.now.x ≤ 4096 }
+    requires base { base ≤ 2 ^ 62 }
+    requires bytes { length bytes.old ≡ 69632 }
+    requires cells { length cells.old ≡ 4096 }
+    ensures cube { IfOk result (λ least. (cube : Cube Cell) → cube.shape ≡ shape.now →
+        All IsCell (cells_on Empty cube window.now) →
+        Shows (S.bytes store.old) at (cells_on Empty cube window.now) →
+        AreLaid (P.bytes spool.new) base cube (IsIn window.now) least) }
+    ensures some { IfOk result (HaveRecords (P.bytes spool.new) base shape.now
+        (IsIn window.now)) }
+    ensures sound { OnOk result (HaveRecordsAt (S.bytes store.old) at
+        (position_count window.now)) }
+    ensures damage { IfErr result (TellsPiece (S.bytes store.old) at
+        (window_numbers shape.now window.now)) }
+    ensures changes { ChangesOnly base shape.now (IsIn window.now) (P.bytes spool.old)
+        (P.bytes spool.new) }
+    ensures part_cause { HasCauseOf PieceFail.Failed (S.faults store.old) (S.faults store.new)
+        result }
+    ensures spool_cause { HasCauseOf PieceFail.SpoolFailed (P.faults spool.old)
+        (P.faults spool.new) result }
+    ensures same { S.bytes store.new ≡ S.bytes store.old }
+{
+    // A shape has at most 2^40 cells, so that each offset fits 64 bits.
+    let _cells = shape.cells();
+    let mut least = None;
+    for number in 0..window.rows() {
+        let (row, first) = row_at(shape, window, number);
+        let count = size(&row) as usize;
+        let done = number * count as u64;
+        let start = at + 17 * done;
+        let into = &mut cells[..count];
+        match lay_row(
+            store,
+            start,
+            spool,
+            base,
+            first,
+            &mut bytes[..17 * count],
+            into,
+        ) {
+            Ok(()) => least = lesser(least, least_over(shape, &row, into)),
+            Err(fail) => return Err(fail),
+        }
+    }
+    Ok(least)
+}
+
+/// Lays out the records of a row, which stand from an offset on, from that of its first number on.
+fn lay_row<S: Store, P: Store>(
+    store: &mut S,
+    at: u64,
+    spool: &mut P,
+    base: u64,
+    first: u64,
+    bytes: &mut [u8],
+    cells: &mut [Cell],
+) -> Result<(), PieceFail>
+    requires base { base ≤ 2 ^ 62 }
+    requires room { length bytes.old ≡ 17 * length cells.old }
+    requires few { first + length cells.old ≤ 2 ^ 40 }
+    ensures cells { OnOk result (All IsCell cells.new) }
+    ensures laid { OnOk result (StoreHolds (P.bytes spool.new) (base + 17 * first)
+        (records_of cells.new)) }
+    ensures sound { OnOk result (HaveRecordsAt (S.bytes store.old) at (length cells.old)) }
+    ensures shown { (shown : List Cell) → All IsCell shown → length shown ≡ length cells.old →
+        Shows (S.bytes store.old) at shown → OnOk result (cells.new ≡ shown) }
+    ensures damage { IfErr result (TellsRow (S.bytes store.old) at first (length cells.old)) }
+    ensures outside { StaysOutside (P.bytes spool.old) (base + 17 * first) (17 * length cells.old)
+        (P.bytes spool.new) }
+    ensures part_cause { HasCauseOf PieceFail.Failed (S.faults store.old) (S.faults store.new)
+        result }
+    ensures spool_cause { HasCauseOf PieceFail.SpoolFailed (P.faults spool.old)
+        (P.faults spool.new) result }
+    ensures same { S.bytes store.new ≡ S.bytes store.old }
+{
+    match read_cells(store, at, bytes, cells) {
+        Ok(()) => {}
+        Err(ReadFail::Failed) => return Err(PieceFail::Failed),
+        Err(ReadFail::Damaged(index)) => return Err(PieceFail::Damaged(first + index as u64)),
+    }
+    match spool.write_at(base + 17 * first, bytes) {
+        Ok(()) => Ok(()),
+        Err(_) => Err(PieceFail::SpoolFailed),
+    }
+}

@@ -1,0 +1,226 @@
+// A part file written from the records in a spool.
+ghost use Rattle.std.specs.Prelude.{◌≡◌, ◌≢◌, ◌≤◌, ◌+◌, ◌*◌, ◌^◌, List, [], length, IfErr, OnErr, OnOk};
+ghost use Rattle.std.specs.List.{All};
+ghost use Rattle.oe_cell.specs.Cells.{IsCell};
+ghost use Rattle.oe_cell.specs.Record.{records_of};
+ghost use Rattle.oe_cell.specs.declared.cell.Cell.{Cell};
+ghost use Rattle.oe_cell.specs.declared.cell.Cell.TheVariants.{Empty};
+ghost use Rattle.oe_dims.specs.Cube.{Cube};
+ghost use Rattle.oe_outside.specs.Faults.{HasCauseOf};
+ghost use Rattle.oe_outside.specs.Visible.{Appends, AppendsPrefix};
+ghost use Rattle.oe_render.specs.Rendered.{HasRendered, sink_answer};
+ghost use Rattle.oe_spool.specs.Spooled.{IsInSome};
+ghost use Rattle.oe_window.specs.Cells.{cells_on};
+ghost use Rattle.oe_window.specs.Windows.{Holds, IsIn, span_length, whole_window};
+ghost use Rattle.oe_parts.specs.Head.{IsPartHead, front_bytes};
+ghost use Rattle.oe_parts.specs.PartFile.{cells_on_all, chunks_of, part_bytes};
+ghost use Rattle.oe_parts.specs.Rows.{Shows};
+ghost use Rattle.oe_parts.specs.Spooled.{ShowsPart, ShowsRecords, TellsNoRecord, TellsNoRecordFrom};
+
+use crate::head::PartHead;
+use crate::read::{BYTES, CELLS, ReadFail, read_cells};
+use crate::rows::row_at;
+use oe_cell::Cell;
+use oe_dims::Shape;
+use oe_outside::{Failed, Pending, Sink, Store, flush, send};
+use oe_render::RenderFail;
+use oe_window::{Window, size};
+
+/// Writes a part file: its front, and then the records of its chunks, which stand in a spool from byte `base` on, each at
+/// its number in the whole result. It takes no memory, and changes no byte of the spool.
+///
+/// Refuses: `SpoolFailed` and `SinkFailed` only where the fault counter of the spool or of the output rose;
+/// `SpoolDamaged` only where what stands for that cell is no record. Then a prefix of the file was written.
+pub fn write_part<P: Store, O: Sink>(
+    head: &PartHead,
+    front: &[u8],
+    spool: &mut P,
+    base: u64,
+    out: &mut O,
+    pending: &mut Pending,
+) -> Result<(), RenderFail>
+    requires valid { IsPartHead head.now }
+    requires front { front.now ≡ front_bytes head.now }
+    requires base { base ≤ 2 ^ 62 }
+    requires empty { pending.old ≡ [] }
+    ensures file { OnOk result ((cube : Cube Cell) → ShowsPart (P.bytes spool.old) base head.now cube
+        → Appends (O.written out.old) (part_bytes head.now cube) (O.written out.new)) }
+    ensures prefix { OnErr result ((cube : Cube Cell) → ShowsPart (P.bytes spool.old) base head.now
+        cube → AppendsPrefix (O.written out.old) (part_bytes head.now cube) (O.written out.new)) }
+    ensures spool_cause { HasCauseOf RenderFail.SpoolFailed (P.faults spool.old)
+        (P.faults spool.new) result }
+    ensures sink_cause { HasCauseOf RenderFail.SinkFailed (O.faults out.old)
+        (O.faults out.new) result }
+    ensures damage { IfErr result (TellsNoRecord (P.bytes spool.old) base head.now.shape
+        (IsInSome (chunks_of head.now))) }
+    ensures same { P.bytes spool.new ≡ P.bytes spool.old }
+{
+    match send(out, pending, front) {
+        Ok(()) => {}
+        Err(_) => return Err(RenderFail::SinkFailed),
+    }
+    match write_chunks(head, spool, base, out, pending) {
+        Ok(()) => of_sink(flush(out, pending)),
+        Err(fail) => Err(fail),
+    }
+}
+
+fn of_sink(answer: Result<(), Failed>) -> Result<(), RenderFail>
+    ensures { result ≡ sink_answer answer }
+{
+    match answer {
+        Ok(()) => Ok(()),
+        Err(_) => Err(RenderFail::SinkFailed),
+    }
+}
+
+/// The records of all chunks.
+fn write_chunks<P: Store, O: Sink>(
+    head: &PartHead,
+    spool: &mut P,
+    base: u64,
+    out: &mut O,
+    pending: &mut Pending,
+) -> Result<(), RenderFail>
+    requires valid { IsPartHead head.now }
+    requires base { base ≤ 2 ^ 62 }
+    ensures sent { (cube : Cube Cell) → ShowsPart (P.bytes spool.old) base head.now cube →
+        HasRendered O.written O.size O.faults out.old pending.old
+        (records_of (cells_on_all cube (chunks_of head.now))) out.new pending.new result }
+    ensures spool_cause { HasCauseOf RenderFail.SpoolFailed (P.faults spool.old)
+        (P.faults spool.new) result }
+    ensures sink_cause { HasCauseOf RenderFail.SinkFailed (O.faults out.old)
+        (O.faults out.new) result }
+    ensures damage { IfErr result (TellsNoRecord (P.bytes spool.old) base head.now.shape
+        (IsInSome (chunks_of head.now))) }
+    ensures same { P.bytes spool.new ≡ P.bytes spool.old }
+{
+    let mut bytes = [0; BYTES];
+    let mut cells = [Cell::Empty; CELLS];
+    let grid = head.grid();
+    for chunk in head.first..head.end {
+        let window = grid.chunk(chunk);
+        match write_chunk(
+            &head.shape,
+            &window,
+            spool,
+            base,
+            out,
+            pending,
+            &mut bytes,
+            &mut cells,
+        ) {
+            Ok(()) => {}
+            Err(fail) => return Err(fail),
+        }
+    }
+    Ok(())
+}
+
+/// The records of a chunk, row by row.
+fn write_chunk<P: Store, O: Sink>(
+    shape: &Shape,
+    window: &Window,
+    spool: &mut P,
+    base: u64,
+    out: &mut O,
+    pending: &mut Pending,
+    bytes: &mut [u8],
+    cells: &mut [Cell],
+) -> Result<(), RenderFail>
+    requires within { Holds (whole_window shape.now) window.now }
+    requires short { span_length window.now.x ≤ 4096 }
+    requires base { base ≤ 2 ^ 62 }
+    requires bytes { length bytes.old ≡ 69632 }
+    requires cells { length cells.old ≡ 4096 }
+    ensures sent { (cube : Cube Cell) → cube.shape ≡ shape.now →
+        ShowsRecords (P.bytes spool.old) base cube (IsIn window.now) →
+        HasRendered O.written O.size O.faults out.old pending.old
+        (records_of (cells_on Empty cube window.now)) out.new pending.new result }
+    ensures spool_cause { HasCauseOf RenderFail.SpoolFailed (P.faults spool.old)
+        (P.faults spool.new) result }
+    ensures sink_cause { HasCauseOf RenderFail.SinkFailed (O.faults out.old)
+        (O.faults out.new) result }
+    ensures damage { IfErr result (TellsNoRecord (P.bytes spool.old) base shape.now
+        (IsIn window.now)) }
+    ensures same { P.bytes spool.new ≡ P.bytes spool.old }
+{
+    // A shape has at most 2^40 cells, so that each offset fits 64 bits.
+    let _cells = shape.cells();
+    for number in 0..window.rows() {
+        let (row, first) = row_at(shape, window, number);
+        let count = size(&row) as usize;
+        match write_row(
+            spool,
+            base,
+            first,
+            out,
+            pending,
+            &mut bytes[..17 * count],
+            &mut cells[..count],
+        ) {
+            Ok(()) => {}
+            Err(fail) => return Err(fail),
+        }
+    }
+    Ok(())
+}
+
+/// The records of a row, which stand from that of its first number on.
+fn write_row<P: Store, O: Sink>(
+    spool: &mut P,
+    base: u64,
+    first: u64,
+    out: &mut O,
+    pending: &mut Pending,
+    bytes: &mut [u8],
+    cells: &mut [Cell],
+) -> Result<(), RenderFail>
+    requires base { base ≤ 2 ^ 62 }
+    requires room { length bytes.old ≡ 17 * length cells.old }
+    requires few { first + length cells.old ≤ 2 ^ 40 }
+    ensures sent { (shown : List Cell) → All IsCell shown → length shown ≡ length cells.old →
+        Shows (P.bytes spool.old) (base + 17 * first) shown →
+        HasRendered O.written O.size O.faults out.old pending.old (records_of shown) out.new
+        pending.new result }
+    ensures spool_cause { HasCauseOf RenderFail.SpoolFailed (P.faults spool.old)
+        (P.faults spool.new) result }
+    ensures sink_cause { HasCauseOf RenderFail.SinkFailed (O.faults out.old)
+        (O.faults out.new) result }
+    ensures damage { IfErr result (TellsNoRecordFrom (P.bytes spool.old) base first
+        (first + length cells.old)) }
+    ensures same { P.bytes spool.new ≡ P.bytes spool.old }
+{
+    match read_row(spool, base, first, bytes, cells) {
+        Ok(()) => of_sink(send(out, pending, bytes)),
+        Err(fail) => Err(fail),
+    }
+}
+
+/// Reads the records of a row into bytes and into cells.
+fn read_row<P: Store>(
+    spool: &mut P,
+    base: u64,
+    first: u64,
+    bytes: &mut [u8],
+    cells: &mut [Cell],
+) -> Result<(), RenderFail>
+    requires base { base ≤ 2 ^ 62 }
+    requires room { length bytes.old ≡ 17 * length cells.old }
+    requires few { first + length cells.old ≤ 2 ^ 40 }
+    ensures shown { (shown : List Cell) → All IsCell shown → length shown ≡ length cells.old →
+        Shows (P.bytes spool.old) (base + 17 * first) shown →
+        OnOk result (bytes.new ≡ records_of shown) }
+    ensures cause { HasCauseOf RenderFail.SpoolFailed (P.faults spool.old)
+        (P.faults spool.new) result }
+    ensures damage { IfErr result (TellsNoRecordFrom (P.bytes spool.old) base first
+        (first + length cells.old)) }
+    ensures only { IfErr result (λ e. e ≢ RenderFail.SinkFailed) }
+    ensures same { P.bytes spool.new ≡ P.bytes spool.old }
+{
+    match read_cells(spool, base + 17 * first, bytes, cells) {
+        Ok(()) => Ok(()),
+        Err(ReadFail::Failed) => Err(RenderFail::SpoolFailed),
+        Err(ReadFail::Damaged(index)) => Err(RenderFail::SpoolDamaged(first + index as u64)),
+    }
+}
