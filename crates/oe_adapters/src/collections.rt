@@ -1,6 +1,7 @@
 // The cube files and the mosaics of the folder `collections`.
-ghost use Rattle.std.specs.Prelude.{◌↔◌, ◌⊎◌, IfErr, IsOk, codes};
+ghost use Rattle.std.specs.Prelude.{◌≡◌, ◌↔◌, ◌⊎◌, IfErr, IsOk, codes};
 ghost use Rattle.oe_adapters.specs.Setup.{HasMountFault, HasOpenFault, IsSetupFault};
+ghost use Rattle.oe_adapters.specs.declared.fault.Fault.TheVariants as variant;
 
 use crate::cube_or_mosaic::CubeOrMosaic;
 use crate::fault::Fault;
@@ -40,7 +41,7 @@ pub fn collection_files<R: Files>(alloc: Global, files: &R) -> Result<Vec<Vec<u8
             return Err(Fault::of_error(alloc, &error, FOLDER));
         }
     };
-    let all = read_names(alloc, &mut folder)?;
+    let all = read_names(alloc, &mut folder, FOLDER)?;
     let mut names = names_ending(alloc, &all, b".cube")?;
     names.sort()?;
     let mut mosaics = names_ending(alloc, &all, MOSAIC)?;
@@ -50,27 +51,37 @@ pub fn collection_files<R: Files>(alloc: Global, files: &R) -> Result<Vec<Vec<u8
 }
 
 /// The names that a folder reads as, each ended by a zero byte.
-fn read_names<D: Read>(alloc: Global, folder: &mut D) -> Result<Vec<u8>, Fault>
-    ensures { IfErr result (IsSetupFault (codes "collections")) }
+///
+/// Refuses: the set-up fault of the name that is to be said, where it could not be read; out of memory.
+pub(crate) fn read_names<D: Read>(
+    alloc: Global,
+    folder: &mut D,
+    said: &[u8],
+) -> Result<Vec<u8>, Fault>
+    ensures { IfErr result (IsSetupFault said.now) }
 {
     let mut names = Vec::new(alloc);
     // A name has up to 255 bytes, and no read ends inside one.
     let mut buffer = [0u8; 4096];
     for _ in 0..u64::MAX {
         let Some(count) = read_again(folder, &mut buffer) else {
-            return Err(Fault::setup(alloc, FOLDER));
+            return Err(Fault::setup(alloc, said));
         };
         if count == 0 {
             return Ok(names);
         }
         names.extend_from_slice(&buffer[..count])?;
     }
-    Err(Fault::setup(alloc, FOLDER))
+    Err(Fault::setup(alloc, said))
 }
 
 /// Those of the names that have this ending.
-fn names_ending(alloc: Global, names: &[u8], ending: &[u8]) -> Result<Vec<Vec<u8>>, Fault>
-    ensures { IfErr result (IsSetupFault (codes "collections")) }
+pub(crate) fn names_ending(
+    alloc: Global,
+    names: &[u8],
+    ending: &[u8],
+) -> Result<Vec<Vec<u8>>, Fault>
+    ensures { IfErr result (λ fault. fault ≡ variant.OutOfMemory) }
 {
     let mut found = Vec::new(alloc);
     let mut start = 0;
@@ -87,7 +98,7 @@ fn names_ending(alloc: Global, names: &[u8], ending: &[u8]) -> Result<Vec<Vec<u8
 }
 
 fn push(names: &mut Vec<Vec<u8>>, name: Vec<u8>) -> Result<(), Fault>
-    ensures { IfErr result (IsSetupFault (codes "collections")) }
+    ensures { IfErr result (λ fault. fault ≡ variant.OutOfMemory) }
 {
     match names.push(name) {
         Ok(()) => Ok(()),
@@ -150,7 +161,7 @@ pub(crate) fn open_in_folder<R: Files>(
 }
 
 /// A plain file, opened to be read; `None` where something else has the path.
-fn open_plain<R: Files>(files: &R, path: &str) -> IoResult<Option<R::File>> {
+pub(crate) fn open_plain<R: Files>(files: &R, path: &str) -> IoResult<Option<R::File>> {
     if metadata(files, path)?.is_file() {
         Ok(Some(File::open(files, path)?))
     } else {

@@ -7,7 +7,7 @@
 
 use oe_adapters::{
     Fault, ProgressGate, Reader, Writer, collection_files, hold_standard, mount_outcome,
-    open_collection, open_spool, words_of,
+    open_collection, open_parts, open_spool, words_of,
 };
 use oe_dims::Text;
 use oe_outside::Sink;
@@ -39,6 +39,10 @@ fn main(rt: HostRuntime) -> ExitCode {
             return ExitCode::from(end(&fault, &mut err));
         }
     }
+    let mut parts = match open_parts(alloc, &rt, &start.words) {
+        Ok(parts) => parts,
+        Err(fault) => return ExitCode::from(end(&fault, &mut err)),
+    };
     // The match is the last of all, so that what was mounted is dropped once.
     let status = match open_spool(alloc, &rt) {
         Ok(mut spool) => oe_top::openeo(
@@ -52,6 +56,7 @@ fn main(rt: HostRuntime) -> ExitCode {
             &mut Writer::new(rt.stdout()),
             &mut err,
             &mut catalogue,
+            &mut parts,
             &mut spool,
         ),
         Err(fault) => end(&fault, &mut err),

@@ -43,6 +43,8 @@ pub(crate) struct Failing<'a> {
     pub(crate) spool: &'a [u64],
     /// The writes of the output.
     pub(crate) writes: &'a [u64],
+    /// Of each part its reads, once it is opened.
+    pub(crate) parts: &'a [u64],
 }
 
 /// The counts of a run.

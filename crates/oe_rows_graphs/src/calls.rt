@@ -2,6 +2,7 @@
 use crate::attempt::Failing;
 use crate::cubes::{named_cube, named_file};
 use crate::gate::CountGate;
+use crate::kept::keep_part;
 use crate::mosaics::named_mosaic;
 use crate::runs::none_failing;
 use oe_dims::Text;
@@ -9,6 +10,7 @@ use oe_lines::{
     Answers, Fault, end_line, first_word, number_of, parts_of, push, push_digits, push_number,
 };
 use oe_outside::{MemorySink, MemorySource, MemoryStore};
+use oe_parts::RunParts;
 use oe_sources::{Catalogue, CubeSource, MountFail};
 use oe_top::{Setup, openeo};
 use std::alloc::Global;
@@ -133,6 +135,7 @@ pub(crate) fn answers_of<R: Threads + Sync>(
     failing: Failing<'_>,
 ) -> Result<Vec<Answer>, Fault> {
     let mut catalogue = Catalogue::new(alloc);
+    let mut parts = RunParts::new(alloc);
     let mut answers = Vec::new(alloc);
     for line in lines {
         let (verb, rest) = first_word(line);
@@ -157,6 +160,32 @@ pub(crate) fn answers_of<R: Threads + Sync>(
                 }
                 Err(word) => Answer::Word(word),
             },
+            "keep" => {
+                let (name, line) = first_word(rest);
+                let mut objects = objects_of(alloc, line, none_failing())?;
+                let setup = Setup {
+                    rt,
+                    alloc,
+                    gate: &objects.gate,
+                };
+                let status = openeo(
+                    &setup,
+                    &objects.words,
+                    &mut objects.input,
+                    &mut objects.out,
+                    &mut objects.err,
+                    &mut catalogue,
+                    &mut parts,
+                    &mut objects.spool,
+                );
+                keep_part(
+                    alloc,
+                    name,
+                    objects.into_answer(status),
+                    failing.parts,
+                    &mut parts,
+                )?
+            }
             _ => {
                 let mut objects = objects_of(alloc, line, failing)?;
                 let setup = Setup {
@@ -171,6 +200,7 @@ pub(crate) fn answers_of<R: Threads + Sync>(
                     &mut objects.out,
                     &mut objects.err,
                     &mut catalogue,
+                    &mut parts,
                     &mut objects.spool,
                 );
                 objects.into_answer(status)

@@ -78,6 +78,7 @@ fn object_of(word: &str) -> Result<Object, Fault> {
         "reads" => Ok(Object::Collections),
         "spool" => Ok(Object::Spool),
         "writes" => Ok(Object::Output),
+        "parts" => Ok(Object::Parts),
         _ => Err(Fault::Line),
     }
 }
@@ -112,8 +113,10 @@ fn spell_each<'a, R: Threads + Sync>(
 /// Whether all calls of the object come before the first write of the output.
 fn is_read_first(object: Object, line: &str) -> bool {
     match object {
-        Object::Input => true,
-        Object::Collections => line.starts_with("run") || line.starts_with("slab "),
+        Object::Input | Object::Parts => true,
+        Object::Collections => ["run ", "slab ", "part "]
+            .iter()
+            .any(|verb| line.starts_with(verb)),
         Object::Spool | Object::Output => false,
     }
 }

@@ -44,9 +44,10 @@
 //! | `cube ID TEXT` | has a collection of this cube text |
 //! | `mosaic ID TEXT \| TEXT` | has the mosaic of the two collections of these cube texts, for calls of `openeo`; of its reads those of the second alone fail |
 //! | `remainder ID TEXT \| TEXT` | the same, after the first was taken out again |
+//! | `keep NAME WORDS < INPUT` | calls `openeo` with these words, in which nothing fails, and has what it writes as the part of this name for calls of `join` |
 //! | `run SIZES < GRAPH` | evaluates a graph in chunks: the number of chunks, how many were evaluated, how often the gate was entered for each, with commas between, the text, and the bytes of the spool in hexadecimal digits |
 //! | `resume SIZES < GRAPH` | evaluates it again and again, while each read of a collection, then each call of the spool, then each write of the output fails once, and the run is taken up where it stands: how many chunks were evaluated each time, and `?` behind it where the records or the text are others than without the failure |
-//! | `fails OBJECT WORDS < INPUT` | calls `openeo` with these words and this input again and again, while each call of the object fails once: of the `input`, of collections (`reads`), of the `spool`, or of the output (`writes`) |
+//! | `fails OBJECT WORDS < INPUT` | calls `openeo` with these words and this input again and again, while each call of the object fails once: of the `input`, of collections (`reads`), of the `parts` once they are opened, of the `spool`, or of the output (`writes`) |
 //! | `entered CHUNKS WORDS < INPUT` | calls `openeo` with these words and this input: the status, and how often the gate was entered for each of so many chunks, with commas between |
 //! | `entered CHUNKS meeting WORDS < INPUT` | the same, while the first two chunks wait for each other in the gate; then `met`, or `apart` where one of them looked in vain |
 //!
@@ -101,6 +102,7 @@
 //! | `file BYTES` | mounts a cube file under the id that it has |
 //! | `WORDS < INPUT`, `WORDS` | calls `openeo` with these words and this input, or no byte of input |
 //! | `padded SIZE WORDS < INPUT` | calls it with blanks behind the input up to so many bytes |
+//! | `keep NAME WORDS < INPUT` | calls it, and has what it writes as the part of this name for calls of `join` that follow |
 //!
 //! `replace` and `detach` answer `none` where no collection is mounted under the id, and `file` answers `invalid` where
 //! the bytes are no cube file and stand in the store that is handed back, and `changed` where others do; else they answer
@@ -135,6 +137,7 @@ mod cubes;
 mod failures;
 mod gate;
 mod graphs;
+mod kept;
 mod mosaics;
 mod needs;
 mod parts;

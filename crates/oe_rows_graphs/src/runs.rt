@@ -19,6 +19,7 @@ pub(crate) enum Object {
     Collections,
     Spool,
     Output,
+    Parts,
 }
 
 /// Appends the answers to lines about runs.
@@ -34,7 +35,7 @@ pub(crate) fn answer_runs<R: Threads + Sync>(
         match word {
             "#" => {}
             "catalogue" => cubes.clear(),
-            "cube" | "mosaic" | "remainder" => cubes.push(line)?,
+            "cube" | "mosaic" | "remainder" | "keep" => cubes.push(line)?,
             _ => answer_run(rt, alloc, word, rest, &cubes, answers)?,
         }
     }
@@ -191,6 +192,7 @@ fn object_word(object: Object) -> &'static str {
         Object::Collections => "reads",
         Object::Spool => " spool",
         Object::Output => " writes",
+        Object::Parts => " parts",
     }
 }
 
@@ -208,6 +210,7 @@ pub(crate) fn none_failing<'a>() -> Failing<'a> {
         reads: &[],
         spool: &[],
         writes: &[],
+        parts: &[],
     }
 }
 
@@ -228,6 +231,10 @@ pub(crate) fn failing_of(object: Object, calls: &[u64]) -> Failing<'_> {
         },
         Object::Output => Failing {
             writes: calls,
+            ..none_failing()
+        },
+        Object::Parts => Failing {
+            parts: calls,
             ..none_failing()
         },
     }

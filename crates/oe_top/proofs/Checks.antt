@@ -19,7 +19,7 @@ use Rattle.oe_sources.specs.Catalogue.{Row}
 use Rattle.oe_sources.specs.CatalogueDims.{AreDimsOf}
 use Rattle.oe_top.proofs.Inputs.{read_whole, sizes, whole_same, within}
 use Rattle.oe_top.specs.Faults.{StandsOver, of_form, of_graph}
-use Rattle.oe_top.specs.Judged.{IsCheckedText, JudgeEnds, JudgesBytes}
+use Rattle.oe_top.specs.Judged.{IsCheckedText, IsTextOfInput, JudgeEnds, JudgesBytes, RefusesInput}
 use Rattle.oe_top.specs.declared.judge.InputRefusal.{InputRefusal}
 use Rattle.oe_top.specs.declared.judge.InputRefusal.TheVariants as unread
 
@@ -120,27 +120,36 @@ fault_of_all rows (Some visible) bytes after fault read l = elim (sizes (length 
       subst (IsLeast (StandsOver rows visible)) (sym same) (long_least rows visible (omega arith))
 ]
 
--- what judging the bytes that were read says of the input
-pub judges : (rows : List DimsRow) (before : Option (List ℕ)) (before_faults : ℕ) (bytes : List ℕ) (after : Option (List ℕ)) (after_faults : ℕ) (result : Result CheckedGraph InputRefusal)
-    → ReadsUpTo most_input before bytes after → JudgesBytes rows bytes result → JudgeEnds rows before before_faults after after_faults result
-judges rows before before_faults bytes after after_faults (Ok c) read text =
+-- bytes that were read and are the text of a graph are the whole input
+pub kept_text : (rows : List DimsRow) (before : Option (List ℕ)) (bytes : List ℕ) (after : Option (List ℕ)) (c : CheckedGraph)
+    → ReadsUpTo most_input before bytes after → IsCheckedText rows bytes c → IsTextOfInput rows before after bytes c
+kept_text rows before bytes after c read text =
     let short : length bytes ≤ most_input = elim (sizes (length bytes) most_input) [
       | inl short ↦ short
       | inr long ↦ absurd (text.valid InputTooLong [] (of_form (form.input_too_long long)))
     ] in
-    record {
-      bytes = bytes;
-      read_whole = read_whole before bytes after read short;
-      text = text;
-    }
-judges rows before before_faults bytes after after_faults (Err (unread.Graph fault)) read least = record {
+    (read_whole before bytes after read short, text)
+
+-- what a refusal of the bytes that were read says of the input
+pub refuses_text : (rows : List DimsRow) (before : Option (List ℕ)) (before_faults : ℕ) (bytes : List ℕ) (after : Option (List ℕ)) (after_faults : ℕ) (refusal : InputRefusal)
+    → ReadsUpTo most_input before bytes after → JudgesBytes rows bytes (Err refusal) → RefusesInput rows before before_faults after after_faults refusal
+refuses_text rows before before_faults bytes after after_faults (unread.Graph fault) read least = record {
   bytes = bytes;
   was_read = read;
   least = least;
   of_all = fault_of_all rows before bytes after fault read least;
 }
-judges rows before before_faults bytes after after_faults (Err unread.ReadFault) read never = absurd never
-judges rows before before_faults bytes after after_faults (Err unread.OutOfMemory) read free = tt
+refuses_text rows before before_faults bytes after after_faults unread.ReadFault read never = absurd never
+refuses_text rows before before_faults bytes after after_faults unread.OutOfMemory read free = tt
+
+-- what judging the bytes that were read says of the input
+pub judges : (rows : List DimsRow) (before : Option (List ℕ)) (before_faults : ℕ) (bytes : List ℕ) (after : Option (List ℕ)) (after_faults : ℕ) (result : Result CheckedGraph InputRefusal)
+    → ReadsUpTo most_input before bytes after → JudgesBytes rows bytes result → JudgeEnds rows before before_faults after after_faults result
+judges rows before before_faults bytes after after_faults (Ok c) read text =
+    let kept = kept_text rows before bytes after c read text in
+    record { bytes = bytes; read_whole = kept.0; text = kept.1 }
+judges rows before before_faults bytes after after_faults (Err refusal) read judged =
+    refuses_text rows before before_faults bytes after after_faults refusal read judged
 
 -- ---- the collections
 

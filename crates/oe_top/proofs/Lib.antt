@@ -2,6 +2,8 @@ pub mod Checks
 pub mod Commands
 pub mod Ended
 pub mod Inputs
+pub mod Joins
+pub mod JoinedLemmas
 pub mod Loads
 pub mod Numbers
 pub mod Packings
@@ -17,6 +19,10 @@ pub mod DemoCubes
 pub mod Demos
 pub mod Descriptions
 pub mod Namings
+pub mod PartHeads
+pub mod PartRounds
+pub mod PartEvaluations
+pub mod Parts
 pub mod Runs
 pub mod SlabEvaluations
 pub mod SlabLoads

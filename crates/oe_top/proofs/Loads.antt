@@ -22,7 +22,7 @@ by_index p xs =
     sym (ap (count_by p) filled ∙ fold_map (λ x. cond (p x) 1 0) (slice_index xs) 0 (range_with_len 0 (length xs)))
 
 -- a plan has as many steps that load a collection as its graph
-load_count_is : (p : PlanOf) → IsPlan p → load_count p ≡ loads_of p.graph
+pub load_count_is : (p : PlanOf) → IsPlan p → load_count p ≡ loads_of p.graph
 load_count_is p is =
     ap (λ (steps : List ℕ). count_by (λ step. is_load (links_of p.graph.nodes) (slice_index steps step)) (range_with_len 0 (length steps))) is.steps_are
     ∙ by_index (is_load (links_of p.graph.nodes)) (steps_of p.graph)

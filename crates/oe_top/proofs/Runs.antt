@@ -14,21 +14,23 @@ use Rattle.oe_top.specs.RunAnswer.{Evaluates, IsEvaluated, RunAnswers}
 use Rattle.oe_top.specs.declared.evaluation.EvaluationFail.{EvaluationFail}
 use Rattle.oe_top.specs.declared.run.RunRefusal.TheVariants.{TooLarge, Stopped}
 
+-- a graph that is planned holds no more cells than are allowed
+pub plan_fits : (graph : CheckedGraph) (size : ChunkSize) (workers : ℕ) (p : PlanOf) → IsPlanOf graph size workers p
+    → bound_of graph size workers ≤ most_held_cells
+plan_fits graph size workers p plan =
+    subst (λ (n : ℕ). bound_of graph size n ≤ most_held_cells) plan.workers_are
+    (subst (λ (s : ChunkSize). bound_of graph s p.workers ≤ most_held_cells) plan.size_is
+    (subst (λ (c : CheckedGraph). bound_of c p.size p.workers ≤ most_held_cells) plan.graph_is plan.planned.bounded))
+
 module _ (size : ChunkSize) (workers : ℕ) (before after : Objects) (graph : CheckedGraph)
     (input : IsInput before after graph) where
   module _ (p : PlanOf) (plan : IsPlanOf graph size workers p) where
-    fits : bound_of graph size workers ≤ most_held_cells
-    fits =
-        subst (λ (n : ℕ). bound_of graph size n ≤ most_held_cells) plan.workers_are
-        (subst (λ (s : ChunkSize). bound_of graph s p.workers ≤ most_held_cells) plan.size_is
-        (subst (λ (c : CheckedGraph). bound_of c p.size p.workers ≤ most_held_cells) plan.graph_is plan.planned.bounded))
-
     is_evaluated : (ended : Result (Unit {0}) EvaluationFail) → Evaluates p.graph p.size before after ended
         → IsEvaluated size workers before after ended
     is_evaluated ended e = record {
       graph = graph;
       input = input;
-      fits = fits;
+      fits = plan_fits graph size workers p plan;
       evaluates = subst (λ (s : ChunkSize). Evaluates graph s before after ended) plan.size_is
           (subst (λ (c : CheckedGraph). Evaluates c p.size before after ended) plan.graph_is e);
     }

@@ -12,10 +12,14 @@ use Rattle.oe_top.specs.declared.evaluation.EvaluationFail.{EvaluationFail}
 use Rattle.oe_top.specs.declared.evaluation.EvaluationFail.TheVariants as evaluation
 use Rattle.oe_top.specs.declared.judge.InputRefusal.{InputRefusal}
 use Rattle.oe_top.specs.declared.judge.InputRefusal.TheVariants as input
+use Rattle.oe_top.specs.declared.join.JoinRefusal.{JoinRefusal}
+use Rattle.oe_top.specs.declared.join.JoinRefusal.TheVariants as join
 use Rattle.oe_top.specs.declared.pack.PackRefusal.{PackRefusal}
 use Rattle.oe_top.specs.declared.pack.PackRefusal.TheVariants as pack
+use Rattle.oe_top.specs.declared.part.PartRefusal.{PartRefusal}
+use Rattle.oe_top.specs.declared.part.PartRefusal.TheVariants as part
 use Rattle.oe_top.specs.declared.refusal.Refusal.{Refusal}
-use Rattle.oe_top.specs.declared.refusal.Refusal.TheVariants.{Graph, NoCubeText, NotMounted, NoTimeFold, TooLarge, Overflow, ReadFault, Damaged, SpoolFault, WriteFault, OutOfMemory, SpoolDamaged}
+use Rattle.oe_top.specs.declared.refusal.Refusal.TheVariants.{Graph, NoCubeText, NotMounted, NoTimeFold, ChunkRange, PartGraph, PartShape, PartSides, PartOverlap, ChunkMissing, TooLarge, Overflow, ReadFault, Damaged, PartDamaged, SpoolFault, WriteFault, OutOfMemory, SpoolDamaged}
 use Rattle.oe_top.specs.declared.repack.RepackRefusal.{RepackRefusal}
 use Rattle.oe_top.specs.declared.repack.RepackRefusal.TheVariants as repack
 use Rattle.oe_top.specs.declared.run.RunRefusal.{RunRefusal}
@@ -33,12 +37,12 @@ of_input input.ReadFault = ReadFault
 of_input input.OutOfMemory = OutOfMemory
 
 abbrev pub of_evaluation : EvaluationFail → Refusal
-of_evaluation (evaluation.Overflow position) = Overflow position
+of_evaluation (evaluation.Overflow number) = Overflow number
 of_evaluation evaluation.ReadFault = ReadFault
-of_evaluation (evaluation.Damaged id position) = Damaged id position
+of_evaluation (evaluation.Damaged id number) = Damaged id number
 of_evaluation evaluation.SpoolFault = SpoolFault
 of_evaluation evaluation.WriteFault = WriteFault
-of_evaluation (evaluation.SpoolDamaged position) = SpoolDamaged position
+of_evaluation (evaluation.SpoolDamaged number) = SpoolDamaged number
 
 abbrev pub of_run : RunRefusal → Refusal
 of_run (run.Input refusal) = of_input refusal
@@ -52,6 +56,24 @@ of_slab slab.NoTimeFold = NoTimeFold
 of_slab (slab.TooLarge cells) = TooLarge cells
 of_slab slab.OutOfMemory = OutOfMemory
 of_slab (slab.Stopped fail) = of_evaluation fail
+
+abbrev pub of_part : PartRefusal → Refusal
+of_part (part.Input refusal) = of_input refusal
+of_part part.ChunkRange = ChunkRange
+of_part (part.TooLarge cells) = TooLarge cells
+of_part part.OutOfMemory = OutOfMemory
+of_part (part.Stopped fail) = of_evaluation fail
+
+abbrev pub of_join : JoinRefusal → Refusal
+of_join (join.Input refusal) = of_input refusal
+of_join (join.Graph name) = PartGraph name
+of_join (join.Shape name) = PartShape name
+of_join (join.Sides name) = PartSides name
+of_join (join.Overlap name) = PartOverlap name
+of_join (join.Missing chunk) = ChunkMissing chunk
+of_join join.OutOfMemory = OutOfMemory
+of_join (join.Damaged name number) = PartDamaged name number
+of_join (join.Stopped fail) = of_evaluation fail
 
 abbrev pub of_check : CheckRefusal → Refusal
 of_check (check.Input refusal) = of_input refusal
@@ -78,7 +100,7 @@ of_pack pack.OutOfMemory = OutOfMemory
 abbrev pub of_repack : RepackRefusal → Refusal
 of_repack repack.NotMounted = NotMounted
 of_repack repack.ReadFault = ReadFault
-of_repack (repack.Damaged id position) = Damaged id position
+of_repack (repack.Damaged id number) = Damaged id number
 of_repack repack.WriteFault = WriteFault
 of_repack repack.OutOfMemory = OutOfMemory
 

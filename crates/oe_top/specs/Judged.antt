@@ -30,6 +30,10 @@ module _ (rows : List DimsRow) where
     pub read_whole : IsReadWhole before after bytes
     pub text : IsCheckedText bytes c
 
+  -- these bytes, the whole input, were read and are such a text
+  abbrev pub IsTextOfInput : Option (List ℕ) → Option (List ℕ) → List ℕ → CheckedGraph → Type 0
+  IsTextOfInput before after bytes c = IsReadWhole before after bytes × IsCheckedText bytes c
+
   -- This is the least fault of the input. Over the limit one byte more was read; the fault is that of all of it, where
   -- it is visible.
   pub record IsFaultOfInput (before after : Option (List ℕ)) (fault : Fault) : Type 0 where
@@ -41,6 +45,10 @@ module _ (rows : List DimsRow) where
 -- the whole input was read, and it is this graph, in which no fault stands over the collections
 abbrev pub IsInput : Objects → Objects → CheckedGraph → Type 0
 IsInput before after c = IsCheckedInput (dims_of before.collections) before.input after.input c
+
+-- the same of an input with these bytes
+abbrev pub IsInputText : Objects → Objects → List ℕ → CheckedGraph → Type 0
+IsInputText before after text c = IsTextOfInput (dims_of before.collections) before.input after.input text c
 
 -- why the input was not taken as a graph; out of memory has no cause
 abbrev pub RefusesInput : List DimsRow → Option (List ℕ) → ℕ → Option (List ℕ) → ℕ → InputRefusal → Type 0

@@ -7,10 +7,14 @@ pub mod Endings
 pub mod Evaluated
 pub mod ExplainAnswer
 pub mod Faults
+pub mod JoinAnswer
+pub mod Joined
 pub mod Judged
 pub mod Lines
 pub mod Objects
 pub mod PackAnswer
+pub mod PartAnswer
+pub mod PartEvaluated
 pub mod PlanAnswer
 pub mod RepackAnswer
 pub mod RunAnswer

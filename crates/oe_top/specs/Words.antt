@@ -3,7 +3,7 @@ use Rattle.std.specs.Prelude.{◌≡◌, ℕ, ◌≤◌, true, List, [], ◌∷�
 use Rattle.oe_dims.specs.Names.{is_name}
 use Rattle.oe_window.specs.declared.grid.ChunkSize.{ChunkSize}
 use Rattle.oe_top.specs.declared.words.Command.{Command}
-use Rattle.oe_top.specs.declared.words.Command.TheVariants.{Run, Plan, Slab, SlabPlan, Demo, Check, Explain, Pack, Repack, DescribeAll, Describe}
+use Rattle.oe_top.specs.declared.words.Command.TheVariants.{Run, Part, Join, Plan, Slab, SlabPlan, Demo, Check, Explain, Pack, Repack, DescribeAll, Describe}
 
 -- a number from low to high, spelled in decimal with no sign and no leading zero
 pub record IsNumberWord (low high : ℕ) (word : List ℕ) (number : ℕ) : Type 0 where
@@ -29,6 +29,23 @@ pub record SpellsNumbers (verb : List ℕ) (words : List (List ℕ)) (size : Chu
   pub w : List ℕ
   pub words_are : words ≡ verb ∷ cx ∷ cy ∷ ct ∷ w ∷ []
   pub numbers : AreRunNumbers cx cy ct w size workers
+
+-- no run has more chunks
+abbrev pub most_chunks : ℕ
+most_chunks = 281474976710656
+
+-- `part CX CY CT W FIRST END`: the sides of a chunk, a number of workers, a first chunk and one behind the last
+pub record SpellsPart (words : List (List ℕ)) (size : ChunkSize) (workers first end : ℕ) : Type 0 where
+  pub cx : List ℕ
+  pub cy : List ℕ
+  pub ct : List ℕ
+  pub w : List ℕ
+  pub first_word : List ℕ
+  pub end_word : List ℕ
+  pub words_are : words ≡ codes "part" ∷ cx ∷ cy ∷ ct ∷ w ∷ first_word ∷ end_word ∷ []
+  pub numbers : AreRunNumbers cx cy ct w size workers
+  pub first_is : IsNumberWord 0 most_chunks first_word first
+  pub end_is : IsNumberWord 0 most_chunks end_word end
 
 -- `VERB CX CY CT`: a verb and the sides of a chunk
 pub record SpellsSides (verb : List ℕ) (words : List (List ℕ)) (size : ChunkSize) : Type 0 where
@@ -64,6 +81,8 @@ id_in words = slice_index_or words 1 []
 -- the words spell this command
 abbrev pub Spells : List (List ℕ) → Command → Type 0
 Spells words (Run size workers) = SpellsNumbers (codes "run") words size workers
+Spells words (Part size workers first end) = SpellsPart words size workers first end
+Spells words Join = words ≡ codes "join" ∷ []
 Spells words (Plan size workers) = SpellsNumbers (codes "plan") words size workers
 Spells words (Slab size) = SpellsSides (codes "slab") words size
 Spells words (SlabPlan size) = SpellsSides (codes "slabplan") words size

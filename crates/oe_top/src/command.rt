@@ -8,11 +8,14 @@ use crate::check::check;
 use crate::demo::demo;
 use crate::describe::{describe, describe_all};
 use crate::endings::{
-    ending_of_check, ending_of_demo, ending_of_describe, ending_of_listing, ending_of_pack,
-    ending_of_repack, ending_of_run, ending_of_slab, ending_of_slab_plan,
+    ending_of_check, ending_of_demo, ending_of_describe, ending_of_join, ending_of_listing,
+    ending_of_pack, ending_of_part, ending_of_repack, ending_of_run, ending_of_slab,
+    ending_of_slab_plan,
 };
 use crate::explain::explain;
+use crate::join::join;
 use crate::pack::pack;
+use crate::part::part;
 use crate::plan::plan;
 use crate::refusal::Refusal;
 use crate::repack::repack;
@@ -24,6 +27,7 @@ use crate::slab_plan::slab_plan;
 use crate::words::{Command, read_command};
 use oe_dims::Text;
 use oe_outside::{Gate, Sink, Source, Store};
+use oe_parts::RunParts;
 use oe_sources::Catalogue;
 use std::thread::Threads;
 
@@ -32,6 +36,8 @@ use std::thread::Threads;
 /// | Words | What it does |
 /// |---|---|
 /// | `run CX CY CT W` | evaluates the process graph of `input` and writes its result text |
+/// | `part CX CY CT W FIRST END` | evaluates the chunks FIRST to END − 1 of that run, and writes a part file |
+/// | `join` | writes the result text of the process graph of `input` from the parts of its run |
 /// | `check` | writes `valid` where no fault stands in the process graph of `input` |
 /// | `explain` | the same, and of a fault the lines that explain it |
 /// | `plan CX CY CT W` | writes `bound B chunks N`: how many cells such a run holds at most, and its chunks |
@@ -52,21 +58,23 @@ use std::thread::Threads;
 ///
 /// A fault of `err` changes nothing. In statuses 1 to 6 and 9 of `run` nothing is written to `out`, and in 7, 8 and 15
 /// a prefix of the text stands there.
-pub fn openeo<R: Threads + Sync, I: Source, O: Sink, E: Sink, P: Store, G: Gate>(
+pub fn openeo<R: Threads + Sync, I: Source, O: Sink, E: Sink, P: Store, G: Gate, S: Store + Drop>(
     setup: &Setup<'_, R, G>,
     words: &[Text],
     input: &mut I,
     out: &mut O,
     err: &mut E,
     catalogue: &mut Catalogue,
+    parts: &mut RunParts<S>,
     spool: &mut P,
 ) -> u8
     ensures { let lent = lends I.left I.faults O.written O.faults P.bytes P.faults in
-        Answers words.now (lent input.old out.old spool.old (rows_of seen catalogue.old))
+        Answers words.now parts.old parts.new
+        (lent input.old out.old spool.old (rows_of seen catalogue.old))
         (lent input.new out.new spool.new (rows_of seen catalogue.new))
         (error_output E.written E.faults err.old err.new) result }
 {
-    match obey(setup, words, input, out, catalogue, spool) {
+    match obey(setup, words, input, out, catalogue, parts, spool) {
         Ok(()) => 0,
         Err(refusal) => {
             say(&refusal, err);
@@ -75,16 +83,18 @@ pub fn openeo<R: Threads + Sync, I: Source, O: Sink, E: Sink, P: Store, G: Gate>
     }
 }
 
-fn obey<R: Threads + Sync, I: Source, O: Sink, P: Store, G: Gate>(
+fn obey<R: Threads + Sync, I: Source, O: Sink, P: Store, G: Gate, S: Store + Drop>(
     setup: &Setup<'_, R, G>,
     words: &[Text],
     input: &mut I,
     out: &mut O,
     catalogue: &mut Catalogue,
+    parts: &mut RunParts<S>,
     spool: &mut P,
 ) -> Result<(), Refusal>
     ensures { let lent = lends I.left I.faults O.written O.faults P.bytes P.faults in
-        Ends words.now (lent input.old out.old spool.old (rows_of seen catalogue.old))
+        Ends words.now parts.old parts.new
+        (lent input.old out.old spool.old (rows_of seen catalogue.old))
         (lent input.new out.new spool.new (rows_of seen catalogue.new)) result }
 {
     let alloc = setup.alloc;
@@ -92,6 +102,18 @@ fn obey<R: Threads + Sync, I: Source, O: Sink, P: Store, G: Gate>(
         Some(Command::Run { size, workers }) => {
             ending_of_run(run(setup, (size, workers), input, out, catalogue, spool))
         }
+        Some(
+            Command::Part {
+                size,
+                workers,
+                first,
+                end,
+            },
+        ) => {
+            let chunks = (first, end);
+            ending_of_part(part(setup, (size, workers), chunks, input, out, catalogue, spool))
+        }
+        Some(Command::Join) => ending_of_join(join(alloc, input, out, catalogue, parts, spool)),
         Some(Command::Slab { size }) => {
             ending_of_slab(slab(setup, size, input, out, catalogue, spool))
         }

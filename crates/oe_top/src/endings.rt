@@ -6,8 +6,10 @@ use crate::check::CheckRefusal;
 use crate::demo::DemoRefusal;
 use crate::describe::{DescribeRefusal, UnwrittenCause};
 use crate::evaluation::EvaluationFail;
+use crate::join::JoinRefusal;
 use crate::judge::InputRefusal;
 use crate::pack::PackRefusal;
+use crate::part::PartRefusal;
 use crate::refusal::Refusal;
 use crate::repack::RepackRefusal;
 use crate::run::RunRefusal;
@@ -30,12 +32,12 @@ fn of_evaluation(fail: EvaluationFail) -> Refusal
     ensures { result ≡ spec.of_evaluation fail }
 {
     match fail {
-        EvaluationFail::Overflow(position) => Refusal::Overflow(position),
+        EvaluationFail::Overflow(number) => Refusal::Overflow(number),
         EvaluationFail::ReadFault => Refusal::ReadFault,
-        EvaluationFail::Damaged { id, position } => Refusal::Damaged { id, position },
+        EvaluationFail::Damaged { id, number } => Refusal::Damaged { id, number },
         EvaluationFail::SpoolFault => Refusal::SpoolFault,
         EvaluationFail::WriteFault => Refusal::WriteFault,
-        EvaluationFail::SpoolDamaged(position) => Refusal::SpoolDamaged(position),
+        EvaluationFail::SpoolDamaged(number) => Refusal::SpoolDamaged(number),
     }
 }
 
@@ -61,6 +63,36 @@ fn of_slab(refusal: SlabRefusal) -> Refusal
         SlabRefusal::TooLarge(cells) => Refusal::TooLarge(cells),
         SlabRefusal::OutOfMemory => Refusal::OutOfMemory,
         SlabRefusal::Stopped(fail) => of_evaluation(fail),
+    }
+}
+
+/// Why `part` did not finish.
+fn of_part(refusal: PartRefusal) -> Refusal
+    ensures { result ≡ spec.of_part refusal }
+{
+    match refusal {
+        PartRefusal::Input(refusal) => of_input(refusal),
+        PartRefusal::ChunkRange => Refusal::ChunkRange,
+        PartRefusal::TooLarge(cells) => Refusal::TooLarge(cells),
+        PartRefusal::OutOfMemory => Refusal::OutOfMemory,
+        PartRefusal::Stopped(fail) => of_evaluation(fail),
+    }
+}
+
+/// Why `join` did not finish.
+fn of_join(refusal: JoinRefusal) -> Refusal
+    ensures { result ≡ spec.of_join refusal }
+{
+    match refusal {
+        JoinRefusal::Input(refusal) => of_input(refusal),
+        JoinRefusal::Graph(name) => Refusal::PartGraph(name),
+        JoinRefusal::Shape(name) => Refusal::PartShape(name),
+        JoinRefusal::Sides(name) => Refusal::PartSides(name),
+        JoinRefusal::Overlap(name) => Refusal::PartOverlap(name),
+        JoinRefusal::Missing(chunk) => Refusal::ChunkMissing(chunk),
+        JoinRefusal::OutOfMemory => Refusal::OutOfMemory,
+        JoinRefusal::Damaged { name, number } => Refusal::PartDamaged { name, number },
+        JoinRefusal::Stopped(fail) => of_evaluation(fail),
     }
 }
 
@@ -117,7 +149,7 @@ fn of_repack(refusal: RepackRefusal) -> Refusal
     match refusal {
         RepackRefusal::NotMounted => Refusal::NotMounted,
         RepackRefusal::ReadFault => Refusal::ReadFault,
-        RepackRefusal::Damaged { id, position } => Refusal::Damaged { id, position },
+        RepackRefusal::Damaged { id, number } => Refusal::Damaged { id, number },
         RepackRefusal::WriteFault => Refusal::WriteFault,
         RepackRefusal::OutOfMemory => Refusal::OutOfMemory,
     }
@@ -160,6 +192,26 @@ pub(crate) fn ending_of_slab(ended: Result<(), SlabRefusal>) -> Result<(), Refus
     match ended {
         Ok(()) => Ok(()),
         Err(refusal) => Err(of_slab(refusal)),
+    }
+}
+
+/// The ending of `part`.
+pub(crate) fn ending_of_part(ended: Result<(), PartRefusal>) -> Result<(), Refusal>
+    ensures { result ≡ spec.ending_of spec.of_part ended }
+{
+    match ended {
+        Ok(()) => Ok(()),
+        Err(refusal) => Err(of_part(refusal)),
+    }
+}
+
+/// The ending of `join`.
+pub(crate) fn ending_of_join(ended: Result<(), JoinRefusal>) -> Result<(), Refusal>
+    ensures { result ≡ spec.ending_of spec.of_join ended }
+{
+    match ended {
+        Ok(()) => Ok(()),
+        Err(refusal) => Err(of_join(refusal)),
     }
 }
 

@@ -8,8 +8,8 @@ ghost use Rattle.oe_sources.specs.CatalogueRows.{rows_of};
 ghost use Rattle.oe_top.specs.Evaluated.{CanBeNamed, Completes, GoesThrough, IsBegun, IsFailOfRun, IsPlanOf};
 ghost use Rattle.oe_top.specs.Evaluated as spec;
 
-use crate::collection_id::CollectionId;
 use crate::laws;
+use crate::short_name::ShortName;
 use oe_engine::{Progress, Run, RunFail, Workspace};
 use oe_outside::{Gate, Store};
 use oe_plan::{Plan, PlanFail};
@@ -28,7 +28,7 @@ pub enum EvaluationFail {
     /// A collection could not be read.
     ReadFault,
     /// A node keeps this position of its collection, by its row-major number, which is damaged.
-    Damaged { id: CollectionId, position: u64 },
+    Damaged { id: ShortName, number: u64 },
     /// The spool could not be read or written.
     SpoolFault,
     /// The output could not be written.
@@ -144,15 +144,15 @@ pub(crate) fn fail_of_run(checked: &Checked, fail: RunFail) -> EvaluationFail
 {
     match fail {
         RunFail::SourceFailed => EvaluationFail::ReadFault,
-        RunFail::SourceDamaged { load, position } => match checked.collection(load) {
+        RunFail::SourceDamaged { load, number } => match checked.collection(load) {
             Some(id) => EvaluationFail::Damaged {
-                id: CollectionId::of(id),
-                position,
+                id: ShortName::of(id),
+                number,
             },
             None => unreachable!(),
         },
         RunFail::SpoolFailed => EvaluationFail::SpoolFault,
-        RunFail::Overflow(position) => EvaluationFail::Overflow(position),
+        RunFail::Overflow(number) => EvaluationFail::Overflow(number),
     }
 }
 
@@ -162,7 +162,7 @@ pub(crate) fn fail_of_text(fail: RenderFail) -> EvaluationFail
 {
     match fail {
         RenderFail::SpoolFailed => EvaluationFail::SpoolFault,
-        RenderFail::SpoolDamaged(position) => EvaluationFail::SpoolDamaged(position),
+        RenderFail::SpoolDamaged(number) => EvaluationFail::SpoolDamaged(number),
         RenderFail::SinkFailed => EvaluationFail::WriteFault,
     }
 }

@@ -1,9 +1,12 @@
 // The graph of an input, judged over the collections of a catalogue.
-ghost use Rattle.std.specs.Prelude.{◌≡◌, IfOk, IfErr, OnOk};
+ghost use Rattle.std.specs.Prelude.{◌≡◌, ◌+◌, IfOk, IfErr, OnOk};
 ghost use Rattle.oe_dims.specs.Plain.{plain_rows};
+ghost use Rattle.oe_graph.specs.Form.{most_input};
 ghost use Rattle.oe_graph.specs.Read.{IsFault};
+ghost use Rattle.oe_outside.specs.Faults.{NeverFalls};
+ghost use Rattle.oe_outside.specs.Input.{TakesAtMost};
 ghost use Rattle.oe_top.specs.Faults.{StandsOver};
-ghost use Rattle.oe_top.specs.Judged.{IsCheckedText, JudgesBytes, JudgesInput};
+ghost use Rattle.oe_top.specs.Judged.{IsCheckedText, IsTextOfInput, JudgesBytes, JudgesInput, RefusesInput};
 ghost use Rattle.oe_engine.specs.Laws.{GivesCollections};
 ghost use Rattle.oe_sources.specs.CatalogueDims.{AreDimsOf, dims_of};
 ghost use Rattle.oe_sources.specs.CatalogueRows.{rows_of};
@@ -43,12 +46,36 @@ pub(crate) fn judge_input<I: Source>(
     ensures collections { OnOk result (GivesCollections (rows_of seen catalogue.now)) }
     ensures found { IfOk result (λ c. AreDimsOf (rows_of seen catalogue.now) c.rows) }
 {
+    match judge_and_keep(alloc, input, catalogue) {
+        Ok((checked, _bytes)) => Ok(checked),
+        Err(refusal) => Err(refusal),
+    }
+}
+
+/// The same, with the bytes of the input, of which nothing is left.
+pub(crate) fn judge_and_keep<I: Source>(
+    alloc: Global,
+    input: &mut I,
+    catalogue: &Catalogue,
+) -> Result<(Checked, Vec<u8>), InputRefusal>
+    ensures text { IfOk result (λ kept. IsTextOfInput (dims_of (rows_of seen catalogue.now))
+        (I.left input.old) (I.left input.new) kept.1.items kept.0) }
+    ensures refused { IfErr result (RefusesInput (dims_of (rows_of seen catalogue.now))
+        (I.left input.old) (I.faults input.old) (I.left input.new) (I.faults input.new)) }
+    ensures taken { TakesAtMost (I.left input.old) (most_input + 1) (I.left input.new) }
+    ensures count { NeverFalls (I.faults input.old) (I.faults input.new) }
+    ensures collections { OnOk result (GivesCollections (rows_of seen catalogue.now)) }
+    ensures found { IfOk result (λ kept. AreDimsOf (rows_of seen catalogue.now) kept.0.rows) }
+{
     let bytes = match read_input(alloc, input) {
         Ok(bytes) => bytes,
         Err(ReadRefusal::Failed) => return Err(InputRefusal::ReadFault),
         Err(ReadRefusal::OutOfMemory) => return Err(InputRefusal::OutOfMemory),
     };
-    judge_in(alloc, &bytes, catalogue)
+    match judge_in(alloc, &bytes, catalogue) {
+        Ok(checked) => Ok((checked, bytes)),
+        Err(refusal) => Err(refusal),
+    }
 }
 
 /// The graph that the bytes are, expanded and checked over the collections of the catalogue.

@@ -7,7 +7,6 @@
 #![tactic(auto)]
 
 mod check;
-mod collection_id;
 mod command;
 mod demo;
 mod describe;
@@ -15,20 +14,24 @@ mod endings;
 mod evaluation;
 mod explain;
 mod input;
+mod join;
 mod judge;
 mod laws;
 mod line;
 mod pack;
+mod part;
 mod plan;
 mod refusal;
 mod repack;
 mod run;
 mod say;
 mod setup;
+mod short_name;
 mod slab;
 mod slab_evaluation;
 mod slab_plan;
 mod words;
 
 pub use command::openeo;
+pub use join::joined_is_run;
 pub use setup::Setup;

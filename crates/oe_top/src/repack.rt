@@ -6,7 +6,7 @@ ghost use Rattle.oe_sources.specs.CatalogueRows.{rows_of};
 ghost use Rattle.oe_top.specs.Objects.{objects};
 ghost use Rattle.oe_top.specs.RepackAnswer.{RepackAnswers};
 
-use crate::collection_id::CollectionId;
+use crate::short_name::ShortName;
 use oe_dims::{Kind, Text};
 use oe_outside::{Gate, Sink};
 use oe_sources::{Catalogue, RepackFail};
@@ -20,7 +20,7 @@ pub enum RepackRefusal {
     /// The collection could not be read.
     ReadFault,
     /// This position of the collection, by its row-major number, is damaged.
-    Damaged { id: CollectionId, position: u64 },
+    Damaged { id: ShortName, number: u64 },
     /// The output could not be written.
     WriteFault,
     /// An allocation was refused.
@@ -79,9 +79,9 @@ fn write_anew<O: Sink, G: Gate>(
     match oe_sources::repack(alloc, catalogue, place, id, out, gate) {
         Ok(()) => Ok(()),
         Err(RepackFail::SourceFailed) => Err(RepackRefusal::ReadFault),
-        Err(RepackFail::SourceDamaged(position)) => Err(RepackRefusal::Damaged {
-            id: CollectionId::of(id),
-            position,
+        Err(RepackFail::SourceDamaged(number)) => Err(RepackRefusal::Damaged {
+            id: ShortName::of(id),
+            number,
         }),
         Err(RepackFail::SinkFailed) => Err(RepackRefusal::WriteFault),
         Err(RepackFail::OutOfMemory) => Err(RepackRefusal::OutOfMemory),

@@ -5,8 +5,8 @@ ghost use Rattle.oe_judge.specs.Texts.{behind_blank};
 ghost use Rattle.oe_top.specs.Lines.{Says, detail_of, error_output, line_of, number_said, status_and_code};
 ghost use Rattle.oe_top.specs.Written.{Writes};
 
-use crate::collection_id::CollectionId;
 use crate::refusal::Refusal;
+use crate::short_name::ShortName;
 use itoa::Buffer;
 use oe_outside::{Failed, Sink};
 
@@ -48,13 +48,20 @@ fn write_detail<E: Sink>(refusal: &Refusal, err: &mut E) -> Result<(), Failed>
     match refusal {
         Refusal::Graph(fault) => write_node(fault.node.as_str(), err),
         Refusal::TooLarge(cells) => write_number(*cells, err),
-        Refusal::Overflow(position) => write_number(u128::from(*position), err),
-        Refusal::Damaged { id, position } => write_position(id, *position, err),
-        Refusal::SpoolDamaged(position) => write_number(u128::from(*position), err),
+        Refusal::Overflow(number) => write_number(u128::from(*number), err),
+        Refusal::Damaged { id, number } => write_damage(id, *number, err),
+        Refusal::PartDamaged { name, number } => write_damage(name, *number, err),
+        Refusal::PartGraph(name)
+        | Refusal::PartShape(name)
+        | Refusal::PartSides(name)
+        | Refusal::PartOverlap(name) => write_both(b" ", name.as_slice(), err),
+        Refusal::ChunkMissing(chunk) => write_number(u128::from(*chunk), err),
+        Refusal::SpoolDamaged(number) => write_number(u128::from(*number), err),
         Refusal::Usage
         | Refusal::NoCubeText
         | Refusal::NotMounted
         | Refusal::NoTimeFold
+        | Refusal::ChunkRange
         | Refusal::ReadFault
         | Refusal::SpoolFault
         | Refusal::WriteFault
@@ -82,13 +89,13 @@ fn write_number<E: Sink>(number: u128, err: &mut E) -> Result<(), Failed>
     write_both(b" ", Buffer::new().format(number).as_bytes(), err)
 }
 
-/// Writes the id of a collection and a position of it, each behind a blank.
-fn write_position<E: Sink>(id: &CollectionId, position: u64, err: &mut E) -> Result<(), Failed>
-    ensures { Writes (codes " " ++ id.now ++ number_said position) (E.written err.old)
+/// Writes the name of a collection or a part and the number of a cell, each behind a blank.
+fn write_damage<E: Sink>(id: &ShortName, number: u64, err: &mut E) -> Result<(), Failed>
+    ensures { Writes (codes " " ++ id.now ++ number_said number) (E.written err.old)
         (E.faults err.old) (E.written err.new) (E.faults err.new) result }
 {
     match write_both(b" ", id.as_slice(), err) {
-        Ok(()) => write_number(u128::from(position), err),
+        Ok(()) => write_number(u128::from(number), err),
         Err(failed) => Err(failed),
     }
 }

@@ -1,11 +1,14 @@
 // The words of a command.
 ghost use Rattle.std.specs.Prelude.{ℕ, ◌≡◌, ◌≤◌, ◌↔◌, ◌∷◌, [], IsTrue, IfSome, IfNone, codes, decimal};
 ghost use Rattle.oe_window.specs.declared.grid.ChunkSize.{ChunkSize as Size};
-ghost use Rattle.oe_top.specs.Words.{AreRunNumbers, AreSides, SpellsCommand, IsNumberWord, Spells};
+ghost use Rattle.oe_top.specs.Words.{AreRunNumbers, AreSides, SpellsCommand, IsNumberWord, Spells, most_chunks};
 
 use itoa::Buffer;
 use oe_dims::{Text, is_name};
 use oe_window::ChunkSize;
+
+/// No run has more chunks.
+const MOST_CHUNKS: u64 = 281474976710656;
 
 /// What the words ask for: one variant a command.
 #[derive(Clone, Copy, PartialEq, Eq)]
@@ -15,6 +18,15 @@ pub enum Command {
         size: ChunkSize,
         workers: u32,
     },
+    /// To evaluate the chunks from `first` on and before `end` of such a run.
+    Part {
+        size: ChunkSize,
+        workers: u32,
+        first: u64,
+        end: u64,
+    },
+    /// To put the parts of a run together.
+    Join,
     /// To say how many cells such a run holds at most, and how many chunks it has.
     Plan {
         size: ChunkSize,
@@ -59,9 +71,7 @@ pub fn read_command(words: &[Text]) -> Option<Command>
         [verb, id] => read_with_id(verb, id),
         [verb, cx, cy, ct] => read_sized(verb, cx, cy, ct),
         [verb, cx, cy, ct, workers] => read_numbered(verb, cx, cy, ct, workers),
-        [verb, seed, side, cx, cy, ct, workers] => {
-            read_demo(verb, seed, side, cx, cy, ct, workers)
-        }
+        [verb, a, b, c, d, e, f] => read_seven(verb, a, b, c, d, e, f),
         _ => None,
     }
 }
@@ -77,6 +87,8 @@ fn read_alone(verb: &Text) -> Option<Command>
         Some(Command::Explain)
     } else if is_word(verb, "describe") {
         Some(Command::DescribeAll)
+    } else if is_word(verb, "join") {
+        Some(Command::Join)
     } else {
         None
     }
@@ -117,9 +129,80 @@ fn read_sized(verb: &Text, cx: &Text, cy: &Text, ct: &Text) -> Option<Command>
     None
 }
 
+/// The command of a verb and six numbers.
+fn read_seven(
+    verb: &Text,
+    a: &Text,
+    b: &Text,
+    c: &Text,
+    d: &Text,
+    e: &Text,
+    f: &Text,
+) -> Option<Command>
+    ensures some { IfSome result (Spells (verb.now ∷ a.now ∷ b.now ∷ c.now ∷ d.now
+        ∷ e.now ∷ f.now ∷ [])) }
+    ensures none { IfNone result (¬ SpellsCommand (verb.now ∷ a.now ∷ b.now ∷ c.now ∷ d.now
+        ∷ e.now ∷ f.now ∷ [])) }
+{
+    if is_word(verb, "part") {
+        return read_part(a, b, c, d, e, f);
+    }
+    if is_word(verb, "demo") {
+        return read_demo(a, b, c, d, e, f);
+    }
+    None
+}
+
+/// The command `part` with its numbers.
+fn read_part(
+    cx: &Text,
+    cy: &Text,
+    ct: &Text,
+    workers: &Text,
+    first: &Text,
+    end: &Text,
+) -> Option<Command>
+    ensures some { IfSome result (Spells (codes "part" ∷ cx.now ∷ cy.now ∷ ct.now
+        ∷ workers.now ∷ first.now ∷ end.now ∷ [])) }
+    ensures none { IfNone result (¬ SpellsCommand (codes "part" ∷ cx.now ∷ cy.now ∷ ct.now
+        ∷ workers.now ∷ first.now ∷ end.now ∷ [])) }
+{
+    let (size, workers) = read_numbers(cx, cy, ct, workers)?;
+    let first = read_chunk_number(first)?;
+    let end = read_chunk_number(end)?;
+    Some(Command::Part {
+        size,
+        workers,
+        first,
+        end,
+    })
+}
+
+/// The number of a chunk, or how many there are, which is 2^48 at most. `None` exactly where the word spells none.
+fn read_chunk_number(word: &Text) -> Option<u64>
+    ensures some { IfSome result (IsNumberWord 0 most_chunks word.now) }
+    ensures none { IfNone result ((number : ℕ) → ¬ IsNumberWord 0 most_chunks word.now number) }
+{
+    match word.as_str().parse::<u64>() {
+        Ok(number) => {
+            if is_chunk_number(word, number) {
+                Some(number)
+            } else {
+                None
+            }
+        }
+        Err(_) => None,
+    }
+}
+
+fn is_chunk_number(word: &Text, number: u64) -> bool
+    ensures { IsTrue result ↔ IsNumberWord 0 most_chunks word.now number }
+{
+    number <= MOST_CHUNKS && is_spelling(word, number)
+}
+
 /// The command `demo` with its numbers.
 fn read_demo(
-    verb: &Text,
     seed: &Text,
     side: &Text,
     cx: &Text,
@@ -127,14 +210,11 @@ fn read_demo(
     ct: &Text,
     workers: &Text,
 ) -> Option<Command>
-    ensures some { IfSome result (Spells (verb.now ∷ seed.now ∷ side.now ∷ cx.now ∷ cy.now
+    ensures some { IfSome result (Spells (codes "demo" ∷ seed.now ∷ side.now ∷ cx.now ∷ cy.now
         ∷ ct.now ∷ workers.now ∷ [])) }
-    ensures none { IfNone result (¬ SpellsCommand (verb.now ∷ seed.now ∷ side.now ∷ cx.now ∷ cy.now
-        ∷ ct.now ∷ workers.now ∷ [])) }
+    ensures none { IfNone result (¬ SpellsCommand (codes "demo" ∷ seed.now ∷ side.now ∷ cx.now
+        ∷ cy.now ∷ ct.now ∷ workers.now ∷ [])) }
 {
-    if !is_word(verb, "demo") {
-        return None;
-    }
     let seed = read_number(seed, 0, 1000000000)?;
     let side = read_number(side, 1, 1024)?;
     let (size, workers) = read_numbers(cx, cy, ct, workers)?;
@@ -213,7 +293,7 @@ fn read_number(word: &Text, low: u32, high: u32) -> Option<u32>
 fn is_number(word: &Text, number: u32, low: u32, high: u32) -> bool
     ensures { IsTrue result ↔ IsNumberWord low high word.now number }
 {
-    is_within(number, low, high) && is_spelling(word, number)
+    is_within(number, low, high) && is_spelling(word, u64::from(number))
 }
 
 fn is_within(number: u32, low: u32, high: u32) -> bool
@@ -223,7 +303,7 @@ fn is_within(number: u32, low: u32, high: u32) -> bool
 }
 
 /// Whether the word is the decimal spelling of the number.
-fn is_spelling(word: &Text, number: u32) -> bool
+fn is_spelling(word: &Text, number: u64) -> bool
     ensures { IsTrue result ↔ word.now ≡ decimal number }
 {
     Buffer::new().format(number) == word.as_str()

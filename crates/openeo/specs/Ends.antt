@@ -10,8 +10,9 @@ IsTextWord word = (word ≡ codes "--help") ⊎ (word ≡ codes "--version")
 
 -- the word of a command
 abbrev pub IsVerb : List ℕ → Type 0
-IsVerb word = (word ≡ codes "run") ⊎ (word ≡ codes "check") ⊎ (word ≡ codes "explain") ⊎ (word ≡ codes "plan")
-    ⊎ (word ≡ codes "slab") ⊎ (word ≡ codes "slabplan") ⊎ (word ≡ codes "demo") ⊎ (word ≡ codes "pack") ⊎ (word ≡ codes "repack")
+IsVerb word = (word ≡ codes "run") ⊎ (word ≡ codes "part") ⊎ (word ≡ codes "join") ⊎ (word ≡ codes "check")
+    ⊎ (word ≡ codes "explain") ⊎ (word ≡ codes "plan") ⊎ (word ≡ codes "slab") ⊎ (word ≡ codes "slabplan")
+    ⊎ (word ≡ codes "demo") ⊎ (word ≡ codes "pack") ⊎ (word ≡ codes "repack")
     ⊎ (word ≡ codes "describe") ⊎ (word ≡ codes "serve") ⊎ (word ≡ codes "client")
 
 -- the words ask for a text about the program, or, behind the word of a command, about that command

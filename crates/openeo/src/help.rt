@@ -9,6 +9,8 @@ openeo: an openEO back end whose answers are exact
 
 Usage:
   openeo run CX CY CT W            read a process graph and write its result text
+  openeo part CX CY CT W FIRST END evaluate the chunks FIRST to END - 1 of that run and write their part file
+  openeo join                      read a process graph and write its result text from all parts of its run
   openeo check                     read a process graph and write 'valid', or say which fault stands in it
   openeo explain                   the same, and say of a fault which argument it is of and what to do
   openeo slab CX CY CT             the same as run, where slabs of CT dates are folded one after the other
@@ -29,13 +31,15 @@ Graphs and texts are read from standard input, and what a command gives goes to 
 
 CX, CY, CT  the sides of a chunk along x, y and t, from 1 to 4096
 W           the number of workers, from 1 to 64; neither these nor the sides have an effect on the result
+FIRST, END  chunks of a run by their numbers from 0, END one past the last, up to the number that plan says
 SEED, SIDE  what a generated collection is made from, from 0 to 1000000000, and its pixels a side, from 1 to 1024
 ID          the id of a collection: 1 to 64 letters, digits, '_', '-' and '.'
 
 Collections are the files collections/*.cube below the working directory, each by the id that stands in the file, and
 behind them the mosaics collections/*.mosaic; there are 64 at most. The lines of a mosaic's file are an id and 1 to 16
 names of cube files of that folder, of which together it makes one collection: it has all their labels, and where they
-overlap the cells of the earlier file. A run keeps its cells in a file of its own, which is made beside that folder as
+overlap the cells of the earlier file. Parts are the files parts/*.part, which join alone
+opens; there are 1024 at most. A run keeps its cells in a file of its own, which is made beside that folder as
 openeo.spool and has no name from then on.
 
 Exit status, and the line on standard error:
@@ -43,11 +47,15 @@ Exit status, and the line on standard error:
   1   Usage: the words are no command
   2   CODE NODE: the least fault of a graph; CubeTextInvalid: the input of pack, also one over 1048576 bytes;
       CollectionNotFound: the id of repack or describe; NoTimeFold: slab or slabplan finds no reduction of t to cut at;
+      ChunkRange: part names chunks that the run has not; PartGraphDiffers, PartShapeDiffers, PartSidesDiffer or
+      PartOverlaps NAME: this part of join is of another graph, result or size of chunks, or has a chunk twice;
+      ChunkMissing N: no part has this chunk;
       InputTooLong: what client sends is over 1048576 bytes
   3   PlanTooLarge CELLS: a run would hold more than 67108864 cells; try smaller chunks or extents
-  4   NumberOverflow POSITION: a number of the result is out of range
+  4   NumberOverflow NUMBER: this cell of the result, counted row by row from 0, is out of range
   5   ReadFault: the input or a collection could not be read
-  6   SourceDamaged ID POSITION: this position of the collection is damaged
+  6   SourceDamaged ID NUMBER: this cell of the collection, counted so too, is damaged;
+      PartDamaged NAME NUMBER: this part has no record for this cell of the result
   7   SpoolFault: the file of the run's cells could not be read or written
   8   WriteFault: standard output could not be written
   9   OutOfMemory: an allocation was refused
@@ -56,7 +64,7 @@ Exit status, and the line on standard error:
   12  PeerInvalid: what the back end answered is no response that client reads, or to all no page of the list
   13  Refused STATUS: the back end refused the call; its own words are on the next line
   14  Setup NAME: this file could not be opened, made or mounted; bytes that do not print are \\x and two digits
-  15  SpoolDamaged POSITION: the file of the run's cells gave back what was not written
+  15  SpoolDamaged NUMBER: the file of the run's cells gave back what was not written
 ";
 
 const RUN: &str = "\
@@ -70,6 +78,27 @@ since each chunk is read with what is around it.
 While it works, and standard error is a terminal, a line 'chunk K of N' there tells how many of its chunks were begun.
 Exit status: 0, 1 Usage, 2 CODE NODE, 3 PlanTooLarge, 4 NumberOverflow, 5 ReadFault, 6 SourceDamaged, 7 SpoolFault,
 8 WriteFault, 9 OutOfMemory, 14 Setup, 15 SpoolDamaged.
+";
+
+const PART: &str = "\
+openeo part CX CY CT W FIRST END < GRAPH > FILE
+
+Evaluates the chunks FIRST to END - 1 of the run that 'openeo run CX CY CT W' makes of the graph, and writes their part
+file. 'openeo plan' with the same words says how many chunks there are: parts that have each chunk once are joined by
+'openeo join', wherever and in whatever order they were made. W has no effect on the file. FIRST is below END.
+While it works, and standard error is a terminal, a line 'chunk K of N' there tells how many of its chunks were begun.
+Exit status: 0, 1 Usage, 2 CODE NODE or ChunkRange, 3 PlanTooLarge, 5 ReadFault, 6 SourceDamaged, 7 SpoolFault,
+8 WriteFault, 9 OutOfMemory, 14 Setup, 15 SpoolDamaged.
+";
+
+const JOIN: &str = "\
+openeo join < GRAPH
+
+Writes the result text of the graph from the files parts/*.part: the text that 'openeo run' writes. They are parts of the
+run of this very text, byte for byte, in chunks of one size, and have each chunk once. The labels of the collections are
+looked at and no cell of them is read.
+Exit status: 0, 1 Usage, 2 CODE NODE, PartGraphDiffers, PartShapeDiffers, PartSidesDiffer, PartOverlaps or ChunkMissing,
+4 NumberOverflow, 5 ReadFault, 6 PartDamaged, 7 SpoolFault, 8 WriteFault, 9 OutOfMemory, 14 Setup, 15 SpoolDamaged.
 ";
 
 const SLAB: &str = "\
@@ -245,6 +274,8 @@ fn help_of(verb: &str) -> Option<&'static str>
 {
     match verb {
         "run" => Some(RUN),
+        "part" => Some(PART),
+        "join" => Some(JOIN),
         "check" => Some(CHECK),
         "explain" => Some(EXPLAIN),
         "plan" => Some(PLAN),

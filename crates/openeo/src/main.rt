@@ -15,7 +15,8 @@ mod server;
 
 use client::client_words;
 use oe_adapters::{
-    Fault, ProgressGate, Reader, Writer, mount_outcome, open_collection, open_spool, words_of,
+    Fault, ProgressGate, Reader, Writer, mount_outcome, open_collection, open_parts, open_spool,
+    words_of,
 };
 use oe_sources::Catalogue;
 use oe_top::{Setup, openeo};
@@ -62,6 +63,10 @@ fn main(rt: HostRuntime) -> ExitCode {
     ) {
         return ExitCode::from(status);
     }
+    let mut parts = match open_parts(alloc, &rt, &start.words) {
+        Ok(parts) => parts,
+        Err(fault) => return ExitCode::from(end(&fault, &mut err)),
+    };
     let mut input = Reader::new(rt.stdin());
     let mut spool = match open_spool(alloc, &rt) {
         Ok(spool) => spool,
@@ -82,6 +87,7 @@ fn main(rt: HostRuntime) -> ExitCode {
         &mut out,
         &mut err,
         &mut catalogue,
+        &mut parts,
         &mut spool,
     ))
 }

@@ -1,16 +1,17 @@
-use Rattle.oe_top.proofs.Checks.{judges}
-use Rattle.oe_sources.specs.CatalogueDims.{dims_of}
-use Rattle.oe_sources.specs.CatalogueRows.{rows_of}
 use Rattle.oe_top.proofs.judge.judge_input.Goals as goal
 
-pub returns-clause-judged : goal.returns-clause-judged
-returns-clause-judged g c =
-    let rows = rows_of (λ z. (goal.CubeSource-dyn g z).seen z.1) c.args.catalogue.now in
+pub returns-in-Ok-clause-judged : goal.returns-in-Ok-clause-judged
+returns-in-Ok-clause-judged g c =
+    let kept = c.in-Ok.ensures.text in
     record {
-      ends =
-          judges (dims_of rows) (g.I.Source.left c.args.input.now) (g.I.Source.faults c.args.input.now) c.in-Ok.bytes.items
-          (g.I.Source.left c.read_input.new.input) (g.I.Source.faults c.read_input.new.input) c.judge_in.result c.in-Ok.ensures.read
-          (rw (c.deref.ensures.value) at c.judge_in.ensures.judged);
-      taken = c.in-Ok.ensures.bounded;
-      count = c.in-Ok.ensures.cause.count;
+      ends = record { bytes = _; read_whole = kept.0; text = kept.1 };
+      taken = c.judge_and_keep.ensures.taken;
+      count = c.judge_and_keep.ensures.count;
     }
+
+pub returns-in-Err-clause-judged : goal.returns-in-Err-clause-judged
+returns-in-Err-clause-judged g c = record {
+  ends = c.in-Err.ensures.refused;
+  taken = c.judge_and_keep.ensures.taken;
+  count = c.judge_and_keep.ensures.count;
+}

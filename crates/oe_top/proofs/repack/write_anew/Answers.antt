@@ -30,7 +30,7 @@ returns-in-Err-SourceDamaged g c = λ input input_faults spool spool_faults.
     let after = objects input input_faults (g.O.Sink.written c.repack.new.out) (g.O.Sink.faults c.repack.new.out) spool spool_faults (rows_of (λ z. (goal.CubeSource-dyn g z).seen z.1) c.repack.new.catalogue) in
     damaged c.args.id.now c.args.id.now before after c.args.place refl c.requires.index c.requires.within c.requires.found
     c.repack.ensures.only (refl, refl) (refl, refl) c.repack.ensures.sink.count
-    c.in-Err-SourceDamaged.position c.of.result c.of.ensures
+    c.in-Err-SourceDamaged.number c.of.result c.of.ensures
     (rw c.in-Err-SourceDamaged.field-0-is at c.in-Err-SourceDamaged.ensures.damage)
     (rw c.in-Err-SourceDamaged.field-0-is at c.in-Err-SourceDamaged.ensures.left)
 

@@ -1,21 +1,22 @@
-// The id of a collection in a place of its own.
+// A short name in a place of its own.
 ghost use Rattle.std.specs.Prelude.{◌≡◌, ◌≤◌, length};
 
 use oe_dims::Text;
 use std::marker::Model;
 
-/// The most bytes of an id.
+/// The most bytes of a name.
 const MOST: usize = 64;
 
-/// The id of a collection, 64 bytes at most. It takes no memory, so that a position can be named in the midst of a run.
+/// The id of a collection or the name of a file, 64 bytes at most. It takes no memory, so that a position can be named in
+/// the midst of a run.
 /// Contracts see the bytes.
 #[derive(Drop)]
-pub struct CollectionId {
+pub struct ShortName {
     bytes: [u8; MOST],
     length: usize,
 }
 
-impl Model for CollectionId {
+impl Model for ShortName {
     ghost use Rattle.std.specs.Prelude.{◌≤◌, ℕ, List, take};
 
     ghost Value = { List ℕ };
@@ -25,18 +26,18 @@ impl Model for CollectionId {
     ghost invariant = { λ id. id.length ≤ 64 };
 }
 
-impl CollectionId {
-    /// A copy of an id.
-    pub(crate) fn of(id: &Text) -> CollectionId
-        requires { length id.now ≤ 64 }
-        ensures { result ≡ id.now }
+impl ShortName {
+    /// A copy of a name.
+    pub(crate) fn of(name: &Text) -> ShortName
+        requires { length name.now ≤ 64 }
+        ensures { result ≡ name.now }
     {
-        let id = id.as_str().as_bytes();
+        let name = name.as_str().as_bytes();
         let mut bytes = [0; MOST];
-        bytes[..id.len()].copy_from_slice(id);
-        CollectionId {
+        bytes[..name.len()].copy_from_slice(name);
+        ShortName {
             bytes,
-            length: id.len(),
+            length: name.len(),
         }
     }
 
