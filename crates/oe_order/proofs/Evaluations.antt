@@ -77,7 +77,7 @@ LoadsFirst-extend nodes run (suc times) steps first stand =
         then (steps ++ x ∷ []) (LoadsFirst-push nodes steps x first (free x e))
         (λ n m l. contains-append steps (x ∷ []) n ∙ or_left (contains steps n) (contains (x ∷ []) n) (stand n m l))
 
-order_of-loads_first : (nodes : List Node) (last : ℕ) → LoadsFirst nodes (order_of nodes last)
+pub order_of-loads_first : (nodes : List Node) (last : ℕ) → LoadsFirst nodes (order_of nodes last)
 unfolding order_of loads_of
 order_of-loads_first nodes last =
     let run = run_of nodes last in
@@ -109,9 +109,9 @@ module _ (nodes : List Node) (last : ℕ) (steps : List ℕ) where
     | inl lt ↦ is_live-before nodes last steps step i lt ∙ or_left (eqb (get_or steps i 0) last) (taken_from nodes steps step (get_or steps i 0)) (eq-eqb (get_or steps i 0) last e)
   ]
 
-  pub IsEvaluationOrder-from : steps ≡ order_of nodes last → IsListing nodes last steps → IsEvaluationOrder nodes last steps
-  IsEvaluationOrder-from is listing = record {
-    loads_first = subst (LoadsFirst nodes) (sym is) (order_of-loads_first nodes last);
+  pub IsEvaluationOrder-of : LoadsFirst nodes steps → IsListing nodes last steps → IsEvaluationOrder nodes last steps
+  IsEvaluationOrder-of first listing = record {
+    loads_first = first;
     arguments_held = λ step a h free c.
         (let before = listing.arguments_first step a h free c in
         record { at = before.0; earlier = before.1; is = before.2; live = argument_live step before.0 a h before.1 before.2 c });

@@ -1,6 +1,6 @@
 -- The nodes of a list of links.
-use Rattle.std.proofs.Common.{◌≡◌, ℕ, zero, suc, ◌<◌, List, [], ◌∷◌, length, get_or, refl, sym, ap, arith}
-use Rattle.oe_order.specs.Graph.{graph_of, arguments, is_load}
+use Rattle.std.proofs.Common.{◌≡◌, ℕ, zero, suc, ◌<◌, List, [], ◌∷◌, ◌++◌, length, get_or, refl, sym, ap, arith}
+use Rattle.oe_order.specs.Graph.{Node, graph_of, arguments, is_load}
 use Rattle.oe_order.specs.declared.Links.{Links}
 
 pub length-graph_of : (xs : List Links) → length (graph_of xs) ≡ length xs
@@ -16,3 +16,7 @@ pub is_load-graph_of : (xs : List Links) (n : ℕ) (x : Links) → n < length xs
 is_load-graph_of [] n x h e = absurd (omega arith)
 is_load-graph_of (y ∷ ys) zero x h e = sym (ap (λ (z : Links). z.load) e)
 is_load-graph_of (y ∷ ys) (suc n) x h e = is_load-graph_of ys n x (omega arith) e
+
+pub graph_of-push : (xs : List Links) (x : Links) → graph_of (xs ++ x ∷ []) ≡ graph_of xs ++ record { load = x.load; arguments = x.arguments.items } ∷ []
+graph_of-push [] x = refl
+graph_of-push (y ∷ xs) x = ap (λ (ns : List Node). record { load = y.load; arguments = y.arguments.items } ∷ ns) (graph_of-push xs x)

@@ -10,3 +10,4 @@ pub mod Steps
 pub mod Reach
 pub mod RankLemmas
 pub mod Evaluations
+pub mod TurnLemmas

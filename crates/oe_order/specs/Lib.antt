@@ -2,6 +2,7 @@ pub mod Marks
 pub mod Graph
 pub mod Ranks
 pub mod Order
+pub mod Turns
 pub mod Live
 pub mod Waiting
 pub mod Pool

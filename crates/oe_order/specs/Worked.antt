@@ -2,6 +2,7 @@
 use Rattle.std.specs.Prelude.{◌≡◌, ℕ, true, false, List, [], ◌∷◌, refl}
 use Rattle.oe_order.specs.Graph.{Node, reaches_within, in_run, run_of}
 use Rattle.oe_order.specs.Order.{next_of, extend_order, loads_of, order_of}
+use Rattle.oe_order.specs.Turns.{order_by_turns}
 use Rattle.oe_order.specs.Live.{taken_from, is_live, live_count, width_of}
 
 -- a node that loads, and a node that takes these
@@ -91,3 +92,16 @@ order_of-squared = refl
 pub width_of-squared : width_of squared 0 (1 ∷ 0 ∷ []) ≡ 2
 unfolding taken_from is_live live_count width_of
 width_of-squared = refl
+
+-- three nodes read one load, and one node reads all three: the three come in the order of their turns
+abbrev pub fan : List Node
+fan = loading ∷ taking (0 ∷ []) ∷ taking (0 ∷ []) ∷ taking (0 ∷ []) ∷ taking (1 ∷ 2 ∷ 3 ∷ []) ∷ []
+
+pub order_by_turns-fan : order_by_turns fan (0 ∷ 2 ∷ 3 ∷ 1 ∷ 4 ∷ []) 4 ≡ 0 ∷ 2 ∷ 3 ∷ 1 ∷ 4 ∷ []
+unfolding reaches_within in_run run_of next_of extend_order loads_of order_of order_by_turns
+order_by_turns-fan = refl
+
+-- a node of least turn waits for what it takes all the same
+pub order_by_turns-chain : order_by_turns chain (2 ∷ 1 ∷ 0 ∷ []) 2 ≡ 0 ∷ 1 ∷ 2 ∷ []
+unfolding reaches_within in_run run_of next_of extend_order loads_of order_of order_by_turns
+order_by_turns-chain = refl

@@ -4,20 +4,22 @@
 //! first and every other behind its arguments, and for each a slot that no other node has while it is live. The number
 //! of slots is the largest number of nodes that are live at one step, so the layer above keeps so many results and no
 //! more. The contract of `order` says which list it is, that it lists the run, what an evaluation step by step rests
-//! on, and that live nodes are apart. `is_ranked` and `leads_back` tell a caller whether references lead back to a
-//! node.
+//! on, and that live nodes are apart; [`order_by`] lets a caller say which of the nodes that are ready comes next.
+//! [`is_ranked`] and [`leads_back`] tell a caller whether references lead back to a node.
 #![tactic(auto)]
 
 mod listing;
 mod pool;
 mod ranks;
 mod run;
+mod turns;
 
 ghost use Rattle.std.specs.Prelude.{◌≡◌, ◌<◌, ◌^◌, ◌↔◌, ℕ, Some, Contains, IfOk, IfSome, IsNone, length, slice_index};
 ghost use Rattle.oe_order.specs.Graph.{graph_of, RefersWithin, IsAcyclic};
 ghost use Rattle.oe_order.specs.Order.{order_of, IsListing};
 ghost use Rattle.oe_order.specs.Live.{width_of, IsSlotted};
-ghost use Rattle.oe_order.specs.Evaluation.{IsEvaluationOrder};
+ghost use Rattle.oe_order.specs.Evaluation.{IsEvaluationOrder, LoadsFirst};
+ghost use Rattle.oe_order.specs.Turns.{AreTurns, order_by_turns};
 
 use oe_memory::OutOfMemory;
 pub use ranks::is_ranked;
@@ -122,6 +124,52 @@ pub fn order(alloc: Global, nodes: &[Links], last: u32) -> Result<NodeOrder, Out
     ensures slots { IfOk result (λ o. IsSlotted (graph_of nodes.now) last o) }
 {
     let steps = listing::steps_of(alloc, nodes, last)?;
+    with_slots(alloc, nodes, last, steps)
+}
+
+/// The same by turns: of the nodes that are ready the one comes next that stands first in `turns`, a list of all nodes.
+///
+/// Refuses: where an allocation was refused, and nowhere else.
+pub fn order_by(
+    alloc: Global,
+    nodes: &[Links],
+    last: u32,
+    turns: &[u32],
+) -> Result<NodeOrder, OutOfMemory>
+    requires few { length nodes.now < 2 ^ 32 }
+    requires last_named { last < length nodes.now }
+    requires named { RefersWithin (graph_of nodes.now) }
+    requires acyclic { IsAcyclic (graph_of nodes.now) }
+    requires turns { AreTurns (length nodes.now) turns.now }
+    ensures steps { IfOk result
+        (λ o. o.steps ≡ order_by_turns (graph_of nodes.now) turns.now last) }
+    ensures listing { IfOk result (λ o. IsListing (graph_of nodes.now) last o.steps) }
+    ensures evaluation { IfOk result (λ o. IsEvaluationOrder (graph_of nodes.now) last o.steps) }
+    ensures width { IfOk result (λ o. o.width ≡ width_of (graph_of nodes.now) last o.steps) }
+    ensures slots { IfOk result (λ o. IsSlotted (graph_of nodes.now) last o) }
+{
+    let steps = turns::steps_by_turns(alloc, nodes, last, turns)?;
+    with_slots(alloc, nodes, last, steps)
+}
+
+/// These steps with a slot for each, and the step of each node.
+fn with_slots(
+    alloc: Global,
+    nodes: &[Links],
+    last: u32,
+    steps: Vec<u32>,
+) -> Result<NodeOrder, OutOfMemory>
+    requires few { length steps.items < 2 ^ 32 }
+    requires last_named { last < length nodes.now }
+    requires named { RefersWithin (graph_of nodes.now) }
+    requires loads_first { LoadsFirst (graph_of nodes.now) steps.items }
+    requires listing { IsListing (graph_of nodes.now) last steps.items }
+    ensures steps { IfOk result (λ o. o.steps ≡ steps.items) }
+    ensures listing { IfOk result (λ o. IsListing (graph_of nodes.now) last o.steps) }
+    ensures evaluation { IfOk result (λ o. IsEvaluationOrder (graph_of nodes.now) last o.steps) }
+    ensures width { IfOk result (λ o. o.width ≡ width_of (graph_of nodes.now) last o.steps) }
+    ensures slots { IfOk result (λ o. IsSlotted (graph_of nodes.now) last o) }
+{
     let slotting = pool::assign(alloc, nodes, last, steps.as_slice())?;
     let pool::Slotting {
         slots,

@@ -117,7 +117,7 @@ impl Pool {
 }
 
 /// The step of each node that stands, for so many nodes.
-fn steps_by_node(alloc: Global, nodes: usize, steps: &[u32]) -> Result<Vec<u32>, OutOfMemory>
+pub fn steps_by_node(alloc: Global, nodes: usize, steps: &[u32]) -> Result<Vec<u32>, OutOfMemory>
     requires few { length steps.now < 2 ^ 32 }
     requires within { (n : ℕ) → IsTrue (contains steps.now n) → n < nodes }
     requires once { (i j : ℕ) → i < j → j < length steps.now →

@@ -21,7 +21,7 @@ use Rattle.oe_shape.specs.declared.checked.State.{State}
 use Rattle.oe_shape.specs.declared.checked.State.TheVariants.{Sound}
 use Rattle.oe_shape.proofs.LinkLemmas.{few, named_at, rises}
 
-id_count : (nodes : Nodes) → length (ids_of nodes) ≡ node_count nodes
+pub id_count : (nodes : Nodes) → length (ids_of nodes) ≡ node_count nodes
 id_count no_nodes = refl
 id_count (node id process_id namespace arguments rest) = ap suc (id_count rest)
 

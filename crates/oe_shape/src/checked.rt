@@ -79,6 +79,7 @@ impl Checked {
     ghost use Rattle.std.specs.Prelude.{◌≡◌, ◌<◌, Some, length, option_map};
     ghost use Rattle.std.specs.Arc.{arc_value};
     ghost use Rattle.oe_graph.specs.Printed.{node_count};
+    ghost use Rattle.oe_expr.specs.Nodes.{id_at};
     ghost use Rattle.oe_order.specs.Graph.{graph_of, RefersWithin, IsAcyclic};
     ghost use Rattle.oe_shape.specs.Checked.{AreFaultless, IsKept, outline_of_node, operation_of_node, collection_of_node};
     ghost use Rattle.oe_shape.specs.Links.{index_named, links_of};
@@ -137,6 +138,14 @@ impl Checked {
         ensures { result ≡ index_named self.now.nodes id.now }
     {
         index_among(&self.ids, id)
+    }
+
+    /// The id of a node.
+    pub fn id(&self, node: u32) -> &str
+        requires { node < node_count self.now.nodes }
+        ensures { result.now ≡ id_at node self.now.nodes }
+    {
+        self.ids[node as usize].as_str()
     }
 
     /// The same graph with another result node, as for one asset of a job that has several. Takes no memory.

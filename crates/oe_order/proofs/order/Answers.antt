@@ -1,28 +1,14 @@
-use Rattle.std.proofs.Common.{◌<◌, length, get_or, arith}
+use Rattle.std.proofs.Common.{sym, ◌∙◌, subst}
+use Rattle.std.proofs.lemmas.Result.{IfOk-weaker}
+use Rattle.oe_order.specs.Evaluation.{LoadsFirst}
 use Rattle.oe_order.specs.Graph.{graph_of}
-use Rattle.oe_order.proofs.Evaluations.{IsEvaluationOrder-from}
-use Rattle.oe_order.proofs.Graphs.{length-graph_of}
-use Rattle.oe_order.proofs.Lists.{contains-at, contains-to}
-use Rattle.oe_order.proofs.Reach.{IsInRun-within}
+use Rattle.oe_order.proofs.Evaluations.{order_of-loads_first}
 use Rattle.oe_order.proofs.order.Goals as goal
 
-pub invariant_of-result : goal.invariant_of-result
-invariant_of-result c =
-    let nodes = graph_of c.args.nodes.now in
-    let steps = c.in_ok-steps.steps.items in
-    let e = c.in_ok-slotting.ensures in
-    let size = length-graph_of c.args.nodes.now in
-    let slotted = rw c.as_slice.ensures.value at e.slots in
-    record {
-      each = slotted.each;
-      below = slotted.below;
-      within = λ i h.
-          (let at = (c.in_ok-steps.ensures.listing.members (get_or steps i 0)).0 (contains-to steps (get_or steps i 0) (contains-at steps i 0 h)) in
-          let lt : get_or steps i 0 < length nodes = IsInRun-within nodes c.args.last (get_or steps i 0) c.requires.named (omega (arith, size, c.requires.last_named)) at in
-          omega (arith, lt, size, e.len));
-      found = rw c.as_slice.ensures.value at e.by_node;
-    }
+pub with_slots-requires-clause-loads_first : goal.with_slots-requires-clause-loads_first
+with_slots-requires-clause-loads_first c =
+    subst (LoadsFirst (graph_of c.args.nodes.now)) (sym c.in_ok-steps.ensures.steps) (order_of-loads_first (graph_of c.args.nodes.now) c.args.last)
 
-pub returns-clause-evaluation : goal.returns-clause-evaluation
-returns-clause-evaluation c =
-    IsEvaluationOrder-from (graph_of c.args.nodes.now) c.args.last c.in_ok-steps.steps.items c.in_ok-steps.ensures.steps c.in_ok-steps.ensures.listing
+pub returns-clause-steps : goal.returns-clause-steps
+returns-clause-steps c =
+    IfOk-weaker c.with_slots.result _ _ (λ o is. is ∙ c.in_ok-steps.ensures.steps) c.with_slots.ensures.steps
