@@ -7,6 +7,7 @@ pub mod Kept
 pub mod Queues
 pub mod Nexts
 pub mod Steps
+pub mod Sorting
 pub mod Reach
 pub mod RankLemmas
 pub mod Evaluations

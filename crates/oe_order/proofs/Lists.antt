@@ -116,7 +116,7 @@ pub marks_of : ℕ → List ℕ → List Bool
 marks_of n [] = replicate n false
 marks_of n (x ∷ xs) = set (marks_of n xs) x true
 
-length-marks_of : (n : ℕ) (xs : List ℕ) → length (marks_of n xs) ≡ n
+pub length-marks_of : (n : ℕ) (xs : List ℕ) → length (marks_of n xs) ≡ n
 unfolding marks_of
 length-marks_of n [] = length-replicate n false
 length-marks_of n (x ∷ xs) = length-set (marks_of n xs) x true ∙ length-marks_of n xs
@@ -133,7 +133,7 @@ count-none (suc n) = omega (arith, sum_by-cons one_if false (replicate n false),
 pub IsMarked-none : (n : ℕ) → IsMarked (replicate n false) []
 IsMarked-none n = record { same = no_marks n; once = count-none n }
 
-IsMarked-marks_of : (n : ℕ) (xs : List ℕ) → Apart xs → ((k : ℕ) → contains xs k ≡ true → k < n) → IsMarked (marks_of n xs) xs
+pub IsMarked-marks_of : (n : ℕ) (xs : List ℕ) → Apart xs → ((k : ℕ) → contains xs k ≡ true → k < n) → IsMarked (marks_of n xs) xs
 unfolding marks_of
 IsMarked-marks_of n [] a h = IsMarked-none n
 IsMarked-marks_of n (x ∷ xs) a h =

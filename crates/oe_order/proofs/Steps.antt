@@ -28,7 +28,7 @@ ready_parts nodes steps n e = let w = and_parts (not (contains steps n)) (list_a
     turn true e = sym e
     turn false e = refl
 
-ready_from : (nodes : List Node) (steps : List ℕ) (n : ℕ) → contains steps n ≡ false → list_all (contains steps) (arguments nodes n) ≡ true → is_ready nodes steps n ≡ true
+pub ready_from : (nodes : List Node) (steps : List ℕ) (n : ℕ) → contains steps n ≡ false → list_all (contains steps) (arguments nodes n) ≡ true → is_ready nodes steps n ≡ true
 ready_from nodes steps n a b = and_from (not (contains steps n)) (list_all (contains steps) (arguments nodes n)) (ap not a) b
 
 past_none : (xs : List ℕ) (i : ℕ) → slice_get xs i ≡ None → length xs ≤ i

@@ -3,6 +3,7 @@ pub mod Graph
 pub mod Ranks
 pub mod Order
 pub mod Turns
+pub mod Sorted
 pub mod Live
 pub mod Waiting
 pub mod Pool

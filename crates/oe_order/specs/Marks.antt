@@ -1,4 +1,4 @@
--- For private functions. Marks that say which nodes a list has.
+-- Marks that say which nodes a list has.
 use Rattle.std.specs.Prelude.{◌≡◌, ℕ, Bool, false, List, length, slice_index_or, count_by}
 use Rattle.oe_order.specs.Order.{contains}
 

@@ -5,7 +5,9 @@
 //! of slots is the largest number of nodes that are live at one step, so the layer above keeps so many results and no
 //! more. The contract of `order` says which list it is, that it lists the run, what an evaluation step by step rests
 //! on, and that live nodes are apart; [`order_by`] lets a caller say which of the nodes that are ready comes next.
-//! [`is_ranked`] and [`leads_back`] tell a caller whether references lead back to a node.
+//! [`sort`] lists all nodes of a graph, each behind those that it refers to; [`is_acyclic`], [`is_ranked`] and
+//! [`leads_back`] tell a caller whether references lead back to a node, and [`mark_new`] is the step of a search along
+//! them.
 #![tactic(auto)]
 
 mod listing;
@@ -21,9 +23,10 @@ ghost use Rattle.oe_order.specs.Live.{width_of, IsSlotted};
 ghost use Rattle.oe_order.specs.Evaluation.{IsEvaluationOrder, LoadsFirst};
 ghost use Rattle.oe_order.specs.Turns.{AreTurns, order_by_turns};
 
+pub use listing::{is_acyclic, sort};
 use oe_memory::OutOfMemory;
 pub use ranks::is_ranked;
-pub use run::leads_back;
+pub use run::{leads_back, mark_new};
 use std::alloc::Global;
 use std::marker::Model;
 

@@ -1,8 +1,9 @@
 // The order of a run's nodes: a heap of the nodes that are ready, and for each other node a chain to wait in.
-ghost use Rattle.std.specs.Prelude.{◌≡◌, ◌≢◌, ◌<◌, ◌≤◌, ◌^◌, ◌-◌, ◌&&◌, ◌||◌, ◌==◌, ◌∷◌, ◌++◌, [], ℕ, Bool, List, Some, None, true, false, not, IfOk, IsTrue, OnOk, length, slice_index, slice_index_or, slice_set, slice_get, filter};
+ghost use Rattle.std.specs.Prelude.{◌≡◌, ◌≢◌, ◌<◌, ◌≤◌, ◌^◌, ◌-◌, ◌&&◌, ◌||◌, ◌==◌, ◌↔◌, ◌∷◌, ◌++◌, [], ℕ, Bool, List, Some, None, true, false, not, Contains, IfOk, IsTrue, OnOk, length, slice_index, slice_index_or, slice_set, slice_get, filter};
 ghost use Rattle.std.specs.BinaryHeap.{heap_items};
 ghost use Rattle.oe_order.specs.Graph.{Node, graph_of, arguments, is_load, RefersWithin, IsAcyclic};
 ghost use Rattle.oe_order.specs.Order.{contains, order_of, extend_order, next_of, IsListing};
+ghost use Rattle.oe_order.specs.Sorted.{AreNoLoads, AreAllSorted};
 ghost use Rattle.oe_order.specs.Waiting.{AllReleased, IsKept, IsPartial, IsQueue, is_wanted, marked_nodes};
 
 use crate::{Links, run};
@@ -175,7 +176,7 @@ impl Queue {
         Ok(())
     }
 
-    /// ByNode the load nodes of the run, by index.
+    /// Puts the load nodes of the run behind those that stand, by index.
     fn append_loads(&mut self, nodes: &[Links]) -> Result<(), OutOfMemory>
         requires few { length nodes.now < 2 ^ 32 }
         requires named { RefersWithin (graph_of nodes.now) }
@@ -267,4 +268,36 @@ pub fn steps_of(alloc: Global, nodes: &[Links], last: u32) -> Result<Vec<u32>, O
     queue.append_loads(nodes)?;
     queue.append_ready(nodes)?;
     Ok(queue.steps)
+}
+
+/// The nodes, each behind those that it refers to: all of them where no references lead from a node back to itself, and
+/// else those from which none lead to such a node.
+///
+/// Refuses: where an allocation was refused, and nowhere else.
+pub fn sort(alloc: Global, nodes: &[Links]) -> Result<Vec<u32>, OutOfMemory>
+    requires few { length nodes.now < 2 ^ 32 }
+    requires named { RefersWithin (graph_of nodes.now) }
+    requires no_loads { AreNoLoads (graph_of nodes.now) }
+    ensures sorted { IfOk result (λ steps. AreAllSorted (graph_of nodes.now) steps.items) }
+    ensures all { IfOk result (λ steps. IsAcyclic (graph_of nodes.now)
+        → (n : ℕ) → n < length nodes.now → Contains steps.items n) }
+{
+    let members = vec![in alloc; true; nodes.len()]?;
+    let mut queue = Queue::new(alloc, members)?;
+    queue.park_all(nodes)?;
+    queue.append_ready(nodes)?;
+    Ok(queue.steps)
+}
+
+/// Whether no references lead from a node back to itself.
+///
+/// Refuses: where an allocation was refused, and nowhere else.
+pub fn is_acyclic(alloc: Global, nodes: &[Links]) -> Result<bool, OutOfMemory>
+    requires few { length nodes.now < 2 ^ 32 }
+    requires named { RefersWithin (graph_of nodes.now) }
+    requires no_loads { AreNoLoads (graph_of nodes.now) }
+    ensures { IfOk result (λ acyclic. acyclic ≡ true ↔ IsAcyclic (graph_of nodes.now)) }
+{
+    let steps = sort(alloc, nodes)?;
+    Ok(steps.len() == nodes.len())
 }

@@ -20,18 +20,24 @@ pub fn members(alloc: Global, nodes: &[Links], last: u32) -> Result<Vec<bool>, O
 {
     let mut marks = vec![in alloc; false; nodes.len()]?;
     let mut found = Vec::with_capacity(alloc, nodes.len())?;
-    find(&[last], &mut marks, &mut found)?;
+    mark_new(&[last], &mut marks, &mut found)?;
     let mut done = 0;
     while done < found.len() {
         let node = &nodes[found[done] as usize];
-        find(node.arguments.as_slice(), &mut marks, &mut found)?;
+        mark_new(node.arguments.as_slice(), &mut marks, &mut found)?;
         done += 1;
     }
     Ok(marks)
 }
 
-/// Marks the nodes that have no mark yet, and notes them behind those found before.
-fn find(named: &[u32], marks: &mut Vec<bool>, found: &mut Vec<u32>) -> Result<(), OutOfMemory>
+/// Marks the nodes that have no mark yet, and puts them behind those found before.
+///
+/// Refuses: where an allocation was refused, and nowhere else.
+pub fn mark_new(
+    named: &[u32],
+    marks: &mut Vec<bool>,
+    found: &mut Vec<u32>,
+) -> Result<(), OutOfMemory>
     requires within { (n : ℕ) → IsTrue (contains named.now n) → n < length marks.old.items }
     requires marked { IsMarked marks.old.items found.old.items }
     ensures len { OnOk result (length marks.new.items ≡ length marks.old.items) }
@@ -61,11 +67,11 @@ pub fn leads_back(alloc: Global, nodes: &[Links], node: u32) -> Result<bool, Out
     let mut marks = vec![in alloc; false; nodes.len()]?;
     let mut found = Vec::with_capacity(alloc, nodes.len())?;
     let first = &nodes[node as usize];
-    find(first.arguments.as_slice(), &mut marks, &mut found)?;
+    mark_new(first.arguments.as_slice(), &mut marks, &mut found)?;
     let mut done = 0;
     while done < found.len() {
         let node = &nodes[found[done] as usize];
-        find(node.arguments.as_slice(), &mut marks, &mut found)?;
+        mark_new(node.arguments.as_slice(), &mut marks, &mut found)?;
         done += 1;
     }
     Ok(marks[node as usize])

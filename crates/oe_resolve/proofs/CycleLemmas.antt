@@ -14,9 +14,8 @@ use Rattle.oe_graph.specs.Plain.{plain_arg, plain_args, plain_named, plain_node,
 use Rattle.oe_graph.specs.Tree.{Argument, Named, Nodes, no_nodes, node, PlainNode, named_from_list, values_from_list, nodes_from_list}
 use Rattle.oe_graph.specs.declared.tree.Arg.{Arg}
 use Rattle.oe_graph.specs.declared.tree.Node.{Node}
-use Rattle.oe_order.specs.declared.Links.{Links}
 use Rattle.oe_order.specs.Graph as order
-use Rattle.oe_order.specs.Graph.{graph_of, arguments, RefersWithin, Reaches, IsAcyclic}
+use Rattle.oe_order.specs.Graph.{arguments, RefersWithin, Reaches, IsAcyclic}
 use Rattle.oe_resolve.specs.Judged.{AreMarks, HasIndex, IsReferred, IsFoundBehind, IsIndexed, no_node, next_node}
 use Rattle.oe_resolve.proofs.Along.{first_there, none_there, there_cases, take_pushed}
 
@@ -121,11 +120,6 @@ ids_count (n ∷ ns) = let rest : length (ids_of (plain_nodes ns)) ≡ length ns
 pub nodes_next : (ns : List Node) (i : ℕ) (n : Node) → i < length ns → n ≡ get_or ns i n
     → map plain_node (take (i + 1) ns) ≡ map plain_node (take i ns) ++ plain_node n ∷ []
 nodes_next ns i n below is = ap (map plain_node) (take_pushed ns i n below is) ∙ map-append plain_node (take i ns) (n ∷ [])
-
-pub graph_push : (xs : List Links) (x : Links)
-    → graph_of (xs ++ x ∷ []) ≡ graph_of xs ++ record { load = x.load; arguments = x.arguments.items } ∷ []
-graph_push [] x = refl
-graph_push (y ∷ xs) x = ap (λ ys. record { load = y.load; arguments = y.arguments.items } ∷ ys) (graph_push xs x)
 
 pub indexed_push : (ids : List (List ℕ)) (ns : List PlainNode) (xs : List order.Node) (n : PlainNode) (x : order.Node)
     → IsIndexed ids ns xs → IsFoundBehind ids (references_named n.arguments) [] x.arguments

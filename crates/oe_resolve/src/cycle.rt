@@ -6,6 +6,7 @@ ghost use Rattle.oe_graph.specs.Plain.{plain_arg, plain_args, plain_named, plain
 ghost use Rattle.oe_graph.specs.Printed.{ids_of};
 ghost use Rattle.oe_graph.specs.References.{each_node, references_each, references_in, references_named};
 ghost use Rattle.oe_order.specs.Graph.{graph_of};
+ghost use Rattle.oe_order.specs.Sorted.{AreNoLoads};
 ghost use Rattle.oe_resolve.specs.Judged.{AreMarks, IsFoundBehind, IsIndexed, knows, know_each, know_named};
 ghost use Rattle.oe_resolve.specs.Seen.{NotesRise};
 
@@ -13,7 +14,7 @@ use crate::find::{Beside, find_index, guesses_of};
 use oe_dims::Text;
 use oe_graph::{Arg, Node};
 use oe_memory::OutOfMemory;
-use oe_order::{Links, is_ranked, leads_back};
+use oe_order::{Links, is_acyclic, leads_back};
 use std::alloc::Global;
 
 /// What each node of a graph object refers to: the nodes, by index, and whether each of its references names one.
@@ -29,6 +30,7 @@ pub fn read_references(alloc: Global, nodes: &Vec<Node>) -> Result<References, O
     ensures indexed { IfOk result
         (λ r. IsIndexed (ids_of (plain_nodes nodes.now.items))
         (each_node (plain_nodes nodes.now.items)) (graph_of r.links.items)) }
+    ensures no_loads { IfOk result (λ r. AreNoLoads (graph_of r.links.items)) }
     ensures known { IfOk result (λ r. r.known.items
         ≡ map (λ n. know_named (ids_of (plain_nodes nodes.now.items)) (plain_node n).arguments)
         nodes.now.items) }
@@ -51,6 +53,7 @@ fn references_beside(alloc: Global, beside: &Beside) -> Result<References, OutOf
     ensures indexed { IfOk result
         (λ r. IsIndexed (ids_of (plain_nodes beside.now.nodes.now.items))
         (each_node (plain_nodes beside.now.nodes.now.items)) (graph_of r.links.items)) }
+    ensures no_loads { IfOk result (λ r. AreNoLoads (graph_of r.links.items)) }
     ensures known { IfOk result (λ r. r.known.items
         ≡ map (λ n. know_named (ids_of (plain_nodes beside.now.nodes.now.items))
         (plain_node n).arguments) beside.now.nodes.now.items) }
@@ -150,12 +153,12 @@ pub fn cyclic_marks(
     requires few { length nodes.now.items < 2 ^ 32 }
     requires indexed { IsIndexed (ids_of (plain_nodes nodes.now.items))
         (each_node (plain_nodes nodes.now.items)) (graph_of links.now) }
+    requires no_loads { AreNoLoads (graph_of links.now) }
     ensures len { IfOk result (λ marks. length marks.items ≡ length nodes.now.items) }
     ensures exact { IfOk result (λ marks. names_rise (ids_of (plain_nodes nodes.now.items)) ≡ true
         → AreMarks true (plain_nodes nodes.now.items) marks.items) }
 {
-    let ranks = walk_ranks(alloc, links)?;
-    if is_ranked(links, ranks.as_slice()) {
+    if is_acyclic(alloc, links)? {
         return Ok(vec![in alloc; false; nodes.len()]?);
     }
     let mut marks = Vec::with_capacity(alloc, nodes.len())?;
@@ -163,75 +166,4 @@ pub fn cyclic_marks(
         marks.push(leads_back(alloc, links, index as u32)?)?;
     }
     Ok(marks)
-}
-
-/// The order in which one depth-first walk is done with each node: where there is no cycle, ranks that fall along each
-/// reference. What they are is no matter to a caller, who tests them.
-fn walk_ranks(alloc: Global, links: &[Links]) -> Result<Vec<u32>, OutOfMemory> {
-    let mut walk = Walk {
-        ranks: vec![in alloc; u32::MAX; links.len()]?,
-        seen: vec![in alloc; false; links.len()]?,
-        passed: vec![in alloc; 0usize; links.len()]?,
-        path: Vec::with_capacity(alloc, links.len())?,
-        done: 0,
-    };
-    let mut steps = most_steps(links);
-    for root in 0..links.len() {
-        if root < walk.seen.len() && !walk.seen[root] {
-            walk.seen[root] = true;
-            walk.path.push(root)?;
-            while steps > 0 && !walk.path.is_empty() {
-                steps -= 1;
-                walk.step(links)?;
-            }
-        }
-    }
-    Ok(walk.ranks)
-}
-
-/// How many steps a walk takes at most: one for each reference and one for each node.
-fn most_steps(links: &[Links]) -> usize {
-    let mut steps: usize = 0;
-    for link in links {
-        steps = steps.saturating_add(link.arguments.len()).saturating_add(1);
-    }
-    steps
-}
-
-/// A depth-first walk: the nodes on the path, and how many references of each node were passed.
-#[derive(Drop)]
-struct Walk {
-    ranks: Vec<u32>,
-    seen: Vec<bool>,
-    passed: Vec<usize>,
-    path: Vec<usize>,
-    done: u32,
-}
-
-impl Walk {
-    /// One step along the path, or back where all references of the last node were passed.
-    fn step(&mut self, links: &[Links]) -> Result<(), OutOfMemory> {
-        let node = match self.path.pop() {
-            Some(node) => node,
-            None => return Ok(()),
-        };
-        if node >= links.len() || node >= self.passed.len() || node >= self.ranks.len() {
-            return Ok(());
-        }
-        let arguments = &links[node].arguments;
-        let passed = self.passed[node];
-        if passed < arguments.len() {
-            let argument = arguments[passed] as usize;
-            self.passed[node] = passed + 1;
-            self.path.push(node)?;
-            if argument < self.seen.len() && !self.seen[argument] {
-                self.seen[argument] = true;
-                self.path.push(argument)?;
-            }
-        } else {
-            self.ranks[node] = self.done;
-            self.done = self.done.wrapping_add(1);
-        }
-        Ok(())
-    }
 }

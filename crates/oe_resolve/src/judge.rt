@@ -10,6 +10,7 @@ ghost use Rattle.oe_graph.specs.References.{callbacks_in, callbacks_named, each_
 ghost use Rattle.oe_graph.specs.Resolved as resolved;
 ghost use Rattle.oe_graph.specs.Tree as tree;
 ghost use Rattle.oe_order.specs.Graph.{graph_of};
+ghost use Rattle.oe_order.specs.Sorted.{AreNoLoads};
 ghost use Rattle.oe_resolve.specs.Calls.{parameters_of, row_meant};
 ghost use Rattle.oe_resolve.specs.Faults.{names_among};
 ghost use Rattle.oe_resolve.specs.Judged as spec;
@@ -92,6 +93,7 @@ fn marks_of(
     requires few { length nodes.now.items < 2 ^ 32 }
     requires indexed { IsIndexed (ids_of (plain_nodes nodes.now.items))
         (each_node (plain_nodes nodes.now.items)) (graph_of links.now) }
+    requires no_loads { AreNoLoads (graph_of links.now) }
     ensures len { IfOk result (λ marks. length marks.items ≡ length nodes.now.items) }
     ensures exact { IfOk result (λ marks. names_rise (ids_of (plain_nodes nodes.now.items)) ≡ true
         → AreMarks last (plain_nodes nodes.now.items) marks.items) }

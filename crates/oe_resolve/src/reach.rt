@@ -1,12 +1,11 @@
 // What the calls of nodes reach: faults of the processes that a graph calls.
-ghost use Rattle.std.specs.Prelude.{◌≡◌, ◌↔◌, ◌<◌, ◌||◌, ◌^◌, ◌∷◌, ℕ, true, false, [], IfOk, OnOk, IsTrue, Contains, length, map, slice_index_or, take};
+ghost use Rattle.std.specs.Prelude.{◌≡◌, ◌↔◌, ◌<◌, ◌^◌, ◌∷◌, ℕ, true, false, [], IfOk, OnOk, IsTrue, Contains, length, map, slice_index_or};
 ghost use Rattle.std.specs.List.{list_all};
 ghost use Rattle.oe_dims.specs.Names.{names_rise};
 ghost use Rattle.oe_graph.specs.Printed.{ids_of};
 ghost use Rattle.oe_graph.specs.Plain.{plain_arg, plain_args, plain_graph, plain_named, plain_node, plain_nodes, plain_stored};
 ghost use Rattle.oe_order.specs.Graph.{graph_of, RefersWithin};
 ghost use Rattle.oe_order.specs.Order.{contains};
-ghost use Rattle.oe_order.specs.Marks.{IsMarked};
 ghost use Rattle.oe_resolve.specs.Called as spec;
 ghost use Rattle.oe_resolve.specs.Judged.{IsLeastFault};
 ghost use Rattle.oe_resolve.specs.Reached as reached;
@@ -16,7 +15,7 @@ use crate::calls::{callee_index, is_call, may_stand};
 use oe_dims::Text;
 use oe_graph::{Arg, Code, Fault, Graph, Node, StoredProcess};
 use oe_memory::OutOfMemory;
-use oe_order::{Links, leads_back};
+use oe_order::{Links, leads_back, mark_new};
 use std::alloc::Global;
 
 /// The stored processes of a graph where they stand in the main graph and where they stand in a callback: the index of
@@ -240,26 +239,6 @@ fn is_supported_arg(stored: &[StoredProcess], arg: &Arg) -> bool
     }
 }
 
-/// Marks what these reach, and notes it behind what was found before.
-fn find(named: &[u32], marks: &mut Vec<bool>, found: &mut Vec<u32>) -> Result<(), OutOfMemory>
-    requires within { (n : ℕ) → IsTrue (contains named.now n) → n < length marks.old.items }
-    requires marked { IsMarked marks.old.items found.old.items }
-    ensures len { OnOk result (length marks.new.items ≡ length marks.old.items) }
-    ensures marked { OnOk result (IsMarked marks.new.items found.new.items) }
-    ensures found { OnOk result
-        ((n : ℕ) → contains found.new.items n ≡ contains found.old.items n
-        || contains named.now n) }
-    ensures kept { OnOk result (take (length found.old.items) found.new.items ≡ found.old.items) }
-{
-    for node in named {
-        if !marks[*node as usize] {
-            marks[*node as usize] = true;
-            found.push(*node)?;
-        }
-    }
-    Ok(())
-}
-
 /// The stored processes that the calls of a node of the main graph reach.
 pub fn reach(
     alloc: Global,
@@ -277,11 +256,11 @@ pub fn reach(
     add_node(stored, node, false, &mut first)?;
     let mut marks = vec![in alloc; false; calls.links.len()]?;
     let mut found = Vec::new(alloc);
-    find(first.as_slice(), &mut marks, &mut found)?;
+    mark_new(first.as_slice(), &mut marks, &mut found)?;
     let mut done = 0;
     while done < found.len() {
         let next = &calls.links[found[done] as usize];
-        find(next.arguments.as_slice(), &mut marks, &mut found)?;
+        mark_new(next.arguments.as_slice(), &mut marks, &mut found)?;
         done += 1;
     }
     Ok(found)

@@ -57,8 +57,8 @@ Leads-all nodes from done n found marks s all r = go r
     go (refers h) = s.begun n (contains-from (arguments nodes from) n h)
     go (onwards {b = b} h q) = closed_has found closed q (s.begun b (contains-from (arguments nodes from) b h))
 
-pub find-requires-clause-within : goal.find-requires-clause-within
-find-requires-clause-within c = λ n e.
+pub mark_new-requires-clause-within : goal.mark_new-requires-clause-within
+mark_new-requires-clause-within c = λ n e.
     let nodes = graph_of c.args.nodes.now in
     let named : arguments nodes c.args.node ≡ c.as_slice.result.now = arguments-graph_of c.args.nodes.now c.args.node c.index-nodes-node.result c.requires.node_named c.index-nodes-node.is ∙ sym c.as_slice.ensures.value in
     let lt : n < length nodes = c.requires.named _ n (contains-to (arguments nodes c.args.node) n (ap (λ ys. contains ys n) named ∙ e)) in
@@ -66,7 +66,7 @@ find-requires-clause-within c = λ n e.
 
 pub loop-done-init : goal.loop-done-init
 loop-done-init c =
-    let e = c.in_ok-find.ensures in
+    let e = c.in_ok-mark_new.ensures in
     let nodes = graph_of c.args.nodes.now in
     let named : arguments nodes c.args.node ≡ c.as_slice.result.now = arguments-graph_of c.args.nodes.now c.args.node c.index-nodes-node.result c.requires.node_named c.index-nodes-node.is ∙ sym c.as_slice.ensures.value in
     Leads-begin nodes c.args.node _ c.as_slice.result.now _ (e.len ∙ omega (arith, length-graph_of c.args.nodes.now, c.in_ok-marks.ensures.len, c.in_ok-marks.marks.ok.0)) e.marked named (λ n. e.found n ∙ ap (λ ys. contains ys n || contains c.as_slice.result.now n) c.in_ok-found.ensures.items)
@@ -79,8 +79,8 @@ bounds-nodes-index c =
     let h : get_or xs c.loop-done.done 0 < length (graph_of c.args.nodes.now) = Reaches-within c.requires.named (c.loop-done.invariant.sound _ (contains-at xs c.loop-done.done 0 in')) in
     omega (arith, length-graph_of c.args.nodes.now)
 
-pub find-requires-in-loop-done-clause-within : goal.find-requires-in-loop-done-clause-within
-find-requires-in-loop-done-clause-within c = λ n e.
+pub mark_new-requires-in-loop-done-clause-within : goal.mark_new-requires-in-loop-done-clause-within
+mark_new-requires-in-loop-done-clause-within c = λ n e.
     let xs = c.loop-done.found.items in
     let nodes = graph_of c.args.nodes.now in
     let in' : c.loop-done.done < length xs = omega (arith, c.len.ensures, c.loop-done-test.true, c.loop-done.found.ok.0) in
@@ -104,7 +104,7 @@ loop-done-preserved c =
     let is : c.index.result.now ≡ get_or xs c.loop-done.done 0 = get_or_read xs c.loop-done.done c.index.result.now in' c.index.ensures 0 in
     let h : get_or xs c.loop-done.done 0 < length nodes = Reaches-within c.requires.named (c.loop-done.invariant.sound _ (contains-at xs c.loop-done.done 0 in')) in
     let named : arguments nodes c.index.result.now ≡ c.as_slice-in-loop-done.result.now = arguments-graph_of c.args.nodes.now c.index.result.now c.index-nodes-index.result (omega (arith, length-graph_of c.args.nodes.now)) c.index-nodes-index.is ∙ sym c.as_slice-in-loop-done.ensures.value in
-    let e = c.in_ok-find-2.ensures in
+    let e = c.in_ok-mark_new-2.ensures in
     Leads-more nodes c.args.node c.loop-done.done xs _ c.as_slice-in-loop-done.result.now c.loop-done.marks.items _ c.loop-done.invariant in' (ap (arguments nodes) (sym is) ∙ named) e.len e.marked e.found e.kept
 
 pub index-requires-2 : goal.index-requires-2

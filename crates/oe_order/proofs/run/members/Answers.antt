@@ -66,7 +66,7 @@ found_within nodes last done n found marks w l s e = IsInRun-within nodes last n
 
 pub loop-done-init : goal.loop-done-init
 loop-done-init c =
-    let e = c.in_ok-find.ensures in
+    let e = c.in_ok-mark_new.ensures in
     Searches-begin (graph_of c.args.nodes.now) c.args.last _ _ (e.len ∙ omega (arith, length-graph_of c.args.nodes.now, c.in_ok-marks.ensures.len, c.in_ok-marks.marks.ok.0)) e.marked (λ n. e.found n ∙ ap (λ ys. contains ys n || contains (c.args.last ∷ []) n) c.in_ok-found.ensures.items)
 
 pub bounds-nodes-index : goal.bounds-nodes-index
@@ -77,8 +77,8 @@ bounds-nodes-index c =
     let h : get_or xs c.loop-done.done 0 < length (graph_of c.args.nodes.now) = found_within (graph_of c.args.nodes.now) c.args.last c.loop-done.done _ xs c.loop-done.marks.items c.requires.named (omega (arith, c.requires.last_named, length-graph_of c.args.nodes.now)) c.loop-done.invariant (contains-at xs c.loop-done.done 0 in') in
     omega (arith, length-graph_of c.args.nodes.now)
 
-pub find-requires-in-loop-done-clause-within : goal.find-requires-in-loop-done-clause-within
-find-requires-in-loop-done-clause-within c = λ n e.
+pub mark_new-requires-in-loop-done-clause-within : goal.mark_new-requires-in-loop-done-clause-within
+mark_new-requires-in-loop-done-clause-within c = λ n e.
     let xs = c.loop-done.found.items in
     let nodes = graph_of c.args.nodes.now in
     let in' : c.loop-done.done < length xs = omega (arith, c.len.ensures, c.loop-done-test.true, c.loop-done.found.ok.0) in
@@ -102,7 +102,7 @@ loop-done-preserved c =
     let is : c.index.result.now ≡ get_or xs c.loop-done.done 0 = get_or_read xs c.loop-done.done c.index.result.now in' c.index.ensures 0 in
     let h : get_or xs c.loop-done.done 0 < length nodes = found_within nodes c.args.last c.loop-done.done _ xs c.loop-done.marks.items c.requires.named (omega (arith, c.requires.last_named, length-graph_of c.args.nodes.now)) c.loop-done.invariant (contains-at xs c.loop-done.done 0 in') in
     let named : arguments nodes c.index.result.now ≡ c.as_slice.result.now = arguments-graph_of c.args.nodes.now c.index.result.now c.index-nodes-index.result (omega (arith, length-graph_of c.args.nodes.now)) c.index-nodes-index.is ∙ sym c.as_slice.ensures.value in
-    let e = c.in_ok-find-2.ensures in
+    let e = c.in_ok-mark_new-2.ensures in
     Searches-more nodes c.args.last c.loop-done.done xs _ c.as_slice.result.now c.loop-done.marks.items _ c.loop-done.invariant in' (ap (arguments nodes) (sym is) ∙ named) e.len e.marked e.found e.kept
 
 pub returns-clause-marks : goal.returns-clause-marks

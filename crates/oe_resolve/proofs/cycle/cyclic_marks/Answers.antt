@@ -8,17 +8,36 @@ use Rattle.oe_resolve.specs.Judged.{AreMarks}
 use Rattle.oe_resolve.proofs.CycleLemmas.{marks_from, back_none, back_push, indexed_within, indexed_length, ids_length, ids_count, replicate_length}
 use Rattle.oe_resolve.proofs.cycle.cyclic_marks.Goals as goal
 
-pub returns-then-is_ranked-clause-exact : goal.returns-then-is_ranked-clause-exact
-returns-then-is_ranked-clause-exact c rise =
+pub returns-then-branch-clause-exact : goal.returns-then-branch-clause-exact
+returns-then-branch-clause-exact c rise =
     let nodes = plain_nodes c.args.nodes.now.items in
     let xs = graph_of c.args.links.now in
     let is : c.in_ok-vec.field-0.items ≡ replicate c.len.result false = c.in_ok-vec.ensures.items_if_clones_equal (λ y h. search rules) in
-    let acyclic : IsAcyclic xs = c.is_ranked.ensures.acyclic c.if-is_ranked.true in
+    let acyclic : IsAcyclic xs = c.in_ok-is_acyclic.ensures.0 c.if-branch.true in
     let long : c.len.result ≡ length (each_node nodes) =
     omega (arith, c.len.ensures, ids_length nodes, ids_count c.args.nodes.now.items) in
     subst (λ ms. AreMarks true nodes ms) (sym is)
     (marks_from nodes xs (replicate c.len.result false) c.requires.indexed rise
     (replicate_length c.len.result ∙ long) (back_none xs c.len.result acyclic))
+
+pub is_acyclic-requires-clause-few : goal.is_acyclic-requires-clause-few
+is_acyclic-requires-clause-few c =
+    let nodes = plain_nodes c.args.nodes.now.items in
+    omega (
+      arith,
+      c.requires.few,
+      length-graph_of c.args.links.now,
+      indexed_length (ids_of nodes) (each_node nodes) (graph_of c.args.links.now) c.requires.indexed,
+      ids_length nodes,
+      ids_count c.args.nodes.now.items,
+    )
+
+pub is_acyclic-requires-clause-named : goal.is_acyclic-requires-clause-named
+is_acyclic-requires-clause-named c =
+    let nodes = plain_nodes c.args.nodes.now.items in
+    let xs = graph_of c.args.links.now in
+    indexed_within (ids_of nodes) (each_node nodes) xs c.requires.indexed
+    (ids_length nodes ∙ sym (indexed_length (ids_of nodes) (each_node nodes) xs c.requires.indexed))
 
 pub leads_back-requires-clause-node_named : goal.leads_back-requires-clause-node_named
 leads_back-requires-clause-node_named c =

@@ -10,6 +10,9 @@ use Rattle.oe_graph.specs.Printed.{ids_of}
 use Rattle.oe_graph.specs.Tree.{Argument, PlainNode}
 use Rattle.oe_graph.specs.declared.tree.Arg.{Arg}
 use Rattle.oe_graph.specs.declared.tree.Node.{Node}
+use Rattle.oe_order.specs.Graph.{graph_of}
+use Rattle.oe_order.specs.Sorted.{AreNoLoads}
+use Rattle.oe_order.specs.declared.Links.{Links}
 use Rattle.oe_resolve.specs.Judged.{IdsRiseIn, OfArgument, OfArguments, OfNode, know_named, node_code}
 use Rattle.oe_resolve.specs.Seen.{names_behind}
 use Rattle.oe_resolve.proofs.Along.{least_more}
@@ -155,6 +158,10 @@ node_faults-returns t c nodes rise known marked =
     c.in_ok-scope.ensures
     (c.in_ok-own.ensures ∙ ap (λ at. option_map (λ k. record { code = k; node = at }) code) c.as_str-2.ensures)
     known marked found)
+
+pub object_fault-marks_of-requires-clause-no_loads : goal.object_fault-marks_of-requires-clause-no_loads
+object_fault-marks_of-requires-clause-no_loads t c =
+    subst (λ (ls : List Links). AreNoLoads (graph_of ls)) (sym c.as_slice.ensures.value) c.in_ok-references.ensures.no_loads
 
 pub object_fault-index-requires-in-loop-index : goal.object_fault-index-requires-in-loop-index
 object_fault-index-requires-in-loop-index t c =

@@ -19,8 +19,8 @@ first_behind : (stored : List StoredProcess) (n : PlainNode) (old new : List ℕ
 first_behind stored n old new none is =
     subst (λ (xs : List ℕ). IsCalledBehind (map plain_stored stored) (held_by false n) xs new) none is
 
-pub find-requires-clause-within : goal.find-requires-clause-within
-find-requires-clause-within c = λ k e.
+pub mark_new-requires-clause-within : goal.mark_new-requires-clause-within
+mark_new-requires-clause-within c = λ k e.
     let stored = map plain_stored c.args.stored.now in
     let links = c.args.calls.now.links.items in
     let marks = c.args.calls.now.supported.items in
@@ -33,7 +33,7 @@ find-requires-clause-within c = λ k e.
 
 pub loop-done-init : goal.loop-done-init
 loop-done-init c =
-    let e = c.in_ok-find.ensures in
+    let e = c.in_ok-mark_new.ensures in
     let stored = map plain_stored c.args.stored.now in
     let links = c.args.calls.now.links.items in
     let marks = c.args.calls.now.supported.items in
@@ -61,8 +61,8 @@ index-next-requires c =
     (plain_node c.args.node.now) (get_or xs c.loop-done.done 0) (c.loop-done.invariant.sound _ (contains-at xs c.loop-done.done 0 in')) in
     omega (arith, h, is, length-graph_of links, c.args.calls.now.links.ok.0)
 
-pub find-requires-in-loop-done-clause-within : goal.find-requires-in-loop-done-clause-within
-find-requires-in-loop-done-clause-within c = λ k e.
+pub mark_new-requires-in-loop-done-clause-within : goal.mark_new-requires-in-loop-done-clause-within
+mark_new-requires-in-loop-done-clause-within c = λ k e.
     let stored = map plain_stored c.args.stored.now in
     let links = c.args.calls.now.links.items in
     let marks = c.args.calls.now.supported.items in
@@ -97,7 +97,7 @@ loop-done-preserved c =
     let named : arguments (graph_of links) c.index.result.now ≡ c.as_slice-in-loop-done.result.now =
     arguments-graph_of links c.index.result.now c.index-next.result.now (omega (arith, h, is, length-graph_of links)) c.index-next.ensures
     ∙ sym c.as_slice-in-loop-done.ensures.value in
-    let e = c.in_ok-find-2.ensures in
+    let e = c.in_ok-mark_new-2.ensures in
     reaching_more stored (graph_of links) marks c.requires.calls n c.loop-done.done xs _ c.as_slice-in-loop-done.result.now
     c.loop-done.marks.items _ c.loop-done.invariant in' (ap (arguments (graph_of links)) (sym is) ∙ named) e.len e.marked e.found e.kept
 

@@ -3,7 +3,7 @@ use Rattle.std.proofs.lemmas.List.{length-map}
 use Rattle.oe_graph.specs.Plain.{plain_stored}
 use Rattle.oe_order.specs.Graph as order
 use Rattle.oe_order.specs.Graph.{graph_of}
-use Rattle.oe_resolve.proofs.CycleLemmas.{graph_push}
+use Rattle.oe_order.proofs.Graphs.{graph_of-push}
 use Rattle.oe_resolve.proofs.ReadLemmas.{IsRead, read_more, read_all, stored_at}
 use Rattle.oe_resolve.proofs.reach.read_calls.Goals as goal
 
@@ -23,8 +23,8 @@ loop-process-preserved c =
     (stored_at c.args.stored.now i c.process-item.result c.loop-process-test.true c.process-item.is) x y p q
     c.in_ok-links_of.ensures c.in_ok-links_of-2.ensures c.is_graph_supported.ensures c.is_graph_supported-in-loop-process.ensures in
     let linked : graph_of c.push-in-loop-process.new.self.items ≡ (graph_of links ++ x ∷ []) ++ y ∷ [] =
-    ap graph_of c.in_ok-push-2.ensures.items ∙ graph_push c.push.new.self.items second
-    ∙ ap (λ (g : List order.Node). g ++ y ∷ []) (ap graph_of c.in_ok-push.ensures.items ∙ graph_push links first) in
+    ap graph_of c.in_ok-push-2.ensures.items ∙ graph_of-push c.push.new.self.items second
+    ∙ ap (λ (g : List order.Node). g ++ y ∷ []) (ap graph_of c.in_ok-push.ensures.items ∙ graph_of-push links first) in
     let marked : c.push-in-loop-process-3.new.self.items ≡ (marks ++ p ∷ []) ++ q ∷ [] =
     c.in_ok-push-4.ensures.items ∙ ap (λ (bs : List Bool). bs ++ q ∷ []) c.in_ok-push-3.ensures.items in
     subst (λ (g : List order.Node). IsRead stored (i + 1) g c.push-in-loop-process-3.new.self.items) (sym linked)

@@ -4,9 +4,9 @@ use Rattle.std.proofs.lemmas.List.{take_more, take-append-le, length-take, lengt
 use Rattle.oe_order.specs.Order.{contains}
 use Rattle.oe_order.specs.Marks.{IsMarked}
 use Rattle.oe_order.proofs.Lists.{contains-at, contains-push, or_assoc, or_same, or_swap, count, items, IsMarked-set, IsMarked-count}
-use Rattle.oe_order.proofs.run.find.Invariants.{Finds}
-use Rattle.oe_order.proofs.run.find.Goals as goal
-use Rattle.oe_order.proofs.run.find.Goals.{then-not-index+in_ok-push, else-not-index}
+use Rattle.oe_order.proofs.run.mark_new.Invariants.{Finds}
+use Rattle.oe_order.proofs.run.mark_new.Goals as goal
+use Rattle.oe_order.proofs.run.mark_new.Goals.{then-not-index+in_ok-push, else-not-index}
 
 contains-take_more : (xs : List ℕ) (k n : ℕ) → k < length xs → contains (take (k + 1) xs) n ≡ contains (take k xs) n || eqb (get_or xs k 0) n
 contains-take_more xs k n h = ap (λ ys. contains ys n) (take_more xs k 0 h) ∙ contains-push (take k xs) (get_or xs k 0) n

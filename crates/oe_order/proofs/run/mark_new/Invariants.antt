@@ -1,7 +1,7 @@
 use Rattle.std.proofs.Common.{◌≡◌, ◌||◌, ℕ, Bool, List, length, take}
 use Rattle.oe_order.specs.Order.{contains}
 use Rattle.oe_order.specs.Marks.{IsMarked}
-use Rattle.oe_order.proofs.run.find.Given as goal
+use Rattle.oe_order.proofs.run.mark_new.Given as goal
 
 pub record Finds (named : List ℕ) (k : ℕ) (old new : List ℕ) (before marks : List Bool) : Type 0 where
   pub len : length marks ≡ length before
