@@ -5,6 +5,7 @@ pub mod NodeLemmas
 pub mod SideLemmas
 pub mod WidenLemmas
 pub mod RunLemmas
+pub mod WidthLemmas
 pub mod SizeLemmas
 pub mod HaloLemmas
 pub mod TakeLemmas

@@ -6,7 +6,7 @@ use Rattle.std.proofs.lemmas.List.Sums.{sum_by_more}
 use Rattle.std.proofs.Math.Nat.{mul-le-mul}
 use Rattle.oe_order.specs.Live.{largest}
 
-largest_of_more : (xs : List ℕ) (x : ℕ) → largest (xs ++ x ∷ []) ≡ max (largest xs) x
+pub largest_of_more : (xs : List ℕ) (x : ℕ) → largest (xs ++ x ∷ []) ≡ max (largest xs) x
 largest_of_more [] x = omega arith
 largest_of_more (y ∷ ys) x = rw (largest_of_more ys x) (omega arith)
 

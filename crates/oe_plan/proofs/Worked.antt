@@ -1,5 +1,5 @@
 -- Worked values: the figures of small graphs, found by hand.
-use Rattle.std.specs.Prelude.{◌≡◌, ℕ, pos, List, [], ◌∷◌, Some, None, codes, refl}
+use Rattle.std.specs.Prelude.{◌≡◌, ℕ, true, pos, List, [], ◌∷◌, Some, None, codes, refl}
 use Rattle.oe_dims.specs.Dimensions.{Dimensions}
 use Rattle.oe_dims.specs.declared.dims.DimsRow.{DimsRow}
 use Rattle.oe_dims.specs.declared.kind.CellKind.TheVariants.{Numbers}
@@ -8,11 +8,11 @@ use Rattle.oe_graph.specs.Tree as tree
 use Rattle.oe_graph.specs.Tree.{Argument, Named, Nodes}
 use Rattle.oe_expr.specs.Nodes.{down_from}
 use Rattle.oe_order.specs.Graph.{reaches_within, in_run, run_of}
-use Rattle.oe_order.specs.Live.{taken_from, is_live, live_count, width_of}
+use Rattle.oe_order.specs.Live.{taken_from, is_live, live_count}
 use Rattle.oe_order.specs.Order.{next_of, extend_order, loads_of, order_of}
 use Rattle.oe_shape.specs.Checked.{CheckedGraph}
 use Rattle.oe_window.specs.declared.grid.ChunkSize.{ChunkSize}
-use Rattle.oe_plan.specs.Figures.{steps_of, side_along, bound_of, chunks_of}
+use Rattle.oe_plan.specs.Figures.{steps_of, side_along, width_of_run, bound_of, chunks_of}
 
 abbrev sides : ℕ → ℕ → ℕ → ChunkSize
 sides x y t = record { x = x; y = y; t = t }
@@ -85,9 +85,40 @@ unfolding convolved rows down_from reaches_within in_run run_of next_of extend_o
 wraps_whole_rows = refl
 
 bound : bound_of (convolved (tree.whole (pos 0))) (sides 2 2 1) 1 ≡ 528
-unfolding convolved rows down_from reaches_within in_run run_of next_of extend_order loads_of order_of taken_from is_live live_count width_of
+unfolding convolved rows down_from reaches_within in_run run_of next_of extend_order loads_of order_of taken_from is_live live_count
 bound = refl
 
 chunks : chunks_of (convolved (tree.whole (pos 0))) (sides 2 2 1) ≡ 8
 unfolding convolved rows down_from
 chunks = refl
+
+abbrev summing : Nodes
+summing =
+    tree.node (codes "k") (codes "cumsum") None (
+    tree.named (codes "data") (tree.from_parameter (codes "data")) (tree.named (codes "ignore_nodata") (tree.flag true) tree.no_named)) tree.no_nodes
+
+abbrev sums : Named
+sums =
+    tree.named (codes "context") tree.null (tree.named (codes "data") (tree.from_node (codes "a")) (
+    tree.named (codes "dimension") (tree.text (codes "t")) (tree.named (codes "process") (tree.callback summing 0) (
+    tree.named (codes "target_dimension") tree.null tree.no_named))))
+
+-- the running sums of a load
+summed : CheckedGraph
+summed = record {
+  nodes =
+      tree.node (codes "a") (codes "load_collection") None load (
+      tree.node (codes "b") (codes "apply_dimension") None sums tree.no_nodes);
+  result = 1;
+  rows = rows;
+}
+
+-- the load, the sums and the node
+three_windows : width_of_run summed ≡ 3
+unfolding summed rows down_from reaches_within in_run run_of next_of extend_order loads_of order_of taken_from is_live live_count
+three_windows = refl
+
+-- 2 · (3 · 16 + 200)
+bound_with_sums : bound_of summed (sides 2 2 1) 1 ≡ 496
+unfolding summed rows down_from reaches_within in_run run_of next_of extend_order loads_of order_of taken_from is_live live_count
+bound_with_sums = refl

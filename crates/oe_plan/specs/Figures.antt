@@ -1,13 +1,15 @@
 -- The numbers of a plan: how large the windows of a run's nodes can be, and how many cells it holds at once.
-use Rattle.std.specs.Prelude.{ℕ, ◌+◌, ◌*◌, min, max, Bool, false, if◌then◌else◌, List, map, sum_by, unwrap_or}
-use Rattle.std.specs.List.{list_any}
+use Rattle.std.specs.Prelude.{ℕ, ◌+◌, ◌*◌, min, max, Bool, true, false, if◌then◌else◌, List, length, map, slice_index, sum_by, unwrap_or}
+use Rattle.std.specs.List.{list_any, range_with_len}
+use Rattle.std.specs.Option.{option_map_or}
 use Rattle.oe_dims.specs.Dimensions.{Dimensions}
 use Rattle.oe_dims.specs.declared.kind.Kind.{Kind}
 use Rattle.oe_dims.specs.declared.kind.Kind.TheVariants.{Time, Bands, Y, X}
-use Rattle.oe_order.specs.Live.{largest, width_of}
+use Rattle.oe_order.specs.Live.{largest, live_count}
 use Rattle.oe_order.specs.Order.{order_of}
-use Rattle.oe_shape.specs.Checked.{CheckedGraph, outline_of_node}
+use Rattle.oe_shape.specs.Checked.{CheckedGraph, operation_of_node, outline_of_node}
 use Rattle.oe_shape.specs.Links.{links_of}
+use Rattle.oe_shape.specs.Operations.{Operation, accumulate}
 use Rattle.oe_shape.specs.Reach.{halo_of_node, whole_of_node}
 use Rattle.oe_window.specs.Chunks.{chunk_count, tiling_of}
 use Rattle.oe_window.specs.Windows.{extent_along}
@@ -48,16 +50,34 @@ side_along c size Bands = most_along c Bands
 side_along c size Y = widened c Y size.y
 side_along c size X = widened c X size.x
 
+-- ---- how many windows are kept at once for a chunk
+
+-- whether an operation takes running sums
+abbrev pub is_accumulate : Operation → Bool
+is_accumulate (accumulate ignore) = true
+is_accumulate _ = false
+
+-- whether a node does
+abbrev pub takes_sums : CheckedGraph → ℕ → Bool
+takes_sums c node = option_map_or is_accumulate (operation_of_node c node) false
+
+-- at a step those of all live nodes, and one more where its node takes running sums: the sums count as a node of their
+-- own, which is worked off right before it
+abbrev pub windows_at_step : CheckedGraph → ℕ → ℕ
+windows_at_step c step =
+    live_count (links_of c.nodes) c.result (steps_of c) step
+    + (if takes_sums c (slice_index (steps_of c) step) then 1 else 0)
+
+-- the most at one step
+abbrev pub width_of_run : CheckedGraph → ℕ
+width_of_run c = largest (map (windows_at_step c) (range_with_len 0 (length (steps_of c))))
+
 -- ---- over all dimensions
 
 -- the most cells of a window
 abbrev pub largest_window : CheckedGraph → ChunkSize → ℕ
 largest_window c size =
     side_along c size Time * side_along c size Bands * side_along c size Y * side_along c size X
-
--- how many windows are kept at once for a chunk: the most nodes that are live at one step
-abbrev pub width_of_run : CheckedGraph → ℕ
-width_of_run c = width_of (links_of c.nodes) c.result (steps_of c)
 
 -- how many cells an evaluation needs besides: for lists and for callbacks
 abbrev pub scratch_of : CheckedGraph → ℕ

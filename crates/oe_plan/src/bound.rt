@@ -3,6 +3,7 @@ ghost use Rattle.std.specs.Prelude.{◌≡◌, ◌<◌, ◌≤◌, ◌*◌, ◌+
 ghost use Rattle.oe_dims.specs.declared.kind.Kind.TheVariants.{Time, Bands, Y, X};
 ghost use Rattle.oe_graph.specs.Printed.{node_count};
 ghost use Rattle.oe_order.specs.Evaluation.{IsEvaluationOrder};
+ghost use Rattle.oe_order.specs.Live as live;
 ghost use Rattle.oe_order.specs.Live.{IsSlotted};
 ghost use Rattle.oe_order.specs.Order.{IsListing};
 ghost use Rattle.oe_shape.specs.Links.{links_of};
@@ -11,6 +12,7 @@ ghost use Rattle.oe_plan.specs.Figures as spec;
 ghost use Rattle.oe_plan.specs.Figures.{side_along};
 ghost use Rattle.oe_plan.specs.Ranges.{AreStepsOf, IsWithinRanges, most_reach};
 
+use crate::widths::width_of;
 use oe_dims::{Kind, Shape};
 use oe_memory::OutOfMemory;
 use oe_order::{NodeOrder, order};
@@ -64,7 +66,8 @@ pub fn order_of(alloc: Global, checked: &Checked) -> Result<NodeOrder, OutOfMemo
         (λ o. IsListing (links_of checked.now.nodes) checked.now.result o.steps) }
     ensures evaluation { IfOk result
         (λ o. IsEvaluationOrder (links_of checked.now.nodes) checked.now.result o.steps) }
-    ensures width { IfOk result (λ o. o.width ≡ spec.width_of_run checked.now) }
+    ensures width { IfOk result
+        (λ o. o.width ≡ live.width_of (links_of checked.now.nodes) checked.now.result o.steps) }
     ensures slots { IfOk result
         (λ o. IsSlotted (links_of checked.now.nodes) checked.now.result o) }
 {
@@ -225,9 +228,10 @@ pub(crate) fn sizes_of(checked: &Checked, steps: &[u32], size: ChunkSize) -> Siz
 }
 
 /// How many cells so many workers hold at once, with two chunks each and so many windows a chunk.
-pub(crate) fn bound_of(sizes: Sizes, width: u32, workers: u32) -> u128
+pub(crate) fn bound_of(sizes: Sizes, width: u64, workers: u32) -> u128
     requires largest_in { sizes.largest ≤ 18446744073709551616 }
     requires scratch_in { sizes.scratch ≤ 131264 }
+    requires width_in { width ≤ 4294967296 }
     requires workers_in { workers ≤ 64 }
     ensures { result ≡ 2 * workers * (width * sizes.largest + sizes.scratch) }
 {
@@ -251,9 +255,10 @@ pub fn figures(
 {
     let order = order_of(alloc, checked)?;
     let sizes = sizes_of(checked, order.steps(), size);
+    let width = width_of(checked, order.steps(), order.width());
     let grid = Grid::new(checked.shape(checked.result()), size);
     Ok(PlanFigures {
-        bound: bound_of(sizes, order.width(), workers),
+        bound: bound_of(sizes, width, workers),
         chunks: grid.count(),
     })
 }

@@ -14,6 +14,7 @@ mod bound;
 mod laws;
 mod plan;
 mod schedule;
+mod widths;
 mod windows;
 
 pub use bound::{PlanFigures, Sides, figures, most_along, order_of, scratch_of, sides_of};

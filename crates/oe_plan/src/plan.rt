@@ -17,6 +17,7 @@ ghost use Rattle.oe_plan.specs.declared.plan.PlanFail.{PlanFail};
 
 use crate::bound::{bound_of, order_of, sizes_of};
 use crate::schedule::Schedule;
+use crate::widths::width_of;
 use crate::windows::windows_of;
 use oe_dims::Shape;
 use oe_memory::OutOfMemory;
@@ -104,12 +105,14 @@ impl Plan {
     {
         let order = order_of(alloc, &checked)?;
         let sizes = sizes_of(&checked, order.steps(), size);
-        let bound = bound_of(sizes, order.width(), workers);
+        let width = width_of(&checked, order.steps(), order.width());
+        let bound = bound_of(sizes, width, workers);
         if bound > 67108864 {
             return Err(PlanFail::TooLarge(bound));
         }
         let grid = Grid::new(checked.shape(checked.result()), size);
-        let schedule = Schedule::new(order, checked.result(), None, sizes.largest as u64);
+        let last = checked.result();
+        let schedule = Schedule::with_width(order, width as u32, last, None, sizes.largest as u64);
         Ok(Plan {
             checked,
             schedule,

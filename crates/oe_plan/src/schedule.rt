@@ -1,5 +1,5 @@
 // A schedule: an order to evaluate nodes by, with a slot for the cells of each.
-ghost use Rattle.std.specs.Prelude.{◌≡◌, ◌<◌, ◌↔◌, ℕ, Some, Contains, IfSome, IsNone, length, slice_index};
+ghost use Rattle.std.specs.Prelude.{◌≡◌, ◌<◌, ◌≤◌, ◌↔◌, ℕ, Some, Contains, IfSome, IsNone, length, slice_index};
 
 use oe_order::NodeOrder;
 use std::marker::Model;
@@ -9,6 +9,8 @@ use std::marker::Model;
 #[derive(Drop)]
 pub struct Schedule {
     order: NodeOrder,
+    /// How many slots there are, no fewer than the order needs.
+    width: u32,
     last: u32,
     given: Option<u32>,
     largest: u64,
@@ -16,10 +18,18 @@ pub struct Schedule {
 
 impl Model for Schedule {
     ghost use Rattle.oe_plan.specs.Schedules.{ScheduleOf};
+    ghost use Rattle.std.specs.Prelude.{◌≤◌};
 
     ghost Value = { ScheduleOf };
 
-    ghost view = { λ s. record { last = s.last; given = s.given; order = s.order; largest = s.largest } };
+    ghost view = { λ s. record {
+      last = s.last;
+      given = s.given;
+      order = record s.order { width = s.width };
+      largest = s.largest;
+    } };
+
+    ghost invariant = { λ s. s.order.width ≤ s.width };
 }
 
 impl Schedule {
@@ -27,8 +37,29 @@ impl Schedule {
     pub fn new(order: NodeOrder, last: u32, given: Option<u32>, largest: u64) -> Schedule
         ensures { result ≡ record { last = last; given = given; order = order; largest = largest } }
     {
+        let width = order.width();
+        Schedule::with_width(order, width, last, given, largest)
+    }
+
+    /// The same with so many slots, no fewer than the order needs.
+    pub(crate) fn with_width(
+        order: NodeOrder,
+        width: u32,
+        last: u32,
+        given: Option<u32>,
+        largest: u64,
+    ) -> Schedule
+        requires { order.width ≤ width }
+        ensures { result ≡ record {
+          last = last;
+          given = given;
+          order = record order { width = width };
+          largest = largest;
+        } }
+    {
         Schedule {
             order,
+            width,
             last,
             given,
             largest,
@@ -88,7 +119,7 @@ impl Schedule {
     pub fn width(&self) -> u32
         ensures { result ≡ self.now.order.width }
     {
-        self.order.width()
+        self.width
     }
 
     /// How many cells a slot has.
@@ -100,7 +131,7 @@ impl Schedule {
 
     /// The order.
     pub(crate) fn order(&self) -> &NodeOrder
-        ensures { result.now ≡ self.now.order }
+        ensures { result.now.steps ≡ self.now.order.steps }
     {
         &self.order
     }

@@ -4,9 +4,10 @@ use Rattle.std.specs.Prelude.{◌≡◌, ℕ, ◌+◌, ◌*◌, min, slice_index
 use Rattle.oe_dims.specs.declared.kind.Kind.TheVariants.{Time, Bands, Y, X}
 use Rattle.oe_order.specs.Live.{width_of}
 use Rattle.oe_order.specs.Order.{order_of}
-use Rattle.oe_plan.specs.Figures.{chunks_of, most_along, scratch_of, side_along, width_of_run}
+use Rattle.oe_plan.specs.Figures.{chunks_of, most_along, scratch_of, side_along}
 use Rattle.oe_plan.specs.Steps.{arguments_of_node}
 use Rattle.oe_shape.specs.Checked.{CheckedGraph}
+use Rattle.oe_shape.specs.Links.{links_of}
 use Rattle.oe_window.specs.Chunks.{IsSide}
 use Rattle.oe_window.specs.declared.grid.ChunkSize.{ChunkSize}
 use Rattle.oe_slab.specs.Cuts.{IsTimeCut, links_behind}
@@ -33,9 +34,12 @@ largest_slab c size = largest_plane c size * min (most_along c Time) size.t
 abbrev pub taken_by : CheckedGraph → ℕ → ℕ
 taken_by c fold = slice_index (arguments_of_node c fold) 0
 
--- before the cut, while the cube that is folded is evaluated on a slab
+-- before the cut, while the cube that is folded is evaluated on a slab; nothing there takes running sums, which need all
+-- dates as the cut alone does
 abbrev pub width_before : CheckedGraph → ℕ → ℕ
-width_before c fold = width_of_run (record c { result = taken_by c fold })
+width_before c fold =
+    let taken = taken_by c fold in
+    width_of (links_of c.nodes) taken (order_of (links_of c.nodes) taken)
 
 -- behind it, where the folded cube counts as loaded
 abbrev pub width_behind : CheckedGraph → ℕ → ℕ
