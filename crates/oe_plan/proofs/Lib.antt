@@ -1,3 +1,4 @@
+pub mod TurnsLemmas
 pub mod CoreLemmas
 pub mod PartsLemmas
 pub mod FollowLemmas

@@ -5,27 +5,39 @@ use Rattle.oe_graph.specs.Printed.{node_count}
 use Rattle.oe_order.proofs.Graphs.{arguments-graph_of, is_load-graph_of}
 use Rattle.oe_order.specs.Graph.{Node, graph_of, is_load, arguments, RefersWithin}
 use Rattle.oe_order.specs.Live.{Steps}
-use Rattle.oe_order.specs.Order.{IsListing, order_of}
+use Rattle.oe_order.specs.Order.{IsListing}
+use Rattle.oe_order.specs.Turns.{order_by_turns}
 use Rattle.oe_order.specs.declared.Links.{Links}
 use Rattle.oe_shape.specs.Checked.{CheckedGraph}
 use Rattle.oe_shape.specs.Links.{links_of}
 use Rattle.oe_plan.proofs.RunLemmas.{argument_before, step_within}
 use Rattle.oe_plan.specs.Figures.{steps_of}
 use Rattle.oe_plan.specs.Ranges.{AreStepsOf}
+use Rattle.oe_plan.specs.Turns.{turns_of}
+use Rattle.oe_plan.proofs.TurnsLemmas.{turns_in_part}
 use Rattle.oe_plan.specs.Steps.{Takes, argument_at}
 
 -- ---- the steps that are found
 
--- they are those of the run, each of a node of the graph
+-- they are those of the run of the last node
+pub steps_listed : {E : Type 0} (c : CheckedGraph) (nodes : List Node) (turns : List ℕ) (last : ℕ) (r : Result Steps E)
+    → nodes ≡ links_of c.nodes → turns ≡ turns_of c → IfOk r (λ o. o.steps ≡ order_by_turns nodes turns last)
+    → IfOk r (λ o. o.steps ≡ steps_of (record c { result = last }))
+steps_listed c nodes turns last (Ok o) nodes_are turns_are are =
+    are
+    ∙ (ap (λ (ns : List Node). order_by_turns ns turns last) nodes_are
+    ∙ ap (λ (ts : List ℕ). order_by_turns (links_of c.nodes) ts last) (turns_are ∙ sym (turns_in_part c last)))
+steps_listed c nodes turns last (Err e) nodes_are turns_are are = tt
+
+-- each is of a node of the graph
 pub steps_found : {E : Type 0} (c : CheckedGraph) (nodes : List Node) (last : ℕ) (r : Result Steps E) → RefersWithin nodes
-    → nodes ≡ links_of c.nodes → last ≡ c.result → length nodes ≡ node_count c.nodes → last < length nodes
-    → IfOk r (λ o. o.steps ≡ order_of nodes last) → IfOk r (λ o. IsListing nodes last o.steps)
-    → IfOk r (λ o. AreStepsOf c o.steps)
-steps_found c nodes last (Ok o) named nodes_are last_is counted within are listing = record {
-  steps_are = are ∙ ap (λ (ns : List Node). order_of ns last) nodes_are ∙ ap (order_of (links_of c.nodes)) last_is;
+    → length nodes ≡ node_count c.nodes → last < length nodes → IfOk r (λ o. o.steps ≡ steps_of (record c { result = last }))
+    → IfOk r (λ o. IsListing nodes last o.steps) → IfOk r (λ o. AreStepsOf (record c { result = last }) o.steps)
+steps_found c nodes last (Ok o) named counted within are listing = record {
+  steps_are = are;
   within = λ i below. omega (arith, step_within nodes last o.steps named within listing i below, counted);
 }
-steps_found c nodes last (Err e) named nodes_are last_is counted within are listing = tt
+steps_found c nodes last (Err e) named counted within are listing = tt
 
 -- ---- the argument of a step
 

@@ -20,7 +20,8 @@ use Rattle.oe_shape.specs.Links.{links_of}
 use Rattle.oe_window.specs.declared.grid.ChunkSize.{ChunkSize}
 use Rattle.oe_dims.specs.declared.kind.Kind.TheVariants.{Time, Bands, Y, X}
 use Rattle.oe_plan.proofs.SizeLemmas.{largest_of_more}
-use Rattle.oe_plan.specs.Figures.{halo_along, is_whole_along, largest_window, most_along, side_along, steps_of, takes_sums, width_of_run, windows_at_step}
+use Rattle.oe_plan.specs.Figures.{halo_along, is_whole_along, largest_window, most_along, side_along, steps_of, width_of_run, windows_at_step}
+use Rattle.oe_plan.specs.Turns.{takes_sums}
 use Rattle.oe_plan.specs.Ranges.{AreStepsOf, IsWithinRanges}
 
 -- ---- whether a list has a node

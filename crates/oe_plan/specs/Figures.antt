@@ -1,23 +1,22 @@
 -- The numbers of a plan: how large the windows of a run's nodes can be, and how many cells it holds at once.
-use Rattle.std.specs.Prelude.{ℕ, ◌+◌, ◌*◌, min, max, Bool, true, false, if◌then◌else◌, List, length, map, slice_index, sum_by, unwrap_or}
+use Rattle.std.specs.Prelude.{ℕ, ◌+◌, ◌*◌, min, max, Bool, false, if◌then◌else◌, List, length, map, slice_index, sum_by, unwrap_or}
 use Rattle.std.specs.List.{list_any, range_with_len}
-use Rattle.std.specs.Option.{option_map_or}
 use Rattle.oe_dims.specs.Dimensions.{Dimensions}
 use Rattle.oe_dims.specs.declared.kind.Kind.{Kind}
 use Rattle.oe_dims.specs.declared.kind.Kind.TheVariants.{Time, Bands, Y, X}
 use Rattle.oe_order.specs.Live.{largest, live_count}
-use Rattle.oe_order.specs.Order.{order_of}
-use Rattle.oe_shape.specs.Checked.{CheckedGraph, operation_of_node, outline_of_node}
+use Rattle.oe_order.specs.Turns.{order_by_turns}
+use Rattle.oe_shape.specs.Checked.{CheckedGraph, outline_of_node}
 use Rattle.oe_shape.specs.Links.{links_of}
-use Rattle.oe_shape.specs.Operations.{Operation, accumulate}
 use Rattle.oe_shape.specs.Reach.{halo_of_node, whole_of_node}
 use Rattle.oe_window.specs.Chunks.{chunk_count, tiling_of}
 use Rattle.oe_window.specs.Windows.{extent_along}
 use Rattle.oe_window.specs.declared.grid.ChunkSize.{ChunkSize}
+use Rattle.oe_plan.specs.Turns.{takes_sums, turns_of}
 
 -- the nodes that the result needs, in the order in which they are worked off
 abbrev pub steps_of : CheckedGraph → List ℕ
-steps_of c = order_of (links_of c.nodes) c.result
+steps_of c = order_by_turns (links_of c.nodes) (turns_of c) c.result
 
 -- the shape of a node's cube
 abbrev pub shape_of_node : CheckedGraph → ℕ → Dimensions
@@ -51,15 +50,6 @@ side_along c size Y = widened c Y size.y
 side_along c size X = widened c X size.x
 
 -- ---- how many windows are kept at once for a chunk
-
--- whether an operation takes running sums
-abbrev pub is_accumulate : Operation → Bool
-is_accumulate (accumulate ignore) = true
-is_accumulate _ = false
-
--- whether a node does
-abbrev pub takes_sums : CheckedGraph → ℕ → Bool
-takes_sums c node = option_map_or is_accumulate (operation_of_node c node) false
 
 -- at a step those of all live nodes, and one more where its node takes running sums: the sums count as a node of their
 -- own, which is worked off right before it

@@ -1,3 +1,4 @@
+pub mod Turns
 pub mod Figures
 pub mod Ranges
 pub mod Steps

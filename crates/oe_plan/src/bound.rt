@@ -12,10 +12,11 @@ ghost use Rattle.oe_plan.specs.Figures as spec;
 ghost use Rattle.oe_plan.specs.Figures.{side_along};
 ghost use Rattle.oe_plan.specs.Ranges.{AreStepsOf, IsWithinRanges, most_reach};
 
+use crate::turns::turns_of;
 use crate::widths::width_of;
 use oe_dims::{Kind, Shape};
 use oe_memory::OutOfMemory;
-use oe_order::{NodeOrder, order};
+use oe_order::{NodeOrder, order_by};
 use oe_shape::Checked;
 use oe_window::{ChunkSize, Grid};
 use std::alloc::Global;
@@ -56,7 +57,28 @@ pub struct Sides {
     pub x: u32,
 }
 
-/// The order in which the nodes that the result needs are worked off.
+/// The order in which the nodes that a last one needs are worked off: loads first, and of the nodes that are ready the one
+/// of least id, where `/sum` stands behind that of a node of running sums.
+///
+/// Refuses: where an allocation was refused, and nowhere else.
+pub fn order_to(alloc: Global, checked: &Checked, last: u32) -> Result<NodeOrder, OutOfMemory>
+    requires { last < node_count checked.now.nodes }
+    ensures steps { IfOk result (λ o. o.steps ≡ spec.steps_of (record checked.now { result = last })) }
+    ensures within { IfOk result (λ o. AreStepsOf (record checked.now { result = last }) o.steps) }
+    ensures listing { IfOk result (λ o. IsListing (links_of checked.now.nodes) last o.steps) }
+    ensures evaluation { IfOk result
+        (λ o. IsEvaluationOrder (links_of checked.now.nodes) last o.steps) }
+    ensures width { IfOk result
+        (λ o. o.width ≡ live.width_of (links_of checked.now.nodes) last o.steps) }
+    ensures slots { IfOk result (λ o. IsSlotted (links_of checked.now.nodes) last o) }
+{
+    // There are fewer than 2^32 nodes, since their number is a u32.
+    let _count = checked.nodes();
+    let turns = turns_of(alloc, checked)?;
+    order_by(alloc, checked.links(), last, turns.as_slice())
+}
+
+/// The same up to the result.
 ///
 /// Refuses: where an allocation was refused, and nowhere else.
 pub fn order_of(alloc: Global, checked: &Checked) -> Result<NodeOrder, OutOfMemory>
@@ -71,9 +93,7 @@ pub fn order_of(alloc: Global, checked: &Checked) -> Result<NodeOrder, OutOfMemo
     ensures slots { IfOk result
         (λ o. IsSlotted (links_of checked.now.nodes) checked.now.result o) }
 {
-    // There are fewer than 2^32 nodes, since their number is a u32.
-    let _count = checked.nodes();
-    order(alloc, checked.links(), checked.result())
+    order_to(alloc, checked, checked.result())
 }
 
 /// How many indices a cube has along a dimension: one for each label, and 1 where it lacks the dimension.

@@ -14,10 +14,13 @@ mod bound;
 mod laws;
 mod plan;
 mod schedule;
+mod turns;
 mod widths;
 mod windows;
 
-pub use bound::{PlanFigures, Sides, figures, most_along, order_of, scratch_of, sides_of};
+pub use bound::{
+    PlanFigures, Sides, figures, most_along, order_of, order_to, scratch_of, sides_of,
+};
 pub use laws::{plans_cross_threads, plans_fit, schedules_serve};
 pub use plan::{Plan, PlanFail};
 pub use schedule::Schedule;

@@ -1,6 +1,5 @@
 // How many windows a run keeps at once for a chunk.
 ghost use Rattle.std.specs.Prelude.{◌≡◌, ◌<◌, ◌≤◌, ℕ, length, slice_index};
-ghost use Rattle.oe_graph.specs.Printed.{node_count};
 ghost use Rattle.oe_order.specs.Graph.{graph_of};
 ghost use Rattle.oe_order.specs.Live as live;
 ghost use Rattle.oe_order.specs.Order.{IsListing, contains};
@@ -8,19 +7,9 @@ ghost use Rattle.oe_shape.specs.Links.{links_of};
 ghost use Rattle.oe_plan.specs.Figures as spec;
 ghost use Rattle.oe_plan.specs.Ranges.{AreStepsOf};
 
+use crate::turns::takes_sums;
 use oe_order::Links;
-use oe_shape::{Checked, Operation};
-
-/// Whether a node takes running sums.
-fn takes_sums(checked: &Checked, node: u32) -> bool
-    requires { node < node_count checked.now.nodes }
-    ensures { result ≡ spec.takes_sums checked.now node }
-{
-    match checked.operation(node) {
-        Operation::Accumulate(_) => true,
-        _ => false,
-    }
-}
+use oe_shape::Checked;
 
 /// Whether a node of these links takes the node.
 fn takes(links: &Links, node: u32) -> bool

@@ -1,7 +1,6 @@
 // The answers to lines about the windows of steps.
 use oe_lines::{Answers, Fault, Line, push_number, push_window};
-use oe_order::order;
-use oe_plan::{Schedule, windows_of};
+use oe_plan::{Schedule, order_of, windows_of};
 use oe_shape::Checked;
 use oe_window::{Window, holds, whole};
 use std::alloc::Global;
@@ -33,9 +32,7 @@ fn windows_for(
     chunk: &Window,
     answers: &mut Answers,
 ) -> Result<Vec<Window>, Fault> {
-    // There are fewer than 2^32 nodes, since their number is a u32.
-    let _count = checked.nodes();
-    let steps = order(alloc, checked.links(), checked.result())?;
+    let steps = order_of(alloc, checked)?;
     let (count, width) = thread::join(rt, || steps.steps().len(), || steps.width());
     push_number("steps ", count, answers);
     push_number(" width ", width, answers);

@@ -7,7 +7,7 @@ use Rattle.std.specs.Prelude.{Contains, slice_index}
 use Rattle.oe_cell.specs.declared.cell.Cell.{Cell}
 use Rattle.oe_cell.specs.declared.cell.Cell.TheVariants.{Empty}
 use Rattle.oe_order.specs.Graph.{Node, IsInRun, is_load}
-use Rattle.oe_order.specs.Order.{IsListing, order_of}
+use Rattle.oe_order.specs.Order.{IsListing}
 use Rattle.oe_plan.specs.Figures.{steps_of}
 use Rattle.oe_plan.specs.Laws.{ArePicked}
 use Rattle.oe_plan.specs.Schedules.{is_load_at, links_along, links_given, node_at, part_of}
@@ -49,7 +49,7 @@ module _ (p : SlabPlanOf) (is : IsSlabPlan p) where
 
   pub whole_order : IsOrderOf (part_of c p.whole) p.whole.order
   whole_order = record {
-    steps_are = is.schedules.whole_steps ∙ ap (order_of (links_of c.nodes)) (sym is.schedules.whole_last);
+    steps_are = is.schedules.whole_steps ∙ ap (λ (last : ℕ). steps_of (record c { result = last })) (sym is.schedules.whole_last);
     listing = subst (λ (last : ℕ). IsListing (links_of c.nodes) last p.whole.order.steps) (sym is.schedules.whole_last) whole_listing;
   }
 

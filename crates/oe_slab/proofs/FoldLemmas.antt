@@ -9,9 +9,7 @@ use Rattle.oe_expr.proofs.NodeLemmas.{contains_node}
 use Rattle.oe_fold.specs.declared.reducer.Reducer.{Reducer}
 use Rattle.oe_graph.proofs.ResolvedLemmas.{node_below}
 use Rattle.oe_graph.specs.Printed.{node_count}
-use Rattle.oe_order.specs.Graph.{Node}
 use Rattle.oe_order.specs.Live.{Steps, width_of}
-use Rattle.oe_order.specs.Order.{order_of}
 use Rattle.oe_plan.specs.Steps.{arguments_of_node}
 use Rattle.oe_shape.specs.Checked.{AreFaultless, CheckedGraph, operation_of_node}
 use Rattle.oe_shape.specs.Graphs.{operation_at}
@@ -23,7 +21,7 @@ use Rattle.oe_shape.specs.SoundNodes.{input_outlines}
 use Rattle.oe_shape.proofs.CheckedLemmas.{refer}
 use Rattle.oe_shape.proofs.LinkLemmas.{links_arguments}
 use Rattle.oe_shape.proofs.RequestLemmas.{found}
-use Rattle.oe_plan.specs.Figures.{scratch_of}
+use Rattle.oe_plan.specs.Figures.{scratch_of, steps_of}
 use Rattle.oe_window.specs.declared.grid.ChunkSize.{ChunkSize}
 use Rattle.oe_slab.specs.Figures.{largest_plane, largest_slab, slab_bound, taken_by, width_before, width_behind}
 
@@ -79,25 +77,20 @@ fold_takes c f node below x folds =
     ∙ ap (map (index_referred c.nodes)) (refer c.nodes f.resolved there.node (contains_node c.nodes node there.node there.is_there) r.0 r.1) in
     ap length arguments_are ∙ (map_length (index_referred c.nodes) (cube_ids r.0) ∙ one)
 
--- the width of the run of the cube that is taken
-pub before_is : {E : Type 0} (c : CheckedGraph) (fold taken : ℕ) (nodes : List Node) (r : Result Steps E) → nodes ≡ links_of c.nodes
-    → slice_get (arguments_of_node c fold) 0 ≡ Some taken → IfOk r (λ o. o.steps ≡ order_of nodes taken)
-    → IfOk r (λ o. o.width ≡ width_of nodes taken o.steps) → IfOk r (λ o. o.width ≡ width_before c fold)
-before_is c fold taken nodes (Ok o) nodes_are at steps_are width_is =
+-- what an order is of the cube that is taken, by the name that the code has for it
+pub of_taken : {E : Type 0} (c : CheckedGraph) (fold taken : ℕ) (r : Result Steps E) → slice_get (arguments_of_node c fold) 0 ≡ Some taken
+    → (P : ℕ → Steps → Type 0) → IfOk r (P taken) → IfOk r (P (taken_by c fold))
+of_taken c fold taken (Ok o) at P h =
     let is : taken_by c fold ≡ taken = get_or_from_slice_get (arguments_of_node c fold) 0 taken 0 at in
-    width_is ∙ (ap (width_of nodes taken) steps_are
-    ∙ (ap (λ (ns : List Node). width_of ns taken (order_of ns taken)) nodes_are
-    ∙ ap (λ (n : ℕ). width_of (links_of c.nodes) n (order_of (links_of c.nodes) n)) (sym is)))
-before_is c fold taken nodes (Err e) nodes_are at steps_are width_is = tt
+    subst (λ n. P n o) (sym is) h
+of_taken c fold taken (Err e) at P h = tt
 
--- what an order is of the cube that is taken, by the names that the code has for the links and for the cube
-pub of_taken : {E : Type 0} (c : CheckedGraph) (fold taken : ℕ) (nodes : List Node) (r : Result Steps E) → nodes ≡ links_of c.nodes
-    → slice_get (arguments_of_node c fold) 0 ≡ Some taken → (P : List Node → ℕ → Steps → Type 0) → IfOk r (P nodes taken)
-    → IfOk r (P (links_of c.nodes) (taken_by c fold))
-of_taken c fold taken nodes (Ok o) nodes_are at P h =
-    let is : taken_by c fold ≡ taken = get_or_from_slice_get (arguments_of_node c fold) 0 taken 0 at in
-    subst (λ n. P (links_of c.nodes) n o) (sym is) (subst (λ (ns : List Node). P ns taken o) nodes_are h)
-of_taken c fold taken nodes (Err e) nodes_are at P h = tt
+-- the width of the run of the cube that is taken
+pub before_is : {E : Type 0} (c : CheckedGraph) (fold : ℕ) (r : Result Steps E)
+    → IfOk r (λ o. o.steps ≡ steps_of (record c { result = taken_by c fold }))
+    → IfOk r (λ o. o.width ≡ width_of (links_of c.nodes) (taken_by c fold) o.steps) → IfOk r (λ o. o.width ≡ width_before c fold)
+before_is c fold (Ok o) steps_are width_is = width_is ∙ ap (width_of (links_of c.nodes) (taken_by c fold)) steps_are
+before_is c fold (Err e) steps_are width_is = tt
 
 -- the bound of a run that is cut there
 pub bound_is : (c : CheckedGraph) (size : ChunkSize) (fold before behind plane slab scratch bound : ℕ) → before ≡ width_before c fold

@@ -6,7 +6,7 @@ use Rattle.oe_order.proofs.Reach.{IsInRun-push}
 use Rattle.oe_order.specs.Evaluation.{IsEvaluationOrder}
 use Rattle.oe_order.specs.Graph.{IsInRun, Node}
 use Rattle.oe_order.specs.Live.{IsSlotted, Steps}
-use Rattle.oe_order.specs.Order.{IsListing, order_of}
+use Rattle.oe_order.specs.Order.{IsListing}
 use Rattle.oe_plan.specs.Figures.{most_held_cells, steps_of}
 use Rattle.oe_plan.specs.Laws.{IsOrdered}
 use Rattle.oe_plan.specs.Schedules.{IsSchedule, ScheduleOf, as_load, links_along, links_given, part_of}
@@ -46,7 +46,7 @@ module _ (c : CheckedGraph) (f : AreFaultless c) (fold : ℕ) (cut : IsTimeCut c
   -- they are the three schedules, where the slots are small
   module _ (size : ChunkSize) (whole before behind : Steps) (whole_is : IsOrderAlong (links_of c.nodes) c.result whole)
       (steps_are : whole.steps ≡ steps_of c) (before_is : IsOrderAlong (links_of c.nodes) (taken_by c fold) before)
-      (before_steps : before.steps ≡ order_of (links_of c.nodes) (taken_by c fold)) (before_width : before.width ≡ width_before c fold)
+      (before_steps : before.steps ≡ steps_of (record c { result = taken_by c fold })) (before_width : before.width ≡ width_before c fold)
       (behind_is : IsOrderAlong (links_behind c fold) c.result behind) (behind_width : behind.width ≡ width_behind c fold)
       (slab plane : ℕ) (slab_small : slab ≤ most_held_cells) (plane_small : plane ≤ most_held_cells) where
     ordered : IsOrdered c

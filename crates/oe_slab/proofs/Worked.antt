@@ -10,7 +10,9 @@ use Rattle.oe_expr.specs.Nodes.{down_from}
 use Rattle.oe_order.specs.Graph.{reaches_within, in_run, run_of}
 use Rattle.oe_order.specs.Live.{taken_from, is_live, live_count, width_of}
 use Rattle.oe_order.specs.Order.{next_of, extend_order, loads_of, order_of}
+use Rattle.oe_order.specs.Turns.{order_by_turns}
 use Rattle.oe_plan.specs.Figures.{chunks_of}
+use Rattle.oe_plan.specs.Turns.{in_order_of, turns_of}
 use Rattle.oe_shape.specs.Checked.{CheckedGraph}
 use Rattle.oe_shape.specs.Reach.{time_fold_of_node}
 use Rattle.oe_window.specs.declared.grid.ChunkSize.{ChunkSize}
@@ -80,16 +82,16 @@ folds = refl
 
 -- both bands, and 2 × 2 pixels with one more to each side
 plane : largest_plane greatest_smoothed (sides 2 2 1) ≡ 32
-unfolding greatest_smoothed rows down_from reaches_within in_run run_of next_of extend_order loads_of order_of
+unfolding greatest_smoothed rows down_from reaches_within in_run run_of next_of extend_order loads_of order_of order_by_turns turns_of in_order_of
 plane = refl
 
 slab : largest_slab greatest_smoothed (sides 2 2 2) ≡ 64
-unfolding greatest_smoothed rows down_from reaches_within in_run run_of next_of extend_order loads_of order_of
+unfolding greatest_smoothed rows down_from reaches_within in_run run_of next_of extend_order loads_of order_of order_by_turns turns_of in_order_of
 slab = refl
 
 -- the load alone
 before : width_before greatest_smoothed 1 ≡ 1
-unfolding greatest_smoothed rows down_from reaches_within in_run run_of next_of extend_order loads_of order_of taken_from is_live live_count width_of
+unfolding greatest_smoothed rows down_from reaches_within in_run run_of next_of extend_order loads_of order_of order_by_turns turns_of in_order_of taken_from is_live live_count width_of
 before = refl
 
 -- the folded cube counts as loaded
@@ -99,7 +101,7 @@ behind = refl
 
 -- 1 · 32 + 2 · 32 + 2 · 32 + 200
 bound : slab_bound greatest_smoothed (sides 2 2 1) 1 ≡ 360
-unfolding greatest_smoothed rows down_from reaches_within in_run run_of next_of extend_order loads_of order_of taken_from is_live live_count width_of
+unfolding greatest_smoothed rows down_from reaches_within in_run run_of next_of extend_order loads_of order_of order_by_turns turns_of in_order_of taken_from is_live live_count width_of
 bound = refl
 
 chunks : chunks_of greatest_smoothed (sides 2 2 1) ≡ 4

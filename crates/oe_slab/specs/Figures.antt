@@ -4,7 +4,7 @@ use Rattle.std.specs.Prelude.{◌≡◌, ℕ, ◌+◌, ◌*◌, min, slice_index
 use Rattle.oe_dims.specs.declared.kind.Kind.TheVariants.{Time, Bands, Y, X}
 use Rattle.oe_order.specs.Live.{width_of}
 use Rattle.oe_order.specs.Order.{order_of}
-use Rattle.oe_plan.specs.Figures.{chunks_of, most_along, scratch_of, side_along}
+use Rattle.oe_plan.specs.Figures.{chunks_of, most_along, scratch_of, side_along, steps_of}
 use Rattle.oe_plan.specs.Steps.{arguments_of_node}
 use Rattle.oe_shape.specs.Checked.{CheckedGraph}
 use Rattle.oe_shape.specs.Links.{links_of}
@@ -39,7 +39,7 @@ taken_by c fold = slice_index (arguments_of_node c fold) 0
 abbrev pub width_before : CheckedGraph → ℕ → ℕ
 width_before c fold =
     let taken = taken_by c fold in
-    width_of (links_of c.nodes) taken (order_of (links_of c.nodes) taken)
+    width_of (links_of c.nodes) taken (steps_of (record c { result = taken }))
 
 -- behind it, where the folded cube counts as loaded
 abbrev pub width_behind : CheckedGraph → ℕ → ℕ

@@ -4,9 +4,10 @@ ghost use Rattle.oe_dims.specs.declared.kind.Kind.TheVariants.{Time};
 ghost use Rattle.oe_graph.specs.Printed.{node_count};
 ghost use Rattle.oe_order.specs.Evaluation.{IsEvaluationOrder};
 ghost use Rattle.oe_order.specs.Live.{IsSlotted};
-ghost use Rattle.oe_order.specs.Order.{IsListing, order_of};
+ghost use Rattle.oe_order.specs.Order.{IsListing};
 ghost use Rattle.oe_shape.specs.Links.{links_of};
 ghost use Rattle.oe_shape.specs.Reach.{whole_of_node};
+ghost use Rattle.oe_plan.specs.Figures.{steps_of};
 ghost use Rattle.oe_plan.specs.Ranges.{AreStepsOf};
 ghost use Rattle.oe_slab.specs.Cuts.{HasNoTimeCut, IsLoneFold, IsTimeCut};
 ghost use Rattle.oe_slab.specs.Figures.{taken_by, width_before, width_behind};
@@ -14,8 +15,8 @@ ghost use Rattle.oe_slab.specs.Figures.{taken_by, width_before, width_behind};
 use crate::parts::{loads_nothing, order_behind};
 use oe_dims::Kind;
 use oe_memory::OutOfMemory;
-use oe_order::{NodeOrder, order};
-use oe_plan::argument_of;
+use oe_order::NodeOrder;
+use oe_plan::{argument_of, order_to};
 use oe_shape::Checked;
 use std::alloc::Global;
 
@@ -175,7 +176,7 @@ pub(crate) fn order_before(
 ) -> Result<NodeOrder, OutOfMemory>
     requires { IsLoneFold checked.now fold }
     ensures steps { IfOk result
-        (λ o. o.steps ≡ order_of (links_of checked.now.nodes) (taken_by checked.now fold)) }
+        (λ o. o.steps ≡ steps_of (record checked.now { result = taken_by checked.now fold })) }
     ensures listing { IfOk result
         (λ o. IsListing (links_of checked.now.nodes) (taken_by checked.now fold) o.steps) }
     ensures evaluation { IfOk result
@@ -184,8 +185,8 @@ pub(crate) fn order_before(
         (λ o. IsSlotted (links_of checked.now.nodes) (taken_by checked.now fold) o) }
     ensures width { IfOk result (λ o. o.width ≡ width_before checked.now fold) }
 {
-    // There are fewer than 2^32 nodes, since their number is a u32.
+    // A checked graph is without a fault, as the number of its nodes says.
     let _count = checked.nodes();
     let taken = argument_of(checked, fold, 0);
-    order(alloc, checked.links(), taken)
+    order_to(alloc, checked, taken)
 }

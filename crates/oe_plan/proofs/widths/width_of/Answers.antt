@@ -3,7 +3,8 @@ use Rattle.std.specs.Prelude.{slice_index}
 use Rattle.oe_graph.specs.Printed.{node_count}
 use Rattle.oe_order.specs.Live.{width_of}
 use Rattle.oe_shape.specs.Links.{links_of}
-use Rattle.oe_plan.specs.Figures.{steps_of, takes_sums}
+use Rattle.oe_plan.specs.Figures.{steps_of}
+use Rattle.oe_plan.specs.Turns.{takes_sums}
 use Rattle.oe_plan.proofs.WidthLemmas.{few_steps, most_live, width_begins, width_ends, width_with_sums, width_without_sums}
 use Rattle.oe_plan.proofs.widths.width_of.Goals as goal
 use Rattle.oe_plan.proofs.widths.width_of.Goals.{then-takes_sums, else-takes_sums}

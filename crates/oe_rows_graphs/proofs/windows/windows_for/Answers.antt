@@ -9,5 +9,5 @@ windows_of-requires-clause-within g c p h =
     subst (λ n. IsIn (whole_window (shape_of_node c.args.checked.now n)) p)
     (sym (ap (λ (s : ScheduleOf). s.last) c.new-schedule.ensures ∙ c.result-2.ensures.value))
     (subst (λ w. IsIn w p)
-    (c.whole.ensures.value ∙ ap whole_window (c.shape.ensures ∙ ap (shape_of_node c.args.checked.now) c.result-else-is_empty.ensures.value))
+    (c.whole.ensures.value ∙ ap whole_window (c.shape.ensures ∙ ap (shape_of_node c.args.checked.now) c.result.ensures.value))
     (c.holds.ensures.value.0 c.if-not-holds.false p h))

@@ -1,7 +1,15 @@
-use Rattle.std.proofs.Common.{refl}
+use Rattle.std.proofs.Common.{refl, sym, subst}
 use Rattle.oe_outside.proofs.Causes.{NeverFalls-refl}
+use Rattle.oe_shape.specs.Checked.{CheckedGraph}
+use Rattle.oe_sources.specs.CatalogueDims.{AreDimsOf}
+use Rattle.oe_sources.specs.CatalogueRows.{rows_of}
 use Rattle.oe_top.proofs.Runs.{run_finished, run_stopped, run_too_large}
 use Rattle.oe_top.proofs.run.run.Goals as goal
+
+pub write_result-requires-clause-found : goal.write_result-requires-clause-found
+write_result-requires-clause-found g c κs within =
+    let rows = rows_of (λ z. (goal.CubeSource-dyn g z).seen z.1) c.args.catalogue.now in
+    subst (λ (graph : CheckedGraph). AreDimsOf rows graph.rows) (sym c.in-Ok-begin.ensures.plan.graph_is) c.in-Ok.ensures.found
 
 pub returns-in-Ok-write_result : goal.returns-in-Ok-write_result
 returns-in-Ok-write_result g c =
