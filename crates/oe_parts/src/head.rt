@@ -1,5 +1,5 @@
 // What a part file says before its records, both ways.
-ghost use Rattle.std.specs.Prelude.{◌≡◌, ◌++◌, ◌↔◌, ◌<◌, ◌≤◌, ℕ, [], ◌∷◌, IfOk, IsTrue, OnOk, MatchOption, codes, decimal, length, map};
+ghost use Rattle.std.specs.Prelude.{◌≡◌, ◌++◌, ◌↔◌, ◌<◌, ◌≤◌, ℕ, [], ◌∷◌, IfOk, IfSome, IsTrue, OnOk, MatchOption, codes, decimal, length, map};
 ghost use Rattle.std.specs.List.{filter_map};
 ghost use Rattle.std.specs.Option.{option_map};
 ghost use Rattle.json.specs.Print.{quoted};
@@ -33,6 +33,9 @@ pub(crate) const START: usize = 12;
 
 /// The longest side of a chunk.
 const MOST_SIDE: u64 = 4096;
+
+/// A room in bytes in which the dimensions of most results can be spelled.
+const LIKELY: usize = 65536;
 
 /// The text of a process graph as it was read, the sides of the chunks of its run, the chunks from `first` on and before
 /// `end`, and the kind and the shape of the whole result.
@@ -77,7 +80,7 @@ impl PartHead {
         requires { IsPartHead self.now }
         ensures { IfOk result (λ front. front.items ≡ spec.front_bytes self.now) }
     {
-        let header = header_bytes(alloc, self)?;
+        let header = header_bytes(alloc, self, LIKELY)?;
         let count = header.len() as u32;
         let mut front = Vec::with_capacity(alloc, START + header.len())?;
         front.extend_from_slice(b"OEOPART1")?;
@@ -89,8 +92,8 @@ impl PartHead {
 
 // ---- writing
 
-/// The one spelling of the header.
-fn header_bytes(alloc: Global, head: &PartHead) -> Result<Vec<u8>, OutOfMemory>
+/// The one spelling of the header, whose dimensions are likely to fit so many bytes.
+fn header_bytes(alloc: Global, head: &PartHead, likely: usize) -> Result<Vec<u8>, OutOfMemory>
     requires { AreSides head.now.sides }
     ensures { IfOk result (λ bytes. bytes.items ≡ spec.header_text head.now) }
 {
@@ -100,7 +103,7 @@ fn header_bytes(alloc: Global, head: &PartHead) -> Result<Vec<u8>, OutOfMemory>
     bytes.extend_from_slice(b",\"cells\":\"")?;
     bytes.extend_from_slice(kind_word(head.kind).as_bytes())?;
     bytes.extend_from_slice(b"\",\"dimensions\":[")?;
-    push_dimensions(alloc, &mut bytes, &head.shape)?;
+    push_dimensions(alloc, &mut bytes, &head.shape, likely)?;
     bytes.extend_from_slice(b"],\"again\":")?;
     push_sides(&mut bytes, head.sides)?;
     bytes.extend_from_slice(b"}")?;
@@ -189,22 +192,61 @@ fn kind_word(kind: CellKind) -> &'static str
     }
 }
 
-/// The dimensions of a shape, as the result text spells them.
-fn push_dimensions(alloc: Global, bytes: &mut Vec<u8>, shape: &Shape) -> Result<(), OutOfMemory>
+/// The dimensions of a shape, as the result text spells them, which are likely to fit so many bytes.
+fn push_dimensions(
+    alloc: Global,
+    bytes: &mut Vec<u8>,
+    shape: &Shape,
+    likely: usize,
+) -> Result<(), OutOfMemory>
     ensures { OnOk result (bytes.new.items ≡ bytes.old.items
         ++ listed_text (filter_map (present_text shape.now) all_kinds)) }
+{
+    let spelled = spell(alloc, shape, likely)?;
+    bytes.extend_from_slice(spelled.bytes())?;
+    Ok(())
+}
+
+/// The dimensions in a sink. They are counted first only where they do not fit, since labels are dear to spell.
+fn spell(alloc: Global, shape: &Shape, likely: usize) -> Result<MemorySink, OutOfMemory>
+    ensures { IfOk result (λ out.
+        out.written ≡ listed_text (filter_map (present_text shape.now) all_kinds)) }
+{
+    match spell_within(alloc, shape, likely)? {
+        Some(out) => Ok(out),
+        None => spell_counted(alloc, shape),
+    }
+}
+
+/// The same in a sink that has room for so many bytes, `None` where they are more.
+fn spell_within(
+    alloc: Global,
+    shape: &Shape,
+    room: usize,
+) -> Result<Option<MemorySink>, OutOfMemory>
+    ensures { IfOk result (λ spelled. IfSome spelled (λ out.
+        out.written ≡ listed_text (filter_map (present_text shape.now) all_kinds))) }
+{
+    let mut pending = Pending::new(alloc)?;
+    let mut out = MemorySink::new(alloc, room, Vec::new(alloc))?;
+    match send_all(&mut out, &mut pending, shape) {
+        Ok(()) => Ok(Some(out)),
+        Err(_) => Ok(None),
+    }
+}
+
+/// The same in a sink that has room for as many bytes as they are.
+fn spell_counted(alloc: Global, shape: &Shape) -> Result<MemorySink, OutOfMemory>
+    ensures { IfOk result (λ out.
+        out.written ≡ listed_text (filter_map (present_text shape.now) all_kinds)) }
 {
     let mut pending = Pending::new(alloc)?;
     let mut count = CountSink::new();
     let _ = send_all(&mut count, &mut pending, shape);
-    let mut pending = Pending::new(alloc)?;
-    let mut out = MemorySink::new(alloc, count.count() as usize, Vec::new(alloc))?;
-    match send_all(&mut out, &mut pending, shape) {
-        Ok(()) => {}
-        Err(_) => return Err(OutOfMemory),
+    match spell_within(alloc, shape, count.count() as usize)? {
+        Some(out) => Ok(out),
+        None => Err(OutOfMemory),
     }
-    bytes.extend_from_slice(out.bytes())?;
-    Ok(())
 }
 
 fn send_all<O: Sink>(out: &mut O, pending: &mut Pending, shape: &Shape) -> Result<(), Failed>
@@ -232,7 +274,7 @@ pub(crate) fn read_header(alloc: Global, bytes: &[u8]) -> Result<Option<PartHead
     if !is_valid(&head) {
         return Ok(None);
     }
-    let spelled = header_bytes(alloc, &head)?;
+    let spelled = header_bytes(alloc, &head, bytes.len())?;
     if spelled.as_slice() == bytes {
         Ok(Some(head))
     } else {
