@@ -5,6 +5,7 @@ pub mod FileLemmas
 pub mod HeadOne
 pub mod HeadSizes
 pub mod HeadText
+pub mod JudgeLemmas
 pub mod LaidLemmas
 pub mod LayLemmas
 pub mod LaySteps

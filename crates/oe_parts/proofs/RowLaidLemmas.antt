@@ -1,6 +1,6 @@
 -- A row that is laid out, and the rows of a window.
 use Rattle.std.proofs.Common.{◌≡◌, ◌≢◌, ℕ, zero, suc, ◌+◌, ◌-◌, ◌*◌, ◌/◌, ◌%◌, ◌<◌, ◌≤◌, ◌==◌, if◌then◌else◌, false, List, ◌++◌, length, get_or, replicate, Option, Some, None, refl, sym, ap, ◌∙◌, subst, arith}
-use Rattle.std.specs.List.{All, slice_get}
+use Rattle.std.specs.List.{All, range_with_len, slice_get}
 use Rattle.std.specs.Option.{option_map}
 use Rattle.std.proofs.lemmas.Bool.Decides.{nat_tests}
 use Rattle.std.proofs.lemmas.Nat.{div-add-mod', div-mul-add, mod_below, mul-add-lt}
@@ -13,12 +13,13 @@ use Rattle.oe_dims.specs.Cube.{Cube}
 use Rattle.oe_dims.specs.Dimensions.{Dimensions}
 use Rattle.oe_dims.specs.Positions.{Position, number_of}
 use Rattle.oe_outside.specs.Stored.{StaysOutside, StoreHolds}
-use Rattle.oe_spool.specs.Least.{IsLeastOver}
+use Rattle.oe_spool.specs.Least.{IsLeastOver, least_over_of}
 use Rattle.oe_spool.specs.Spooled.{ChangesOnly, HoldsRecords, IsRecordByte}
 use Rattle.oe_spool.proofs.KeptLemmas.{kept_outside}
+use Rattle.oe_spool.proofs.LeastOnWindow.{first_on_window, none_on_window, over_within}
 use Rattle.oe_window.specs.Cells.{cell_at, cells_on}
 use Rattle.oe_window.specs.Parts.{row_count, row_of}
-use Rattle.oe_window.specs.Runs.{window_numbers}
+use Rattle.oe_window.specs.Runs.{AreRising, window_numbers}
 use Rattle.oe_window.specs.Windows.{Holds, IsAlong, IsIn, number_in, position_count, positions, span_at, span_length, whole_window}
 use Rattle.oe_window.specs.declared.window.Span.{Span}
 use Rattle.oe_window.specs.declared.window.Window.{Window}
@@ -135,6 +136,24 @@ row_have store base first d w cells least numbers long valid held found p inside
       row_held store base first cube w cells numbers has held p inside,
       no_over cube (IsIn w) least p (found cube refl has) inside,
     )
+
+-- ---- the least number of one that is Over
+
+rising_range : (a n : ℕ) → AreRising (range_with_len a n)
+rising_range a zero = tt
+rising_range a (suc zero) = tt
+rising_range a (suc (suc n)) = (omega arith, rising_range (a + 1) (suc n))
+
+-- in a row it is that of the first one
+pub row_over : (d : Dimensions) (w : Window) (first : ℕ) (cells : List Cell) (found least : Option ℕ) → HasNumbersFrom d w first → length cells ≡ position_count w → least_over_of cells ≡ found → least ≡ option_map (λ index. first + index) found
+    → (cube : Cube Cell) → cube.shape ≡ d → cells_on Empty cube w ≡ cells → IsLeastOver cube (IsIn w) least
+row_over d w first cells None least numbers long at is cube same these =
+    subst (IsLeastOver cube (IsIn w)) (sym is) (none_on_window d w cells at cube same these)
+row_over d w first cells (Some index) least numbers long at is cube same these =
+    let below : index < position_count w = subst (λ (m : ℕ). index < m) long (over_within cells index at) in
+    let number : slice_get (window_numbers d w) index ≡ Some (first + index) = ap (λ (ns : List ℕ). slice_get ns index) numbers ∙ slice_get-range first (position_count w) index below in
+    let rising : AreRising (window_numbers d w) = subst AreRising (sym numbers) (rising_range first (position_count w)) in
+    subst (IsLeastOver cube (IsIn w)) (sym is) (first_on_window d w cells index (first + index) rising at number cube same these)
 
 -- ---- the rows of a window
 

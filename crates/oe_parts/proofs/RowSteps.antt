@@ -1,8 +1,7 @@
 -- One row more of a window that is laid out.
-use Rattle.std.proofs.Common.{◌≡◌, ℕ, ◌+◌, ◌*◌, ◌^◌, ◌<◌, ◌≤◌, List, length, take, Option, Err, sym, ap, ◌∙◌, subst, arith}
+use Rattle.std.proofs.Common.{◌≡◌, ℕ, ◌+◌, ◌*◌, ◌^◌, ◌<◌, ◌≤◌, List, length, Option, Err, sym, ap, ◌∙◌, subst, arith}
 use Rattle.std.specs.List.{All}
 use Rattle.std.specs.Result.{IsErrOf}
-use Rattle.std.proofs.lemmas.List.{length-take-le}
 use Rattle.std.proofs.lemmas.Nat.{mul-le}
 use Rattle.oe_cell.specs.Cells.{IsCell}
 use Rattle.oe_cell.specs.Record.{records_of}
@@ -31,14 +30,6 @@ use Rattle.oe_parts.proofs.SliceLemmas.{row_all, row_shows}
 
 pub row_numbers : (d : Dimensions) (w row : Window) (first n : ℕ) → row ≡ row_of w n → HasNumbersFrom d row first → HasNumbersFrom d (row_of w n) first
 row_numbers d w row first n is numbers = subst (λ (v : Window). HasNumbersFrom d v first) is numbers
-
-pub row_within : (d : Dimensions) (w row : Window) (n : ℕ) → row ≡ row_of w n → n < row_count w → Holds (whole_window d) w → Holds (whole_window d) row
-row_within d w row n is below within = subst (λ (v : Window). Holds (whole_window d) v) (sym is) (λ p inside. within p (row_inside w n below p inside))
-
--- the front of the buffer has as many cells as the row has positions
-pub row_room : (w row : Window) (n count : ℕ) (buffer : List Cell) → row ≡ row_of w n → count ≡ position_count row → span_length w.x ≤ 4096 → length buffer ≡ 4096 → length (take count buffer) ≡ position_count row
-row_room w row n count buffer is counted short room =
-    length-take-le count buffer (omega (arith, counted, row_size w row n is, short, room)) ∙ counted
 
 -- its records begin behind those of the rows before
 pub row_start : (w row : Window) (at n count : ℕ) → row ≡ row_of w n → count ≡ position_count row → at + 17 * (n * count) ≡ at + 17 * (n * span_length w.x)

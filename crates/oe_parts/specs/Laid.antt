@@ -1,13 +1,16 @@
 -- What is left where the records of all parts of a run were laid into a store, each at its number.
 use Rattle.std.specs.Prelude.{◌≡◌, ◌≢◌, ⊤, ℕ, ◌+◌, ◌-◌, ◌*◌, ◌<◌, List, length, slice_get, Option, Some, None, IfSome}
 use Rattle.std.specs.List.{All}
+use Rattle.std.specs.Option.{option_map}
 use Rattle.oe_cell.specs.Cells.{IsCell}
+use Rattle.oe_cell.specs.Record.{records_of}
 use Rattle.oe_cell.specs.declared.cell.Cell.{Cell}
 use Rattle.oe_cell.specs.declared.cell.Cell.TheVariants.{Empty, Over}
 use Rattle.oe_dims.specs.Cube.{Cube, IsCube}
 use Rattle.oe_dims.specs.Dimensions.{Dimensions, cell_count}
 use Rattle.oe_dims.specs.Positions.{Position, number_of}
 use Rattle.oe_outside.specs.Faults.{Rose}
+use Rattle.oe_outside.specs.Stored.{StoreHolds}
 use Rattle.oe_render.specs.Stored.{HasCells}
 use Rattle.oe_spool.specs.Least.{IsLeastOver, least_over_of}
 use Rattle.oe_spool.specs.Spooled.{HoldsCube, HoldsRecord, HoldsRecords}
@@ -59,6 +62,16 @@ TellsRow store at first count piece.Failed = ⊤
 TellsRow store at first count (piece.Damaged number) =
     (index : ℕ) × (index < count) × (number ≡ first + index) × HasNoRecordAt store (at + 17 * index)
 TellsRow store at first count piece.SpoolFailed = ⊤
+
+-- so many valid cells have their records in one store from an offset on, and in another from that of a number on; the
+-- number of the first of them that is Over is this
+pub record LaysRow (part : Option (List ℕ)) (at : ℕ) (store : Option (List ℕ)) (base first count : ℕ) (least : Option ℕ) : Type 0 where
+  pub cells : List Cell
+  pub many : length cells ≡ count
+  pub valid : All IsCell cells
+  pub read : StoreHolds part at (records_of cells)
+  pub laid : StoreHolds store (base + 17 * first) (records_of cells)
+  pub least_is : least ≡ option_map (λ index. first + index) (least_over_of cells)
 
 -- why the records of a part were not laid out: a read of it failed, a record of it is damaged, or a write failed
 abbrev pub PartStops : PartState → PartState → ℕ → ℕ → PieceFail → Type 0

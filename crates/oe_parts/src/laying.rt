@@ -1,20 +1,20 @@
 // The records of parts laid into a spool, each at its number in the whole result.
-ghost use Rattle.std.specs.Prelude.{◌≡◌, ◌≤◌, ◌<◌, ◌+◌, ◌*◌, ◌^◌, List, IfErr, IfOk, OnOk, length};
+ghost use Rattle.std.specs.Prelude.{◌≡◌, ◌≤◌, ◌<◌, ◌+◌, ◌*◌, ◌^◌, IfErr, IfOk, IfSome, OnOk, length};
 ghost use Rattle.std.specs.List.{All};
+ghost use Rattle.std.specs.Option.{option_map};
 ghost use Rattle.oe_cell.specs.Cells.{IsCell};
-ghost use Rattle.oe_cell.specs.Record.{records_of};
 ghost use Rattle.oe_cell.specs.declared.cell.Cell.{Cell};
 ghost use Rattle.oe_cell.specs.declared.cell.Cell.TheVariants.{Empty};
 ghost use Rattle.oe_dims.specs.Cube.{Cube};
 ghost use Rattle.oe_dims.specs.Positions.{IsPosition};
 ghost use Rattle.oe_outside.specs.Faults.{HasCauseOf, NeverFalls};
-ghost use Rattle.oe_outside.specs.Stored.{StaysOutside, StoreHolds};
+ghost use Rattle.oe_outside.specs.Stored.{StaysOutside};
 ghost use Rattle.oe_spool.specs.Spooled.{ChangesOnly};
 ghost use Rattle.oe_window.specs.Cells.{cells_on};
 ghost use Rattle.oe_window.specs.Runs.{window_numbers};
 ghost use Rattle.oe_window.specs.Windows.{Holds, IsIn, position_count, span_length, whole_window};
 ghost use Rattle.oe_parts.specs.Head.{IsPartHead};
-ghost use Rattle.oe_parts.specs.Laid.{AreLaid, HaveRecords, IsInPart, IsUndamaged, LayStops, Lays, PartStops, TellsPiece, TellsRow, fail_at};
+ghost use Rattle.oe_parts.specs.Laid.{AreLaid, HaveRecords, IsInPart, IsUndamaged, LayStops, Lays, LaysRow, PartStops, TellsPiece, TellsRow, fail_at};
 ghost use Rattle.oe_parts.specs.PartFile.{cells_on_all, chunks_of, part_cells, part_numbers};
 ghost use Rattle.oe_parts.specs.Parts.{ArePartsRead, IsPartRead, ShowsPartOf, heads_of};
 ghost use Rattle.oe_parts.specs.Rows.{HaveRecordsAt, Shows};
@@ -23,12 +23,11 @@ ghost use Rattle.oe_parts.specs.Whole.{AreWhole};
 use crate::head::PartHead;
 use crate::part::RunPart;
 use crate::parts::RunParts;
-use crate::read::{BYTES, CELLS, ReadFail, read_cells};
+use crate::read::{BYTES, ReadFail, read_cells};
 use crate::rows::row_at;
-use oe_cell::Cell;
 use oe_dims::Shape;
 use oe_outside::Store;
-use oe_spool::{least_over, lesser};
+use oe_spool::lesser;
 use oe_window::{Window, size};
 
 /// Why the records of parts were not laid out.
@@ -94,10 +93,9 @@ fn lay_all<S: Store + Drop, P: Store>(
     // A shape is valid, so that each of its positions lies in a chunk.
     let _cells = shape.cells();
     let mut bytes = [0; BYTES];
-    let mut cells = [Cell::Empty; CELLS];
     let mut least = None;
     for index in 0..parts.len() {
-        match lay_one(&mut parts[index], spool, base, &mut bytes, &mut cells) {
+        match lay_one(&mut parts[index], spool, base, &mut bytes) {
             Ok(number) => least = lesser(least, number),
             Err(fail) => return Err(fail_at(index, fail)),
         }
@@ -119,17 +117,15 @@ fn fail_at(index: usize, fail: PieceFail) -> LayFail
     }
 }
 
-/// Lays out the records of one part, through buffers of the caller.
+/// Lays out the records of one part, through a buffer of the caller.
 fn lay_one<S: Store + Drop, P: Store>(
     part: &mut RunPart<S>,
     spool: &mut P,
     base: u64,
     bytes: &mut [u8],
-    cells: &mut [Cell],
 ) -> Result<Option<u64>, PieceFail>
     requires base { base ≤ 2 ^ 62 }
     requires bytes { length bytes.old ≡ 69632 }
-    requires cells { length cells.old ≡ 4096 }
     ensures cube { IfOk result (λ least. (cube : Cube Cell) → ShowsPartOf cube part.old →
         AreLaid (P.bytes spool.new) base cube (IsInPart part.old.head) least) }
     ensures some { IfOk result (HaveRecords (P.bytes spool.new) base part.old.head.shape
@@ -142,15 +138,7 @@ fn lay_one<S: Store + Drop, P: Store>(
     ensures read { IsPartRead part.old part.new }
     ensures count { NeverFalls (P.faults spool.old) (P.faults spool.new) }
 {
-    lay_part(
-        &mut part.store,
-        &part.head,
-        part.base,
-        spool,
-        base,
-        bytes,
-        cells,
-    )
+    lay_part(&mut part.store, &part.head, part.base, spool, base, bytes)
 }
 
 /// Lays out the records of one part, which stand from an offset on, chunk by chunk.
@@ -161,13 +149,11 @@ fn lay_part<S: Store, P: Store>(
     spool: &mut P,
     base: u64,
     bytes: &mut [u8],
-    cells: &mut [Cell],
 ) -> Result<Option<u64>, PieceFail>
     requires valid { IsPartHead head.now }
     requires at { at ≤ 2 ^ 32 }
     requires base { base ≤ 2 ^ 62 }
     requires bytes { length bytes.old ≡ 69632 }
-    requires cells { length cells.old ≡ 4096 }
     ensures cube { IfOk result (λ least. (cube : Cube Cell) → cube.shape ≡ head.now.shape →
         All IsCell (cells_on_all cube (chunks_of head.now)) →
         Shows (S.bytes store.old) at (cells_on_all cube (chunks_of head.now)) →
@@ -190,16 +176,7 @@ fn lay_part<S: Store, P: Store>(
     for chunk in head.first..head.end {
         let window = grid.chunk(chunk);
         let offset = at + 17 * done;
-        match lay_chunk(
-            store,
-            offset,
-            &head.shape,
-            &window,
-            spool,
-            base,
-            bytes,
-            cells,
-        ) {
+        match lay_chunk(store, offset, &head.shape, &window, spool, base, bytes) {
             Ok(found) => least = lesser(least, found),
             Err(fail) => return Err(fail),
         }
@@ -217,14 +194,12 @@ fn lay_chunk<S: Store, P: Store>(
     spool: &mut P,
     base: u64,
     bytes: &mut [u8],
-    cells: &mut [Cell],
 ) -> Result<Option<u64>, PieceFail>
     requires at { at ≤ 2 ^ 62 }
     requires within { Holds (whole_window shape.now) window.now }
     requires short { span_length window.now.x ≤ 4096 }
     requires base { base ≤ 2 ^ 62 }
     requires bytes { length bytes.old ≡ 69632 }
-    requires cells { length cells.old ≡ 4096 }
     ensures cube { IfOk result (λ least. (cube : Cube Cell) → cube.shape ≡ shape.now →
         All IsCell (cells_on Empty cube window.now) →
         Shows (S.bytes store.old) at (cells_on Empty cube window.now) →
@@ -251,24 +226,16 @@ fn lay_chunk<S: Store, P: Store>(
         let count = size(&row) as usize;
         let done = number * count as u64;
         let start = at + 17 * done;
-        let into = &mut cells[..count];
-        match lay_row(
-            store,
-            start,
-            spool,
-            base,
-            first,
-            &mut bytes[..17 * count],
-            into,
-        ) {
-            Ok(()) => least = lesser(least, least_over(shape, &row, into)),
+        let room = &mut bytes[..17 * count];
+        match lay_row(store, start, spool, base, first, room, count) {
+            Ok(over) => least = lesser(least, over),
             Err(fail) => return Err(fail),
         }
     }
     Ok(least)
 }
 
-/// Lays out the records of a row, which stand from an offset on, from that of its first number on.
+/// Lays out the records of so many cells of a row, which stand from an offset on, from that of its first number on.
 fn lay_row<S: Store, P: Store>(
     store: &mut S,
     at: u64,
@@ -276,19 +243,15 @@ fn lay_row<S: Store, P: Store>(
     base: u64,
     first: u64,
     bytes: &mut [u8],
-    cells: &mut [Cell],
-) -> Result<(), PieceFail>
+    count: usize,
+) -> Result<Option<u64>, PieceFail>
     requires base { base ≤ 2 ^ 62 }
-    requires room { length bytes.old ≡ 17 * length cells.old }
-    requires few { first + length cells.old ≤ 2 ^ 40 }
-    ensures cells { OnOk result (All IsCell cells.new) }
-    ensures laid { OnOk result (StoreHolds (P.bytes spool.new) (base + 17 * first)
-        (records_of cells.new)) }
-    ensures sound { OnOk result (HaveRecordsAt (S.bytes store.old) at (length cells.old)) }
-    ensures shown { (shown : List Cell) → All IsCell shown → length shown ≡ length cells.old →
-        Shows (S.bytes store.old) at shown → OnOk result (cells.new ≡ shown) }
-    ensures damage { IfErr result (TellsRow (S.bytes store.old) at first (length cells.old)) }
-    ensures outside { StaysOutside (P.bytes spool.old) (base + 17 * first) (17 * length cells.old)
+    requires room { length bytes.old ≡ 17 * count }
+    requires few { first + count ≤ 2 ^ 40 }
+    ensures laid { IfOk result (LaysRow (S.bytes store.old) at (P.bytes spool.new) base first
+        count) }
+    ensures damage { IfErr result (TellsRow (S.bytes store.old) at first count) }
+    ensures outside { StaysOutside (P.bytes spool.old) (base + 17 * first) (17 * count)
         (P.bytes spool.new) }
     ensures part_cause { HasCauseOf PieceFail.Failed (S.faults store.old) (S.faults store.new)
         result }
@@ -296,13 +259,24 @@ fn lay_row<S: Store, P: Store>(
         (P.faults spool.new) result }
     ensures same { S.bytes store.new ≡ S.bytes store.old }
 {
-    match read_cells(store, at, bytes, cells) {
-        Ok(()) => {}
+    let over = match read_cells(store, at, bytes, count) {
+        Ok(over) => over,
         Err(ReadFail::Failed) => return Err(PieceFail::Failed),
         Err(ReadFail::Damaged(index)) => return Err(PieceFail::Damaged(first + index as u64)),
-    }
+    };
     match spool.write_at(base + 17 * first, bytes) {
-        Ok(()) => Ok(()),
+        Ok(()) => Ok(number_at(first, over)),
         Err(_) => Err(PieceFail::SpoolFailed),
+    }
+}
+
+/// The number of a cell with an index among those from a first one on.
+fn number_at(first: u64, index: Option<usize>) -> Option<u64>
+    requires { IfSome index (λ i. first + i ≤ 2 ^ 40) }
+    ensures { result ≡ option_map (λ i. first + i) index }
+{
+    match index {
+        Some(index) => Some(first + index as u64),
+        None => None,
     }
 }

@@ -1,20 +1,18 @@
 // Records that are read from a store.
-ghost use Rattle.std.specs.Prelude.{◌≡◌, ◌+◌, ◌*◌, ◌≤◌, ◌<◌, List, IfErr, IsOk, OnOk, length, take};
-ghost use Rattle.std.specs.List.{All};
+ghost use Rattle.std.specs.Prelude.{◌≡◌, ◌+◌, ◌++◌, ◌∷◌, ◌*◌, ◌≤◌, ◌<◌, [], List, IfErr, IfNone, IfOk, IfSome, OnOk, drop, length, take};
 ghost use Rattle.oe_cell.specs.Cells.{IsCell};
-ghost use Rattle.oe_cell.specs.Record.{records_of};
+ghost use Rattle.oe_cell.specs.Record.{IsRecord, record_of};
 ghost use Rattle.oe_cell.specs.declared.cell.Cell.{Cell};
 ghost use Rattle.oe_outside.specs.Faults.{HasCauseOf};
-ghost use Rattle.oe_parts.specs.Rows.{HaveRecordsAt, Shows, TellsDamage};
+ghost use Rattle.oe_outside.specs.Stored.{StoreHolds};
+ghost use Rattle.oe_spool.specs.Least.{least_over_of};
+ghost use Rattle.oe_parts.specs.Rows.{AreRecords, TellsDamage};
 
-use oe_cell::{Cell, read_records};
+use oe_cell::{Cell, read_record};
 use oe_outside::Store;
 
-/// How many cells are read at once: as many as a row of the longest chunk has.
-pub(crate) const CELLS: usize = 4096;
-
-/// How many bytes their records have.
-pub(crate) const BYTES: usize = 17 * CELLS;
+/// How many bytes the records of a row of the longest chunk have, which has 4096 cells.
+pub(crate) const BYTES: usize = 17 * 4096;
 
 /// Why records were not read.
 #[derive(Clone, Copy, PartialEq, Eq)]
@@ -25,7 +23,8 @@ pub(crate) enum ReadFail {
     Damaged(usize),
 }
 
-/// Reads the records of as many cells as there is room for, which stand from an offset on, into bytes and into cells.
+/// Reads the records of so many cells, which stand from an offset on, and answers the index of the first of these cells
+/// that is `Over`.
 ///
 /// Refuses: `Failed` only where the store's fault counter rose; `Damaged` only with the first cell for which no record
 /// stands there.
@@ -33,24 +32,73 @@ pub(crate) fn read_cells<S: Store>(
     store: &mut S,
     at: u64,
     bytes: &mut [u8],
-    cells: &mut [Cell],
-) -> Result<(), ReadFail>
-    requires { length bytes.old ≡ 17 * length cells.old }
-    ensures cells { OnOk result (All IsCell cells.new) }
-    ensures bytes { OnOk result (records_of cells.new ≡ bytes.new) }
-    ensures sound { OnOk result (HaveRecordsAt (S.bytes store.old) at (length cells.old)) }
-    ensures shown { (shown : List Cell) → All IsCell shown → length shown ≡ length cells.old →
-        Shows (S.bytes store.old) at shown → OnOk result (cells.new ≡ shown) }
-    ensures damage { IfErr result (TellsDamage (S.bytes store.old) at (length cells.old)) }
+    count: usize,
+) -> Result<Option<usize>, ReadFail>
+    requires { length bytes.old ≡ 17 * count }
+    ensures cells { IfOk result (AreRecords count bytes.new) }
+    ensures held { OnOk result (StoreHolds (S.bytes store.old) at bytes.new) }
+    ensures damage { IfErr result (TellsDamage (S.bytes store.old) at count) }
     ensures cause { HasCauseOf ReadFail.Failed (S.faults store.old) (S.faults store.new) result }
     ensures same { S.bytes store.new ≡ S.bytes store.old }
 {
     let Ok(given) = store.read_at(at, bytes) else {
         return Err(ReadFail::Failed);
     };
-    let valid = read_records(&bytes[..given], cells);
-    if valid < cells.len() {
-        return Err(ReadFail::Damaged(valid));
+    match judge(&bytes[..given], count) {
+        Ok(over) => Ok(over),
+        Err(index) => Err(ReadFail::Damaged(index)),
     }
-    Ok(())
+}
+
+/// The index of the first cell that is `Over`, of so many whose records the bytes begin with.
+///
+/// Refuses: with the index of the first cell for which no record stands there.
+fn judge(bytes: &[u8], count: usize) -> Result<Option<usize>, usize>
+    ensures cells { IfOk result (λ over. (17 * count ≤ length bytes.now)
+        × AreRecords count (take (17 * count) bytes.now) over) }
+    ensures none { IfErr result (λ index. (index < count)
+        × ¬ IsRecord (take 17 (drop (17 * index) bytes.now))) }
+{
+    let whole = (bytes.len() / 17).min(count);
+    let mut over = None;
+    for index in 0..whole {
+        match cell_at(bytes, 17 * index) {
+            Some(cell) => over = first_over(over, index, cell),
+            None => return Err(index),
+        }
+    }
+    if whole < count { Err(whole) } else { Ok(over) }
+}
+
+/// The index of the first cell that is `Over`, of those before an index and the cell with it.
+#[inline(always)]
+fn first_over(before: Option<usize>, index: usize, cell: Cell) -> Option<usize>
+    ensures { (cells : List Cell) → length cells ≡ index → before ≡ least_over_of cells →
+        result ≡ least_over_of (cells ++ cell ∷ []) }
+{
+    match before {
+        Some(first) => Some(first),
+        None => { if cell.is_over() { Some(index) } else { None } }
+    }
+}
+
+/// The cell whose record stands at an offset.
+#[inline(always)]
+fn cell_at(bytes: &[u8], at: usize) -> Option<Cell>
+    requires { at + 17 ≤ length bytes.now }
+    ensures cell { IfSome result (λ c. IsCell c × (record_of c ≡ take 17 (drop at bytes.now))) }
+    ensures none { IfNone result (¬ IsRecord (take 17 (drop at bytes.now))) }
+{
+    let record = record_at(bytes, at);
+    read_record(&record)
+}
+
+#[inline(always)]
+fn record_at(bytes: &[u8], at: usize) -> [u8; 17]
+    requires { at + 17 ≤ length bytes.now }
+    ensures { result ≡ take 17 (drop at bytes.now) }
+{
+    let mut record = [0; 17];
+    record.copy_from_slice(&bytes[at..at + 17]);
+    record
 }

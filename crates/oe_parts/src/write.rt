@@ -18,9 +18,8 @@ ghost use Rattle.oe_parts.specs.Rows.{Shows};
 ghost use Rattle.oe_parts.specs.Spooled.{ShowsPart, ShowsRecords, TellsNoRecord, TellsNoRecordFrom};
 
 use crate::head::PartHead;
-use crate::read::{BYTES, CELLS, ReadFail, read_cells};
+use crate::read::{BYTES, ReadFail, read_cells};
 use crate::rows::row_at;
-use oe_cell::Cell;
 use oe_dims::Shape;
 use oe_outside::{Failed, Pending, Sink, Store, flush, send};
 use oe_render::RenderFail;
@@ -96,20 +95,10 @@ fn write_chunks<P: Store, O: Sink>(
     ensures same { P.bytes spool.new ≡ P.bytes spool.old }
 {
     let mut bytes = [0; BYTES];
-    let mut cells = [Cell::Empty; CELLS];
     let grid = head.grid();
     for chunk in head.first..head.end {
         let window = grid.chunk(chunk);
-        match write_chunk(
-            &head.shape,
-            &window,
-            spool,
-            base,
-            out,
-            pending,
-            &mut bytes,
-            &mut cells,
-        ) {
+        match write_chunk(&head.shape, &window, spool, base, out, pending, &mut bytes) {
             Ok(()) => {}
             Err(fail) => return Err(fail),
         }
@@ -126,13 +115,11 @@ fn write_chunk<P: Store, O: Sink>(
     out: &mut O,
     pending: &mut Pending,
     bytes: &mut [u8],
-    cells: &mut [Cell],
 ) -> Result<(), RenderFail>
     requires within { Holds (whole_window shape.now) window.now }
     requires short { span_length window.now.x ≤ 4096 }
     requires base { base ≤ 2 ^ 62 }
     requires bytes { length bytes.old ≡ 69632 }
-    requires cells { length cells.old ≡ 4096 }
     ensures sent { (cube : Cube Cell) → cube.shape ≡ shape.now →
         ShowsRecords (P.bytes spool.old) base cube (IsIn window.now) →
         HasRendered O.written O.size O.faults out.old pending.old
@@ -150,15 +137,8 @@ fn write_chunk<P: Store, O: Sink>(
     for number in 0..window.rows() {
         let (row, first) = row_at(shape, window, number);
         let count = size(&row) as usize;
-        match write_row(
-            spool,
-            base,
-            first,
-            out,
-            pending,
-            &mut bytes[..17 * count],
-            &mut cells[..count],
-        ) {
+        let room = &mut bytes[..17 * count];
+        match write_row(spool, base, first, out, pending, room, count) {
             Ok(()) => {}
             Err(fail) => return Err(fail),
         }
@@ -166,7 +146,7 @@ fn write_chunk<P: Store, O: Sink>(
     Ok(())
 }
 
-/// The records of a row, which stand from that of its first number on.
+/// The records of so many cells of a row, which stand from that of its first number on.
 fn write_row<P: Store, O: Sink>(
     spool: &mut P,
     base: u64,
@@ -174,12 +154,12 @@ fn write_row<P: Store, O: Sink>(
     out: &mut O,
     pending: &mut Pending,
     bytes: &mut [u8],
-    cells: &mut [Cell],
+    count: usize,
 ) -> Result<(), RenderFail>
     requires base { base ≤ 2 ^ 62 }
-    requires room { length bytes.old ≡ 17 * length cells.old }
-    requires few { first + length cells.old ≤ 2 ^ 40 }
-    ensures sent { (shown : List Cell) → All IsCell shown → length shown ≡ length cells.old →
+    requires room { length bytes.old ≡ 17 * count }
+    requires few { first + count ≤ 2 ^ 40 }
+    ensures sent { (shown : List Cell) → All IsCell shown → length shown ≡ count →
         Shows (P.bytes spool.old) (base + 17 * first) shown →
         HasRendered O.written O.size O.faults out.old pending.old (records_of shown) out.new
         pending.new result }
@@ -188,38 +168,38 @@ fn write_row<P: Store, O: Sink>(
     ensures sink_cause { HasCauseOf RenderFail.SinkFailed (O.faults out.old)
         (O.faults out.new) result }
     ensures damage { IfErr result (TellsNoRecordFrom (P.bytes spool.old) base first
-        (first + length cells.old)) }
+        (first + count)) }
     ensures same { P.bytes spool.new ≡ P.bytes spool.old }
 {
-    match read_row(spool, base, first, bytes, cells) {
+    match read_row(spool, base, first, bytes, count) {
         Ok(()) => of_sink(send(out, pending, bytes)),
         Err(fail) => Err(fail),
     }
 }
 
-/// Reads the records of a row into bytes and into cells.
+/// Reads the records of so many cells of a row.
 fn read_row<P: Store>(
     spool: &mut P,
     base: u64,
     first: u64,
     bytes: &mut [u8],
-    cells: &mut [Cell],
+    count: usize,
 ) -> Result<(), RenderFail>
     requires base { base ≤ 2 ^ 62 }
-    requires room { length bytes.old ≡ 17 * length cells.old }
-    requires few { first + length cells.old ≤ 2 ^ 40 }
-    ensures shown { (shown : List Cell) → All IsCell shown → length shown ≡ length cells.old →
+    requires room { length bytes.old ≡ 17 * count }
+    requires few { first + count ≤ 2 ^ 40 }
+    ensures shown { (shown : List Cell) → All IsCell shown → length shown ≡ count →
         Shows (P.bytes spool.old) (base + 17 * first) shown →
         OnOk result (bytes.new ≡ records_of shown) }
     ensures cause { HasCauseOf RenderFail.SpoolFailed (P.faults spool.old)
         (P.faults spool.new) result }
     ensures damage { IfErr result (TellsNoRecordFrom (P.bytes spool.old) base first
-        (first + length cells.old)) }
+        (first + count)) }
     ensures only { IfErr result (λ e. e ≢ RenderFail.SinkFailed) }
     ensures same { P.bytes spool.new ≡ P.bytes spool.old }
 {
-    match read_cells(spool, base + 17 * first, bytes, cells) {
-        Ok(()) => Ok(()),
+    match read_cells(spool, base + 17 * first, bytes, count) {
+        Ok(_) => Ok(()),
         Err(ReadFail::Failed) => Err(RenderFail::SpoolFailed),
         Err(ReadFail::Damaged(index)) => Err(RenderFail::SpoolDamaged(first + index as u64)),
     }

@@ -25,7 +25,6 @@ loop-index-init g c =
       read = parts_unread c.args.parts.now;
       falls = NeverFalls-refl (g.P.Store.faults c.args.spool.now);
       bytes = search rules;
-      cells = search rules;
     }
 
 pub loop-index-preserved : goal.loop-index-preserved
@@ -63,7 +62,6 @@ loop-index-preserved g c =
       read = parts_read first parts k old new c.loop-index.invariant.read at c.lay_one.ensures.read;
       falls = NeverFalls-trans c.loop-index.invariant.falls c.lay_one.ensures.count;
       bytes = c.lay_one.auto.bytes ∙ c.loop-index.invariant.bytes;
-      cells = c.lay_one.auto.cells ∙ c.loop-index.invariant.cells;
     }
 
 pub returns-in-Err-clause-stops : goal.returns-in-Err-clause-stops

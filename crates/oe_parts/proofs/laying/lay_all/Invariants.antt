@@ -20,5 +20,4 @@ invariant-loop-index g l = record {
   read : ArePartsRead l.fn.parts l.parts;
   falls : NeverFalls (g.P.Store.faults l.fn.spool) (g.P.Store.faults l.spool);
   bytes : length l.bytes ≡ 69632;
-  cells : length l.cells ≡ 4096;
 }

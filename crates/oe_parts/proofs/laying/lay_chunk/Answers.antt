@@ -1,21 +1,19 @@
 use Rattle.std.proofs.Common.{◌≡◌, ◌<◌, ◌≤◌, ◌+◌, ◌*◌, ◌^◌, ℕ, List, Option, refl, sym, ap, ◌∙◌, subst, arith}
-use Rattle.oe_cell.specs.declared.cell.Cell.TheVariants.{Empty}
 use Rattle.oe_outside.specs.Stored.{StaysOutside}
 use Rattle.oe_outside.proofs.Causes.{NeverFalls-refl, NeverFalls-trans}
-use Rattle.oe_spool.specs.Least.{IsLeastOver}
-use Rattle.oe_window.specs.Cells.{cells_on}
+use Rattle.oe_spool.specs.Least.{least_over_of}
 use Rattle.oe_window.specs.Parts.{row_count, row_of}
 use Rattle.oe_window.specs.Windows.{IsIn, position_count, span_length}
-use Rattle.oe_window.specs.declared.window.Window.{Window}
 use Rattle.oe_window.proofs.WholeLemmas.{count_within}
 use Rattle.oe_parts.specs.Laid.{AreLaid, HaveRecords, IsInFirst, TellsRow}
 use Rattle.oe_parts.specs.Rows.{HaveRecordsAt, Shows}
 use Rattle.oe_parts.proofs.LaidLemmas.{changes_none, have_none, have_same, laid_none, laid_same}
-use Rattle.oe_parts.proofs.RowLaidLemmas.{row_back, row_there, rows_of}
-use Rattle.oe_parts.proofs.RowSteps.{IsRowLaid, cause_handed, done_before, row_cube, row_failed, row_numbers, row_room, row_some, row_start, row_then, row_within, rows_room}
+use Rattle.oe_parts.proofs.ReadLemmas.{shown_cells}
+use Rattle.oe_parts.proofs.RowLaidLemmas.{row_back, row_over, row_there, rows_of}
+use Rattle.oe_parts.proofs.RowSteps.{IsRowLaid, cause_handed, done_before, row_cube, row_failed, row_numbers, row_some, row_start, row_then, rows_room}
 use Rattle.oe_parts.proofs.ShownLemmas.{row_size}
 use Rattle.oe_parts.proofs.SliceLemmas.{row_tells}
-use Rattle.oe_parts.proofs.SoundLemmas.{records_more, records_none}
+use Rattle.oe_parts.proofs.SoundLemmas.{records_held, records_more, records_none}
 use Rattle.oe_parts.proofs.laying.lay_chunk.Goals as goal
 
 pub rows-number-end-requires : goal.rows-number-end-requires
@@ -60,26 +58,7 @@ overflow_add-start g c =
 
 pub lay_row-requires-clause-few : goal.lay_row-requires-clause-few
 lay_row-requires-clause-few g c =
-    let w = c.args.window.now in
-    let n = c.loop-number.number in
-    let row = c.row_at-first.result.0 in
-    let size = row_room w row n c.size-count.result c.loop-number.cells c.row_at-first.ensures.row c.size-count.ensures.value c.requires.short (c.loop-number.auto.cells ∙ c.requires.cells) in
-    omega (arith, size, c.row_at-first.ensures.end, c.cells-cells.ensures.value, c.cells-cells.ensures.most)
-
-pub least_over-requires-clause-within : goal.least_over-requires-clause-within
-least_over-requires-clause-within g c =
-    let w = c.args.window.now in
-    let n = c.loop-number.number in
-    let below : n < row_count w = omega (arith, c.loop-number-test.true, c.rows-number-end.ensures.value) in
-    row_within c.args.shape.now w c.row_at-first.result.0 n c.row_at-first.ensures.row below c.requires.within
-
-pub least_over-requires-clause-counted : goal.least_over-requires-clause-counted
-least_over-requires-clause-counted g c =
-    let w = c.args.window.now in
-    let n = c.loop-number.number in
-    let row = c.row_at-first.result.0 in
-    let size = row_room w row n c.size-count.result c.loop-number.cells c.row_at-first.ensures.row c.size-count.ensures.value c.requires.short (c.loop-number.auto.cells ∙ c.requires.cells) in
-    c.lay_row.auto.cells ∙ size
+    omega (arith, c.size-count.ensures.value, c.row_at-first.ensures.end, c.cells-cells.ensures.value, c.cells-cells.ensures.most)
 
 pub returns-in-Err-clause-damage : goal.returns-in-Err-clause-damage
 returns-in-Err-clause-damage g c =
@@ -93,7 +72,7 @@ returns-in-Err-clause-damage g c =
     let part = g.S.Store.bytes c.args.store.now in
     let now = g.S.Store.bytes c.loop-number.store in
     let below : n < row_count w = omega (arith, c.loop-number-test.true, c.rows-number-end.ensures.value) in
-    let size = row_room w row n c.size-count.result c.loop-number.cells is c.size-count.ensures.value c.requires.short (c.loop-number.auto.cells ∙ c.requires.cells) in
+    let size : c.size-count.result ≡ position_count row = c.size-count.ensures.value in
     let numbers = row_numbers d w row first n is c.row_at-first.ensures.numbers in
     let counted = size ∙ ap position_count is in
     let start = row_start w row c.args.at n c.size-count.result is c.size-count.ensures.value in
@@ -113,7 +92,7 @@ returns-in-Err-clause-changes g c =
     let before = g.P.Store.bytes c.loop-number.spool in
     let after = g.P.Store.bytes c.lay_row.new.spool in
     let below : n < row_count w = omega (arith, c.loop-number-test.true, c.rows-number-end.ensures.value) in
-    let size = row_room w row n c.size-count.result c.loop-number.cells is c.size-count.ensures.value c.requires.short (c.loop-number.auto.cells ∙ c.requires.cells) in
+    let size : c.size-count.result ≡ position_count row = c.size-count.ensures.value in
     let numbers = row_numbers d w row first n is c.row_at-first.ensures.numbers in
     let counted = size ∙ ap position_count is in
     let outside : StaysOutside before (c.args.base + 17 * first) (17 * position_count (row_of w n)) after = subst (λ (m : ℕ). StaysOutside before (c.args.base + 17 * first) (17 * m) after) counted c.lay_row.ensures.outside in
@@ -134,7 +113,7 @@ loop-number-preserved g c =
     let first = c.row_at-first.result.1 in
     let is = c.row_at-first.ensures.row in
     let below : n < row_count w = omega (arith, c.loop-number-test.true, c.rows-number-end.ensures.value) in
-    let size = row_room w row n c.size-count.result c.loop-number.cells is c.size-count.ensures.value c.requires.short (c.loop-number.auto.cells ∙ c.requires.cells) in
+    let size : c.size-count.result ≡ position_count row = c.size-count.ensures.value in
     let numbers = row_numbers d w row first n is c.row_at-first.ensures.numbers in
     let counted = size ∙ ap position_count is in
     let r = row_of w n in
@@ -142,33 +121,35 @@ loop-number-preserved g c =
     let part = g.S.Store.bytes c.args.store.now in
     let before = g.P.Store.bytes c.loop-number.spool in
     let after = g.P.Store.bytes c.lay_row.new.spool in
-    let cells = c.lay_row.new.cells in
+    let lays = c.in-Ok.ensures.laid in
+    let cells = lays.cells in
+    let found = c.in-Ok.over in
     let start = row_start w row c.args.at n c.size-count.result is c.size-count.ensures.value in
-    let laid : IsRowLaid part before after c.args.at c.args.base first n d w cells c.least_over.result = record {
+    let laid : IsRowLaid part before after c.args.at c.args.base first n d w cells found = record {
       within = c.requires.within;
       below = below;
       room = rows_room n c.rows-number-end.result len (position_count w) c.loop-number-test.true c.rows-number-end.ensures.all;
       numbers = numbers;
-      long = c.lay_row.auto.cells ∙ counted;
-      valid = c.in-Ok.ensures.cells;
-      held = c.in-Ok.ensures.laid;
+      long = lays.many ∙ counted;
+      valid = lays.valid;
+      held = lays.laid;
       outside = subst (λ (m : ℕ). StaysOutside before (c.args.base + 17 * first) (17 * m) after) counted c.lay_row.ensures.outside;
-      over = λ cube same these. subst (λ (v : Window). IsLeastOver cube (IsIn v) c.least_over.result) is
-          (c.least_over.ensures cube same (ap (λ (v : Window). cells_on Empty cube v) is ∙ these));
-      shown = λ shown valid long shows. c.in-Ok.ensures.shown shown valid (long ∙ c.lay_row.auto.cells)
+      over = row_over d r first cells (least_over_of cells) found numbers (lays.many ∙ counted) refl lays.least_is;
+      shown = λ shown all long shows. shown_cells (g.S.Store.bytes c.loop-number.store) (c.args.at + 17 * (n * c.size-count.result)) cells shown lays.valid all long lays.read
           (subst (λ (k : ℕ). Shows (g.S.Store.bytes c.loop-number.store) k shown) (sym start)
           (subst (λ (o : Option (List ℕ)). Shows o (c.args.at + 17 * (n * len)) shown) (sym c.loop-number.invariant.same) shows));
     } in
     record {
       cube = λ cube same all shows. subst (AreLaid after c.args.base cube (IsInFirst (rows_of w) (n + 1))) (sym c.lesser-least.ensures)
-          (row_cube part before after c.args.at c.args.base first n d w cells c.loop-number.least c.least_over.result laid cube same all shows (c.loop-number.invariant.cube cube same all shows));
+          (row_cube part before after c.args.at c.args.base first n d w cells c.loop-number.least found laid cube same all shows (c.loop-number.invariant.cube cube same all shows));
       some = subst (HaveRecords after c.args.base d (IsInFirst (rows_of w) (n + 1))) (sym c.lesser-least.ensures)
-          (row_some part before after c.args.at c.args.base first n d w cells c.loop-number.least c.least_over.result laid c.loop-number.invariant.some);
+          (row_some part before after c.args.at c.args.base first n d w cells c.loop-number.least found laid c.loop-number.invariant.some);
       sound = records_more part c.args.at n len c.loop-number.invariant.sound
           (subst (λ (o : Option (List ℕ)). HaveRecordsAt o (c.args.at + 17 * (n * len)) len) c.loop-number.invariant.same
           (subst (λ (k : ℕ). HaveRecordsAt (g.S.Store.bytes c.loop-number.store) k len) start
-          (subst (λ (m : ℕ). HaveRecordsAt (g.S.Store.bytes c.loop-number.store) (c.args.at + 17 * (n * c.size-count.result)) m) (size ∙ row_size w row n is) c.in-Ok.ensures.sound)));
-      changes = row_then part before after c.args.at c.args.base first n d w cells c.loop-number.least c.least_over.result laid (g.P.Store.bytes c.args.spool.now) c.loop-number.invariant.changes;
+          (subst (λ (m : ℕ). HaveRecordsAt (g.S.Store.bytes c.loop-number.store) (c.args.at + 17 * (n * c.size-count.result)) m) (lays.many ∙ size ∙ row_size w row n is)
+          (records_held (g.S.Store.bytes c.loop-number.store) (c.args.at + 17 * (n * c.size-count.result)) cells lays.valid lays.read))));
+      changes = row_then part before after c.args.at c.args.base first n d w cells c.loop-number.least found laid (g.P.Store.bytes c.args.spool.now) c.loop-number.invariant.changes;
       same = c.lay_row.ensures.same ∙ c.loop-number.invariant.same;
       part_falls = NeverFalls-trans c.loop-number.invariant.part_falls c.lay_row.ensures.part_cause.count;
       spool_falls = NeverFalls-trans c.loop-number.invariant.spool_falls c.lay_row.ensures.spool_cause.count;

@@ -1,5 +1,4 @@
 use Rattle.std.proofs.Common.{◌≡◌, ◌<◌, ◌+◌, ◌*◌, ℕ, List, Option, Ok, length, take, drop, sym, ap, ◌∙◌, subst, arith}
-use Rattle.std.proofs.lemmas.List.{length-take}
 use Rattle.oe_cell.specs.Record.{records_of}
 use Rattle.oe_cell.specs.declared.cell.Cell.{Cell}
 use Rattle.oe_cell.specs.declared.cell.Cell.TheVariants.{Empty}
@@ -11,7 +10,7 @@ use Rattle.oe_window.specs.Windows.{position_count, span_length}
 use Rattle.oe_window.proofs.WholeLemmas.{count_within}
 use Rattle.oe_parts.specs.Rows.{Shows}
 use Rattle.oe_parts.specs.Spooled.{TellsNoRecordFrom}
-use Rattle.oe_parts.proofs.ShownLemmas.{row_size, rows_all, rows_more}
+use Rattle.oe_parts.proofs.ShownLemmas.{rows_all, rows_more}
 use Rattle.oe_parts.proofs.WriteLemmas.{cause_then, row_refuses, row_text, rows_rest, text_more, text_stops}
 use Rattle.oe_parts.proofs.write.write_chunk.Goals as goal
 
@@ -21,17 +20,7 @@ rows-number-end-requires g c =
 
 pub write_row-requires-clause-few : goal.write_row-requires-clause-few
 write_row-requires-clause-few g c =
-    let d = c.args.shape.now in
-    let w = c.args.window.now in
-    let n = c.loop-number.number in
-    let row = c.row_at-first.result.0 in
-    let first = c.row_at-first.result.1 in
-    let is = c.row_at-first.ensures.row in
-    let numbers = c.row_at-first.ensures.numbers in
-    let below : n < row_count w = omega (arith, c.loop-number-test.true, c.rows-number-end.ensures.value) in
-    let count : position_count row ≡ span_length w.x = row_size w row n is in
-    let size : length (take c.size-count.result c.loop-number.cells) ≡ position_count row = omega (arith, length-take c.size-count.result c.loop-number.cells, c.size-count.ensures.value, c.loop-number.auto.cells, c.requires.cells, c.requires.short, count) in
-    omega (arith, size, c.row_at-first.ensures.end, c.cells-cells.ensures.value, c.cells-cells.ensures.most)
+    omega (arith, c.size-count.ensures.value, c.row_at-first.ensures.end, c.cells-cells.ensures.value, c.cells-cells.ensures.most)
 
 pub returns-in-Err-clause-sent : goal.returns-in-Err-clause-sent
 returns-in-Err-clause-sent g c cube same shown =
@@ -43,8 +32,7 @@ returns-in-Err-clause-sent g c cube same shown =
     let is = c.row_at-first.ensures.row in
     let numbers = c.row_at-first.ensures.numbers in
     let below : n < row_count w = omega (arith, c.loop-number-test.true, c.rows-number-end.ensures.value) in
-    let count : position_count row ≡ span_length w.x = row_size w row n is in
-    let size : length (take c.size-count.result c.loop-number.cells) ≡ position_count row = omega (arith, length-take c.size-count.result c.loop-number.cells, c.size-count.ensures.value, c.loop-number.auto.cells, c.requires.cells, c.requires.short, count) in
+    let size : c.size-count.result ≡ position_count row = c.size-count.ensures.value in
     let cells = cells_on Empty cube w in
     let len = span_length w.x in
     let spool = g.P.Store.bytes c.args.spool.now in
@@ -71,8 +59,7 @@ returns-in-Err-clause-damage g c =
     let is = c.row_at-first.ensures.row in
     let numbers = c.row_at-first.ensures.numbers in
     let below : n < row_count w = omega (arith, c.loop-number-test.true, c.rows-number-end.ensures.value) in
-    let count : position_count row ≡ span_length w.x = row_size w row n is in
-    let size : length (take c.size-count.result c.loop-number.cells) ≡ position_count row = omega (arith, length-take c.size-count.result c.loop-number.cells, c.size-count.ensures.value, c.loop-number.auto.cells, c.requires.cells, c.requires.short, count) in
+    let size : c.size-count.result ≡ position_count row = c.size-count.ensures.value in
     row_refuses (g.P.Store.bytes c.args.spool.now) c.args.base first n d w row c.in-Err.fail is numbers below
     (subst (λ (o : Option (List ℕ)). TellsNoRecordFrom o c.args.base first (first + position_count row) c.in-Err.fail) c.loop-number.invariant.same
     (subst (λ (m : ℕ). TellsNoRecordFrom (g.P.Store.bytes c.loop-number.spool) c.args.base first (first + m) c.in-Err.fail) size c.in-Err.ensures.damage))
@@ -87,8 +74,7 @@ loop-number-preserved g c =
     let is = c.row_at-first.ensures.row in
     let numbers = c.row_at-first.ensures.numbers in
     let below : n < row_count w = omega (arith, c.loop-number-test.true, c.rows-number-end.ensures.value) in
-    let count : position_count row ≡ span_length w.x = row_size w row n is in
-    let size : length (take c.size-count.result c.loop-number.cells) ≡ position_count row = omega (arith, length-take c.size-count.result c.loop-number.cells, c.size-count.ensures.value, c.loop-number.auto.cells, c.requires.cells, c.requires.short, count) in
+    let size : c.size-count.result ≡ position_count row = c.size-count.ensures.value in
     record {
       sent = λ cube same shown. (
           let cells = cells_on Empty cube w in

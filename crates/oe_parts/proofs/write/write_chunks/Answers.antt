@@ -33,7 +33,6 @@ loop-chunk-init g c =
       spool_falls = NeverFalls-refl (g.P.Store.faults c.args.spool.now);
       sink_falls = NeverFalls-refl (g.O.Sink.faults c.args.out.now);
       bytes = search rules;
-      cells = search rules;
     }
 
 pub returns-in-Err-clause-sent : goal.returns-in-Err-clause-sent
@@ -112,7 +111,6 @@ loop-chunk-preserved g c =
       spool_falls = NeverFalls-trans c.loop-chunk.invariant.spool_falls c.in-Ok.ensures.spool_cause.count;
       sink_falls = NeverFalls-trans c.loop-chunk.invariant.sink_falls c.in-Ok.ensures.sink_cause.count;
       bytes = c.write_chunk.auto.bytes ∙ c.loop-chunk.invariant.bytes;
-      cells = c.write_chunk.auto.cells ∙ c.loop-chunk.invariant.cells;
     }
 
 pub returns-clause-sent : goal.returns-clause-sent

@@ -19,5 +19,4 @@ invariant-loop-chunk g l = record {
   spool_falls : NeverFalls (g.P.Store.faults l.fn.spool) (g.P.Store.faults l.spool);
   sink_falls : NeverFalls (g.O.Sink.faults l.fn.out) (g.O.Sink.faults l.out);
   bytes : length l.bytes ≡ 69632;
-  cells : length l.cells ≡ 4096;
 }

@@ -1,0 +1,25 @@
+use Rattle.std.proofs.Common.{◌≡◌, ◌*◌, ◌/◌, ◌≤◌, ℕ, length, take, subst, arith}
+use Rattle.std.proofs.lemmas.Nat.{div-add-mod'}
+use Rattle.oe_cell.proofs.ListLemmas.{stop-at_end}
+use Rattle.oe_parts.specs.Rows.{AreRecords}
+use Rattle.oe_parts.proofs.JudgeLemmas.{judged_more, judged_none}
+use Rattle.oe_parts.proofs.read.judge.Goals as goal
+
+pub loop-index-init : goal.loop-index-init
+loop-index-init c = judged_none c.args.bytes.now
+
+pub loop-index-preserved : goal.loop-index-preserved
+loop-index-preserved c =
+    judged_more c.args.bytes.now c.loop-index.index c.in-Some.cell c.loop-index.over c.first_over-over.result c.loop-index.invariant c.in-Some.ensures.cell.0 c.in-Some.ensures.cell.1 c.first_over-over.ensures
+
+pub returns-then-whole-count-clause-none : goal.returns-then-whole-count-clause-none
+returns-then-whole-count-clause-none c =
+    let below = c.if-whole-count.true in
+    (below, stop-at_end c.args.bytes.now c.args.count c.min-whole.result c.min-whole.ensures below)
+
+pub returns-else-whole-count-clause-cells : goal.returns-else-whole-count-clause-cells
+returns-else-whole-count-clause-cells c =
+    let bytes = c.args.bytes.now in
+    let all : c.loop-index.index ≡ c.args.count = omega (arith, c.if-whole-count.false, c.loop-index-test.false, c.loop-index.auto.index-end, c.min-whole.ensures) in
+    let room : 17 * c.args.count ≤ length bytes = omega (arith, c.if-whole-count.false, c.min-whole.ensures, div-add-mod' (length bytes) 17) in
+    (room, subst (λ (n : ℕ). AreRecords n (take (17 * n) bytes) c.loop-index.over) all c.loop-index.invariant)
