@@ -24,7 +24,7 @@ use Rattle.oe_window.specs.declared.grid.ChunkSize.{ChunkSize}
 use Rattle.oe_window.proofs.ChunkLemmas.{chunk_positions}
 use Rattle.oe_parts.specs.Head.{IsPartHead, PartHead, grid_of}
 use Rattle.oe_parts.specs.Laid.{AreLaid, HaveRecords, IsInFirst, IsInPart, LaysCube}
-use Rattle.oe_parts.specs.Whole.{AreOfRun, HasChunkAt, RunText, Tile, run_chunks}
+use Rattle.oe_parts.specs.Whole.{AreOfRun, HasChunkAt, RunOutline, Tile, run_chunks}
 use Rattle.oe_parts.proofs.LaidLemmas.{AreApart}
 use Rattle.oe_parts.proofs.SizeLemmas.{is_tiling}
 
@@ -58,7 +58,7 @@ cell_valid cube whole each k d below =
 abbrev pub part_sets : List PartHead → ℕ → Position → Type 0
 part_sets heads k p = (head : PartHead) × (slice_get heads k ≡ Some head) × IsInPart head p
 
-module _ (run : RunText) (sides : ChunkSize) (heads : List PartHead) (of_run : AreOfRun run sides heads) (shape : IsShape run.shape) (tile : Tile heads (run_chunks run sides)) where
+module _ (run : RunOutline) (sides : ChunkSize) (heads : List PartHead) (of_run : AreOfRun run sides heads) (shape : IsShape run.shape) (tile : Tile heads (run_chunks run sides)) where
   grid_is : (k : ℕ) (h : PartHead) → slice_get heads k ≡ Some h → grid_of h ≡ tiling_of run.shape sides
   grid_is k h at =
       let this = of_run.each k h at in

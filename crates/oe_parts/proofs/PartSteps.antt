@@ -23,7 +23,7 @@ use Rattle.oe_parts.specs.Laid.{AreLaid, HaveRecords, IsInFirst, IsInPart, IsUnd
 use Rattle.oe_parts.specs.PartFile.{IsDamagedAt, IsPartOf, cells_on_all, chunks_of, part_cells, part_numbers}
 use Rattle.oe_parts.specs.Parts.{ArePartsRead, IsPartRead, PartState, ShowPartsOf, ShowsPartOf, heads_of}
 use Rattle.oe_parts.specs.Rows.{HaveRecordsAt, Shows}
-use Rattle.oe_parts.specs.Whole.{AreWhole, RunText}
+use Rattle.oe_parts.specs.Whole.{AreWhole, RunOutline}
 use Rattle.oe_parts.specs.declared.laying.PieceFail.{PieceFail}
 use Rattle.oe_parts.specs.declared.laying.PieceFail.TheVariants.{Failed, Damaged, SpoolFailed}
 use Rattle.oe_parts.proofs.LaidLemmas.{AreApart, changes_then, have_more, have_same, laid_more, laid_same}
@@ -144,7 +144,7 @@ head_there parts k part h at same =
 
 -- these are the heads of the parts of a run whose result has this valid shape
 pub record AreAll (d : Dimensions) (heads : List PartHead) : Type 0 where
-  pub run : RunText
+  pub run : RunOutline
   pub same : run.shape ≡ d
   pub whole : AreWhole run heads
   pub shape : IsShape d

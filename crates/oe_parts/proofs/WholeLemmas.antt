@@ -10,7 +10,7 @@ use Rattle.oe_window.specs.Chunks.{chunk_count, tiling_of}
 use Rattle.oe_window.specs.declared.grid.ChunkSize.{ChunkSize}
 use Rattle.oe_parts.specs.Head.{PartHead, chunk_total}
 use Rattle.oe_parts.specs.Parts.{PartState, heads_of}
-use Rattle.oe_parts.specs.Whole.{AreHeads, AreOfRun, AreWhole, HasChunk, HasChunkAt, IsCovered, IsFirstStranger, Overlaps, RunText, SaysMisfit, misfit_of, run_chunks}
+use Rattle.oe_parts.specs.Whole.{AreHeads, AreOfRun, AreWhole, HasChunk, HasChunkAt, IsCovered, IsFirstStranger, Overlaps, RunOutline, SaysMisfit, misfit_of, run_chunks}
 use Rattle.oe_parts.specs.declared.whole.Difference.{Difference}
 use Rattle.oe_parts.specs.declared.whole.Difference.TheVariants.{Graph, Shape, Sides}
 
@@ -41,7 +41,7 @@ heads_more P heads k h here p before j other below at = elim (cases_lt j k) [
 
 -- ---- strangers
 
-pub says_stranger : (run : RunText) (heads : List PartHead) (index : ℕ) (difference : Difference) → IsFirstStranger run heads index difference → SaysMisfit run heads (misfit_of difference index)
+pub says_stranger : (run : RunOutline) (heads : List PartHead) (index : ℕ) (difference : Difference) → IsFirstStranger run heads index difference → SaysMisfit run heads (misfit_of difference index)
 says_stranger run heads index Graph h = h
 says_stranger run heads index Shape h = h
 says_stranger run heads index Sides h = h
@@ -92,7 +92,7 @@ once heads none k a b x y = elim (cases_lt a b) [
   ]
 ]
 
-within : (run : RunText) (sides : ChunkSize) (heads : List PartHead) → AreOfRun run sides heads → AreHeads heads → (k index : ℕ) → HasChunkAt heads index k → k < run_chunks run sides
+within : (run : RunOutline) (sides : ChunkSize) (heads : List PartHead) → AreOfRun run sides heads → AreHeads heads → (k index : ℕ) → HasChunkAt heads index k → k < run_chunks run sides
 within run sides heads of_run valid k index x =
     let h = x.0 in
     let of_this = of_run.each index h x.1 in
@@ -101,7 +101,7 @@ within run sides heads of_run valid k index x =
     let same : chunk_total h ≡ run_chunks run sides = ap (λ (d : Dimensions). chunk_count (tiling_of d h.sides)) of_this.shape ∙ ap (λ (s : ChunkSize). chunk_count (tiling_of run.shape s)) of_this.sides_are in
     omega (arith, end, has, same)
 
-pub are_whole : (run : RunText) (sides : ChunkSize) (heads : List PartHead) (total : ℕ) → total ≡ run_chunks run sides → AreOfRun run sides heads → AreHeads heads → ((index : ℕ) → ¬ Overlaps heads index) → ((k : ℕ) → k < total → IsCovered heads k) → AreWhole run heads
+pub are_whole : (run : RunOutline) (sides : ChunkSize) (heads : List PartHead) (total : ℕ) → total ≡ run_chunks run sides → AreOfRun run sides heads → AreHeads heads → ((index : ℕ) → ¬ Overlaps heads index) → ((k : ℕ) → k < total → IsCovered heads k) → AreWhole run heads
 are_whole run sides heads total counted of_run valid apart covered = record {
   sides = sides;
   of_run = of_run;

@@ -10,25 +10,25 @@ use Rattle.oe_parts.specs.declared.whole.Difference.TheVariants.{Graph, Shape, S
 use Rattle.oe_parts.specs.declared.whole.Misfit.{Misfit}
 use Rattle.oe_parts.specs.declared.whole.Misfit.TheVariants as misfit
 
--- what the parts are to be parts of: the run of the graph of this text, whose result has this kind and shape
-pub record RunText : Type 0 where
+-- what the parts are to be parts of: the run of the graph with this text, whose result has this kind and shape
+pub record RunOutline : Type 0 where
   pub graph : List ℕ
   pub kind : CellKind
   pub shape : Dimensions
 
 -- how many chunks of these sides the run has
-abbrev pub run_chunks : RunText → ChunkSize → ℕ
+abbrev pub run_chunks : RunOutline → ChunkSize → ℕ
 run_chunks run sides = chunk_count (tiling_of run.shape sides)
 
 -- a part of this run, in chunks of these sides
-pub record IsOfRun (run : RunText) (sides : ChunkSize) (head : PartHead) : Type 0 where
+pub record IsOfRun (run : RunOutline) (sides : ChunkSize) (head : PartHead) : Type 0 where
   pub graph : head.graph ≡ run.graph
   pub kind : head.kind ≡ run.kind
   pub shape : head.shape ≡ run.shape
   pub sides_are : head.sides ≡ sides
 
 -- all are parts of this run, in chunks of these sides
-pub record AreOfRun (run : RunText) (sides : ChunkSize) (heads : List PartHead) : Type 0 where
+pub record AreOfRun (run : RunOutline) (sides : ChunkSize) (heads : List PartHead) : Type 0 where
   pub valid : AreSides sides
   pub each : (index : ℕ) (head : PartHead) → slice_get heads index ≡ Some head → IsOfRun run sides head
 
@@ -55,7 +55,7 @@ pub record Tile (heads : List PartHead) (total : ℕ) : Type 0 where
   pub within : (k index : ℕ) → HasChunkAt heads index k → k < total
 
 -- the parts are those of one run in chunks of one size, and have each of its chunks once
-pub record AreWhole (run : RunText) (heads : List PartHead) : Type 0 where
+pub record AreWhole (run : RunOutline) (heads : List PartHead) : Type 0 where
   pub sides : ChunkSize
   pub of_run : AreOfRun run sides heads
   pub tile : Tile heads (run_chunks run sides)
@@ -63,7 +63,7 @@ pub record AreWhole (run : RunText) (heads : List PartHead) : Type 0 where
 -- ---- why parts make no whole
 
 -- the first difference of a part from those of the run in chunks of these sides
-abbrev pub Differs : RunText → ChunkSize → PartHead → Difference → Type 0
+abbrev pub Differs : RunOutline → ChunkSize → PartHead → Difference → Type 0
 Differs run sides head Graph = head.graph ≢ run.graph
 Differs run sides head Shape = (head.graph ≡ run.graph) × ¬ ((head.kind ≡ run.kind) × (head.shape ≡ run.shape))
 Differs run sides head Sides =
@@ -71,7 +71,7 @@ Differs run sides head Sides =
 
 -- the part at an index is the first in their order that is no part of the run in chunks of the sides that the first part
 -- has, and this is its difference
-pub record IsFirstStranger (run : RunText) (heads : List PartHead) (index : ℕ) (difference : Difference) : Type 0 where
+pub record IsFirstStranger (run : RunOutline) (heads : List PartHead) (index : ℕ) (difference : Difference) : Type 0 where
   pub sides : ChunkSize
   pub leads : (first : PartHead) → slice_get heads 0 ≡ Some first → first.sides ≡ sides
   pub head : PartHead
@@ -97,7 +97,7 @@ pub record IsFirstGap (heads : List PartHead) (total k : ℕ) : Type 0 where
 
 -- What a misfit says. Of the first part that is of another run the first difference in the order of the variants is
 -- named; the first overlap is looked for only where all are of one run, and the first gap only where none overlap.
-abbrev pub SaysMisfit : RunText → List PartHead → Misfit → Type 0
+abbrev pub SaysMisfit : RunOutline → List PartHead → Misfit → Type 0
 SaysMisfit run heads (misfit.Graph index) = IsFirstStranger run heads index Graph
 SaysMisfit run heads (misfit.Shape index) = IsFirstStranger run heads index Shape
 SaysMisfit run heads (misfit.Sides index) = IsFirstStranger run heads index Sides

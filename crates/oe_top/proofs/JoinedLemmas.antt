@@ -25,7 +25,7 @@ use Rattle.oe_window.specs.Windows.{positions}
 use Rattle.oe_window.specs.declared.grid.ChunkSize.{ChunkSize}
 use Rattle.oe_window.specs.declared.window.Window.{Window}
 use Rattle.oe_top.specs.Evaluated.{result_of}
-use Rattle.oe_top.specs.JoinAnswer.{run_text}
+use Rattle.oe_top.specs.JoinAnswer.{outline_of_run}
 use Rattle.oe_top.specs.Joined.{ArePartsOfMeaning, JoinedIsRun}
 
 -- ---- the cells of a cube at its chunks are valid
@@ -64,11 +64,11 @@ part_at parts index head at = by (slice_get parts index) refl (sym (slice_get-ma
 module _ (rows : List Row) (written : List ℕ) (c : CheckedGraph) (size : ChunkSize) (parts : List PartState)
     (of_shape : (result_of rows c).shape ≡ shape_of_node c c.result) (valid : All IsCell (result_of rows c).cells)
     (are : ArePartsOfMeaning rows written c size parts) where
-  of_run : (index : ℕ) (head : PartHead) → slice_get (heads_of parts) index ≡ Some head → IsOfRun (run_text written c) size head
+  of_run : (index : ℕ) (head : PartHead) → slice_get (heads_of parts) index ≡ Some head → IsOfRun (outline_of_run written c) size head
   of_run index head at =
       let found = part_at parts index head at in
       let is = (are index found.0 found.1).head_is in
-      subst (IsOfRun (run_text written c) size) found.2 (record {
+      subst (IsOfRun (outline_of_run written c) size) found.2 (record {
         graph = ap (λ (h : PartHead). h.graph) is;
         kind = ap (λ (h : PartHead). h.kind) is;
         shape = ap (λ (h : PartHead). h.shape) is;

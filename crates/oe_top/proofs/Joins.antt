@@ -16,7 +16,7 @@ use Rattle.oe_outside.specs.Visible.{Appends, AppendsPrefix}
 use Rattle.oe_parts.specs.Head.{PartHead}
 use Rattle.oe_parts.specs.Laid.{LayStops, Lays}
 use Rattle.oe_parts.specs.Parts.{ArePartsRead, IsPartRead, PartState, heads_of}
-use Rattle.oe_parts.specs.Whole.{AreWhole, Overlaps, RunText, SaysMisfit}
+use Rattle.oe_parts.specs.Whole.{AreWhole, Overlaps, RunOutline, SaysMisfit}
 use Rattle.oe_parts.specs.declared.laying.LayFail.TheVariants.{PartDamaged, PartFailed, SpoolFailed}
 use Rattle.oe_parts.specs.declared.whole.Misfit.{Misfit}
 use Rattle.oe_parts.specs.declared.whole.Misfit.TheVariants as misfit
@@ -32,7 +32,7 @@ use Rattle.oe_spool.specs.Spooled.{ChangesOnly, HoldsCube, IsRecordByte}
 use Rattle.oe_top.proofs.Evaluations.{nothing_more}
 use Rattle.oe_top.proofs.Rounds.{still_visible}
 use Rattle.oe_top.specs.Evaluated.{IsOverFirst, IsVisible, IsWithoutOver, fail_of_text}
-use Rattle.oe_top.specs.JoinAnswer.{IsBeforeParts, IsJoined, IsMisfit, IsMisfitNamed, JoinAnswers, JoinEnds, JoiningEnds, OfNameAt, OfParts, run_text}
+use Rattle.oe_top.specs.JoinAnswer.{IsBeforeParts, IsJoined, IsMisfit, IsMisfitNamed, JoinAnswers, JoinEnds, JoiningEnds, OfNameAt, OfParts, outline_of_run}
 use Rattle.oe_top.specs.Judged.{IsInputText, IsRefused}
 use Rattle.oe_top.specs.Objects.{IsUntouched, Objects, objects}
 use Rattle.oe_top.specs.PartAnswer.{kind_of_result}
@@ -190,7 +190,7 @@ head_there parts index head at =
 overlap_there : (parts : List PartState) (index : ℕ) → Overlaps (heads_of parts) index → index < length parts
 overlap_there parts index (before, k, less, other, has) = head_there parts index has.0 has.1
 
-pub misfit_there : (run : RunText) (parts : List PartState) (wrong : Misfit) → SaysMisfit run (heads_of parts) wrong → IsThere parts wrong
+pub misfit_there : (run : RunOutline) (parts : List PartState) (wrong : Misfit) → SaysMisfit run (heads_of parts) wrong → IsThere parts wrong
 misfit_there run parts (misfit.Graph index) says = head_there parts index says.head says.at
 misfit_there run parts (misfit.Shape index) says = head_there parts index says.head says.at
 misfit_there run parts (misfit.Sides index) says = head_there parts index says.head says.at
@@ -239,11 +239,11 @@ parts_unread parts = record {
     }
 
 -- the run of a graph, by what was asked of the graph
-abbrev pub run_of : List ℕ → CellKind → Dimensions → RunText
+abbrev pub run_of : List ℕ → CellKind → Dimensions → RunOutline
 run_of graph kind shape = record { graph = graph; kind = kind; shape = shape }
 
 pub same_run : (graph : List ℕ) (kind : CellKind) (shape : Dimensions) (node : ℕ) (written : List ℕ) (c : CheckedGraph) → node ≡ c.result
-    → graph ≡ written → kind ≡ (outline_of_node c node).kind → shape ≡ shape_of_node c node → run_of graph kind shape ≡ run_text written c
+    → graph ≡ written → kind ≡ (outline_of_node c node).kind → shape ≡ shape_of_node c node → run_of graph kind shape ≡ outline_of_run written c
 same_run graph kind shape node written c result_is text_is kind_is shape_is =
     let kind_of : kind ≡ kind_of_result c = kind_is ∙ ap (λ (n : ℕ). (outline_of_node c n).kind) result_is in
     let shape_of : shape ≡ shape_of_node c c.result = shape_is ∙ ap (λ (n : ℕ). shape_of_node c n) result_is in
@@ -279,7 +279,7 @@ module _ (parts : List PartState) (before after : Objects) (taken : TakesAtMost 
 
   -- the parts are no whole
   module _ (written : List ℕ) (graph : CheckedGraph) (input : IsInputText before after written graph) where
-    is_misfit : (wrong : Misfit) (refusal : JoinRefusal) → SaysMisfit (run_text written graph) (heads_of parts) wrong
+    is_misfit : (wrong : Misfit) (refusal : JoinRefusal) → SaysMisfit (outline_of_run written graph) (heads_of parts) wrong
         → IsMisfitNamed parts wrong refusal → IsMisfit parts parts before after refusal
     is_misfit wrong refusal says named = record {
       text = written;
@@ -291,7 +291,7 @@ module _ (parts : List PartState) (before after : Objects) (taken : TakesAtMost 
       stopped = stopped;
     }
 
-    misfit_ends : (wrong : Misfit) (refusal : JoinRefusal) → SaysMisfit (run_text written graph) (heads_of parts) wrong
+    misfit_ends : (wrong : Misfit) (refusal : JoinRefusal) → SaysMisfit (outline_of_run written graph) (heads_of parts) wrong
         → IsMisfitNamed parts wrong refusal → JoinEnds parts parts before after (Err refusal)
     misfit_ends (misfit.Graph index) refusal says (part, at, is) =
         subst (λ (r : JoinRefusal). JoinEnds parts parts before after (Err r)) (sym is)
@@ -309,24 +309,24 @@ module _ (parts : List PartState) (before after : Objects) (taken : TakesAtMost 
         subst (λ (r : JoinRefusal). JoinEnds parts parts before after (Err r)) (sym is)
         (is_misfit (misfit.Missing chunk) (join.Missing chunk) says refl)
 
-    pub join_refuses : (run : RunText) → run ≡ run_text written graph → (wrong : Misfit) → SaysMisfit run (heads_of parts) wrong
+    pub join_refuses : (run : RunOutline) → run ≡ outline_of_run written graph → (wrong : Misfit) → SaysMisfit run (heads_of parts) wrong
         → (refusal : JoinRefusal) → IsMisfitNamed parts wrong refusal → JoinAnswers parts parts before after (Err refusal)
     join_refuses run same wrong says refusal named =
         unread (Err refusal) (misfit_ends wrong refusal
-        (subst (λ (r : RunText). SaysMisfit r (heads_of parts) wrong) same says) named)
+        (subst (λ (r : RunOutline). SaysMisfit r (heads_of parts) wrong) same says) named)
 
 -- the parts are a whole
 module _ (parts parts_after : List PartState) (before after : Objects) (written : List ℕ) (graph : CheckedGraph)
     (input : IsInputText before after written graph) (taken : TakesAtMost before.input (most_input + 1) after.input)
     (count : NeverFalls before.input_faults after.input_faults) (collections : after.collections ≡ before.collections)
-    (run : RunText) (same : run ≡ run_text written graph) (whole : AreWhole run (heads_of parts)) where
+    (run : RunOutline) (same : run ≡ outline_of_run written graph) (whole : AreWhole run (heads_of parts)) where
   is_joined : (ending : Result (Unit {0}) JoinRefusal) → JoiningEnds (shape_of_node graph graph.result) parts parts_after before after ending
       → IsJoined parts parts_after before after ending
   is_joined ending ends = record {
     text = written;
     graph = graph;
     input = input;
-    whole = subst (λ (r : RunText). AreWhole r (heads_of parts)) same whole;
+    whole = subst (λ (r : RunOutline). AreWhole r (heads_of parts)) same whole;
     ends = ends;
   }
 
@@ -348,7 +348,7 @@ module _ (parts parts_after : List PartState) (before after : Objects) (written 
       → NeverFalls before.spool_faults after.spool_faults → JoinAnswers parts parts_after before after ending
   join_ends ending ends read out_count spool_count = record {
     ends = joined_ends ending
-        (subst (λ (r : RunText). JoiningEnds r.shape parts parts_after before after ending) same ends);
+        (subst (λ (r : RunOutline). JoiningEnds r.shape parts parts_after before after ending) same ends);
     collections = collections;
     parts_read = read;
     input_taken = taken;

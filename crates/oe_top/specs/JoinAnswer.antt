@@ -10,7 +10,7 @@ use Rattle.oe_outside.specs.Visible.{Appends, AppendsPrefix}
 use Rattle.oe_parts.specs.Laid.{AreUndamaged}
 use Rattle.oe_parts.specs.PartFile.{IsDamagedAt}
 use Rattle.oe_parts.specs.Parts.{ArePartsRead, PartState, ShowPartsOf, heads_of}
-use Rattle.oe_parts.specs.Whole.{AreWhole, RunText, SaysMisfit}
+use Rattle.oe_parts.specs.Whole.{AreWhole, RunOutline, SaysMisfit}
 use Rattle.oe_parts.specs.declared.whole.Misfit.{Misfit}
 use Rattle.oe_parts.specs.declared.whole.Misfit.TheVariants as misfit
 use Rattle.oe_plan.specs.Figures.{shape_of_node}
@@ -27,8 +27,8 @@ use Rattle.oe_top.specs.declared.join.JoinRefusal.{JoinRefusal}
 use Rattle.oe_top.specs.declared.join.JoinRefusal.TheVariants as join
 
 -- what the parts are to be parts of
-abbrev pub run_text : List ℕ → CheckedGraph → RunText
-run_text text c = record { graph = text; kind = kind_of_result c; shape = shape_of_node c c.result }
+abbrev pub outline_of_run : List ℕ → CheckedGraph → RunOutline
+outline_of_run text c = record { graph = text; kind = kind_of_result c; shape = shape_of_node c c.result }
 
 -- Something holds of each cube of this shape that the parts show. Where they are parts of what a graph means over the
 -- collections of a call, as `part` writes them over the same collections, that cube is `result_of` these.
@@ -137,7 +137,7 @@ module _ (parts parts_after : List PartState) (before after : Objects) where
     pub text : List ℕ
     pub graph : CheckedGraph
     pub input : IsInputText before after text graph
-    pub whole : AreWhole (run_text text graph) (heads_of parts)
+    pub whole : AreWhole (outline_of_run text graph) (heads_of parts)
     pub ends : JoiningEnds (shape_of_node graph graph.result) parts parts_after before after ending
 
   -- 2: they are not, for this reason
@@ -146,7 +146,7 @@ module _ (parts parts_after : List PartState) (before after : Objects) where
     pub graph : CheckedGraph
     pub input : IsInputText before after text graph
     pub misfit : Misfit
-    pub says : SaysMisfit (run_text text graph) (heads_of parts) misfit
+    pub says : SaysMisfit (outline_of_run text graph) (heads_of parts) misfit
     pub named : IsMisfitNamed parts misfit refusal
     pub stopped : IsBeforeParts
 

@@ -15,7 +15,7 @@ use Rattle.oe_shape.specs.Laws.{AreCollectionsOf}
 use Rattle.oe_sources.specs.Catalogue.{Row}
 use Rattle.oe_window.specs.declared.grid.ChunkSize.{ChunkSize}
 use Rattle.oe_top.specs.Evaluated.{IsVisible, IsWithoutOver, result_of}
-use Rattle.oe_top.specs.JoinAnswer.{WritesJoined, run_text}
+use Rattle.oe_top.specs.JoinAnswer.{WritesJoined, outline_of_run}
 use Rattle.oe_top.specs.Objects.{Objects}
 use Rattle.oe_top.specs.PartAnswer.{head_for}
 
@@ -37,6 +37,6 @@ abbrev pub JoinedIsRun : Type 0
 JoinedIsRun = (rows : List Row) (text : List ℕ) (c : CheckedGraph) (size : ChunkSize) (parts : List PartState)
     → AreFaultless c → AreCollectionsOf c (collections_of rows) → All IsCell (result_of rows c).cells → AreSides size
     → ArePartsOfMeaning rows text c size parts → Tile (heads_of parts) (chunks_of c size)
-    → AreWhole (run_text text c) (heads_of parts)
+    → AreWhole (outline_of_run text c) (heads_of parts)
     × ((before after : Objects) → IsVisible before.spool → WritesJoined (shape_of_node c c.result) parts before after
     → IsWithoutOver (result_of rows c) × Appends before.out (cube_text (result_of rows c)) after.out)

@@ -2,7 +2,7 @@
 ghost use Rattle.std.specs.Prelude.{◌≡◌, ◌<◌, ℕ, List, Option, length};
 ghost use Rattle.oe_outside.specs.Faults.{NeverFalls};
 ghost use Rattle.oe_parts.specs.Parts.{ArePartsRead, heads_of};
-ghost use Rattle.oe_parts.specs.Whole.{AreWhole, RunText, SaysMisfit};
+ghost use Rattle.oe_parts.specs.Whole.{AreWhole, RunOutline, SaysMisfit};
 ghost use Rattle.oe_sources.specs.Catalogue.{Row};
 ghost use Rattle.oe_sources.specs.CatalogueRows.{rows_of};
 ghost use Rattle.oe_top.specs.JoinAnswer.{IsMisfitNamed, JoinAnswers, JoiningEnds, OfNameAt};
@@ -94,7 +94,7 @@ fn write_joined<O: Sink, P: Store, S: Store + Drop>(
     out: &mut O,
     spool: &mut P,
 ) -> Result<(), JoinRefusal>
-    requires { (run : RunText) × (run.shape ≡ shape.now) × AreWhole run (heads_of parts.old) }
+    requires { (run : RunOutline) × (run.shape ≡ shape.now) × AreWhole run (heads_of parts.old) }
     // whatever became of the input before
     ensures ends { (input input_after : Option (List ℕ)) (faults faults_after : ℕ) (rows : List Row)
         → JoiningEnds shape.now parts.old parts.new
@@ -126,7 +126,7 @@ fn write_joined<O: Sink, P: Store, S: Store + Drop>(
 
 /// Why parts make no whole, by the name of the part to blame.
 fn refusal_of_misfit<S: Store + Drop>(parts: &RunParts<S>, misfit: Misfit) -> JoinRefusal
-    requires { (run : RunText) × SaysMisfit run (heads_of parts.now) misfit }
+    requires { (run : RunOutline) × SaysMisfit run (heads_of parts.now) misfit }
     ensures { IsMisfitNamed parts.now misfit result }
 {
     match misfit {

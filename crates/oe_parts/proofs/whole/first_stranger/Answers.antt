@@ -2,14 +2,14 @@ use Rattle.std.proofs.Common.{◌≡◌, Some, sym, subst, arith}
 use Rattle.std.specs.List.{slice_get}
 use Rattle.oe_parts.specs.Head.{IsPartHead, PartHead}
 use Rattle.oe_parts.specs.Parts.{heads_of}
-use Rattle.oe_parts.specs.Whole.{Differs, IsOfRun, RunText, SaysMisfit}
+use Rattle.oe_parts.specs.Whole.{Differs, IsOfRun, RunOutline, SaysMisfit}
 use Rattle.oe_parts.proofs.WholeLemmas.{head_at, head_within, heads_more, says_stranger}
 use Rattle.oe_parts.proofs.whole.first_stranger.Goals as goal
 
 pub returns-in-Some-clause-stranger : goal.returns-in-Some-clause-stranger
 returns-in-Some-clause-stranger g c =
     let parts = c.args.parts.now in
-    let run : RunText = record { graph = c.args.graph.now; kind = c.args.kind; shape = c.args.shape.now } in
+    let run : RunOutline = record { graph = c.args.graph.now; kind = c.args.kind; shape = c.args.shape.now } in
     let p = c.index-parts-index.result in
     let at : slice_get (heads_of parts) c.loop-index.index ≡ Some p.head = head_at parts c.loop-index.index p (omega (arith, c.loop-index-test.true, c.loop-index.auto.index-end)) c.index-parts-index.is in
     subst (SaysMisfit run (heads_of parts)) (sym c.misfit_of.ensures)
@@ -25,7 +25,7 @@ returns-in-Some-clause-stranger g c =
 pub loop-index-preserved : goal.loop-index-preserved
 loop-index-preserved g c =
     let parts = c.args.parts.now in
-    let run : RunText = record { graph = c.args.graph.now; kind = c.args.kind; shape = c.args.shape.now } in
+    let run : RunOutline = record { graph = c.args.graph.now; kind = c.args.kind; shape = c.args.shape.now } in
     let p = c.index-parts-index.result in
     let at : slice_get (heads_of parts) c.loop-index.index ≡ Some p.head = head_at parts c.loop-index.index p (omega (arith, c.loop-index-test.true, c.loop-index.auto.index-end)) c.index-parts-index.is in
     record {

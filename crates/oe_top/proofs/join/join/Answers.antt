@@ -1,6 +1,6 @@
 use Rattle.std.proofs.Common.{refl}
 use Rattle.std.proofs.lemmas.Result.{err_from_is_err_and}
-use Rattle.oe_parts.specs.Whole.{RunText}
+use Rattle.oe_parts.specs.Whole.{RunOutline}
 use Rattle.oe_sources.specs.CatalogueRows.{rows_of}
 use Rattle.oe_top.proofs.Joins.{join_ends, join_lacks_memory, join_refused, join_refuses, run_of, same_run}
 use Rattle.oe_top.specs.Objects.{objects}
@@ -8,11 +8,11 @@ use Rattle.oe_top.proofs.join.join.Goals as goal
 
 pub refusal_of_misfit-requires : goal.refusal_of_misfit-requires
 refusal_of_misfit-requires g c =
-    let run : RunText = run_of c.deref.result.now c.kind.result c.shape-shape.result.now in (run, c.in-Err-fit.ensures.misfit)
+    let run : RunOutline = run_of c.deref.result.now c.kind.result c.shape-shape.result.now in (run, c.in-Err-fit.ensures.misfit)
 
 pub write_joined-requires : goal.write_joined-requires
 write_joined-requires g c =
-    let run : RunText = run_of c.deref.result.now c.kind.result c.shape-shape.result.now in (run, refl, c.in-Ok-fit.ensures.whole)
+    let run : RunOutline = run_of c.deref.result.now c.kind.result c.shape-shape.result.now in (run, refl, c.in-Ok-fit.ensures.whole)
 
 pub returns-in-Err : goal.returns-in-Err
 returns-in-Err g c =

@@ -1,13 +1,13 @@
 use Rattle.std.proofs.Common.{◌≡◌, ℕ, ◌<◌, List, ap, ◌∙◌, subst}
 use Rattle.oe_window.specs.Chunks.{chunk_count}
 use Rattle.oe_parts.specs.Parts.{PartState, heads_of}
-use Rattle.oe_parts.specs.Whole.{AreHeads, AreOfRun, IsCovered, IsFirstGap, Overlaps, RunText, run_chunks}
+use Rattle.oe_parts.specs.Whole.{AreHeads, AreOfRun, IsCovered, IsFirstGap, Overlaps, RunOutline, run_chunks}
 use Rattle.oe_parts.proofs.WholeLemmas.{are_whole}
 use Rattle.oe_parts.proofs.parts.RunParts.fit.Goals as goal
 
 pub returns-in-Some-first_overlap-clause-misfit : goal.returns-in-Some-first_overlap-clause-misfit
 returns-in-Some-first_overlap-clause-misfit g c =
-    let run : RunText = record { graph = c.args.graph.now; kind = c.args.kind; shape = c.args.shape.now } in
+    let run : RunOutline = record { graph = c.args.graph.now; kind = c.args.kind; shape = c.args.shape.now } in
     let index = c.in-Some-first_overlap.index in
     let second = c.deref-2.ensures.value ∙ c.self.view_is in
     let third = c.deref-3.ensures.value ∙ c.self.view_is in (
@@ -19,7 +19,7 @@ returns-in-Some-first_overlap-clause-misfit g c =
 
 pub returns-in-Some-first_gap-clause-misfit : goal.returns-in-Some-first_gap-clause-misfit
 returns-in-Some-first_gap-clause-misfit g c =
-    let run : RunText = record { graph = c.args.graph.now; kind = c.args.kind; shape = c.args.shape.now } in
+    let run : RunOutline = record { graph = c.args.graph.now; kind = c.args.kind; shape = c.args.shape.now } in
     let second = c.deref-2.ensures.value ∙ c.self.view_is in
     let third = c.deref-3.ensures.value ∙ c.self.view_is in
     let fourth = c.deref-4.ensures.value ∙ c.self.view_is in
@@ -33,7 +33,7 @@ returns-in-Some-first_gap-clause-misfit g c =
 
 pub returns-in-None-first_gap-clause-whole : goal.returns-in-None-first_gap-clause-whole
 returns-in-None-first_gap-clause-whole g c =
-    let run : RunText = record { graph = c.args.graph.now; kind = c.args.kind; shape = c.args.shape.now } in
+    let run : RunOutline = record { graph = c.args.graph.now; kind = c.args.kind; shape = c.args.shape.now } in
     let second = c.deref-2.ensures.value ∙ c.self.view_is in
     let third = c.deref-3.ensures.value ∙ c.self.view_is in
     let fourth = c.deref-4.ensures.value ∙ c.self.view_is in
