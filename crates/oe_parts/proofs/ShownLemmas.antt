@@ -1,10 +1,11 @@
 -- The records of a row's cells, from those of its positions.
-use Rattle.std.proofs.Common.{◌≡◌, ℕ, suc, ◌+◌, ◌-◌, ◌*◌, ◌<◌, ◌≤◌, List, [], ◌∷◌, ◌++◌, length, get_or, take, drop, Option, Some, refl, sym, ap, ◌∙◌, subst, arith}
+use Rattle.std.proofs.Common.{◌≡◌, ℕ, suc, ◌+◌, ◌-◌, ◌*◌, ◌<◌, ◌≤◌, inl, inr, List, [], ◌∷◌, ◌++◌, length, get_or, take, drop, Option, Some, refl, sym, ap, ◌∙◌, subst, arith}
 use Rattle.std.specs.List.{All, slice_get}
 use Rattle.std.specs.Option.{option_map}
 use Rattle.std.proofs.Math.Seq.{take-add}
 use Rattle.std.proofs.lemmas.Grind.{flat_map-append}
 use Rattle.std.proofs.lemmas.List.{length-map, take_all}
+use Rattle.std.proofs.lemmas.List.Elements.{All-append, All-nil}
 use Rattle.std.proofs.lemmas.Option.{same_Some, slice_get-map, slice_get-get_or, get_or_from_slice_get}
 use Rattle.oe_cell.specs.Cells.{IsCell}
 use Rattle.oe_cell.specs.Record.{record_of, records_of}
@@ -17,6 +18,7 @@ use Rattle.oe_dims.specs.Positions.{Position, number_of}
 use Rattle.oe_dims.proofs.CubeLemmas.{number_below}
 use Rattle.oe_outside.specs.Stored.{HoldsAt, StoreHolds}
 use Rattle.oe_outside.proofs.Stores.{HoldsAt-both}
+use Rattle.oe_spool.specs.Spooled.{IsInSome}
 use Rattle.oe_window.specs.Cells.{cell_at, cells_on}
 use Rattle.oe_window.specs.Parts.{row_count, row_of}
 use Rattle.oe_window.specs.Runs.{window_numbers}
@@ -27,6 +29,7 @@ use Rattle.oe_window.proofs.PartLemmas.{row_part, row_of_size}
 use Rattle.oe_window.proofs.RangeLemmas.{slice_get-range}
 use Rattle.oe_window.proofs.WholeLemmas.{position_in}
 use Rattle.oe_window.proofs.WindowLemmas.{length-positions, position_number}
+use Rattle.oe_parts.specs.PartFile.{cells_on_all}
 use Rattle.oe_parts.specs.Rows.{HasNumbersFrom, Shows}
 use Rattle.oe_parts.specs.Spooled.{ShowsRecords}
 
@@ -97,14 +100,23 @@ row_shown store base first cube w numbers shown = (
       (subst (λ (n : ℕ). HoldsAt shown.all n (record_of (cell_at Empty cube p))) place here))),
 )
 
--- and all of them are cells
-pub row_valid : (store : Option (List ℕ)) (base : ℕ) (cube : Cube Cell) (w : Window) → ShowsRecords store base cube (IsIn w) → All IsCell (cells_on Empty cube w)
-row_valid store base cube w shown = λ k d below.
+-- valid cells at the positions of a window are valid cells on it
+window_valid : (cube : Cube Cell) (w : Window) → ((p : Position) → IsIn w p → IsCell (cell_at Empty cube p)) → All IsCell (cells_on Empty cube w)
+window_valid cube w each = λ k d below.
     (let few : k < length (positions w) = omega (arith, below, length-map (positions w) (cell_at Empty cube)) in
     let p = get_or (positions w) k nowhere in
     let at : slice_get (positions w) k ≡ Some p = slice_get-get_or (positions w) k nowhere few in
     let cell : get_or (cells_on Empty cube w) k d ≡ cell_at Empty cube p = get_or_from_slice_get (cells_on Empty cube w) k (cell_at Empty cube p) d (slice_get-map (cell_at Empty cube) (positions w) k ∙ ap (option_map (cell_at Empty cube)) at) in
-    subst IsCell (sym cell) (shown.cells p (position_number w k p at).0))
+    subst IsCell (sym cell) (each p (position_number w k p at).0))
+
+pub row_valid : (store : Option (List ℕ)) (base : ℕ) (cube : Cube Cell) (w : Window) → ShowsRecords store base cube (IsIn w) → All IsCell (cells_on Empty cube w)
+row_valid store base cube w shown = window_valid cube w shown.cells
+
+-- and on several
+pub windows_valid : (cube : Cube Cell) (windows : List Window) → ((p : Position) → IsInSome windows p → IsCell (cell_at Empty cube p)) → All IsCell (cells_on_all cube windows)
+windows_valid cube [] each = All-nil IsCell
+windows_valid cube (w ∷ windows) each =
+    All-append IsCell (cells_on Empty cube w) (cells_on_all cube windows) (window_valid cube w (λ p h. each p (inl h))) (windows_valid cube windows (λ p h. each p (inr h)))
 
 -- fewer positions
 pub shown_fewer : (store : Option (List ℕ)) (base : ℕ) (cube : Cube Cell) (a b : Position → Type 0) → ((p : Position) → b p → a p) → ShowsRecords store base cube a → ShowsRecords store base cube b

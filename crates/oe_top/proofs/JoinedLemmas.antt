@@ -1,17 +1,8 @@
 -- However the chunks of a run are dealt out to parts, these are a whole, and what is joined of them is what the run writes.
-use Rattle.std.proofs.Common.{◌≡◌, ℕ, zero, suc, List, [], ◌∷◌, map, slice_get, slice_index_or, option_map, Option, Some, None, refl, sym, ap, ◌∙◌, subst, arith}
-use Rattle.std.specs.List.{All}
-use Rattle.std.proofs.lemmas.List.Elements.{All-append, All-cons, All-nil}
-use Rattle.std.proofs.lemmas.List.Concat.{flat_map-cons}
+use Rattle.std.proofs.Common.{◌≡◌, ℕ, List, slice_get, option_map, Option, Some, None, refl, sym, ap, ◌∙◌, subst}
 use Rattle.std.proofs.lemmas.Option.{none-some, same_Some, slice_get-map}
-use Rattle.oe_cell.specs.Cells.{IsCell}
-use Rattle.oe_cell.specs.declared.cell.Cell.{Cell}
-use Rattle.oe_cell.specs.declared.cell.Cell.TheVariants.{Empty}
-use Rattle.oe_dims.specs.Cube.{Cube}
-use Rattle.oe_dims.specs.Positions.{Position}
 use Rattle.oe_engine.specs.Laws.{collections_of}
 use Rattle.oe_parts.specs.Head.{PartHead}
-use Rattle.oe_parts.specs.PartFile.{cells_on_all, chunks_of, part_bytes}
 use Rattle.oe_parts.specs.Parts.{PartState, ShowPartsOf, heads_of}
 use Rattle.oe_parts.specs.Whole.{IsOfRun}
 use Rattle.oe_plan.specs.Figures.{shape_of_node}
@@ -20,32 +11,10 @@ use Rattle.oe_shape.specs.Checked.{AreFaultless, CheckedGraph}
 use Rattle.oe_shape.specs.Laws.{AreCollectionsOf, IsCubeOfNode, meaning_of_node}
 use Rattle.oe_shape.specs.Operations.{Outline}
 use Rattle.oe_sources.specs.Catalogue.{Row}
-use Rattle.oe_window.specs.Cells.{cell_at, cells_on}
-use Rattle.oe_window.specs.Windows.{positions}
 use Rattle.oe_window.specs.declared.grid.ChunkSize.{ChunkSize}
-use Rattle.oe_window.specs.declared.window.Window.{Window}
 use Rattle.oe_top.specs.Evaluated.{result_of}
 use Rattle.oe_top.specs.JoinAnswer.{outline_of_run}
 use Rattle.oe_top.specs.Joined.{ArePartsOfMeaning, JoinedIsRun}
-
--- ---- the cells of a cube at its chunks are valid
-
--- an element of a list, or another one where the list is not so long
-valid_at : (cells : List Cell) (n : ℕ) → All IsCell cells → IsCell (slice_index_or cells n Empty)
-valid_at [] n valid = tt
-valid_at (c ∷ cells) zero valid = valid 0 c (omega arith)
-valid_at (c ∷ cells) (suc n) valid = valid_at cells n (λ i d h. valid (suc i) d (omega arith))
-
-each_valid : (cube : Cube Cell) → All IsCell cube.cells → (ps : List Position) → All IsCell (map (cell_at Empty cube) ps)
-each_valid cube valid [] = All-nil IsCell
-each_valid cube valid (p ∷ ps) =
-    All-cons IsCell (cell_at Empty cube p) (map (cell_at Empty cube) ps) (valid_at cube.cells _ valid) (each_valid cube valid ps)
-
-all_valid : (cube : Cube Cell) → All IsCell cube.cells → (windows : List Window) → All IsCell (cells_on_all cube windows)
-all_valid cube valid [] = All-nil IsCell
-all_valid cube valid (w ∷ windows) =
-    subst (All IsCell) (sym (flat_map-cons (cells_on Empty cube) w windows))
-    (All-append IsCell (cells_on Empty cube w) (cells_on_all cube windows) (each_valid cube valid (positions w)) (all_valid cube valid windows))
 
 -- ---- the heads of parts
 
@@ -62,7 +31,6 @@ part_at parts index head at = by (slice_get parts index) refl (sym (slice_get-ma
 -- ---- the law
 
 module _ (rows : List Row) (written : List ℕ) (c : CheckedGraph) (size : ChunkSize) (parts : List PartState)
-    (of_shape : (result_of rows c).shape ≡ shape_of_node c c.result) (valid : All IsCell (result_of rows c).cells)
     (are : ArePartsOfMeaning rows written c size parts) where
   of_run : (index : ℕ) (head : PartHead) → slice_get (heads_of parts) index ≡ Some head → IsOfRun (outline_of_run written c) size head
   of_run index head at =
@@ -76,17 +44,7 @@ module _ (rows : List Row) (written : List ℕ) (c : CheckedGraph) (size : Chunk
       })
 
   shown : ShowPartsOf (result_of rows c) parts
-  shown index part at =
-      let is = are index part at in (
-        part_bytes part.head (result_of rows c),
-        is.bytes_are,
-        record {
-          valid = is.valid;
-          shape = of_shape ∙ sym (ap (λ (h : PartHead). h.shape) is.head_is);
-          cells = all_valid (result_of rows c) valid (chunks_of part.head);
-          bytes_are = refl;
-        },
-      )
+  shown index part at = (are index part at).shows
 
 -- the cube that the graph means over the catalogue
 result_cube : (rows : List Row) (c : CheckedGraph) → AreFaultless c → AreCollectionsOf c (collections_of rows)
@@ -94,13 +52,13 @@ result_cube : (rows : List Row) (c : CheckedGraph) → AreFaultless c → AreCol
 result_cube rows c faultless are = give_cubes.cube c faultless (collections_of rows) are c.result faultless.has_result
 
 pub joined_is_run : JoinedIsRun
-joined_is_run rows written c size parts faultless collections valid sides are tile =
+joined_is_run rows written c size parts faultless collections sides are tile =
     let cube : IsCubeOfNode c c.result (meaning_of_node (collections_of rows) c c.result) = result_cube rows c faultless collections in
     let of_shape : (result_of rows c).shape ≡ shape_of_node c c.result = ap (λ (o : Outline). o.shape) cube.outline_is in
-    let shows : ShowPartsOf (result_of rows c) parts = shown rows written c size parts of_shape valid are in (
+    let shows : ShowPartsOf (result_of rows c) parts = shown rows written c size parts are in (
       record {
         sides = size;
-        of_run = record { valid = sides; each = of_run rows written c size parts of_shape valid are };
+        of_run = record { valid = sides; each = of_run rows written c size parts are };
         tile = tile;
       },
       λ before after visible writes. (

@@ -1,15 +1,12 @@
 -- How the evaluation of some chunks ends, by what their rounds left and by what was written of their part file.
-use Rattle.std.proofs.Common.{◌≡◌, ◌<◌, ℕ, ◌+◌, ◌-◌, ◌*◌, ◌≤◌, List, length, take, drop, Option, Some, None, Result, Ok, Err, refl, sym, ap, ◌∙◌, subst, arith}
+use Rattle.std.proofs.Common.{◌≡◌, ℕ, ◌+◌, ◌-◌, ◌*◌, ◌≤◌, List, length, take, drop, Option, Some, None, Result, Ok, Err, refl, sym, ap, ◌∙◌, subst, arith}
 use Rattle.oe_cell.specs.Cells.{IsCell}
 use Rattle.oe_cell.specs.Record.{IsRecord, record_of}
 use Rattle.oe_cell.proofs.RecordLemmas.{length-record_of}
 use Rattle.oe_cell.specs.declared.cell.Cell.{Cell}
 use Rattle.oe_cell.specs.declared.cell.Cell.TheVariants.{Empty}
 use Rattle.oe_dims.specs.Cube.{Cube}
-use Rattle.oe_dims.specs.Dimensions.{cell_count}
 use Rattle.oe_dims.specs.Positions.{Position, number_of}
-use Rattle.oe_dims.proofs.CubeLemmas.{number_below}
-use Rattle.oe_engine.proofs.GridLemmas.{chunks_inside}
 use Rattle.oe_engine.specs.Laws.{GivesCollections, LoadsVisible, collections_of}
 use Rattle.oe_engine.specs.Parts.{HasPartDone}
 use Rattle.oe_engine.specs.Runs.{PartRunOf, chunks_from, result_shape}
@@ -17,8 +14,9 @@ use Rattle.oe_engine.proofs.RenderLemmas.{result_shape_is}
 use Rattle.oe_outside.proofs.Causes.{NeverFalls-refl, NeverFalls-trans, then-Rose}
 use Rattle.oe_outside.specs.Faults.{HasCauseOf, NeverFalls}
 use Rattle.oe_outside.specs.Visible.{Appends, AppendsPrefix}
-use Rattle.oe_parts.specs.Head.{PartHead}
-use Rattle.oe_parts.specs.PartFile.{chunks_of, part_bytes}
+use Rattle.oe_parts.proofs.ShownLemmas.{windows_valid}
+use Rattle.oe_parts.specs.Head.{IsPartHead, PartHead}
+use Rattle.oe_parts.specs.PartFile.{IsPartOf, chunks_of, part_bytes}
 use Rattle.oe_parts.specs.Spooled.{ShowsPart, TellsNoRecord}
 use Rattle.oe_parts.specs.Rows.{HasNoRecordAt}
 use Rattle.oe_plan.specs.Figures.{largest_window}
@@ -155,13 +153,7 @@ module _ (written : List ℕ) (r after : PartRunOf) (rows rows_after : List Row)
       abbrev Tells : RenderFail → Type 0
       Tells fail = TellsNoRecord store_after 0 head.shape (IsInSome (chunks_of head)) fail
 
-      -- a record that is none was to be that of a cell of the result
-      damage_within : (number : ℕ) → Tells (text.SpoolDamaged number) → number < cell_count head.shape
-      damage_within number (q, among, number_is, none) =
-          subst (λ (n : ℕ). n < cell_count head.shape) number_is
-          (number_below head.shape q (chunks_inside p is r.first (end - r.first) q among))
-
-      -- and was read back from hidden bytes
+      -- a record that is none was read back from hidden bytes
       hidden_damage : (number : ℕ) → Tells (text.SpoolDamaged number) → store ≡ None
       hidden_damage number (q, among, number_is, none) = by store refl
         where
@@ -194,10 +186,22 @@ module _ (written : List ℕ) (r after : PartRunOf) (rows rows_after : List Row)
           spool_count = NeverFalls-trans h.spool_cause.count count;
         }
 
-        pub part_written : Holds (λ cube. Appends out (part_bytes head cube) out_after) → NeverFalls faults_after faults_last
+        -- the bytes that follow are the part of a cube, whose cells are valid there
+        is_part : IsPartHead head → (cube : Cube Cell) → ShowsPart store_after 0 head cube → IsPartOf (part_bytes head cube) head cube
+        is_part valid cube shows = record {
+          valid = valid;
+          shape = shows.shape;
+          cells = windows_valid cube (chunks_of head) shows.records.cells;
+          bytes_are = refl;
+        }
+
+        abbrev WritesPartOf : Cube Cell → Type 0
+        WritesPartOf cube = (bytes : List ℕ) × IsPartOf bytes head cube × Appends out bytes out_after
+
+        pub part_written : IsPartHead head → Holds (λ cube. Appends out (part_bytes head cube) out_after) → NeverFalls faults_after faults_last
             → NeverFalls out_faults out_faults_after → EvaluatesChunks written p.graph p.size r.first end begun stopped (Ok tt)
-        part_written appends count out_count =
-            last (Ok tt) count out_count (of_chunks (λ cube. Appends out (part_bytes head cube) out_after) appends)
+        part_written valid appends count out_count =
+            last (Ok tt) count out_count (of_chunks WritesPartOf (λ cube shows. (part_bytes head cube, is_part valid cube shows, appends cube shows)))
 
         pub part_stopped : (fail : RenderFail) (why : EvaluationFail) → why ≡ fail_of_text fail
             → Holds (λ cube. AppendsPrefix out (part_bytes head cube) out_after)
@@ -213,7 +217,7 @@ module _ (written : List ℕ) (r after : PartRunOf) (rows rows_after : List Row)
         part_stopped (text.SpoolDamaged number) why same prefix spool sink damage =
             subst (λ (e : EvaluationFail). EvaluatesChunks written p.graph p.size r.first end begun stopped (Err e)) (sym same)
             (last (Err (SpoolDamaged number)) spool.count sink.count
-            (record { within = damage_within number damage; hidden = hidden_damage number damage }))
+            (record { position = damage.0; inside = damage.1; number_is = damage.2; hidden = hidden_damage number damage }))
         part_stopped text.SinkFailed why same prefix spool sink damage =
             subst (λ (e : EvaluationFail). EvaluatesChunks written p.graph p.size r.first end begun stopped (Err e)) (sym same)
             (last (Err WriteFault) spool.count sink.count (

@@ -1,12 +1,9 @@
 -- Parts and runs: however the chunks of a run are dealt out, what is joined of its parts is what the run writes.
 use Rattle.std.specs.Prelude.{◌≡◌, ℕ, List, slice_get, Some}
-use Rattle.std.specs.List.{All}
-use Rattle.oe_cell.specs.Cells.{IsCell}
 use Rattle.oe_engine.specs.Laws.{collections_of}
 use Rattle.oe_outside.specs.Visible.{Appends}
-use Rattle.oe_parts.specs.Head.{AreSides, IsPartHead}
-use Rattle.oe_parts.specs.PartFile.{part_bytes}
-use Rattle.oe_parts.specs.Parts.{PartState, heads_of}
+use Rattle.oe_parts.specs.Head.{AreSides}
+use Rattle.oe_parts.specs.Parts.{PartState, ShowsPartOf, heads_of}
 use Rattle.oe_parts.specs.Whole.{AreWhole, Tile}
 use Rattle.oe_plan.specs.Figures.{chunks_of, shape_of_node}
 use Rattle.oe_render.specs.Text.{cube_text}
@@ -19,12 +16,11 @@ use Rattle.oe_top.specs.JoinAnswer.{WritesJoined, outline_of_run}
 use Rattle.oe_top.specs.Objects.{Objects}
 use Rattle.oe_top.specs.PartAnswer.{head_for}
 
--- each part is what `part` writes of a graph over the collections of a catalogue, whose text this is, in chunks of a size,
--- for some range
+-- a part is what `part` writes of a graph over the collections of a catalogue, whose text this is, in chunks of a size, for
+-- some range
 pub record IsPartOfMeaning (rows : List Row) (text : List ℕ) (c : CheckedGraph) (size : ChunkSize) (part : PartState) : Type 0 where
-  pub valid : IsPartHead part.head
   pub head_is : part.head ≡ head_for text c size part.head.first part.head.end
-  pub bytes_are : part.bytes ≡ Some (part_bytes part.head (result_of rows c))
+  pub shows : ShowsPartOf (result_of rows c) part
 
 abbrev pub ArePartsOfMeaning : List Row → List ℕ → CheckedGraph → ChunkSize → List PartState → Type 0
 ArePartsOfMeaning rows text c size parts =
@@ -35,7 +31,7 @@ ArePartsOfMeaning rows text c size parts =
 -- Over, and its text follows what the output held: the words of `run`, in which neither sides nor ranges nor workers occur.
 abbrev pub JoinedIsRun : Type 0
 JoinedIsRun = (rows : List Row) (text : List ℕ) (c : CheckedGraph) (size : ChunkSize) (parts : List PartState)
-    → AreFaultless c → AreCollectionsOf c (collections_of rows) → All IsCell (result_of rows c).cells → AreSides size
+    → AreFaultless c → AreCollectionsOf c (collections_of rows) → AreSides size
     → ArePartsOfMeaning rows text c size parts → Tile (heads_of parts) (chunks_of c size)
     → AreWhole (outline_of_run text c) (heads_of parts)
     × ((before after : Objects) → IsVisible before.spool → WritesJoined (shape_of_node c c.result) parts before after

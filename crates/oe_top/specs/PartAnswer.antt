@@ -1,16 +1,18 @@
 -- How the command `part` ends: the table of its statuses, one case a row.
 use Rattle.std.specs.Prelude.{◌≡◌, ◌<◌, ◌≤◌, ℕ, ◌+◌, ◌-◌, ◌*◌, List, None, Some, Result, Ok, Err}
-use Rattle.oe_dims.specs.Dimensions.{cell_count}
+use Rattle.oe_dims.specs.Positions.{Position, number_of}
 use Rattle.oe_dims.specs.declared.kind.CellKind.{CellKind}
 use Rattle.oe_graph.specs.Form.{most_input}
 use Rattle.oe_outside.specs.Faults.{NeverFalls, Rose}
 use Rattle.oe_outside.specs.Input.{TakesAtMost}
 use Rattle.oe_outside.specs.Visible.{Appends, AppendsPrefix}
 use Rattle.oe_parts.specs.Head.{IsPartHead, PartHead}
-use Rattle.oe_parts.specs.PartFile.{part_bytes}
+use Rattle.oe_parts.specs.PartFile as part
+use Rattle.oe_parts.specs.PartFile.{IsPartOf, part_bytes}
 use Rattle.oe_plan.specs.Figures.{bound_of, chunks_of, largest_window, most_held_cells, shape_of_node}
 use Rattle.oe_shape.specs.Checked.{CheckedGraph, outline_of_node}
 use Rattle.oe_sources.specs.Catalogue.{cells_asked}
+use Rattle.oe_spool.specs.Spooled.{IsInSome}
 use Rattle.oe_steps.specs.Collections.{AreRead, LoadRose}
 use Rattle.oe_window.specs.declared.grid.ChunkSize.{ChunkSize}
 use Rattle.oe_top.specs.Evaluated.{IsVisible, OfMeaning, loads_of}
@@ -45,19 +47,22 @@ AreChunksOf c size first end = (first < end) × (end ≤ chunks_of c size)
 -- ---- how the evaluation of the chunks ends
 
 module _ (text : List ℕ) (c : CheckedGraph) (size : ChunkSize) (first end : ℕ) (before after : Objects) where
-  -- 0: the part of what the graph means follows what the output held; a cell of it may be Over
+  -- 0: the bytes of the part of what the graph means follow what the output held; a cell of it may be Over
   abbrev pub WritesPartFile : Type 0
   WritesPartFile = IsVisible before.spool → OfMeaning before.collections c
-      (λ cube. Appends before.out (part_bytes (head_for text c size first end) cube) after.out)
+      (λ cube. (bytes : List ℕ) × IsPartOf bytes (head_for text c size first end) cube × Appends before.out bytes after.out)
 
-  -- a prefix of it does
+  -- a prefix of them does
   abbrev pub WritesPartPrefix : Type 0
   WritesPartPrefix = IsVisible before.spool → OfMeaning before.collections c
       (λ cube. AppendsPrefix before.out (part_bytes (head_for text c size first end) cube) after.out)
 
-  -- 15: what was read back from the spool for this cell is no record, which never comes of a spool whose bytes are visible
+  -- 15: what was read back from the spool for this cell of the part is no record, which never comes of a spool whose bytes
+  -- are visible
   pub record PartMeetsSpoolDamage (number : ℕ) : Type 0 where
-    pub within : number < cell_count (shape_of_node c c.result)
+    pub position : Position
+    pub inside : IsInSome (part.chunks_of (head_for text c size first end)) position
+    pub number_is : number_of (shape_of_node c c.result) position ≡ number
     pub hidden : before.spool ≡ None
 
   -- a part never ends by a number out of range: only all parts tell which one is the first
