@@ -1,5 +1,5 @@
 -- The part of a cube is a part file.
-use Rattle.std.proofs.Common.{◌≡◌, ℕ, ◌+◌, ◌*◌, List, [], ◌∷◌, ◌++◌, length, take, refl, sym, ap, ◌∙◌, subst, arith}
+use Rattle.std.proofs.Common.{◌≡◌, ℕ, List, [], ◌∷◌, length, take, refl, ap, ◌∙◌, arith}
 use Rattle.std.specs.List.{sum_by}
 use Rattle.std.proofs.lemmas.List.{length-append}
 use Rattle.std.proofs.lemmas.List.Sums.{sum_by-cons}
@@ -13,7 +13,7 @@ use Rattle.oe_window.specs.Windows.{position_count}
 use Rattle.oe_window.specs.declared.window.Window.{Window}
 use Rattle.oe_window.proofs.CellLemmas.{length-cells_on}
 use Rattle.oe_parts.specs.Head.{PartHead, front_bytes}
-use Rattle.oe_parts.specs.PartFile.{IsPartFile, IsPartOf, cells_on_all, chunks_of, part_bytes, part_cells}
+use Rattle.oe_parts.specs.PartFile.{IsPartFile, IsPartOf, cells_on_all, chunks_of}
 use Rattle.oe_parts.proofs.OpenLemmas.{take_front}
 
 pub length-cells_on_all : (cube : Cube Cell) (ws : List Window) → length (cells_on_all cube ws) ≡ sum_by position_count ws

@@ -1,6 +1,6 @@
 -- A value says one head at most.
-use Rattle.std.proofs.Common.{◌≡◌, ◌↔◌, ℕ, ◌<◌, ◌≤◌, List, [], ◌∷◌, length, get_or, codes, true, Bool, IsTrue, Option, Some, None, Result, Ok, Err, IfOk, MatchOption, IsUtf8, refl, sym, ap, ◌∙◌, subst, zero, suc, arith}
-use Rattle.serde_json.specs.Data.{Data, Items}
+use Rattle.std.proofs.Common.{◌≡◌, ℕ, ◌<◌, List, [], ◌∷◌, length, get_or, codes, Option, Some, None, Result, Ok, Err, IfOk, MatchOption, IsUtf8, refl, sym, ap, ◌∙◌, subst, zero, suc, arith}
+use Rattle.serde_json.specs.Data.{Data}
 use Rattle.serde_json.specs.Read.{read}
 use Rattle.serde_json.specs.View.{items_view, view}
 use Rattle.serde_json.specs.declared.value.Value.{Value}
@@ -11,7 +11,6 @@ use Rattle.oe_render.specs.CubeText.{AreDimensions, Each, list_in}
 use Rattle.oe_render.proofs.Ahead.{each_one}
 use Rattle.oe_render.proofs.Shapes.{one_shape, same_items}
 use Rattle.oe_render.proofs.Values.{same_data}
-use Rattle.oe_window.specs.declared.grid.ChunkSize.{ChunkSize}
 use Rattle.oe_parts.specs.Head.{IsPartHead, PartHead, header_text, kind_word}
 use Rattle.oe_parts.specs.HeadRead.{IsNumberOf, IsReadHead, SaysKind, SaysNumbers, SaysPartHead, SaysShape, text_in}
 use Rattle.oe_parts.proofs.HeadText.{header_read, header_utf8}

@@ -1,5 +1,5 @@
 -- How many chunks a run has, and how many cells they have.
-use Rattle.std.proofs.Common.{◌≡◌, ℕ, ◌*◌, ◌<◌, ◌≤◌, ◌^◌, ◌==◌, Bool, true, false, arith}
+use Rattle.std.proofs.Common.{ℕ, ◌*◌, ◌≤◌, ◌^◌, ◌==◌, Bool, true, false, arith}
 use Rattle.std.specs.Prelude.{if◌then◌else◌}
 use Rattle.std.proofs.lemmas.Nat.{mul-le}
 use Rattle.oe_dims.specs.Dimensions.{Dimensions, IsShape, extent}

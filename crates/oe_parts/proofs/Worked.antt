@@ -1,17 +1,16 @@
 -- Worked values of the definitions, each by hand.
-use Rattle.std.proofs.Common.{◌≡◌, ℕ, ◌+◌, ◌*◌, List, [], ◌∷◌, ◌++◌, length, take, pos, codes, decimal, Some, None, refl, arith}
+use Rattle.std.proofs.Common.{◌≡◌, ℕ, ◌+◌, [], ◌∷◌, ◌++◌, take, pos, codes, Some, None, refl, arith}
 use Rattle.std.specs.Fmt.{digits}
 use Rattle.oe_cell.specs.declared.cell.Cell.TheVariants.{Empty, Number}
-use Rattle.oe_cell.specs.Record.{bytes_of, record_of, records_of}
+use Rattle.oe_cell.specs.Record.{bytes_of, records_of}
 use Rattle.oe_dims.specs.Cube.{Cube}
 use Rattle.oe_cell.specs.declared.cell.Cell.{Cell}
 use Rattle.oe_dims.specs.Dimensions.{Dimensions}
 use Rattle.oe_dims.specs.declared.kind.CellKind.TheVariants.{Numbers}
 use Rattle.oe_window.specs.Chunks.{parts_along}
-use Rattle.oe_window.specs.declared.grid.ChunkSize.{ChunkSize}
 use Rattle.oe_parts.specs.Head.{PartHead, chunk_total, front_bytes, sides_text}
 use Rattle.oe_parts.specs.PartFile.{cells_on_all, chunks_of, part_cells, part_numbers}
-use Rattle.oe_parts.specs.Whole.{HasChunkAt, Overlaps, Tile}
+use Rattle.oe_parts.specs.Whole.{Overlaps, Tile}
 
 -- three labels of t, two bands, five of y and seven of x, in chunks of 3 by 4 by 2: 3 along x, 2 along y, 2 along t
 abbrev box : Dimensions

@@ -16,8 +16,8 @@ pub record AreSides (sides : ChunkSize) : Type 0 where
   pub y : IsSide sides.y
   pub t : IsSide sides.t
 
--- the text of the process graph as it was read, the sides of a chunk, the chunks from a first one on and before an end, and
--- the kind of the cells and the shape of the whole result
+-- the text of the process graph as it was read, the sides of a chunk, the chunks from a first one on and before an
+-- end, and the kind of the cells and the shape of the whole result
 pub record PartHead : Type 0 where
   pub graph : List ℕ
   pub sides : ChunkSize
@@ -46,8 +46,8 @@ numbers_text numbers = codes "[" ++ listed_text (map decimal numbers) ++ codes "
 abbrev pub sides_text : ChunkSize → List ℕ
 sides_text sides = numbers_text (sides.x ∷ sides.y ∷ sides.t ∷ [])
 
--- the one spelling of the header: its members in this order, without blanks; the graph as a JSON text, the dimensions as
--- the result text has them; the sides stand twice, so that they are not changed in one place alone
+-- the one spelling of the header: its members in this order, without blanks; the graph as a JSON text, the dimensions
+-- as the result text has them; the sides stand twice, so that they are not changed in one place alone
 unfoldable pub header_text : PartHead → List ℕ
 header_text head =
     codes "{\"graph\":" ++ quoted head.graph

@@ -48,8 +48,8 @@ HaveRecords store base shape positions least =
 abbrev pub IsInPart : PartHead → Position → Type 0
 IsInPart head = IsInFirst (λ k p. IsIn (chunk_window (grid_of head) (head.first + k)) p) (head.end - head.first)
 
--- why the records of the cells with these numbers, which stand from an offset on in a store, were not laid out: one that
--- is named is that of no cell
+-- why the records of the cells with these numbers, which stand from an offset on in a store, were not laid out: one
+-- that is named is that of no cell
 abbrev pub TellsPiece : Option (List ℕ) → ℕ → List ℕ → PieceFail → Type 0
 TellsPiece store at numbers piece.Failed = ⊤
 TellsPiece store at numbers (piece.Damaged number) =
@@ -101,8 +101,8 @@ pub record LaysCube (base : ℕ) (store : Option (List ℕ)) (least : Option ℕ
   pub held : HoldsCube store base cube
   pub least_is : least ≡ least_over_of cube.cells
 
--- No part is damaged, and where the parts show a cube, it is laid out. Also of hidden parts a record of some cell stands
--- at each number, of none that is Over where none was found.
+-- No part is damaged, and where the parts show a cube, it is laid out. Also of hidden parts a record of some cell
+-- stands at each number, of none that is Over where none was found.
 pub record Lays (base : ℕ) (shape : Dimensions) (parts : List PartState) (store : Option (List ℕ)) (least : Option ℕ) : Type 0 where
   pub cube : (cube : Cube Cell) → IsCube cube → cube.shape ≡ shape → ShowPartsOf cube parts → LaysCube base store least cube
   pub cells : least ≡ None → HasCells store base (cell_count shape)

@@ -27,7 +27,8 @@ pub record ShowsPart (store : Option (List ℕ)) (base : ℕ) (head : PartHead) 
   pub shape : cube.shape ≡ head.shape
   pub records : ShowsRecords store base cube (IsInSome (chunks_of head))
 
--- what a refusal says of the records for the numbers from one on and before an end: one that is named is that of no cell
+-- what a refusal says of the records for the numbers from one on and before an end: one that is named is that of no
+-- cell
 abbrev pub TellsNoRecordFrom : Option (List ℕ) → ℕ → ℕ → ℕ → RenderFail → Type 0
 TellsNoRecordFrom store base from end SpoolFailed = ⊤
 TellsNoRecordFrom store base from end SinkFailed = ⊤

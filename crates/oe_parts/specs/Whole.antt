@@ -69,8 +69,8 @@ Differs run sides head Shape = (head.graph ≡ run.graph) × ¬ ((head.kind ≡ 
 Differs run sides head Sides =
     (head.graph ≡ run.graph) × (head.kind ≡ run.kind) × (head.shape ≡ run.shape) × (head.sides ≢ sides)
 
--- the part at an index is the first in their order that is no part of the run in chunks of the sides that the first part
--- has, and this is its difference
+-- the part at an index is the first in their order that is no part of the run in chunks of the sides that the first
+-- part has, and this is its difference
 pub record IsFirstStranger (run : RunOutline) (heads : List PartHead) (index : ℕ) (difference : Difference) : Type 0 where
   pub sides : ChunkSize
   pub leads : (first : PartHead) → slice_get heads 0 ≡ Some first → first.sides ≡ sides

@@ -37,8 +37,8 @@ const MOST_SIDE: u64 = 4096;
 /// A room in bytes in which the dimensions of most results can be spelled.
 const LIKELY: usize = 65536;
 
-/// The text of a process graph as it was read, the sides of the chunks of its run, the chunks from `first` on and before
-/// `end`, and the kind and the shape of the whole result.
+/// The text of a process graph as it was read, the sides of the chunks of its run, the chunks from `first` on and
+/// before `end`, and the kind and the shape of the whole result.
 #[derive(Drop)]
 pub struct PartHead {
     pub graph: Text,

@@ -49,11 +49,11 @@ enum PieceFail {
     SpoolFailed,
 }
 
-/// Lays the records of parts that are a whole into a spool, from byte `base` on, and answers the least row-major number
-/// of a cell that is `Over`. It takes no memory; the parts keep their bytes.
+/// Lays the records of parts that are a whole into a spool, from byte `base` on, and answers the least row-major
+/// number of a cell that is `Over`. It takes no memory; the parts keep their bytes.
 ///
-/// Refuses: `PartFailed` and `SpoolFailed` only where the fault counter of that part or of the spool rose; `PartDamaged`
-/// only with a position for which that part has no record.
+/// Refuses: `PartFailed` and `SpoolFailed` only where the fault counter of that part or of the spool rose;
+/// `PartDamaged` only with a position for which that part has no record.
 pub fn lay<S: Store + Drop, P: Store>(
     parts: &mut RunParts<S>,
     shape: &Shape,

@@ -1,5 +1,5 @@
 // Opened parts.
-ghost use Rattle.std.specs.Prelude.{◌≡◌, ◌↔◌, ◌+◌, ◌*◌, ◌^◌, ◌≤◌, ◌<◌, ℕ, true, IfOk, IfErr, IfSome, IsTrue, MatchOption, codes, length, vec_len};
+ghost use Rattle.std.specs.Prelude.{◌≡◌, ◌↔◌, ◌+◌, ◌*◌, ◌≤◌, ◌<◌, true, IfOk, IfErr, IfSome, IsTrue, MatchOption, codes, length, vec_len};
 ghost use Rattle.oe_outside.specs.Faults.{HasCauseOf};
 ghost use Rattle.oe_outside.specs.Stored.{StoreHolds};
 ghost use Rattle.oe_parts.specs.Head as spec;
@@ -63,12 +63,12 @@ enum Refusal {
 }
 
 impl<S: Store + Drop> RunPart<S> {
-    /// The part that a store holds, under the name of its file, which has at most 64 bytes: the 8 bytes `OEOPART1`, the length of the header as 4
-    /// bytes, the highest first, the header in its one spelling, the records, and the end. Its records are not looked at
-    /// yet. The store keeps its bytes, whatever it answers.
+    /// The part that a store holds, under the name of its file, which has at most 64 bytes: the 8 bytes `OEOPART1`,
+    /// the length of the header as 4 bytes, the highest first, the header in its one spelling, the records, and the
+    /// end. Its records are not looked at yet. The store keeps its bytes, whatever it answers.
     ///
-    /// Refuses: `Failed` only where the store's fault counter rose; `Invalid` exactly where the store's bytes, if they
-    /// are visible, are no part file; each hands the store back.
+    /// Refuses: `Failed` only where the store's fault counter rose; `Invalid` exactly where the store's bytes, if
+    /// they are visible, are no part file; each hands the store back.
     pub fn open(alloc: Global, name: Text, mut store: S) -> Result<RunPart<S>, OpenFail<S>>
         requires { length name ≤ 64 }
         ensures opened { IfOk result (Opens name (S.bytes store) (S.faults store)) }

@@ -37,8 +37,9 @@ enum Difference {
 impl<S: Store + Drop> RunParts<S> {
     /// Whether the parts are all the chunks of the run of a graph, each once; of a result without positions none are.
     ///
-    /// Refuses: the first part in their order that is of another graph, of another result or of other sides; where there
-    /// is none, the first that has a chunk of one before it; where there is none, the first chunk that is missing.
+    /// Refuses: the first part in their order that is of another graph, of another result or of other sides; where
+    /// there is none, the first that has a chunk of one before it; where there is none, the first chunk that is
+    /// missing.
     pub fn fit(&self, graph: &[u8], kind: CellKind, shape: &Shape) -> Result<(), Misfit>
         ensures whole { OnOk result (AreWhole
             (record { graph = graph.now; kind = kind; shape = shape.now }) (heads_of self.now)) }

@@ -25,8 +25,8 @@ use oe_outside::{Failed, Pending, Sink, Store, flush, send};
 use oe_render::RenderFail;
 use oe_window::{Window, size};
 
-/// Writes a part file: its front, and then the records of its chunks, which stand in a spool from byte `base` on, each at
-/// its number in the whole result. It takes no memory, and changes no byte of the spool.
+/// Writes a part file: its front, and then the records of its chunks, which stand in a spool from byte `base` on,
+/// each at its number in the whole result. It takes no memory, and changes no byte of the spool.
 ///
 /// Refuses: `SpoolFailed` and `SinkFailed` only where the fault counter of the spool or of the output rose;
 /// `SpoolDamaged` only where what stands for that cell is no record. Then a prefix of the file was written.

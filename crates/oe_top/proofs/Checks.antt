@@ -1,5 +1,5 @@
 -- Faults of all phases together, and what a check of them answers.
-use Rattle.std.proofs.Common.{◌≡◌, false, ℕ, ◌<◌, ◌≤◌, inl, inr, List, [], ◌∷◌, length, Option, Some, None, IfSome, IfOk, IfErr, OnOk, Result, Ok, Err, refl, sym, ap, ◌∙◌, subst, arith}
+use Rattle.std.proofs.Common.{◌≡◌, false, ℕ, ◌<◌, ◌≤◌, inl, inr, List, [], ◌∷◌, length, Option, Some, None, IfSome, IfOk, IfErr, OnOk, Result, Ok, Err, refl, sym, ap, subst, arith}
 use Rattle.oe_dims.specs.declared.dims.DimsRow.{DimsRow}
 use Rattle.oe_graph.proofs.LeastLemmas.{IsLeast-unique}
 use Rattle.oe_graph.specs.Faults.{IsLeast, is_before}

@@ -21,7 +21,7 @@ use Rattle.oe_expr.proofs.NodeLemmas.{node_is}
 use Rattle.oe_graph.specs.Read.{IsFaultless}
 use Rattle.oe_graph.specs.References.{each_node}
 use Rattle.oe_graph.specs.Tree as tree
-use Rattle.oe_graph.specs.Tree.{Argument, Named, Nodes, PlainGraph, PlainNode}
+use Rattle.oe_graph.specs.Tree.{Named, Nodes, PlainGraph, PlainNode}
 use Rattle.oe_kernel.specs.Kernels.{KernelValues}
 use Rattle.oe_kernel.specs.declared.border.Border.TheVariants.{Replicate}
 use Rattle.oe_resolve.specs.Filled.{filled_graph, resolved}
@@ -31,7 +31,7 @@ use Rattle.oe_shape.specs.Operations.{Outline}
 use Rattle.oe_shape.specs.Requests.{CubeRequest, apply_kernel, called, cube_request_at, load_collection, reduce_dimension}
 use Rattle.oe_shape.specs.Rows.{cell_kind_invalid, cube_too_large}
 use Rattle.oe_shape.specs.Stands as stands
-use Rattle.oe_shape.specs.Stands.{HasNoFault, StandsHere, StandsInGraph, callback_on, cubes_of, early_rows}
+use Rattle.oe_shape.specs.Stands.{HasNoFault, StandsInGraph, callback_on, cubes_of, early_rows}
 use Rattle.oe_shape.specs.ValidShapes.{is_within_limits}
 use Rattle.oe_sources.specs.Catalogue.{demonstration}
 use Rattle.oe_sources.specs.CatalogueDims.{dims_of}

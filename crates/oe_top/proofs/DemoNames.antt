@@ -19,7 +19,7 @@ use Rattle.oe_resolve.specs.Calls.{callee, CallsReach}
 use Rattle.oe_resolve.specs.Faults as faults
 use Rattle.oe_resolve.specs.Faults.{StandsWithStored, each_argument}
 use Rattle.oe_resolve.specs.Judged as judged
-use Rattle.oe_resolve.specs.Judged.{HasFault, IsMark, OfItself, OfObject, know_named, node_code}
+use Rattle.oe_resolve.specs.Judged.{IsMark, OfItself, OfObject, know_named, node_code}
 use Rattle.oe_resolve.specs.Reached.{AreReached, IsCallGraph, IsReached, supports_node}
 use Rattle.oe_resolve.specs.Rounds.{expanded, expanded_by, most_rounds, round}
 use Rattle.oe_resolve.proofs.Along.{none_there, there_cases}

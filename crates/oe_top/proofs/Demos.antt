@@ -51,7 +51,7 @@ use Rattle.oe_top.specs.declared.judge.InputRefusal.TheVariants.{Graph}
 use Rattle.oe_top.specs.Objects.{Objects, objects}
 use Rattle.oe_top.specs.declared.demo.DemoRefusal.TheVariants.{TooLarge, Stopped}
 use Rattle.oe_top.specs.declared.evaluation.EvaluationFail.{EvaluationFail}
-use Rattle.oe_top.specs.declared.evaluation.EvaluationFail.TheVariants.{Overflow, ReadFault, Damaged, SpoolFault, WriteFault, SpoolDamaged}
+use Rattle.oe_top.specs.declared.evaluation.EvaluationFail.TheVariants.{Overflow, WriteFault, SpoolDamaged}
 use Rattle.oe_top.proofs.DemoCubes.{demo_valid}
 use Rattle.oe_top.proofs.Evaluations.{of_meaning, over_is}
 use Rattle.oe_top.proofs.Inputs.{sizes}

@@ -1,5 +1,5 @@
 -- Faults of an input that are explained.
-use Rattle.std.proofs.Common.{◌≡◌, ℕ, List, Option, Some, None, Result, Ok, Err, subst}
+use Rattle.std.proofs.Common.{◌≡◌, ℕ, List, Option, Ok, Err, subst}
 use Rattle.oe_dims.specs.declared.dims.DimsRow.{DimsRow}
 use Rattle.oe_explain.specs.Explanation.{Explains}
 use Rattle.oe_graph.specs.Faults.{IsLeast}

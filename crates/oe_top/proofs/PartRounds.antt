@@ -1,5 +1,5 @@
 -- The rounds of a part of a run, one after another.
-use Rattle.std.proofs.Common.{◌≡◌, ℕ, zero, suc, ◌+◌, ◌-◌, ◌*◌, ◌<◌, ◌≤◌, min, List, Option, None, Result, Ok, Err, refl, sym, ap, ◌∙◌, subst, arith, inl, inr, ◌⊎◌}
+use Rattle.std.proofs.Common.{◌≡◌, ℕ, zero, suc, ◌+◌, ◌-◌, ◌*◌, ◌<◌, ◌≤◌, min, List, Option, Result, Ok, Err, refl, sym, ap, ◌∙◌, subst, arith, inl, inr, ◌⊎◌}
 use Rattle.std.proofs.Math.Nat.{add-mul, mul-le-mul_right}
 use Rattle.std.specs.Result.{IsErrOf}
 use Rattle.oe_outside.proofs.Causes.{NeverFalls-trans, then-Rose}
@@ -15,14 +15,14 @@ use Rattle.oe_engine.specs.Laws.{StayAfterReads}
 use Rattle.oe_engine.specs.Parts.{AdvancesPart, HasPartCauses, HasPartDone, ReadsPart, WritesPart, chunks_done, in_round}
 use Rattle.oe_engine.specs.Runs.{PartRunOf, chunks_from, result_cube}
 use Rattle.oe_engine.specs.declared.rounds.Progress.{Progress}
-use Rattle.oe_engine.specs.declared.rounds.Progress.TheVariants.{Complete, More}
+use Rattle.oe_engine.specs.declared.rounds.Progress.TheVariants.{Complete}
 use Rattle.oe_spool.specs.Least.{IsLeastOver}
 use Rattle.oe_spool.specs.Spooled.{IsInSome}
 use Rattle.oe_cell.specs.declared.cell.Cell.{Cell}
 use Rattle.oe_dims.specs.Cube.{Cube}
 use Rattle.oe_dims.specs.Positions.{Position}
 use Rattle.oe_top.proofs.Rounds.{still_visible}
-use Rattle.oe_top.specs.Evaluated.{IsVisible, most_asked}
+use Rattle.oe_top.specs.Evaluated.{most_asked}
 use Rattle.oe_top.specs.PartEvaluated.{GoesInPart, GoesThroughPart, IsPartBegun, ReadsForPart}
 
 -- a part after some turns of rounds, each of which made at least one chunk more

@@ -1,11 +1,11 @@
 -- Mounted collections that are repacked.
-use Rattle.std.proofs.Common.{◌≡◌, ◌≢◌, true, ◌&&◌, nat_le, ℕ, zero, suc, ◌<◌, ◌≤◌, List, [], ◌∷◌, length, Option, Some, None, IfSome, Result, Ok, Err, refl, sym, ap, ◌∙◌, subst, slice_get, arith}
+use Rattle.std.proofs.Common.{◌≡◌, ◌≢◌, true, ◌&&◌, nat_le, ℕ, zero, suc, ◌<◌, ◌≤◌, List, [], ◌∷◌, length, Option, Some, None, IfSome, Result, Ok, Err, sym, ◌∙◌, slice_get, arith}
 use Rattle.std.proofs.lemmas.Bool.{and_parts, leb-true}
 use Rattle.std.specs.List.{Contains, list_all}
 use Rattle.oe_dims.specs.Names.{is_name, is_name_byte}
 use Rattle.oe_outside.specs.Faults.{NeverFalls, Rose}
 use Rattle.oe_dims.specs.Dimensions.{cell_count}
-use Rattle.oe_sources.specs.Catalogue.{OnlyReads, Row, row_index, row_of, rows_at, source_at}
+use Rattle.oe_sources.specs.Catalogue.{OnlyReads, Row, row_index, row_of, source_at}
 use Rattle.oe_sources.specs.Repacked.{AppendsRepacked, IsUndamaged, LeavesWritten, TellsRepackDamage}
 use Rattle.oe_sources.specs.Source.{Contents, Source}
 use Rattle.oe_sources.specs.declared.repacking.RepackFail.TheVariants as fail

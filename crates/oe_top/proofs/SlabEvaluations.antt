@@ -1,7 +1,6 @@
 -- How the evaluation of a graph ends that is folded slab by slab, by what its rounds left and by what was written of its
 -- text.
 use Rattle.std.proofs.Common.{◌≡◌, ◌<◌, ℕ, List, Option, Some, None, Result, Ok, Err, refl, sym, ap, ◌∙◌, subst}
-use Rattle.std.proofs.lemmas.List.{append-nil}
 use Rattle.oe_cell.specs.declared.cell.Cell.{Cell}
 use Rattle.oe_dims.specs.Cube.{Cube}
 use Rattle.oe_dims.specs.Dimensions.{cell_count}

@@ -1,5 +1,5 @@
 -- The endings of commands as those of the call.
-use Rattle.std.specs.Prelude.{List, ℕ, Result, Ok, Err}
+use Rattle.std.specs.Prelude.{Result, Ok, Err}
 use Rattle.oe_top.specs.declared.check.CheckRefusal.{CheckRefusal}
 use Rattle.oe_top.specs.declared.check.CheckRefusal.TheVariants as check
 use Rattle.oe_top.specs.declared.demo.DemoRefusal.{DemoRefusal}

@@ -62,8 +62,8 @@ module _ (shape : Dimensions) (parts : List PartState) (before after : Objects) 
     pub numbers : OfParts shape parts IsWithoutOver
     pub prefix : WritesJoinedPrefix
 
-  -- 15: no record is damaged and no cell is Over, but what was read back from the spool for this one is no record, or that of
-  -- Over, which never comes of a spool whose bytes are visible
+  -- 15: no record is damaged and no cell is Over, but what was read back from the spool for this one is no record, or
+  -- that of Over, which never comes of a spool whose bytes are visible
   pub record MeetsJoinedSpoolDamage (number : ℕ) : Type 0 where
     pub undamaged : AreUndamaged parts
     pub within : number < cell_count shape

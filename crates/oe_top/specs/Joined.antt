@@ -16,8 +16,8 @@ use Rattle.oe_top.specs.JoinAnswer.{WritesJoined, outline_of_run}
 use Rattle.oe_top.specs.Objects.{Objects}
 use Rattle.oe_top.specs.PartAnswer.{head_for}
 
--- a part is what `part` writes of a graph over the collections of a catalogue, whose text this is, in chunks of a size, for
--- some range
+-- a part is what `part` writes of a graph over the collections of a catalogue, whose text this is, in chunks of a
+-- size, for some range
 pub record IsPartOfMeaning (rows : List Row) (text : List ℕ) (c : CheckedGraph) (size : ChunkSize) (part : PartState) : Type 0 where
   pub head_is : part.head ≡ head_for text c size part.head.first part.head.end
   pub shows : ShowsPartOf (result_of rows c) part
@@ -26,9 +26,10 @@ abbrev pub ArePartsOfMeaning : List Row → List ℕ → CheckedGraph → ChunkS
 ArePartsOfMeaning rows text c size parts =
     (index : ℕ) (part : PartState) → slice_get parts index ≡ Some part → IsPartOfMeaning rows text c size part
 
--- Where parts are what `part` writes of a graph without a fault over the collections of a catalogue, and their ranges tile
--- the chunks of its run, they are a whole. So where `join` ends by 0 over a visible spool, no cell of what the graph means is
--- Over, and its text follows what the output held: the words of `run`, in which neither sides nor ranges nor workers occur.
+-- Where parts are what `part` writes of a graph without a fault over the collections of a catalogue, and their ranges
+-- tile the chunks of its run, they are a whole. So where `join` ends by 0 over a visible spool, no cell of what the
+-- graph means is Over, and its text follows what the output held: the words of `run`, in which neither sides nor
+-- ranges nor workers occur.
 abbrev pub JoinedIsRun : Type 0
 JoinedIsRun = (rows : List Row) (text : List ℕ) (c : CheckedGraph) (size : ChunkSize) (parts : List PartState)
     → AreFaultless c → AreCollectionsOf c (collections_of rows) → AreSides size

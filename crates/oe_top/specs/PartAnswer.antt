@@ -1,5 +1,5 @@
 -- How the command `part` ends: the table of its statuses, one case a row.
-use Rattle.std.specs.Prelude.{◌≡◌, ◌<◌, ◌≤◌, ℕ, ◌+◌, ◌-◌, ◌*◌, List, None, Some, Result, Ok, Err}
+use Rattle.std.specs.Prelude.{◌≡◌, ◌<◌, ◌≤◌, ℕ, ◌+◌, ◌-◌, ◌*◌, List, None, Result, Ok, Err}
 use Rattle.oe_dims.specs.Positions.{Position, number_of}
 use Rattle.oe_dims.specs.declared.kind.CellKind.{CellKind}
 use Rattle.oe_graph.specs.Form.{most_input}
@@ -57,8 +57,8 @@ module _ (text : List ℕ) (c : CheckedGraph) (size : ChunkSize) (first end : �
   WritesPartPrefix = IsVisible before.spool → OfMeaning before.collections c
       (λ cube. AppendsPrefix before.out (part_bytes (head_for text c size first end) cube) after.out)
 
-  -- 15: what was read back from the spool for this cell of the part is no record, which never comes of a spool whose bytes
-  -- are visible
+  -- 15: what was read back from the spool for this cell of the part is no record, which never comes of a spool whose
+  -- bytes are visible
   pub record PartMeetsSpoolDamage (number : ℕ) : Type 0 where
     pub position : Position
     pub inside : IsInSome (part.chunks_of (head_for text c size first end)) position

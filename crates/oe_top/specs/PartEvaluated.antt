@@ -19,8 +19,8 @@ pub record IsPartBegun (r : PartRunOf) : Type 0 where
   pub none_done : r.done ≡ 0
   pub none_over : r.over ≡ None
 
--- Reading changed nothing of the collections but their counters, and for each chunk of the part it asked for one largest
--- window at most for each node that loads a collection.
+-- Reading changed nothing of the collections but their counters, and for each chunk of the part it asked for one
+-- largest window at most for each node that loads a collection.
 pub record ReadsForPart (r : PartRunOf) (before after : List Row) : Type 0 where
   pub read : AreRead before after
   pub asked : cells_asked after ≤ cells_asked before + r.count * most_asked r.plan

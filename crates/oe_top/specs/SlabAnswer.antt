@@ -1,6 +1,6 @@
 -- How the command `slab` ends: by the table of `run`, over the same meaning, where slabs of dates are folded one after
 -- the other.
-use Rattle.std.specs.Prelude.{◌≡◌, ◌≤◌, ℕ, ◌+◌, Result, Ok, Err}
+use Rattle.std.specs.Prelude.{◌≤◌, ℕ, ◌+◌, Result, Ok, Err}
 use Rattle.oe_graph.specs.Form.{most_input}
 use Rattle.oe_outside.specs.Faults.{NeverFalls}
 use Rattle.oe_outside.specs.Input.{TakesAtMost}
@@ -28,8 +28,8 @@ pub record FoldsSlabs (c : CheckedGraph) (size : ChunkSize) (fold : ℕ) (before
   pub spool_count : NeverFalls before.spool_faults after.spool_faults
 
 module _ (size : ChunkSize) (before after : Objects) where
-  -- the input is a graph without a fault that has a time cut, such a run of it holds no more cells than are allowed, and
-  -- it was evaluated
+  -- the input is a graph without a fault that has a time cut, such a run of it holds no more cells than are allowed,
+  -- and it was evaluated
   pub record IsFolded (ending : Result (Unit {0}) EvaluationFail) : Type 0 where
     pub graph : CheckedGraph
     pub input : IsInput before after graph

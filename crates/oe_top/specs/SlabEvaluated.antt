@@ -28,8 +28,8 @@ slabs_of c size fold = parts_along (dates_of_fold c fold) size.t
 abbrev pub loads_before : CheckedGraph → ℕ → ℕ
 loads_before c fold = loads_of (record c { result = taken_by c fold })
 
--- Reading changed nothing of the collections but their counters, and for each slab of each chunk it asked for one window
--- of a slab at most for each of these nodes.
+-- Reading changed nothing of the collections but their counters, and for each slab of each chunk it asked for one
+-- window of a slab at most for each of these nodes.
 pub record ReadsForSlabs (c : CheckedGraph) (size : ChunkSize) (fold : ℕ) (before after : List Row) : Type 0 where
   pub read : AreRead before after
   pub asked : cells_asked after

@@ -51,13 +51,13 @@ use std::thread::Threads;
 ///
 /// A graph is evaluated in chunks of CX × CY × CT labels with W workers. A line ends with a line feed.
 ///
-/// Of a command that did not finish a line stands on `err`: `openeo: `, the code of the refusal, what it carries and a
-/// line feed. `docs/formats.md` has the table of statuses with the line and the cause of each; of the commands here they
-/// are 0 to 9 and 15. 1 comes exactly where the words spell no command, and each of 5, 7 and 8 only where a fault counter
-/// rose.
+/// Of a command that did not finish a line stands on `err`: `openeo: `, the code of the refusal, what it carries and
+/// a line feed. `docs/formats.md` has the table of statuses with the line and the cause of each; of the commands here
+/// they are 0 to 9 and 15. 1 comes exactly where the words spell no command, and each of 5, 7 and 8 only where a
+/// fault counter rose.
 ///
-/// A fault of `err` changes nothing. In statuses 1 to 6 and 9 of `run` nothing is written to `out`, and in 7, 8 and 15
-/// a prefix of the text stands there.
+/// A fault of `err` changes nothing. In statuses 1 to 6 and 9 of `run` nothing is written to `out`, and in 7, 8 and
+/// 15 a prefix of the text stands there.
 pub fn openeo<R: Threads + Sync, I: Source, O: Sink, E: Sink, P: Store, G: Gate, S: Store + Drop>(
     setup: &Setup<'_, R, G>,
     words: &[Text],

@@ -1,5 +1,5 @@
 // Graphs that are evaluated chunk by chunk into a spool.
-ghost use Rattle.std.specs.Prelude.{◌≡◌, ◌<◌, ℕ, IfErr, IfOk, IsErrOf};
+ghost use Rattle.std.specs.Prelude.{◌≡◌, ◌<◌, ℕ, IfOk, IsErrOf};
 ghost use Rattle.oe_steps.specs.Collections.{HasCollections};
 ghost use Rattle.oe_engine.specs.Runs.{chunk_total};
 ghost use Rattle.oe_plan.specs.Figures.{bound_of, most_held_cells};
@@ -84,8 +84,8 @@ pub(crate) fn complete<R: Threads + Sync, P: Store, G: Gate>(
     end
 }
 
-/// All rounds of a run, which has so many chunks, and whether no cell of its result is out of the range of numbers, at a
-/// gate that is open.
+/// All rounds of a run, which has so many chunks, and whether no cell of its result is out of the range of numbers,
+/// at a gate that is open.
 fn finish<R: Threads + Sync, P: Store, G: Gate>(
     rt: &R,
     run: &mut Run,

@@ -146,9 +146,9 @@ fn name_of<S: Store + Drop>(parts: &RunParts<S>, index: usize) -> ShortName
     ShortName::of(parts.name(index))
 }
 
-/// Does nothing. Its contract says that parts of what a graph means, whose ranges have each chunk of its run once, are a
-/// whole, in whatever order they are and by however many workers each was made; and that what is joined of them is the text
-/// of that meaning, as a run writes it.
+/// Does nothing. Its contract says that parts of what a graph means, whose ranges have each chunk of its run once,
+/// are a whole, in whatever order they are and by however many workers each was made; and that what is joined of them
+/// is the text of that meaning, as a run writes it.
 pub fn joined_is_run()
     ensures { JoinedIsRun }
 {}

@@ -1,5 +1,5 @@
 // The graph of an input, judged over the collections of a catalogue.
-ghost use Rattle.std.specs.Prelude.{◌≡◌, ◌+◌, IfOk, IfErr, OnOk};
+ghost use Rattle.std.specs.Prelude.{◌+◌, IfOk, IfErr, OnOk};
 ghost use Rattle.oe_dims.specs.Plain.{plain_rows};
 ghost use Rattle.oe_graph.specs.Form.{most_input};
 ghost use Rattle.oe_graph.specs.Read.{IsFault};

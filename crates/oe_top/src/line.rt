@@ -16,7 +16,7 @@ pub(crate) struct Line {
 }
 
 impl Model for Line {
-    ghost use Rattle.std.specs.Prelude.{◌≤◌, ℕ, List, vec_len, vec_capacity};
+    ghost use Rattle.std.specs.Prelude.{◌≤◌, ℕ, List, vec_capacity};
 
     ghost Value = { List ℕ };
 

@@ -1,5 +1,5 @@
 // The command `part`: from the input to the records of some chunks of its run.
-ghost use Rattle.std.specs.Prelude.{◌≡◌, ◌<◌, ◌≤◌, ◌+◌, ◌↔◌, ℕ, [], List, Option, IfOk, IsErrOf, IsTrue, IsUtf8};
+ghost use Rattle.std.specs.Prelude.{◌≡◌, ◌<◌, ◌+◌, ◌↔◌, ℕ, [], List, Option, IfOk, IsErrOf, IsTrue, IsUtf8};
 ghost use Rattle.oe_dims.specs.declared.dims.DimsRow.{DimsRow};
 ghost use Rattle.oe_engine.specs.Laws.{GivesCollections};
 ghost use Rattle.oe_parts.specs.Head.{AreSides, IsPartHead, front_bytes};
@@ -181,8 +181,8 @@ fn begin_part(
     Ok(PartRun::start(plan, workspace, 0, chunks.0, chunks.1 - chunks.0))
 }
 
-/// Evaluates the chunks of a part of a run before its first round, and writes its part file, of which this is the head and
-/// the front.
+/// Evaluates the chunks of a part of a run before its first round, and writes its part file, of which this is the
+/// head and the front.
 fn write_chunks<R: Threads + Sync, O: Sink, P: Store, G: Gate>(
     setup: &Setup<'_, R, G>,
     mut run: PartRun,

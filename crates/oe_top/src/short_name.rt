@@ -7,9 +7,8 @@ use std::marker::Model;
 /// The most bytes of a name.
 const MOST: usize = 64;
 
-/// The id of a collection or the name of a file, 64 bytes at most. It takes no memory, so that a position can be named in
-/// the midst of a run.
-/// Contracts see the bytes.
+/// The id of a collection or the name of a file, 64 bytes at most. It takes no memory, so that a position can be
+/// named in the midst of a run. Contracts see the bytes.
 #[derive(Drop)]
 pub struct ShortName {
     bytes: [u8; MOST],

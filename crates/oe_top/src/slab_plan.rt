@@ -1,5 +1,5 @@
 // The command `slabplan`: from the input to the figures of a run that is folded slab by slab.
-ghost use Rattle.std.specs.Prelude.{◌≡◌, ℕ, List, Option, IfOk, IsErrOf};
+ghost use Rattle.std.specs.Prelude.{ℕ, List, Option, IfOk, IsErrOf};
 ghost use Rattle.oe_slab.specs.Cuts.{HasNoTimeCut};
 ghost use Rattle.oe_slab.specs.Figures.{AreSlabSides};
 ghost use Rattle.oe_slab.specs.declared.figures.SlabNumbersFail.{SlabNumbersFail};

@@ -1,6 +1,6 @@
 use Rattle.oe_sources.specs.CatalogueRows.{rows_of}
 use Rattle.oe_top.proofs.Ended.{ends_describe, ends_join, ends_of, ends_pack, ends_repack, ends_usage}
-use Rattle.oe_top.specs.declared.words.Command.TheVariants.{Run, Part, Join, Plan, Slab, SlabPlan, Demo, Check, Explain, Pack, Repack, DescribeAll, Describe}
+use Rattle.oe_top.specs.declared.words.Command.TheVariants.{Run, Part, Plan, Slab, SlabPlan, Demo, Check, Explain, DescribeAll}
 use Rattle.oe_top.proofs.command.obey.Goals as goal
 
 pub returns-in-Some-Run : goal.returns-in-Some-Run

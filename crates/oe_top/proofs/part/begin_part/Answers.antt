@@ -1,4 +1,4 @@
-use Rattle.std.proofs.Common.{◌≡◌, ◌+◌, ◌≤◌, ap, ◌∙◌, arith}
+use Rattle.std.proofs.Common.{◌≡◌, ap, ◌∙◌, arith}
 use Rattle.oe_engine.specs.Runs.{chunk_total}
 use Rattle.oe_plan.specs.Figures.{chunks_of}
 use Rattle.oe_shape.specs.Checked.{CheckedGraph}

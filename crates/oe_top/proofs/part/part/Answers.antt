@@ -1,4 +1,4 @@
-use Rattle.std.proofs.Common.{◌≡◌, ◌+◌, refl, sym, ap, ◌∙◌, subst}
+use Rattle.std.proofs.Common.{◌+◌, refl, sym, ap, ◌∙◌, subst}
 use Rattle.oe_outside.proofs.Causes.{NeverFalls-refl}
 use Rattle.oe_parts.specs.Head.{PartHead}
 use Rattle.oe_shape.specs.Checked.{CheckedGraph}
