@@ -1,8 +1,10 @@
 -- What the program itself answers, before and beside its command.
-use Rattle.std.specs.Prelude.{◌≡◌, ℕ, List, [], ◌∷◌, ◌⊎◌, codes}
+use Rattle.std.specs.Prelude.{◌≡◌, ℕ, List, [], ◌∷◌, ◌⊎◌, Result, Ok, Err, codes}
 use Rattle.oe_adapters.specs.Setup.{fault_status, program_fault_line}
 use Rattle.oe_adapters.specs.declared.fault.Fault.{Fault}
-use Rattle.oe_top.specs.Lines.{ErrorOutput, Says}
+use Rattle.oe_serve.specs.Endings.{line_of, status_of}
+use Rattle.oe_serve.specs.declared.turns.ServeFail.{ServeFail}
+use Rattle.oe_top.specs.Lines.{ErrorOutput, IsSilent, Says}
 
 -- the word asks for a text about the program or a command
 abbrev pub IsTextWord : List ℕ → Type 0
@@ -26,3 +28,10 @@ AsksForText (verb ∷ word ∷ next ∷ rest) = ⊥
 pub record EndsByFault (fault : Fault) (status : ℕ) (err : ErrorOutput) : Type 0 where
   pub status_is : status ≡ fault_status fault
   pub line : Says (program_fault_line fault) err
+
+-- The server ends well, by 0 and without a line; or by the status and the line of why it ended; or by the fault that
+-- kept it from serving.
+abbrev pub EndsServer : Result (Result (Unit {0}) ServeFail) Fault → ℕ → ErrorOutput → Type 0
+EndsServer (Ok (Ok x)) status err = (status ≡ 0) × IsSilent err
+EndsServer (Ok (Err fail)) status err = (status ≡ status_of fail) × Says (line_of fail) err
+EndsServer (Err fault) status err = EndsByFault fault status err

@@ -1,9 +1,11 @@
 // The command `serve`: what it stands on, and how it ends.
 ghost use Rattle.std.specs.Prelude.{◌≡◌, IfNone};
 ghost use Rattle.oe_plan.specs.Ranges.{IsWithinRanges};
-ghost use Rattle.oe_serve.specs.Endings.{status_of};
+ghost use Rattle.oe_serve.specs.Endings.{line_of, status_of};
 ghost use Rattle.oe_serve.specs.Words.{SpellsServe};
 ghost use Rattle.oe_serve.specs.declared.command.ServeCommand.{ServeCommand as Command};
+ghost use Rattle.oe_top.specs.Lines.{Says, error_output};
+ghost use Rattle.openeo.specs.Ends.{EndsServer};
 
 use crate::program::end;
 use itoa::Buffer;
@@ -55,17 +57,25 @@ pub fn serve_words<R: Threads + Sync, E: Sink>(
     ensures { IfNone result ((command : Command) → ¬ SpellsServe words.now command) }
 {
     let command = read_serve(words)?;
-    let status = match served(alloc, rt, threads, command, tokens, catalogue) {
+    let ended = served(alloc, rt, threads, command, tokens, catalogue);
+    Some(end_server(ended, err))
+}
+
+/// Says why the server did not end well, or did not begin, and answers its exit status.
+fn end_server<E: Sink>(ended: Result<Result<(), ServeFail>, Fault>, err: &mut E) -> u8
+    ensures { EndsServer ended result (error_output E.written E.faults err.old err.new) }
+{
+    match ended {
         Ok(Ok(())) => 0,
         Ok(Err(fail)) => say(fail, err),
         Err(fault) => end(&fault, err),
-    };
-    Some(status)
+    }
 }
 
 /// Says why the server ended, and answers its exit status.
 fn say<E: Sink>(fail: ServeFail, err: &mut E) -> u8
-    ensures { result ≡ status_of fail }
+    ensures status { result ≡ status_of fail }
+    ensures line { Says (line_of fail) (error_output E.written E.faults err.old err.new) }
 {
     // Where the line can't be written, the status alone tells.
     let _ = err.write(fail.line().as_bytes());
