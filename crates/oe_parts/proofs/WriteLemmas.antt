@@ -98,6 +98,10 @@ pub on_sink_err : {T : Type 0} (P : Type 0) (r : Result T Failed) (s : Result T 
 on_sink_err P (Ok x) s is p = rw is tt
 on_sink_err P (Err e) s is p = rw is p
 
+pub on_ok_then : {T E P Q : Type 0} (r : Result T E) → (P → Q) → OnOk r P → OnOk r Q
+on_ok_then (Ok x) f p = f p
+on_ok_then (Err e) f p = tt
+
 pub on_err_then : {T E P Q : Type 0} (r : Result T E) → (P → Q) → OnErr r P → OnErr r Q
 on_err_then (Ok x) f p = tt
 on_err_then (Err e) f p = f p

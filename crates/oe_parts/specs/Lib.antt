@@ -6,5 +6,6 @@ pub mod Opening
 pub mod PartFile
 pub mod Parts
 pub mod Rows
+pub mod Sent
 pub mod Spooled
 pub mod Whole

@@ -1,5 +1,5 @@
 // A part file written from the records in a spool.
-ghost use Rattle.std.specs.Prelude.{◌≡◌, ◌≢◌, ◌≤◌, ◌+◌, ◌*◌, ◌^◌, List, [], length, IfErr, OnErr, OnOk};
+ghost use Rattle.std.specs.Prelude.{◌≡◌, ◌≢◌, ◌≤◌, ◌+◌, ◌*◌, ◌^◌, ℕ, List, Option, [], length, IfErr, OnErr, OnOk};
 ghost use Rattle.std.specs.List.{All};
 ghost use Rattle.oe_cell.specs.Cells.{IsCell};
 ghost use Rattle.oe_cell.specs.Record.{records_of};
@@ -11,10 +11,11 @@ ghost use Rattle.oe_outside.specs.Visible.{Appends, AppendsPrefix};
 ghost use Rattle.oe_render.specs.Rendered.{HasRendered, sink_answer};
 ghost use Rattle.oe_spool.specs.Spooled.{IsInSome};
 ghost use Rattle.oe_window.specs.Cells.{cells_on};
-ghost use Rattle.oe_window.specs.Windows.{Holds, IsIn, span_length, whole_window};
+ghost use Rattle.oe_window.specs.Windows.{Holds, IsIn, position_count, span_length, whole_window};
 ghost use Rattle.oe_parts.specs.Head.{IsPartHead, front_bytes};
-ghost use Rattle.oe_parts.specs.PartFile.{cells_on_all, chunks_of, part_bytes};
-ghost use Rattle.oe_parts.specs.Rows.{Shows};
+ghost use Rattle.oe_parts.specs.PartFile.{cells_on_all, chunks_of, part_bytes, part_cells};
+ghost use Rattle.oe_parts.specs.Rows.{AreRecords, Shows};
+ghost use Rattle.oe_parts.specs.Sent.{AppendsRecords, SendsRecords};
 ghost use Rattle.oe_parts.specs.Spooled.{ShowsPart, ShowsRecords, TellsNoRecord, TellsNoRecordFrom};
 
 use crate::head::PartHead;
@@ -27,6 +28,8 @@ use oe_window::{Window, size};
 
 /// Writes a part file: its front, and then the records of its chunks, which stand in a spool from byte `base` on,
 /// each at its number in the whole result. It takes no memory, and changes no byte of the spool.
+///
+/// What ends well is a part file with records of valid cells, whatever the spool gave back.
 ///
 /// Refuses: `SpoolFailed` and `SinkFailed` only where the fault counter of the spool or of the output rose;
 /// `SpoolDamaged` only where what stands for that cell is no record. Then a prefix of the file was written.
@@ -44,6 +47,7 @@ pub fn write_part<P: Store, O: Sink>(
     requires empty { pending.old ≡ [] }
     ensures file { OnOk result ((cube : Cube Cell) → ShowsPart (P.bytes spool.old) base head.now cube
         → Appends (O.written out.old) (part_bytes head.now cube) (O.written out.new)) }
+    ensures records { OnOk result (AppendsRecords (O.written out.old) head.now (O.written out.new)) }
     ensures prefix { OnErr result ((cube : Cube Cell) → ShowsPart (P.bytes spool.old) base head.now
         cube → AppendsPrefix (O.written out.old) (part_bytes head.now cube) (O.written out.new)) }
     ensures spool_cause { HasCauseOf RenderFail.SpoolFailed (P.faults spool.old)
@@ -86,6 +90,8 @@ fn write_chunks<P: Store, O: Sink>(
     ensures sent { (cube : Cube Cell) → ShowsPart (P.bytes spool.old) base head.now cube →
         HasRendered O.written O.size O.faults out.old pending.old
         (records_of (cells_on_all cube (chunks_of head.now))) out.new pending.new result }
+    ensures records { OnOk result (SendsRecords (O.written out.old) (O.size out.old) pending.old
+        (part_cells head.now) (O.written out.new) (O.size out.new) pending.new) }
     ensures spool_cause { HasCauseOf RenderFail.SpoolFailed (P.faults spool.old)
         (P.faults spool.new) result }
     ensures sink_cause { HasCauseOf RenderFail.SinkFailed (O.faults out.old)
@@ -124,6 +130,8 @@ fn write_chunk<P: Store, O: Sink>(
         ShowsRecords (P.bytes spool.old) base cube (IsIn window.now) →
         HasRendered O.written O.size O.faults out.old pending.old
         (records_of (cells_on Empty cube window.now)) out.new pending.new result }
+    ensures records { OnOk result (SendsRecords (O.written out.old) (O.size out.old) pending.old
+        (position_count window.now) (O.written out.new) (O.size out.new) pending.new) }
     ensures spool_cause { HasCauseOf RenderFail.SpoolFailed (P.faults spool.old)
         (P.faults spool.new) result }
     ensures sink_cause { HasCauseOf RenderFail.SinkFailed (O.faults out.old)
@@ -163,6 +171,8 @@ fn write_row<P: Store, O: Sink>(
         Shows (P.bytes spool.old) (base + 17 * first) shown →
         HasRendered O.written O.size O.faults out.old pending.old (records_of shown) out.new
         pending.new result }
+    ensures records { OnOk result (SendsRecords (O.written out.old) (O.size out.old) pending.old
+        count (O.written out.new) (O.size out.new) pending.new) }
     ensures spool_cause { HasCauseOf RenderFail.SpoolFailed (P.faults spool.old)
         (P.faults spool.new) result }
     ensures sink_cause { HasCauseOf RenderFail.SinkFailed (O.faults out.old)
@@ -191,6 +201,7 @@ fn read_row<P: Store>(
     ensures shown { (shown : List Cell) → All IsCell shown → length shown ≡ count →
         Shows (P.bytes spool.old) (base + 17 * first) shown →
         OnOk result (bytes.new ≡ records_of shown) }
+    ensures cells { OnOk result ((over : Option ℕ) × AreRecords count bytes.new over) }
     ensures cause { HasCauseOf RenderFail.SpoolFailed (P.faults spool.old)
         (P.faults spool.new) result }
     ensures damage { IfErr result (TellsNoRecordFrom (P.bytes spool.old) base first
@@ -199,7 +210,7 @@ fn read_row<P: Store>(
     ensures same { P.bytes spool.new ≡ P.bytes spool.old }
 {
     match read_cells(spool, base + 17 * first, bytes, count) {
-        Ok(_) => Ok(()),
+        Ok(_over) => Ok(()),
         Err(ReadFail::Failed) => Err(RenderFail::SpoolFailed),
         Err(ReadFail::Damaged(index)) => Err(RenderFail::SpoolDamaged(first + index as u64)),
     }

@@ -17,6 +17,7 @@ use Rattle.oe_outside.specs.Visible.{Appends, AppendsPrefix}
 use Rattle.oe_parts.proofs.ShownLemmas.{windows_valid}
 use Rattle.oe_parts.specs.Head.{IsPartHead, PartHead}
 use Rattle.oe_parts.specs.PartFile.{IsPartOf, chunks_of, part_bytes}
+use Rattle.oe_parts.specs.Sent.{AppendsRecords}
 use Rattle.oe_parts.specs.Spooled.{ShowsPart, TellsNoRecord}
 use Rattle.oe_parts.specs.Rows.{HasNoRecordAt}
 use Rattle.oe_plan.specs.Figures.{largest_window}
@@ -198,10 +199,14 @@ module _ (written : List ℕ) (r after : PartRunOf) (rows rows_after : List Row)
         abbrev WritesPartOf : Cube Cell → Type 0
         WritesPartOf cube = (bytes : List ℕ) × IsPartOf bytes head cube × Appends out bytes out_after
 
-        pub part_written : IsPartHead head → Holds (λ cube. Appends out (part_bytes head cube) out_after) → NeverFalls faults_after faults_last
-            → NeverFalls out_faults out_faults_after → EvaluatesChunks written p.graph p.size r.first end begun stopped (Ok tt)
-        part_written valid appends count out_count =
-            last (Ok tt) count out_count (of_chunks WritesPartOf (λ cube shows. (part_bytes head cube, is_part valid cube shows, appends cube shows)))
+        pub part_written : IsPartHead head → AppendsRecords out head out_after → Holds (λ cube. Appends out (part_bytes head cube) out_after)
+            → NeverFalls faults_after faults_last → NeverFalls out_faults out_faults_after
+            → EvaluatesChunks written p.graph p.size r.first end begun stopped (Ok tt)
+        part_written valid records appends count out_count =
+            last (Ok tt) count out_count (record {
+              records = records;
+              of_meaning = of_chunks WritesPartOf (λ cube shows. (part_bytes head cube, is_part valid cube shows, appends cube shows));
+            })
 
         pub part_stopped : (fail : RenderFail) (why : EvaluationFail) → why ≡ fail_of_text fail
             → Holds (λ cube. AppendsPrefix out (part_bytes head cube) out_after)

@@ -9,6 +9,7 @@ use Rattle.oe_outside.specs.Visible.{Appends, AppendsPrefix}
 use Rattle.oe_parts.specs.Head.{IsPartHead, PartHead}
 use Rattle.oe_parts.specs.PartFile as part
 use Rattle.oe_parts.specs.PartFile.{IsPartOf, part_bytes}
+use Rattle.oe_parts.specs.Sent.{AppendsRecords}
 use Rattle.oe_plan.specs.Figures.{bound_of, chunks_of, largest_window, most_held_cells, shape_of_node}
 use Rattle.oe_shape.specs.Checked.{CheckedGraph, outline_of_node}
 use Rattle.oe_sources.specs.Catalogue.{cells_asked}
@@ -47,12 +48,14 @@ AreChunksOf c size first end = (first < end) × (end ≤ chunks_of c size)
 -- ---- how the evaluation of the chunks ends
 
 module _ (text : List ℕ) (c : CheckedGraph) (size : ChunkSize) (first end : ℕ) (before after : Objects) where
-  -- 0: the bytes of the part of what the graph means follow what the output held; a cell of it may be Over
-  abbrev pub WritesPartFile : Type 0
-  WritesPartFile = IsVisible before.spool → OfMeaning before.collections c
-      (λ cube. (bytes : List ℕ) × IsPartOf bytes (head_for text c size first end) cube × Appends before.out bytes after.out)
+  -- 0: the front of the part and the records of as many valid cells as it has follow what the output held. Where
+  -- collections and spool are visible they are the part of what the graph means, a cell of which may be Over.
+  pub record WritesPartFile : Type 0 where
+    pub records : AppendsRecords before.out (head_for text c size first end) after.out
+    pub of_meaning : IsVisible before.spool → OfMeaning before.collections c
+        (λ cube. (bytes : List ℕ) × IsPartOf bytes (head_for text c size first end) cube × Appends before.out bytes after.out)
 
-  -- a prefix of them does
+  -- a prefix of that part does
   abbrev pub WritesPartPrefix : Type 0
   WritesPartPrefix = IsVisible before.spool → OfMeaning before.collections c
       (λ cube. AppendsPrefix before.out (part_bytes (head_for text c size first end) cube) after.out)

@@ -1,22 +1,40 @@
-use Rattle.std.proofs.Common.{◌≡◌, ◌<◌, ◌+◌, ◌*◌, ℕ, List, Option, Ok, take, drop, sym, ap, ◌∙◌, subst, arith}
+use Rattle.std.proofs.Common.{◌≡◌, ◌<◌, ◌+◌, ◌*◌, ℕ, List, Option, Ok, take, drop, refl, sym, ap, ◌∙◌, subst, arith}
 use Rattle.oe_cell.specs.Record.{records_of}
 use Rattle.oe_cell.specs.declared.cell.Cell.{Cell}
 use Rattle.oe_cell.specs.declared.cell.Cell.TheVariants.{Empty}
-use Rattle.oe_outside.proofs.Causes.{NeverFalls-trans}
+use Rattle.oe_outside.proofs.Causes.{NeverFalls-refl, NeverFalls-trans}
 use Rattle.oe_render.specs.Rendered.{HasRendered}
+use Rattle.oe_render.proofs.Sending.{rendered_none}
 use Rattle.oe_window.specs.Cells.{cells_on}
 use Rattle.oe_window.specs.Parts.{row_count, row_of}
 use Rattle.oe_window.specs.Windows.{position_count, span_length}
 use Rattle.oe_window.proofs.WholeLemmas.{count_within}
 use Rattle.oe_parts.specs.Rows.{Shows}
+use Rattle.oe_parts.specs.Sent.{SendsRecords}
 use Rattle.oe_parts.specs.Spooled.{TellsNoRecordFrom}
-use Rattle.oe_parts.proofs.ShownLemmas.{rows_all, rows_more}
-use Rattle.oe_parts.proofs.WriteLemmas.{cause_then, row_refuses, row_text, rows_rest, text_more, text_stops}
+use Rattle.oe_parts.proofs.SentLemmas.{records_sent_more, records_sent_none}
+use Rattle.oe_parts.proofs.ShownLemmas.{row_size, rows_all, rows_more}
+use Rattle.oe_parts.proofs.WriteLemmas.{cause_then, none_taken, row_refuses, row_text, rows_rest, text_more, text_stops}
 use Rattle.oe_parts.proofs.write.write_chunk.Goals as goal
 
 pub rows-number-end-requires : goal.rows-number-end-requires
 rows-number-end-requires g c =
     omega (arith, count_within c.args.shape.now c.args.window.now c.requires.within, c.cells-cells.ensures.value, c.cells-cells.ensures.most)
+
+pub loop-number-init : goal.loop-number-init
+loop-number-init g c =
+    let w = c.args.window.now in
+    let len = span_length w.x in
+    let none : 0 * len ≡ 0 = omega arith in
+    record {
+      sent = λ cube same shown. subst (λ (t : List ℕ). HasRendered g.O.Sink.written g.O.Sink.size g.O.Sink.faults c.args.out.now c.args.pending.now t c.args.out.now c.args.pending.now (Ok (tt {0}))) (sym (none_taken len (cells_on Empty cube w)))
+          (rendered_none c.args.out.now c.args.pending.now (tt {0}));
+      records = subst (λ (m : ℕ). SendsRecords (g.O.Sink.written c.args.out.now) (g.O.Sink.size c.args.out.now) c.args.pending.now m (g.O.Sink.written c.args.out.now) (g.O.Sink.size c.args.out.now) c.args.pending.now) (sym none)
+          (records_sent_none (g.O.Sink.written c.args.out.now) (g.O.Sink.size c.args.out.now) c.args.pending.now);
+      same = refl;
+      spool_falls = NeverFalls-refl (g.P.Store.faults c.args.spool.now);
+      sink_falls = NeverFalls-refl (g.O.Sink.faults c.args.out.now);
+    }
 
 pub write_row-requires-clause-few : goal.write_row-requires-clause-few
 write_row-requires-clause-few g c =
@@ -86,6 +104,18 @@ loop-number-preserved g c =
           (records_of (take (n * len) cells)) (records_of (cells_on Empty cube (row_of w n))) (records_of (take ((n + 1) * len) cells))
           (rows_more cube w n below) (c.loop-number.invariant.sent cube same shown)
           (c.in-Ok.ensures.sent (cells_on Empty cube (row_of w n)) text.valid (text.long ∙ sym size) shows));
+      records = (
+          let w0 = g.O.Sink.written c.args.out.now in
+          let z0 = g.O.Sink.size c.args.out.now in
+          let w1 = g.O.Sink.written c.loop-number.out in
+          let z1 = g.O.Sink.size c.loop-number.out in
+          let w2 = g.O.Sink.written c.write_row.new.out in
+          let z2 = g.O.Sink.size c.write_row.new.out in
+          let len = span_length w.x in
+          let long : c.size-count.result ≡ len = size ∙ row_size w row n is in
+          let more : n * len + c.size-count.result ≡ (n + 1) * len = omega (arith, long) in
+          subst (λ (m : ℕ). SendsRecords w0 z0 c.args.pending.now m w2 z2 c.write_row.new.pending) more
+          (records_sent_more w0 w1 w2 z0 z1 z2 c.args.pending.now c.loop-number.pending c.write_row.new.pending (n * len) c.size-count.result c.loop-number.invariant.records c.in-Ok.ensures.records));
       same = c.in-Ok.ensures.same ∙ c.loop-number.invariant.same;
       spool_falls = NeverFalls-trans c.loop-number.invariant.spool_falls c.in-Ok.ensures.spool_cause.count;
       sink_falls = NeverFalls-trans c.loop-number.invariant.sink_falls c.in-Ok.ensures.sink_cause.count;
@@ -101,3 +131,10 @@ returns-clause-sent g c cube same shown =
     let all : take (c.loop-number.number * len) cells ≡ cells = ap (λ (m : ℕ). take (m * len) cells) last ∙ rows_all cube w rows c.rows-number-end.ensures.all in
     subst (λ (cs : List Cell). HasRendered g.O.Sink.written g.O.Sink.size g.O.Sink.faults c.args.out.now c.args.pending.now (records_of cs) c.loop-number.out c.loop-number.pending (Ok (tt {0}))) all
     (c.loop-number.invariant.sent cube same shown)
+
+pub returns-clause-records : goal.returns-clause-records
+returns-clause-records g c =
+    let len = span_length c.args.window.now.x in
+    let last : c.loop-number.number ≡ c.rows-number-end.result = omega (arith, c.loop-number-test.false, c.loop-number.auto.number-end) in
+    subst (λ (m : ℕ). SendsRecords (g.O.Sink.written c.args.out.now) (g.O.Sink.size c.args.out.now) c.args.pending.now m (g.O.Sink.written c.loop-number.out) (g.O.Sink.size c.loop-number.out) c.loop-number.pending)
+    (ap (λ (n : ℕ). n * len) last ∙ c.rows-number-end.ensures.all) c.loop-number.invariant.records

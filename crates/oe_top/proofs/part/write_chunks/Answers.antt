@@ -4,6 +4,7 @@ use Rattle.oe_dims.specs.Cube.{Cube}
 use Rattle.oe_outside.specs.Visible.{Appends, AppendsPrefix}
 use Rattle.oe_parts.specs.Head.{IsPartHead, PartHead}
 use Rattle.oe_parts.specs.PartFile.{chunks_of, part_bytes}
+use Rattle.oe_parts.specs.Sent.{AppendsRecords}
 use Rattle.oe_parts.specs.Spooled.{ShowsPart, TellsNoRecord}
 use Rattle.oe_plan.specs.Plans.{PlanOf}
 use Rattle.oe_shape.specs.Checked.{CheckedGraph}
@@ -42,6 +43,8 @@ returns-in-Ok-write_part g c = λ input input_after input_faults input_faults_af
     (part_written c.args.head.now.graph _ _ _ _ _ _ _ _ c.requires.collections c.requires.rows c.requires.begun.planned
     c.in-Ok.ensures.through front input input_after input_faults input_faults_after _ _ _ _ _
     (subst IsPartHead c.requires.head c.requires.valid)
+    (subst (λ (head : PartHead). AppendsRecords (g.O.Sink.written c.args.out.now) head (g.O.Sink.written c.write_part.new.out)) c.requires.head
+    c.in-Ok-write_part.ensures.records)
     (subst (λ (head : PartHead). (cube : Cube Cell) → ShowsPart (g.P.Store.bytes c.complete_part.new.spool) 0 head cube
     → Appends (g.O.Sink.written c.args.out.now) (part_bytes head cube) (g.O.Sink.written c.write_part.new.out)) c.requires.head
     c.in-Ok-write_part.ensures.file) c.in-Ok-write_part.ensures.spool_cause.count c.in-Ok-write_part.ensures.sink_cause.count)
