@@ -11,7 +11,8 @@ use oe_plan::Plan;
 use std::thread;
 use std::thread::Threads;
 
-/// Has each worker draw slots, all at once in threads of their own. Where a thread cannot be had, this one does its work.
+/// Has each worker draw slots, all at once in so many threads at most, this one among them. Where a thread cannot be had,
+/// this one does its work.
 pub(crate) fn work_all<R: Threads + Sync, G: Gate>(
     rt: &R,
     shelf: &Shelf,
@@ -20,8 +21,9 @@ pub(crate) fn work_all<R: Threads + Sync, G: Gate>(
     gate: &G,
     first: u64,
     slots: u64,
+    threads: usize,
 )
-    requires some { 0 < length hands.old }
+    requires threads { 0 < threads }
     requires words { 0 < shelf.now.table_id.words }
     requires slots { (shelf.now.table_id.slots ≡ slots) × (shelf.now.key.slots ≡ slots) }
     requires room { first + slots < 2 ^ 64 }
@@ -30,7 +32,6 @@ pub(crate) fn work_all<R: Threads + Sync, G: Gate>(
     ensures worked { (i : ℕ) (d : Hand) → i < length hands.old → HasWorked shelf.now.key first
         (slice_index_or hands.old i d) (slice_index_or hands.new i d) }
 {
-    let threads = hands.len();
     thread::for_each_mut(
         rt,
         hands,

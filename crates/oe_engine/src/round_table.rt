@@ -199,8 +199,8 @@ impl Crew {
         })
     }
 
-    /// Has the workers evaluate the benches of the round of a first chunk, each that is loaded once behind the gate. An
-    /// idle bench and one that is done stay as they are.
+    /// Has the workers evaluate the benches of the round of a first chunk, in so many threads at most, each that is loaded
+    /// once behind the gate. An idle bench and one that is done stay as they are.
     pub(crate) fn evaluate<R: Threads + Sync, G: Gate>(
         &mut self,
         rt: &R,
@@ -208,7 +208,9 @@ impl Crew {
         benches: &mut Vec<Bench>,
         gate: &G,
         first: u64,
+        threads: usize,
     )
+        requires threads { 0 < threads }
         requires many { length benches.old.items ≡ 2 * self.old }
         requires benches { All (IsBenchFor plan.now) benches.old.items }
         requires room { first + 4 * self.old + 1 < 2 ^ 64 }
@@ -222,7 +224,16 @@ impl Crew {
         let slots = 2 * workers;
         lay(shelf, &mut self.seat, plan, benches, first);
         split_all(shelf, &mut self.seat, &mut self.hands, workers);
-        work_all(rt, shelf, &mut self.hands, plan, gate, first, slots);
+        work_all(
+            rt,
+            shelf,
+            &mut self.hands,
+            plan,
+            gate,
+            first,
+            slots,
+            threads,
+        );
         join_all(shelf, &mut self.seat, &mut self.hands);
         take_all(shelf, &mut self.seat, plan, benches, gate, slots);
     }

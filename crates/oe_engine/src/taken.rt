@@ -76,6 +76,7 @@ pub(crate) fn evaluate_taken<R: Threads + Sync, G: Gate>(
     // A plan has at most 2^48 chunks, so that their numbers fit 64 bits, and at most 64 workers.
     let _chunks = plan.chunks();
     let _workers = plan.workers();
-    crew.evaluate(rt, plan, benches, gate, first);
+    // No more threads than chunks: a worker that finds none is not worth one.
+    crew.evaluate(rt, plan, benches, gate, first, count.max(1));
     evaluations.saturating_add(count as u64)
 }
