@@ -10,7 +10,9 @@ ghost use Rattle.oe_explain.specs.AtFault as spec;
 
 use crate::held::may_hold;
 use oe_dims::Text;
-use oe_graph::{Arg, ArgumentKind, Code, Fault, Graph, Node, ParameterEntry, process_entry};
+use oe_graph::{
+    Arg, ArgumentKind, Code, Fault, Graph, Node, ParameterEntry, argument_named, process_entry,
+};
 use oe_memory::OutOfMemory;
 use std::alloc::Global;
 
@@ -84,25 +86,12 @@ fn node_named<'a>(nodes: &'a Vec<Node>, id: &str) -> Option<&'a Node>
     None
 }
 
-/// The argument of a name.
-fn argument<'a>(arguments: &'a Vec<(Text, Arg)>, name: &str) -> Option<&'a Arg>
-    ensures { option_map (λ a. plain_arg a.now) result
-        ≡ argument_named name.now (plain_named arguments.now.items) }
-{
-    for entry in arguments {
-        if entry.0.as_str() == name {
-            return Some(&entry.1);
-        }
-    }
-    None
-}
-
 /// The argument of a name, where it is a callback.
 fn callback_at<'a>(arguments: &'a Vec<(Text, Arg)>, name: &str) -> Option<&'a Graph>
     ensures { option_map (λ g. plain_graph g.now) result
         ≡ option_and_then callback_in (argument_named name.now (plain_named arguments.now.items)) }
 {
-    match argument(arguments, name)? {
+    match argument_named(arguments, name)? {
         Arg::Callback(graph) => Some(graph),
         _ => None,
     }
@@ -208,7 +197,7 @@ fn is_missing(entry: &ParameterEntry, arguments: &Vec<(Text, Arg)>) -> bool
     ensures { result
         ≡ spec.is_missing (plain_named arguments.now.items) (parameter_of entry.now) }
 {
-    entry.2.is_none() && argument(arguments, entry.0).is_none()
+    entry.2.is_none() && argument_named(arguments, entry.0).is_none()
 }
 
 /// The first parameter whose argument is not what its row says; without one the labels of intervals.
@@ -255,7 +244,7 @@ fn is_refused(
     ensures { IfOk result (λ b. b
         ≡ spec.is_refused (plain_named arguments.now.items) (parameter_of entry.now)) }
 {
-    match argument(arguments, entry.0) {
+    match argument_named(arguments, entry.0) {
         Some(arg) => {
             let held = may_hold(alloc, entry.1, arg)?;
             Ok(!held)

@@ -1,41 +1,12 @@
--- The arguments of a node and the elements of a list, one by one.
-use Rattle.std.proofs.Common.{◌≡◌, ℕ, suc, ◌+◌, ◌<◌, ◌≤◌, true, false, if◌then◌else◌, List, [], ◌∷◌, ◌++◌, length, drop, get_or, nat_le, Option, Some, None, option_map, option_and_then, refl, sym, ap, ◌∙◌, append_assoc, arith}
+-- The elements of a list, one by one.
+use Rattle.std.proofs.Common.{◌≡◌, ℕ, suc, ◌+◌, ◌<◌, ◌≤◌, true, false, List, [], ◌∷◌, ◌++◌, length, drop, get_or, nat_le, Option, Some, None, option_map, option_and_then, refl, sym, ap, ◌∙◌, append_assoc, arith}
 use Rattle.std.proofs.lemmas.List.{at_drop_more, at_drop_all}
 use Rattle.std.proofs.lemmas.Bool.Decides.{nat_tests}
-use Rattle.oe_dims.specs.Names.{same_name}
-use Rattle.oe_graph.specs.Plain.{plain_arg, plain_args, plain_named}
-use Rattle.oe_graph.specs.References.{argument_named}
+use Rattle.oe_graph.specs.Plain.{plain_arg, plain_args}
 use Rattle.oe_graph.specs.declared.tree.Arg.{Arg}
 use Rattle.oe_expr.specs.PlainRequests.{plain_scalar, plain_scalars}
 use Rattle.oe_expr.specs.Requests as spec
 use Rattle.oe_expr.specs.declared.request.Scalar.{Scalar}
-
--- ---- by name
-
-abbrev Pair : Type 0
-Pair = List ℕ × Arg
-
-first_pair : (name : List ℕ) (xs : List Pair) (i : ℕ) (x : Pair) → i < length xs → x ≡ get_or xs i x
-    → argument_named name (plain_named (drop i xs))
-    ≡ (if same_name x.0 name then Some (plain_arg x.1) else argument_named name (plain_named (drop (i + 1) xs)))
-first_pair name xs i x below is =
-    at_drop_more (λ ys. argument_named name (plain_named ys)) xs i x below
-    ∙ ap (λ (y : Pair). if same_name y.0 name then Some (plain_arg y.1) else argument_named name (plain_named (drop (i + 1) xs))) (sym is)
-
-pub other_pair : (name : List ℕ) (xs : List Pair) (i : ℕ) (x : Pair) → i < length xs → x ≡ get_or xs i x → same_name x.0 name ≡ false
-    → argument_named name (plain_named (drop i xs)) ≡ argument_named name (plain_named (drop (i + 1) xs))
-other_pair name xs i x below is other =
-    first_pair name xs i x below is
-    ∙ ap (λ b. if b then Some (plain_arg x.1) else argument_named name (plain_named (drop (i + 1) xs))) other
-
-pub this_pair : (name : List ℕ) (xs : List Pair) (i : ℕ) (x : Pair) → i < length xs → x ≡ get_or xs i x → same_name x.0 name ≡ true
-    → argument_named name (plain_named (drop i xs)) ≡ Some (plain_arg x.1)
-this_pair name xs i x below is same =
-    first_pair name xs i x below is
-    ∙ ap (λ b. if b then Some (plain_arg x.1) else argument_named name (plain_named (drop (i + 1) xs))) same
-
-pub no_pair : (name : List ℕ) (xs : List Pair) (i : ℕ) → length xs ≤ i → argument_named name (plain_named (drop i xs)) ≡ None
-no_pair name xs i past = at_drop_all (λ ys. argument_named name (plain_named ys)) xs i past
 
 -- ---- the scalars of a list
 

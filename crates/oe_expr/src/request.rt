@@ -1,7 +1,6 @@
 // What the arguments of a node ask for.
 ghost use Rattle.std.specs.Prelude.{◌≡◌, IfOk, codes, option_map, option_and_then};
 ghost use Rattle.oe_graph.specs.Plain.{plain_arg, plain_args, plain_named, plain_node};
-ghost use Rattle.oe_graph.specs.References.{argument_named};
 ghost use Rattle.oe_graph.specs.Tree as tree;
 ghost use Rattle.oe_expr.specs.Requests as spec;
 ghost use Rattle.oe_expr.specs.PlainRequests.{literal_cell, plain_scalar, plain_scalars, plain_items, plain_label, plain_cell_request};
@@ -10,7 +9,7 @@ use crate::operation::{Binary, Operation, Unary, operation_of};
 use oe_cell::{Cell, whole_cell};
 use oe_dims::Text;
 use oe_fold::Reducer;
-use oe_graph::{Arg, Node};
+use oe_graph::{Arg, Node, argument_named};
 use oe_memory::OutOfMemory;
 use std::alloc::Global;
 
@@ -119,11 +118,11 @@ fn two_cells(f: Binary, arguments: &Vec<(Text, Arg)>) -> Option<Request<'_>>
 fn has_plain_equality(arguments: &Vec<(Text, Arg)>) -> bool
     ensures { result ≡ spec.has_plain_equality (plain_named arguments.now.items) }
 {
-    let is_plain = match argument(arguments, "delta") {
+    let is_plain = match argument_named(arguments, "delta") {
         Some(delta) => matches!(delta, Arg::Null),
         None => false,
     };
-    let is_flag = match argument(arguments, "case_sensitive") {
+    let is_flag = match argument_named(arguments, "case_sensitive") {
         Some(flag) => matches!(flag, Arg::Flag(_)),
         None => false,
     };
@@ -200,25 +199,12 @@ fn element_request(
 
 // ---- single arguments
 
-/// The argument of a name.
-pub(crate) fn argument<'a>(arguments: &'a Vec<(Text, Arg)>, name: &str) -> Option<&'a Arg>
-    ensures { option_map (λ a. plain_arg a.now) result
-        ≡ argument_named name.now (plain_named arguments.now.items) }
-{
-    for entry in arguments {
-        if entry.0.as_str() == name {
-            return Some(&entry.1);
-        }
-    }
-    None
-}
-
 /// The scalar of a name.
 fn scalar_at<'a>(arguments: &'a Vec<(Text, Arg)>, name: &str) -> Option<Scalar<'a>>
     ensures { option_map plain_scalar result
         ≡ spec.read spec.scalar_in name.now (plain_named arguments.now.items) }
 {
-    match argument(arguments, name) {
+    match argument_named(arguments, name) {
         Some(arg) => scalar_in(arg),
         None => None,
     }
@@ -278,7 +264,7 @@ fn items_at(alloc: Global, arguments: &Vec<(Text, Arg)>) -> Result<Option<Items<
     ensures { IfOk result (λ r. option_map plain_items r
         ≡ spec.read spec.items_in (codes "data") (plain_named arguments.now.items)) }
 {
-    match argument(arguments, "data") {
+    match argument_named(arguments, "data") {
         Some(arg) => items_in(alloc, arg),
         None => Ok(None),
     }
@@ -329,7 +315,7 @@ fn written_items(alloc: Global, args: &Vec<Arg>) -> Result<Option<Items<'_>>, Ou
 fn flag_at(arguments: &Vec<(Text, Arg)>, name: &str) -> Option<bool>
     ensures { result ≡ spec.read spec.flag_in name.now (plain_named arguments.now.items) }
 {
-    match argument(arguments, name)? {
+    match argument_named(arguments, name)? {
         Arg::Flag(flag) => Some(*flag),
         _ => None,
     }
@@ -340,7 +326,7 @@ fn has_literal(arguments: &Vec<(Text, Arg)>, name: &str) -> bool
     ensures { result
         ≡ spec.passes spec.is_scalar_literal name.now (plain_named arguments.now.items) }
 {
-    match argument(arguments, name) {
+    match argument_named(arguments, name) {
         Some(Arg::Null) => true,
         Some(Arg::Flag(_)) => true,
         Some(Arg::Whole(whole)) => *whole != i64::MIN,
@@ -353,7 +339,7 @@ fn counter_at(arguments: &Vec<(Text, Arg)>) -> Option<Reducer>
     ensures { result ≡ spec.read spec.counter_in (codes "condition")
         (plain_named arguments.now.items) }
 {
-    match argument(arguments, "condition")? {
+    match argument_named(arguments, "condition")? {
         Arg::Null => Some(Reducer::Count),
         Arg::Flag(true) => Some(Reducer::CountAll),
         _ => None,
@@ -365,7 +351,7 @@ fn index_at(arguments: &Vec<(Text, Arg)>) -> Option<Option<u64>>
     ensures { result ≡ spec.read spec.list_index_in (codes "index")
         (plain_named arguments.now.items) }
 {
-    match argument(arguments, "index")? {
+    match argument_named(arguments, "index")? {
         Arg::Null => Some(None),
         Arg::Whole(whole) if *whole >= 0 => Some(Some(*whole as u64)),
         _ => None,
@@ -377,7 +363,7 @@ fn label_at(arguments: &Vec<(Text, Arg)>) -> Option<Option<Label<'_>>>
     ensures { option_map (option_map plain_label) result
         ≡ spec.read spec.label_in (codes "label") (plain_named arguments.now.items) }
 {
-    match argument(arguments, "label")? {
+    match argument_named(arguments, "label")? {
         Arg::Null => Some(None),
         Arg::Str(text) => Some(Some(Label::Text(text.as_str()))),
         Arg::Whole(whole) if *whole != i64::MIN => Some(Some(Label::Whole(*whole))),

@@ -1,7 +1,5 @@
 // The walk over the nodes of a callback: those that a node refers to before the node itself.
-ghost use Rattle.std.specs.Prelude.{◌≡◌, ◌<◌, ℕ, suc, [], length, replicate, IfOk, OnOk, None, Some, string_bytes};
-ghost use Rattle.oe_graph.specs.Faults as faults;
-ghost use Rattle.oe_graph.specs.Form as form;
+ghost use Rattle.std.specs.Prelude.{◌≡◌, ◌<◌, ℕ, suc, [], length, replicate, IfOk, OnOk, None};
 ghost use Rattle.oe_graph.specs.Plain.{plain_node};
 ghost use Rattle.oe_expr.specs.Scope.{IsScope, plain_scope};
 ghost use Rattle.oe_expr.specs.Walked.{AreResolved, AreDeep, IsChecked, IsNodeAt, IsStep, IsVerdict, IsWalked, state_at};
@@ -13,8 +11,8 @@ use crate::request::{Request, request_at};
 use crate::scope::Scope;
 use crate::state::State;
 use oe_cell::Cell;
-use oe_dims::{CellKind, Text};
-use oe_graph::{Code, Fault, Node, least};
+use oe_dims::CellKind;
+use oe_graph::{Code, Fault, Node, fault_at_node, note_fault};
 use oe_memory::OutOfMemory;
 use std::alloc::Global;
 
@@ -156,9 +154,9 @@ fn visit<'a>(
             Ok(())
         }
         Verdict::Stands(code) => {
-            let fault = fault_at(alloc, code, path, node.id.as_str())?;
+            let fault = fault_at_node(alloc, code, path, node.id.as_str())?;
             walk.states[index] = State::Faulty;
-            note(&mut walk.found, fault);
+            note_fault(&mut walk.found, fault);
             Ok(())
         }
         Verdict::Sound(kind, request) => {
@@ -198,36 +196,4 @@ fn judge_node<'a>(
         Ok(kind) => Ok(Verdict::Sound(kind, request)),
         Err(code) => Ok(Verdict::Stands(code)),
     }
-}
-
-/// Keeps the lesser of the fault that was found and another.
-fn note(found: &mut Option<Fault>, fault: Fault)
-    ensures { found.new ≡ faults.least found.old (Some fault) }
-{
-    let kept = least(found.take(), Some(fault));
-    *found = kept;
-}
-
-/// A fault at the node of an id in the callback of a path.
-fn fault_at(alloc: Global, code: Code, path: &str, id: &str) -> Result<Fault, OutOfMemory>
-    ensures code { IfOk result (λ fault. fault.code ≡ code) }
-    ensures node { IfOk result (λ fault. fault.node ≡ form.node_name path.now id.now) }
-{
-    let name = node_name(alloc, path, id)?;
-    Ok(Fault {
-        code,
-        node: Text::of(alloc, name.as_str())?,
-    })
-}
-
-/// The name of a node in the callback of a path.
-fn node_name(alloc: Global, path: &str, id: &str) -> Result<String, OutOfMemory>
-    ensures { IfOk result (λ name. string_bytes name ≡ form.node_name path.now id.now) }
-{
-    let mut name = String::from_str(alloc, path)?;
-    if !path.is_empty() {
-        name.push('/')?;
-    }
-    name.push_str(id)?;
-    Ok(name)
 }

@@ -1,3 +1,4 @@
+pub mod ArgumentLemmas
 mod Views
 mod Depths
 mod Finds

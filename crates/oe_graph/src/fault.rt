@@ -1,5 +1,5 @@
 // A fault of a graph, and the order in which faults are reported.
-ghost use Rattle.std.specs.Prelude.{◌≡◌};
+ghost use Rattle.std.specs.Prelude.{◌≡◌, Some};
 ghost use Rattle.oe_graph.specs.Faults as spec;
 
 use crate::code::Code;
@@ -52,4 +52,12 @@ pub fn least(a: Option<Fault>, b: Option<Fault>) -> Option<Fault>
         (Some(a), None) => Some(a),
         (None, b) => b,
     }
+}
+
+/// Keeps the one of the fault that was found and another that is reported.
+pub fn note_fault(found: &mut Option<Fault>, fault: Fault)
+    ensures { found.new ≡ spec.least found.old (Some fault) }
+{
+    let kept = least(found.take(), Some(fault));
+    *found = kept;
 }

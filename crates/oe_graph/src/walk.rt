@@ -131,8 +131,17 @@ fn own_fault(
     if is_node(node) {
         return Ok(None);
     }
+    Ok(Some(fault_at_node(alloc, Code::NodeInvalid, name, id)?))
+}
+
+/// A fault at the node of an id in the graph object of a name: `n` in the main graph, whose name is empty, and
+/// `p/a/n` in the callback `a` of the node `p`.
+pub fn fault_at_node(alloc: Global, code: Code, name: &str, id: &str) -> Result<Fault, OutOfMemory>
+    ensures { IfOk result
+        (λ f. f ≡ record { code = code; node = form.node_name name.now id.now }) }
+{
     let path = node_name(alloc, name, id)?;
-    Ok(Some(fault_at(alloc, Code::NodeInvalid, path.as_str())?))
+    fault_at(alloc, code, path.as_str())
 }
 
 /// The name of a node in the graph object of a name.

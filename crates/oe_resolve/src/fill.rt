@@ -7,12 +7,11 @@ ghost use Rattle.oe_resolve.specs.Filled as spec;
 ghost use Rattle.oe_resolve.specs.Replaced.{default_of};
 ghost use Rattle.oe_resolve.specs.Rounds.{index_among};
 
-use crate::find::argument_named;
 use crate::known::copy_namespace;
 use crate::names::is_before;
 use crate::values::default_of;
 use oe_dims::Text;
-use oe_graph::{Arg, Graph, Node, ParameterRow, process};
+use oe_graph::{Arg, Graph, Node, ParameterRow, argument_named, process};
 use oe_memory::OutOfMemory;
 use std::alloc::Global;
 

@@ -1,16 +1,14 @@
-// Nodes and arguments by their names.
-ghost use Rattle.std.specs.Prelude.{◌≡◌, ◌≢◌, ℕ, true, false, IsTrue, IfOk, IfSome, IsNone, Some, Contains, map, option_map, slice_get};
+// Nodes by their names.
+ghost use Rattle.std.specs.Prelude.{◌≡◌, ◌≢◌, ℕ, true, false, IsTrue, IfOk, IfSome, IsNone, Some, Contains, map, slice_get};
 ghost use Rattle.std.specs.List.{list_any};
 ghost use Rattle.oe_dims.specs.Names.{same_name, names_rise};
-ghost use Rattle.oe_graph.specs.Plain.{plain_arg, plain_graph, plain_named, plain_nodes};
+ghost use Rattle.oe_graph.specs.Plain.{plain_graph, plain_nodes};
 ghost use Rattle.oe_graph.specs.Printed.{ids_of};
-ghost use Rattle.oe_graph.specs.References.{argument_named};
 ghost use Rattle.oe_resolve.specs.Rounds as spec;
 ghost use Rattle.oe_resolve.specs.Seen.{NotesRise};
 
 use crate::names::{is_before, same_text};
-use oe_dims::Text;
-use oe_graph::{Arg, Graph, Node};
+use oe_graph::{Graph, Node};
 use oe_memory::OutOfMemory;
 use std::alloc::Global;
 
@@ -190,17 +188,4 @@ fn ids_rise(nodes: &Vec<Node>) -> bool
         }
     }
     true
-}
-
-/// The argument of a name.
-pub fn argument_named<'a>(arguments: &'a Vec<(Text, Arg)>, name: &str) -> Option<&'a Arg>
-    ensures { option_map (λ a. plain_arg a.now) result
-        ≡ argument_named name.now (plain_named arguments.now.items) }
-{
-    for argument in arguments {
-        if same_text(argument.0.as_str(), name) {
-            return Some(&argument.1);
-        }
-    }
-    None
 }

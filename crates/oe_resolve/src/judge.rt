@@ -19,12 +19,11 @@ ghost use Rattle.oe_resolve.specs.Seen.{names_behind};
 
 use crate::calls::{callee, is_call, means_catalogue};
 use crate::cycle::{cyclic_marks, read_references};
-use crate::find::argument_named;
 use crate::names::{is_among, names_of_both};
 use oe_dims::Text;
 use oe_graph::{
-    Arg, Code, Fault, Graph, Node, ParameterEntry, ParameterRow, StoredProcess, least,
-    process_entry,
+    Arg, Code, Fault, Graph, Node, ParameterEntry, ParameterRow, StoredProcess, argument_named,
+    least, process_entry,
 };
 use oe_memory::OutOfMemory;
 use oe_order::Links;

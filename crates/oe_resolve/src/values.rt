@@ -8,11 +8,10 @@ ghost use Rattle.oe_resolve.specs.Replaced as spec;
 ghost use Rattle.oe_resolve.specs.Seen.{names_behind, seen};
 
 use crate::calls::callback_parameters;
-use crate::find::argument_named;
 use crate::known::copy_namespace;
 use crate::names::{is_among, names_of_both};
 use oe_dims::Text;
-use oe_graph::{Arg, Graph, Node, ParameterRow, StoredProcess, copy_arg};
+use oe_graph::{Arg, Graph, Node, ParameterRow, StoredProcess, argument_named, copy_arg};
 use oe_memory::OutOfMemory;
 use std::alloc::Global;
 

@@ -13,11 +13,10 @@ ghost use Rattle.oe_resolve.specs.Seen.{names_behind, plain_sizes};
 ghost use Rattle.oe_resolve.specs.Sizes as spec;
 
 use crate::calls::{callback_parameters, callee};
-use crate::find::argument_named;
 use crate::names::{is_among, names_of_both, same_text};
 use crate::under::under_id;
 use oe_dims::Text;
-use oe_graph::{Arg, Graph, Node, ParameterRow, StoredProcess};
+use oe_graph::{Arg, Graph, Node, ParameterRow, StoredProcess, argument_named};
 use oe_memory::OutOfMemory;
 use std::alloc::Global;
 

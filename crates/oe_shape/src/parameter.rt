@@ -4,7 +4,6 @@ ghost use Rattle.std.specs.List.{list_all};
 ghost use Rattle.std.specs.Option.{option_map, option_and_then};
 ghost use Rattle.oe_dims.specs.Names.{same_name};
 ghost use Rattle.oe_graph.specs.Plain.{plain_arg, plain_args, plain_graph, plain_named};
-ghost use Rattle.oe_graph.specs.References.{argument_named};
 ghost use Rattle.oe_graph.specs.Tree as tree;
 ghost use Rattle.oe_expr.specs.Requests as requests;
 ghost use Rattle.oe_expr.specs.Requests.{passes, read};
@@ -13,22 +12,9 @@ ghost use Rattle.oe_shape.specs.Parameters as spec;
 use crate::extent::TemporalExtent;
 use oe_cell::{Cell, Frac, whole_cell};
 use oe_dims::{Text, is_name, read_instant};
-use oe_graph::{Arg, Graph};
+use oe_graph::{Arg, Graph, argument_named};
 use oe_kernel::Border;
 use oe_periods::{Period, period_named};
-
-/// The argument of a name.
-pub(crate) fn argument<'a>(arguments: &'a Vec<(Text, Arg)>, name: &str) -> Option<&'a Arg>
-    ensures { option_map (λ a. plain_arg a.now) result
-        ≡ argument_named name.now (plain_named arguments.now.items) }
-{
-    for entry in arguments {
-        if entry.0.as_str() == name {
-            return Some(&entry.1);
-        }
-    }
-    None
-}
 
 // ---- references, texts, numbers and literals
 
@@ -37,7 +23,7 @@ pub(crate) fn cube_at<'a>(arguments: &'a Vec<(Text, Arg)>, name: &str) -> Option
     ensures { option_map (λ s. s.now) result
         ≡ read spec.cube_in name.now (plain_named arguments.now.items) }
 {
-    match argument(arguments, name)? {
+    match argument_named(arguments, name)? {
         Arg::FromNode(id) => Some(id.as_str()),
         _ => None,
     }
@@ -48,7 +34,7 @@ pub(crate) fn callback_at<'a>(arguments: &'a Vec<(Text, Arg)>, name: &str) -> Op
     ensures { option_map (λ g. plain_graph g.now) result
         ≡ read spec.callback_in name.now (plain_named arguments.now.items) }
 {
-    match argument(arguments, name)? {
+    match argument_named(arguments, name)? {
         Arg::Callback(graph) => Some(graph),
         _ => None,
     }
@@ -62,7 +48,7 @@ pub(crate) fn callback_or_null_at<'a>(
     ensures { option_map (option_map (λ g. plain_graph g.now)) result
         ≡ read (spec.null_or spec.callback_in) name.now (plain_named arguments.now.items) }
 {
-    match argument(arguments, name)? {
+    match argument_named(arguments, name)? {
         Arg::Null => Some(None),
         Arg::Callback(graph) => Some(Some(graph)),
         _ => None,
@@ -74,7 +60,7 @@ pub(crate) fn text_at<'a>(arguments: &'a Vec<(Text, Arg)>, name: &str) -> Option
     ensures { option_map (λ s. s.now) result
         ≡ read spec.text_in name.now (plain_named arguments.now.items) }
 {
-    match argument(arguments, name)? {
+    match argument_named(arguments, name)? {
         Arg::Str(text) => Some(text.as_str()),
         _ => None,
     }
@@ -88,7 +74,7 @@ pub(crate) fn text_or_null_at<'a>(
     ensures { option_map (option_map (λ s. s.now)) result
         ≡ read (spec.null_or spec.text_in) name.now (plain_named arguments.now.items) }
 {
-    match argument(arguments, name)? {
+    match argument_named(arguments, name)? {
         Arg::Null => Some(None),
         Arg::Str(text) => Some(Some(text.as_str())),
         _ => None,
@@ -99,7 +85,7 @@ pub(crate) fn text_or_null_at<'a>(
 pub(crate) fn period_at(arguments: &Vec<(Text, Arg)>, name: &str) -> Option<Period>
     ensures { result ≡ read spec.period_in name.now (plain_named arguments.now.items) }
 {
-    period_in(argument(arguments, name)?)
+    period_in(argument_named(arguments, name)?)
 }
 
 /// A calendar period by its name.
@@ -134,7 +120,7 @@ fn is_time_name(arg: &Arg) -> bool
 pub(crate) fn has_time_name(arguments: &Vec<(Text, Arg)>, name: &str) -> bool
     ensures { result ≡ passes spec.is_time_name name.now (plain_named arguments.now.items) }
 {
-    match argument(arguments, name) {
+    match argument_named(arguments, name) {
         Some(arg) => is_time_name(arg),
         None => false,
     }
@@ -152,7 +138,7 @@ fn is_null(arg: &Arg) -> bool
 pub(crate) fn has_null(arguments: &Vec<(Text, Arg)>, name: &str) -> bool
     ensures { result ≡ passes requests.is_null name.now (plain_named arguments.now.items) }
 {
-    match argument(arguments, name) {
+    match argument_named(arguments, name) {
         Some(arg) => is_null(arg),
         None => false,
     }
@@ -162,7 +148,7 @@ pub(crate) fn has_null(arguments: &Vec<(Text, Arg)>, name: &str) -> bool
 pub(crate) fn flag_at(arguments: &Vec<(Text, Arg)>, name: &str) -> Option<bool>
     ensures { result ≡ read requests.flag_in name.now (plain_named arguments.now.items) }
 {
-    match argument(arguments, name)? {
+    match argument_named(arguments, name)? {
         Arg::Flag(flag) => Some(*flag),
         _ => None,
     }
@@ -211,14 +197,14 @@ fn number_of(whole: i64) -> Option<Frac>
 pub(crate) fn number_at(arguments: &Vec<(Text, Arg)>, name: &str) -> Option<Frac>
     ensures { result ≡ read spec.number_in name.now (plain_named arguments.now.items) }
 {
-    number_in(argument(arguments, name)?)
+    number_in(argument_named(arguments, name)?)
 }
 
 /// A scalar literal: null, a flag or a whole number.
 pub(crate) fn literal_at(arguments: &Vec<(Text, Arg)>, name: &str) -> Option<Cell>
     ensures { result ≡ read spec.literal_in name.now (plain_named arguments.now.items) }
 {
-    match argument(arguments, name)? {
+    match argument_named(arguments, name)? {
         Arg::Null => Some(Cell::Empty),
         Arg::Flag(flag) => Some(Cell::Flag(*flag)),
         Arg::Whole(whole) => cell_of(*whole),
@@ -286,7 +272,7 @@ fn is_null_or_empty_object(arg: &Arg) -> bool
 pub(crate) fn has_empty_list(arguments: &Vec<(Text, Arg)>, name: &str) -> bool
     ensures { result ≡ passes spec.is_empty_list name.now (plain_named arguments.now.items) }
 {
-    match argument(arguments, name) {
+    match argument_named(arguments, name) {
         Some(arg) => is_empty_list(arg),
         None => false,
     }
@@ -297,7 +283,7 @@ pub(crate) fn has_empty_list(arguments: &Vec<(Text, Arg)>, name: &str) -> bool
 pub(crate) fn has_empty_object(arguments: &Vec<(Text, Arg)>, name: &str) -> bool
     ensures { result ≡ passes spec.is_empty_object name.now (plain_named arguments.now.items) }
 {
-    match argument(arguments, name) {
+    match argument_named(arguments, name) {
         Some(arg) => is_empty_object(arg),
         None => false,
     }
@@ -309,7 +295,7 @@ pub(crate) fn has_null_or_empty_object(arguments: &Vec<(Text, Arg)>, name: &str)
     ensures { result
         ≡ passes spec.is_null_or_empty_object name.now (plain_named arguments.now.items) }
 {
-    match argument(arguments, name) {
+    match argument_named(arguments, name) {
         Some(arg) => is_null_or_empty_object(arg),
         None => false,
     }
@@ -405,7 +391,7 @@ fn extent_of(start: &Arg, end: &Arg) -> Option<TemporalExtent>
 pub(crate) fn extent_at(arguments: &Vec<(Text, Arg)>, name: &str) -> Option<TemporalExtent>
     ensures { result ≡ read spec.extent_in name.now (plain_named arguments.now.items) }
 {
-    extent_in(argument(arguments, name)?)
+    extent_in(argument_named(arguments, name)?)
 }
 
 /// An extent or null.
@@ -416,7 +402,7 @@ pub(crate) fn extent_or_null_at(
     ensures { result
         ≡ read (spec.null_or spec.extent_in) name.now (plain_named arguments.now.items) }
 {
-    match argument(arguments, name)? {
+    match argument_named(arguments, name)? {
         Arg::Null => Some(None),
         Arg::List(ends) => Some(Some(pair_of(ends)?)),
         _ => None,
@@ -446,7 +432,7 @@ fn border_named(name: &str) -> Option<Border>
 pub(crate) fn border_at(arguments: &Vec<(Text, Arg)>, name: &str) -> Option<Border>
     ensures { result ≡ read spec.border_in name.now (plain_named arguments.now.items) }
 {
-    match argument(arguments, name)? {
+    match argument_named(arguments, name)? {
         Arg::Str(text) => border_named(text.as_str()),
         Arg::Whole(whole) => Some(Border::Value(number_of(*whole)?)),
         _ => None,

@@ -12,9 +12,9 @@ ghost use Rattle.oe_expr.specs.Requests.{is_null, read};
 ghost use Rattle.oe_shape.specs.Parameters as spec;
 
 use crate::extent::BoundingBox;
-use crate::parameter::{argument, whole_in};
+use crate::parameter::whole_in;
 use oe_dims::Text;
-use oe_graph::Arg;
+use oe_graph::{Arg, argument_named};
 
 /// The largest code of a reference system.
 const LARGEST_EPSG: u32 = 999_999;
@@ -112,7 +112,7 @@ fn epsg_in(arg: &Arg) -> Option<u32>
 fn crs_of(members: &Vec<(Text, Arg)>) -> Option<u32>
     ensures { result ≡ spec.crs_of (plain_named members.now.items) }
 {
-    match argument(members, "crs") {
+    match argument_named(members, "crs") {
         Some(arg) => epsg_in(arg),
         None => Some(4326),
     }
@@ -184,7 +184,7 @@ fn is_null_or_missing(members: &Vec<(Text, Arg)>, name: &str) -> bool
     ensures { result ≡ option_map_or is_null
         (argument_named name.now (plain_named members.now.items)) true }
 {
-    match argument(members, name) {
+    match argument_named(members, name) {
         Some(Arg::Null) => true,
         Some(_) => false,
         None => true,
@@ -214,7 +214,7 @@ fn is_flat_box(members: &Vec<(Text, Arg)>) -> bool
 fn side_of(members: &Vec<(Text, Arg)>, name: &str) -> Option<i64>
     ensures { result ≡ spec.side_of name.now (plain_named members.now.items) }
 {
-    whole_in(argument(members, name)?)
+    whole_in(argument_named(members, name)?)
 }
 
 /// The box of its members.
@@ -267,7 +267,7 @@ fn box_in(arg: &Arg) -> Option<BoundingBox>
 pub(crate) fn box_at(arguments: &Vec<(Text, Arg)>, name: &str) -> Option<BoundingBox>
     ensures { result ≡ read spec.box_in name.now (plain_named arguments.now.items) }
 {
-    box_in(argument(arguments, name)?)
+    box_in(argument_named(arguments, name)?)
 }
 
 /// A box or null.
@@ -278,7 +278,7 @@ pub(crate) fn box_or_null_at(
     ensures { result
         ≡ read (spec.null_or spec.box_in) name.now (plain_named arguments.now.items) }
 {
-    match argument(arguments, name)? {
+    match argument_named(arguments, name)? {
         Arg::Null => Some(None),
         Arg::Object(members) => Some(Some(area_of(members)?)),
         _ => None,

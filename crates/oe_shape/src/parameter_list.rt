@@ -12,11 +12,11 @@ ghost use Rattle.oe_shape.specs.PlainRequests.{plain_kernel};
 ghost use Rattle.oe_shape.specs.Requests.{intervals_in};
 
 use crate::extent::{Interval, TemporalExtent};
-use crate::parameter::{argument, extent_in, instant_in, name_in, number_in};
+use crate::parameter::{extent_in, instant_in, name_in, number_in};
 use crate::request::KernelRows;
 use oe_cell::Frac;
 use oe_dims::Text;
-use oe_graph::Arg;
+use oe_graph::{Arg, argument_named};
 use oe_memory::OutOfMemory;
 use std::alloc::Global;
 
@@ -90,7 +90,7 @@ pub(crate) fn bands_at<'a>(
     ensures { IfOk result (λ r. option_map (λ names. map (λ n. n.now) names.items) r
         ≡ read spec.bands_in name.now (plain_named arguments.now.items)) }
 {
-    match argument(arguments, name) {
+    match argument_named(arguments, name) {
         Some(Arg::List(args)) => bands_of(alloc, args),
         _ => Ok(None),
     }
@@ -117,7 +117,7 @@ pub(crate) fn some_bands_or_null_at<'a>(
         option_map (option_map (λ names. map (λ n. n.now) names.items)) r
         ≡ read (spec.null_or spec.some_bands_in) name.now (plain_named arguments.now.items)) }
 {
-    match argument(arguments, name) {
+    match argument_named(arguments, name) {
         Some(Arg::Null) => Ok(Some(None)),
         Some(Arg::List(args)) => match some_bands_of(alloc, args)? {
             Some(names) => Ok(Some(Some(names))),
@@ -227,7 +227,7 @@ fn extents_at(
     ensures { IfOk result (λ r. option_map (λ extents. extents.items) r
         ≡ read (spec.list_in spec.extent_in) name.now (plain_named arguments.now.items)) }
 {
-    match argument(arguments, name) {
+    match argument_named(arguments, name) {
         Some(Arg::List(args)) => extents_of(alloc, args),
         _ => Ok(None),
     }
@@ -242,7 +242,7 @@ fn instants_at(
     ensures { IfOk result (λ r. option_map (λ instants. instants.items) r
         ≡ read (spec.list_in spec.instant_in) name.now (plain_named arguments.now.items)) }
 {
-    match argument(arguments, name) {
+    match argument_named(arguments, name) {
         Some(Arg::List(args)) => instants_of(alloc, args),
         _ => Ok(None),
     }
@@ -380,7 +380,7 @@ pub(crate) fn kernel_at(
     ensures { IfOk result (λ r. option_map plain_kernel r
         ≡ read spec.kernel_in name.now (plain_named arguments.now.items)) }
 {
-    match argument(arguments, name) {
+    match argument_named(arguments, name) {
         Some(Arg::List(args)) => kernel_from(alloc, args),
         _ => Ok(None),
     }

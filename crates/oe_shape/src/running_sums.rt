@@ -8,9 +8,9 @@ ghost use Rattle.oe_graph.specs.Printed.{ids_of};
 ghost use Rattle.oe_graph.specs.Read.{IsFault};
 ghost use Rattle.oe_shape.specs.RunningSums as spec;
 
-use crate::parameter::{argument, flag_at};
+use crate::parameter::flag_at;
 use oe_dims::Text;
-use oe_graph::{Arg, Code, Fault, Graph, Node, Refusal};
+use oe_graph::{Arg, Code, Fault, Graph, Node, Refusal, argument_named};
 use oe_memory::OutOfMemory;
 use std::alloc::Global;
 
@@ -57,7 +57,7 @@ fn is_data(arg: &Arg) -> bool
 fn has_data(arguments: &Vec<(Text, Arg)>) -> bool
     ensures { result ≡ passes spec.is_data (codes "data") (plain_named arguments.now.items) }
 {
-    match argument(arguments, "data") {
+    match argument_named(arguments, "data") {
         Some(arg) => is_data(arg),
         None => false,
     }

@@ -1,8 +1,7 @@
 // The walk over the nodes of a graph: those that a node refers to before the node itself.
-ghost use Rattle.std.specs.Prelude.{◌≡◌, ◌<◌, ℕ, suc, List, length, replicate, IfOk, OnOk, None, Some, slice_index_or, slice_set};
+ghost use Rattle.std.specs.Prelude.{◌≡◌, ◌<◌, ℕ, suc, List, length, replicate, IfOk, OnOk, None, slice_index_or, slice_set};
 ghost use Rattle.std.specs.List.{list_any};
 ghost use Rattle.oe_dims.specs.Plain.{plain_rows};
-ghost use Rattle.oe_graph.specs.Faults as faults;
 ghost use Rattle.oe_graph.specs.Plain.{plain_nodes};
 ghost use Rattle.oe_order.specs.Graph.{graph_of};
 ghost use Rattle.oe_shape.specs.Links.{links_of};
@@ -13,7 +12,7 @@ ghost use Rattle.oe_shape.specs.declared.checked.State.TheVariants.{Unseen};
 use crate::checked::{CheckedNode, State};
 use crate::judge::judge_node;
 use oe_dims::Dims;
-use oe_graph::{Fault, Node, least};
+use oe_graph::{Fault, Node, note_fault};
 use oe_memory::OutOfMemory;
 use oe_order::Links;
 use std::alloc::Global;
@@ -158,7 +157,7 @@ fn visit(
     match verdict {
         Verdict::Stands(fault) => {
             set_state(&mut walk.states, index, State::Faulty);
-            note(&mut walk.found, fault);
+            note_fault(&mut walk.found, fault);
         }
         Verdict::Sound(node) => set_state(&mut walk.states, index, State::Sound(node)),
     }
@@ -208,12 +207,4 @@ fn worse(a: Below, b: Below) -> Below
         },
         Below::Sound => b,
     }
-}
-
-/// Keeps the lesser of the fault that was found and another.
-fn note(found: &mut Option<Fault>, fault: Fault)
-    ensures { found.new ≡ faults.least found.old (Some fault) }
-{
-    let kept = least(found.take(), Some(fault));
-    *found = kept;
 }

@@ -2,6 +2,7 @@ use Rattle.std.proofs.Common.{◌≡◌, ◌<◌, ℕ, List, Some, length, set, 
 use Rattle.std.proofs.lemmas.Option.{slice_get_read}
 use Rattle.oe_graph.specs.Form.{node_name}
 use Rattle.oe_graph.specs.Plain.{plain_node}
+use Rattle.oe_graph.specs.declared.fault.Fault.{Fault}
 use Rattle.oe_graph.specs.declared.tree.Node.{Node}
 use Rattle.oe_expr.specs.Scope.{plain_scope}
 use Rattle.oe_expr.specs.Walked.{IsNodeAt, IsJudged, IsWalked}
@@ -48,10 +49,10 @@ returns-in_ok-fault-in-Stands-clause-walked c =
     let within : c.args.index < length states = subst (λ n. c.args.index < n) (sym c.requires.states) c.requires.within in
     let is = moved_verdict scope c.args.context.now (plain_node node) _ nodes _ states _ (verdict.Stands c.in-Stands.code)
     c.deref.ensures.value c.deref-2.ensures.value c.in-Stands.is c.in_ok-judge_node.ensures in
-    let judged = subst (λ code. IsJudged scope c.args.context.now nodes states (plain_node node) (Some code)) (sym c.in_ok-fault-in-Stands.ensures.code) is in
+    let judged = subst (λ code. IsJudged scope c.args.context.now nodes states (plain_node node) (Some code)) (sym (ap (λ (f : Fault). f.code) c.in_ok-fault-in-Stands.ensures)) is in
     let named : fault.node ≡ node_name c.args.path.now (plain_node node).id =
-    c.in_ok-fault-in-Stands.ensures.node ∙ ap (node_name c.args.path.now) (c.as_str.ensures ∙ sym (plain_id node)) in
-    subst (IsWalked scope c.args.context.now nodes c.args.path.now (set states c.args.index Faulty) c.args.walk.now.order.items) (sym c.note.ensures)
+    ap (λ (f : Fault). f.node) c.in_ok-fault-in-Stands.ensures ∙ ap (node_name c.args.path.now) (c.as_str.ensures ∙ sym (plain_id node)) in
+    subst (IsWalked scope c.args.context.now nodes c.args.path.now (set states c.args.index Faulty) c.args.walk.now.order.items) (sym c.note_fault.ensures)
     (walked_faulty scope c.args.context.now nodes c.args.path.now c.requires.resolved states c.args.walk.now.order.items c.args.walk.now.found c.requires.walked
     c.args.index (plain_node node) (at_index nodes c.args.index node c.requires.within c.index-node.ensures) within c.requires.unseen fault judged named)
 

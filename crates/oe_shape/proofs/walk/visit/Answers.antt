@@ -103,7 +103,7 @@ returns-in-Stands-clause-walked c =
     let judged = read_verdict rows ns c.deref-3.result.now states c.deref-4.result.now n c.in_ok-verdict.verdict (verdict.Stands fault)
     c.deref-3.ensures.value c.deref-4.ensures.value c.in-Stands.is c.in_ok-verdict.ensures
     (outline_at rows nodes) (all_known rows nodes c.requires.resolved states found c.requires.walked c.args.index n at known) in
-    subst (IsWalked rows nodes c.set_state-in-Stands.new.states.items) (sym c.note.ensures)
+    subst (IsWalked rows nodes c.set_state-in-Stands.new.states.items) (sym c.note_fault.ensures)
     (subst (λ (ss : List State). IsWalked rows nodes ss (least found (Some fault))) (sym c.set_state-in-Stands.ensures)
     (walked_faulty rows nodes c.requires.resolved states found c.requires.walked c.args.index n at inside c.requires.unseen known fault judged))
 

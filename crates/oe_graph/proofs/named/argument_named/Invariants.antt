@@ -1,7 +1,7 @@
 use Rattle.std.proofs.Common.{◌≡◌, drop}
 use Rattle.oe_graph.specs.Plain.{plain_named}
 use Rattle.oe_graph.specs.References.{argument_named}
-use Rattle.oe_expr.proofs.request.argument.Given as goal
+use Rattle.oe_graph.proofs.named.argument_named.Given as goal
 
 abbrev pub invariant-loop-entry : goal.invariant-loop-entry
 invariant-loop-entry l =

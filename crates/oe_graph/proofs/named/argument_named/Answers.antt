@@ -3,8 +3,8 @@ use Rattle.oe_dims.proofs.OrderLemmas.{same_name-bytes_eq}
 use Rattle.oe_graph.specs.Plain.{plain_named}
 use Rattle.oe_graph.specs.References.{argument_named}
 use Rattle.oe_graph.specs.declared.tree.Arg.{Arg}
-use Rattle.oe_expr.proofs.ArgumentLemmas.{this_pair, other_pair}
-use Rattle.oe_explain.proofs.at_fault.argument.Goals as goal
+use Rattle.oe_graph.proofs.ArgumentLemmas.{this_pair, other_pair}
+use Rattle.oe_graph.proofs.named.argument_named.Goals as goal
 
 pub returns-then-eq : goal.returns-then-eq
 returns-then-eq c =

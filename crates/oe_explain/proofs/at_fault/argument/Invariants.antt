@@ -1,8 +1,0 @@
-use Rattle.std.proofs.Common.{◌≡◌, drop}
-use Rattle.oe_graph.specs.Plain.{plain_named}
-use Rattle.oe_graph.specs.References.{argument_named}
-use Rattle.oe_explain.proofs.at_fault.argument.Given as goal
-
-abbrev pub invariant-loop-entry : goal.invariant-loop-entry
-invariant-loop-entry l =
-    argument_named l.name (plain_named (drop l.entry-index l.entry-items)) ≡ argument_named l.name (plain_named l.entry-items)
