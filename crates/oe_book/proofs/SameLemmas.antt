@@ -6,12 +6,13 @@ use Rattle.std.proofs.Math.ListN.{drop_of_length-le}
 use Rattle.oe_graph.specs.Plain.{plain_arg, plain_args, plain_graph, plain_named, plain_node, plain_nodes, plain_pair, arg_step, graph_step, node_step}
 use Rattle.oe_graph.specs.Tree.{Argument, list, object, PlainGraph, PlainNode, values_from_list, named_from_list, nodes_from_list}
 use Rattle.oe_graph.specs.declared.tree.Arg.{Arg}
-use Rattle.oe_graph.specs.declared.tree.Arg.TheFolds.{fold_out-Graph, fold_out-Node, fold-roll-Arg}
+use Rattle.oe_graph.specs.declared.tree.Arg.TheFolds.{fold-roll-Arg}
 use Rattle.oe_graph.specs.declared.tree.Arg.TheOpen.{Arg-F}
 use Rattle.oe_graph.specs.declared.tree.Arg.TheVariants as variants
 use Rattle.oe_graph.specs.declared.tree.Arg.TheVariants.{rolls-List, rolls-Object}
 use Rattle.oe_graph.specs.declared.tree.Graph.{Graph, out-Graph}
 use Rattle.oe_graph.specs.declared.tree.Node.{Node}
+use Rattle.oe_graph.proofs.PartLemmas.{graph_parts, node_parts}
 
 module _ {X Y : Type 0} (f : X → Y) (xs ys : List X) where
   -- they are just where the items are that are left
@@ -99,19 +100,12 @@ nodes_same (a ∷ xs) [] e = absurd cc
 
 -- ---- trees by their parts
 
-plain_parts : (n : Node)
-    → plain_node n ≡ record { id = n.id; process_id = n.process_id; namespace = n.namespace; arguments = plain_named n.arguments.items }
-plain_parts n = fold_out-Node Argument PlainGraph PlainNode arg_step graph_step node_step n
-
 pub plain_list : (v : Vec Arg Global) → plain_arg (variants.List v) ≡ list (plain_args v.items)
 plain_list v = ap plain_arg (sym (rolls-List v)) ∙ fold-roll-Arg Argument PlainGraph PlainNode arg_step graph_step node_step (Arg-F.List v)
 
 pub plain_object : (v : Vec (List ℕ × Arg) Global) → plain_arg (variants.Object v) ≡ object (plain_named v.items)
 plain_object v =
     ap plain_arg (sym (rolls-Object v)) ∙ fold-roll-Arg Argument PlainGraph PlainNode arg_step graph_step node_step (Arg-F.Object v)
-
-graph_parts : (g : Graph) → plain_graph g ≡ record { nodes = plain_nodes (out-Graph g).nodes.items; result = (out-Graph g).result }
-graph_parts g = fold_out-Graph Argument PlainGraph PlainNode arg_step graph_step node_step g
 
 -- ---- what a test of their parts tells of two trees
 
@@ -150,14 +144,14 @@ parts_of n = record { id = n.id; process_id = n.process_id; namespace = n.namesp
 
 pub head_of : (m n : Node) → plain_node m ≡ plain_node n → SameHead m n
 head_of m n e =
-    let parts : parts_of m ≡ parts_of n = sym (plain_parts m) ∙ (e ∙ plain_parts n) in
+    let parts : parts_of m ≡ parts_of n = sym (node_parts m) ∙ (e ∙ node_parts n) in
     (ap (λ (x : PlainNode). x.id) parts, ap (λ (x : PlainNode). x.process_id) parts, ap (λ (x : PlainNode). x.namespace) parts)
 
 pub node_told : (told : Bool) (m n : Node) → SameHead m n
     → (IsTrue told ↔ (map plain_pair m.arguments.items ≡ map plain_pair n.arguments.items)) → IsTrue told ↔ (plain_node m ≡ plain_node n)
 node_told told m n head is = (
-  λ t. plain_parts m
-      ∙ (node_same (parts_of m) (parts_of n) head.0 head.1 head.2 (ap named_from_list (is.0 t)) ∙ sym (plain_parts n)),
+  λ t. node_parts m
+      ∙ (node_same (parts_of m) (parts_of n) head.0 head.1 head.2 (ap named_from_list (is.0 t)) ∙ sym (node_parts n)),
   λ e. is.1 (named_same (map plain_pair m.arguments.items) (map plain_pair n.arguments.items)
-      (ap (λ (x : PlainNode). x.arguments) (sym (plain_parts m) ∙ (e ∙ plain_parts n)))),
+      (ap (λ (x : PlainNode). x.arguments) (sym (node_parts m) ∙ (e ∙ node_parts n)))),
 )

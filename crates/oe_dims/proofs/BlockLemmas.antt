@@ -1,11 +1,11 @@
 -- Names that rise at their indices are found by a binary search, and names differ where each block of them does.
 use Rattle.std.proofs.Common.{◌≡◌, ℕ, zero, suc, ◌+◌, ◌<◌, Bool, true, false, ◌&&◌, ◌||◌, not, List, [], ◌∷◌, ◌++◌, length, get_or, refl, sym, ap, ◌∙◌, arith, inl, inr, Ordering, Result, Ok, Err, Some, None}
-use Rattle.std.specs.declared.cmp.Ordering.TheVariants.{Less, Equal, Greater}
+use Rattle.std.specs.declared.cmp.Ordering.TheVariants.{Less, Greater}
 use Rattle.std.specs.List.{list_any, slice_index_or}
 use Rattle.std.specs.List.Sorted.{IsSortedBy, IsSearchInRange, IsBinarySearchResult}
 use Rattle.std.specs.Cmp.Lexicographic.{slice_cmp}
 use Rattle.std.specs.FinMap.{slice_cmp-IsAntisymmetric, nat_cmp-IsAntisymmetric}
-use Rattle.std.specs.Ordering.{nat_cmp, is_lt, is_eq, ordering_reverse}
+use Rattle.std.specs.Ordering.{nat_cmp, is_eq}
 use Rattle.std.specs.Result.{is_ok}
 use Rattle.std.proofs.lemmas.Bool.{cases_Bool, cases_lt, and_parts, false≢true}
 use Rattle.std.proofs.lemmas.Cmp.{nat_list_cmp_total, tied_itself}
@@ -19,13 +19,9 @@ use Rattle.oe_dims.specs.Indices.{IsIndexOf}
 use Rattle.oe_dims.proofs.OrderLemmas.{same_name_is, same_name_refl}
 use Rattle.oe_dims.proofs.DistinctLemmas.{none_among, same_name-comm}
 use Rattle.oe_dims.proofs.ReaderLemmas.{IsUnrepeated-names, IsIndexOf-found, IsIndexOf-none}
+use Rattle.oe_dims.proofs.NameOrderLemmas.{not_after}
 
 -- ---- a search among names that rise
-
-before_not_after : (o p : Ordering) → p ≡ ordering_reverse o → is_lt o ≡ true → is_lt p ≡ false
-before_not_after Less p e h = ap is_lt e
-before_not_after Equal p e h = absurd (false≢true h)
-before_not_after Greater p e h = absurd (false≢true h)
 
 pub indices_sorted : (names : List (List ℕ)) (indices : List ℕ) → names_rise (names_at names indices) ≡ true → IsSortedBy (λ p q. is_name_before (slice_index_or names p []) (slice_index_or names q [])) indices
 indices_sorted names [] h k d low high = absurd (omega arith)
@@ -33,7 +29,7 @@ indices_sorted names (p ∷ []) h k d low high = absurd (omega arith)
 indices_sorted names (p ∷ q ∷ indices) h zero d low high =
     let a = slice_index_or names p [] in
     let b = slice_index_or names q [] in
-    before_not_after (slice_cmp nat_cmp a b) (slice_cmp nat_cmp b a) (nat_list_cmp_total.antisymm b a) (and_parts _ _ h).0
+    not_after (slice_cmp nat_cmp a b) (slice_cmp nat_cmp b a) (nat_list_cmp_total.antisymm b a) (and_parts _ _ h).0
 indices_sorted names (p ∷ q ∷ indices) h (suc k) d low high =
     let next : suc k + 1 ≡ suc (k + 1) = omega arith in
     rw next (indices_sorted names (q ∷ indices) (and_parts _ _ h).1 k d (omega arith) (omega arith))

@@ -20,7 +20,7 @@ use Rattle.oe_dims.proofs.OrderLemmas.{same_name_is, same_name_refl}
 
 -- ---- two names
 
-neither_less : (o p : Ordering) → o ≡ ordering_reverse p → is_lt o ≡ false → is_lt p ≡ false → o ≡ Equal
+pub neither_less : (o p : Ordering) → o ≡ ordering_reverse p → is_lt o ≡ false → is_lt p ≡ false → o ≡ Equal
 neither_less o Less e h k = cc
 neither_less o Equal e h k = e
 neither_less o Greater e h k = absurd (false≢true (sym h ∙ ap is_lt e))
@@ -75,7 +75,7 @@ names_rise-sorted (a ∷ b ∷ names) sorted =
       | inr f ↦ let same = same_from_order a b f (sorted 0 [] (omega arith) (omega arith)) in rw (f, same) refl
     ]
 
-rise_short : (names : List (List ℕ)) → length names ≤ 1 → names_rise names ≡ true
+pub rise_short : (names : List (List ℕ)) → length names ≤ 1 → names_rise names ≡ true
 rise_short [] h = refl
 rise_short (a ∷ []) h = refl
 rise_short (a ∷ b ∷ names) h = absurd (omega arith)

@@ -1,11 +1,12 @@
 mod BlockLemmas
-mod CivilLemmas
+pub mod CivilLemmas
 pub mod CubeLemmas
 pub mod DistinctLemmas
 pub mod FlatMapLemmas
 pub mod IndexLemmas
 pub mod InstantLemmas
 pub mod ListsLemmas
+pub mod NameOrderLemmas
 pub mod OrderLemmas
 mod PatternLemmas
 pub mod ReaderLemmas

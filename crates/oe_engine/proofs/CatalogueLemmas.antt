@@ -1,11 +1,9 @@
 -- The collections of a catalogue, as the graphs that were checked over it have them.
-use Rattle.std.proofs.Common.{◌≡◌, ℕ, zero, suc, ◌<◌, true, false, List, [], ◌∷◌, length, map, get_or, replicate, unwrap_or, Option, Some, None, IfSome, IsSome, Ordering, Less, Equal, Greater, inl, inr, refl, sym, ap, ◌∙◌, subst, true≢false, arith}
+use Rattle.std.proofs.Common.{◌≡◌, ℕ, zero, suc, ◌<◌, true, false, List, [], ◌∷◌, length, map, get_or, replicate, unwrap_or, Option, Some, None, IfSome, IsSome, inl, inr, refl, sym, ap, ◌∙◌, subst, true≢false, arith}
 use Rattle.std.specs.List.{All, find, list_all, slice_get}
 use Rattle.std.specs.Option.{option_and_then, option_map, option_map_or}
-use Rattle.std.specs.Ordering.{is_lt}
 use Rattle.std.proofs.Math.Path.{fun_ext}
 use Rattle.std.proofs.lemmas.Bool.{and_parts, cases_Bool, false_from_ne_true}
-use Rattle.std.proofs.lemmas.Cmp.{nat_list_cmp_total, tied_itself}
 use Rattle.std.proofs.lemmas.List.{length-replicate}
 use Rattle.std.proofs.lemmas.List.Elements.{All-map}
 use Rattle.std.proofs.lemmas.Option.{same_Some}
@@ -18,6 +16,7 @@ use Rattle.oe_dims.specs.declared.dims.DimsRow.{DimsRow}
 use Rattle.oe_dims.specs.declared.kind.CellKind.{CellKind}
 use Rattle.oe_dims.specs.declared.kind.CellKind.TheVariants.{Numbers, Flags}
 use Rattle.oe_dims.proofs.OrderLemmas.{same_name_is, same_name_refl}
+use Rattle.oe_dims.proofs.NameOrderLemmas.{before_trans, not_before_itself}
 use Rattle.oe_expr.specs.Nodes.{down_from, id_at}
 use Rattle.oe_graph.specs.Tree.{PlainNode}
 use Rattle.oe_shape.specs.Checked.{CheckedGraph}
@@ -38,17 +37,6 @@ use Rattle.oe_engine.specs.Laws.{AreVisible, GivesCollections, HasValid, collect
 abbrev ids : List DimsRow → List (List ℕ)
 ids rows = map (λ (row : DimsRow). row.id) rows
 
-lt_is : (o : Ordering) → is_lt o ≡ true → o ≡ Less
-lt_is Less is = refl
-lt_is Equal is = absurd (true≢false (sym is))
-lt_is Greater is = absurd (true≢false (sym is))
-
-before_both : (a b c : List ℕ) → is_name_before a b ≡ true → is_name_before b c ≡ true → is_name_before a c ≡ true
-before_both a b c one two = ap is_lt (nat_list_cmp_total.trans a b c (lt_is _ one) (lt_is _ two))
-
-not_before_itself : (a : List ℕ) → is_name_before a a ≡ false
-not_before_itself a = ap is_lt (tied_itself nat_list_cmp_total a)
-
 rest_rises : (a : List ℕ) (rows : List DimsRow) → names_rise (a ∷ ids rows) ≡ true → names_rise (ids rows) ≡ true
 rest_rises a [] rise = refl
 rest_rises a (row ∷ rows) rise = (and_parts (is_name_before a row.id) (names_rise (ids (row ∷ rows))) rise).1
@@ -59,7 +47,7 @@ before_later a [] k d rise h = absurd (omega arith)
 before_later a (row ∷ rows) zero d rise h = (and_parts (is_name_before a row.id) (names_rise (ids (row ∷ rows))) rise).0
 before_later a (row ∷ rows) (suc k) d rise h =
     let parts = and_parts (is_name_before a row.id) (names_rise (ids (row ∷ rows))) rise in
-    before_both a row.id (get_or rows k d).id parts.0 (before_later row.id rows k d parts.1 (omega arith))
+    before_trans a row.id (get_or rows k d).id parts.0 (before_later row.id rows k d parts.1 (omega arith))
 
 -- a row is the one of its id
 find_row : (rows : List DimsRow) (k : ℕ) (d : DimsRow) → names_rise (ids rows) ≡ true → k < length rows

@@ -24,9 +24,9 @@ use Rattle.oe_engine.specs.Chunks.{AreResultOf, HasOnChunk, IsAtDone}
 use Rattle.oe_steps.specs.Inputs.{IsInput}
 use Rattle.oe_engine.specs.Runs.{result_cube, result_shape}
 use Rattle.oe_engine.specs.declared.bench.State.TheVariants.{Done}
-use Rattle.oe_engine.proofs.CubeLemmas.{given_cube}
 use Rattle.oe_engine.proofs.GridLemmas.{chunk_inside}
 use Rattle.oe_steps.proofs.ScheduleLemmas.{is_input}
+use Rattle.oe_spool.proofs.CubeLemmas.{given_cube}
 
 -- what holds of each cell on a window holds of the cell at a position of it
 pub cell_of_window : (P : Cell → Type 0) (cube : Cube Cell) (w : Window) (q : Position) → IsIn w q → All P (cells_on Empty cube w)

@@ -10,7 +10,6 @@ pub mod ChunkLemmas
 pub mod HullLemmas
 pub mod PieceLemmas
 pub mod GridLemmas
-pub mod CubeLemmas
 pub mod DoneLemmas
 pub mod NextChunkLemmas
 pub mod WrittenLemmas

@@ -6,14 +6,14 @@ use Rattle.oe_dims.specs.declared.kind.CellKind.{CellKind}
 use Rattle.oe_dims.specs.declared.kind.CellKind.TheVariants.{Numbers}
 use Rattle.oe_fold.specs.declared.reducer.Reducer.{Reducer}
 use Rattle.oe_graph.specs.Faults.{IsLeast}
-use Rattle.oe_graph.specs.Plain.{plain_graph, plain_nodes, arg_step, graph_step, node_step}
+use Rattle.oe_graph.specs.Plain.{plain_graph, plain_nodes}
 use Rattle.oe_graph.specs.Resolved.{IsResolvedObject, IsResolvedUnder}
-use Rattle.oe_graph.specs.Tree.{Argument, Nodes, PlainGraph, PlainNode}
+use Rattle.oe_graph.specs.Tree.{Nodes, PlainGraph, PlainNode}
 use Rattle.oe_graph.specs.declared.code.Code.{Code}
 use Rattle.oe_graph.specs.declared.fault.Fault.{Fault}
-use Rattle.oe_graph.specs.declared.tree.Arg.TheFolds.{fold_out-Graph}
 use Rattle.oe_graph.specs.declared.tree.Graph.{Graph, out-Graph}
 use Rattle.oe_graph.proofs.ResolvedLemmas.{resolved_object, node_below}
+use Rattle.oe_graph.proofs.PartLemmas.{graph_parts}
 use Rattle.oe_expr.specs.Callback.{IsFaultlessCallback, StandsInCallbackAt, callback_of, callback_kind}
 use Rattle.oe_expr.specs.Compiled.{IsCompiled, IsProgramOf}
 use Rattle.oe_expr.specs.Folds.{single_reducer}
@@ -31,9 +31,6 @@ use Rattle.oe_expr.proofs.KindLemmas.{keeps_kind}
 use Rattle.oe_expr.proofs.NodeLemmas.{node_is, index_of_node, id_at_is}
 
 -- ---- a graph by its parts
-
-pub graph_parts : (g : Graph) → plain_graph g ≡ record { nodes = plain_nodes (out-Graph g).nodes.items; result = (out-Graph g).result }
-graph_parts g = fold_out-Graph Argument PlainGraph PlainNode arg_step graph_step node_step g
 
 pub resolved_parts : (scope : PlainScope) (g : Graph) → IsResolvedUnder true (scope_parameters scope) (plain_graph g)
     → IsResolvedUnder true (scope_parameters scope) (record { nodes = plain_nodes (out-Graph g).nodes.items; result = (out-Graph g).result })

@@ -42,9 +42,10 @@ use Rattle.oe_expr.proofs.FitLemmas.{Sees}
 use Rattle.oe_expr.proofs.KindLemmas.{sees_of}
 use Rattle.oe_expr.proofs.MarkLemmas.{named_before, index_before, entry_within, entries_differ, few_entries}
 use Rattle.oe_expr.proofs.NodeLemmas.{unfolds}
-use Rattle.oe_expr.proofs.PlaceLemmas.{HasPlace, HasFew, AsksFew, HasGrown, append_none, place_kept, none_more, request_grown}
+use Rattle.oe_expr.proofs.PlaceLemmas.{HasPlace, HasFew, AsksFew, HasGrown, place_kept, none_more, request_grown}
 use Rattle.oe_expr.proofs.RequestLemmas.{OfScalar, OfScalars, OfItems, OfRequest, both_there, found_there, mapped_there, passed_there, of_node_request, value_looks_down}
 use Rattle.oe_expr.proofs.StateLemmas.{named_at, count_plain}
+use Rattle.oe_memory.proofs.Lists.{append_none}
 
 -- ---- lists that are written are short
 

@@ -37,6 +37,7 @@ use Rattle.oe_expr.proofs.FitLemmas.{Sees}
 use Rattle.oe_expr.proofs.LabelLemmas.{label_element, found_element, count_in}
 use Rattle.oe_expr.proofs.ProgramLemmas.{operand_agrees, step_agrees, slice_front, register_is, registers_kept}
 use Rattle.oe_expr.proofs.RequestLemmas.{OfScalar, OfScalars, OfItems, OfRequest}
+use Rattle.oe_memory.proofs.Lists.{append_none}
 
 -- an element of a list that is written, by its index
 pub written_at : (f : PlainScalar → Operand) (scalars : List Scalar) (index : ℕ) (s : Scalar) → index < length scalars → s ≡ get_or scalars index s
@@ -306,10 +307,6 @@ slice_back : {A : Type 0} (xs ys : List A) (m : ℕ) → length ys ≡ m → sli
 slice_back xs ys m h =
     let count : length xs + m - length xs ≡ m = omega arith in
     ap (λ (k : ℕ). take k (drop (length xs) (xs ++ ys))) count ∙ ap (take m) (drop-append_seam xs ys) ∙ take_all m ys (omega arith)
-
-pub append_none : {A : Type 0} (xs : List A) → xs ++ [] ≡ xs
-append_none [] = refl
-append_none (x ∷ xs) = ap (λ ys. x ∷ ys) (append_none xs)
 
 -- the program after a request
 pub record HasGrown (c : Callback) (q : Program) (value : Environment → Cell) (o : Operand) : Type 0 where

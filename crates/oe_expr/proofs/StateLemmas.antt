@@ -1,19 +1,19 @@
 -- The nodes of a callback by their names and their indices, and what is known of those that one refers to.
-use Rattle.std.proofs.Common.{◌≡◌, ◌⊎◌, inl, inr, ℕ, zero, suc, ◌+◌, ◌<◌, Bool, true, false, cond, List, [], ◌∷◌, ◌++◌, append_assoc, take, map, length, slice_get, slice_index_or, get_or, Contains, Option, Some, None, option_map, refl, sym, ap, ◌∙◌, subst, true≢false, arith, add-one}
+use Rattle.std.proofs.Common.{◌≡◌, ◌⊎◌, inl, inr, ℕ, zero, suc, ◌+◌, ◌<◌, Bool, true, false, cond, List, [], ◌∷◌, ◌++◌, append_assoc, take, map, length, slice_get, get_or, Contains, Option, Some, None, option_map, refl, sym, ap, ◌∙◌, subst, true≢false, arith, add-one}
 use Rattle.std.specs.Option.{option_and_then, option_map_or}
 use Rattle.std.proofs.lemmas.Option.{slice_get-map}
 use Rattle.oe_dims.specs.Names.{same_name}
 use Rattle.oe_dims.proofs.IndexLemmas.{index_where_none}
 use Rattle.oe_dims.proofs.OrderLemmas.{same_name_is, same_name_refl}
 use Rattle.std.proofs.lemmas.Grind.{take_at_read}
-use Rattle.oe_graph.specs.Plain.{plain_arg, plain_args, plain_node, plain_nodes, plain_named, arg_step, graph_step, node_step}
+use Rattle.oe_graph.specs.Plain.{plain_arg, plain_args, plain_node, plain_nodes, plain_named}
 use Rattle.oe_graph.specs.Printed.{node_count}
 use Rattle.oe_graph.specs.References.{each_node, references_in, references_each, references_named}
-use Rattle.oe_graph.specs.Tree.{Argument, PlainGraph, PlainNode, Nodes, no_nodes, node}
+use Rattle.oe_graph.specs.Tree.{PlainNode, Nodes, no_nodes, node}
 use Rattle.oe_graph.specs.declared.tree.Arg.{Arg}
-use Rattle.oe_graph.specs.declared.tree.Arg.TheFolds.{fold_out-Node}
 use Rattle.oe_graph.specs.declared.tree.Node.{Node}
 use Rattle.oe_graph.proofs.ResolvedLemmas.{NodeAt, node_unique}
+use Rattle.oe_graph.proofs.PartLemmas.{node_parts}
 use Rattle.oe_expr.specs.Below.{worse_of, below_state, below_names}
 use Rattle.oe_expr.specs.Nodes.{node_named}
 use Rattle.oe_expr.specs.States.{index_named, state_named}
@@ -23,15 +23,12 @@ use Rattle.oe_expr.specs.declared.references.Below.{Below}
 use Rattle.oe_expr.specs.declared.references.Below.TheVariants as below
 use Rattle.oe_expr.specs.declared.state.State.{State}
 use Rattle.oe_expr.specs.declared.state.State.TheVariants.{Unseen, Faulty, Sound}
+use Rattle.oe_memory.proofs.Lists.{first_of, first_or_later, later_of}
 
 -- ---- nodes by their parts
 
-pub plain_parts : (n : Node)
-    → plain_node n ≡ record { id = n.id; process_id = n.process_id; namespace = n.namespace; arguments = plain_named n.arguments.items }
-plain_parts n = fold_out-Node Argument PlainGraph PlainNode arg_step graph_step node_step n
-
 pub plain_id : (n : Node) → (plain_node n).id ≡ n.id
-plain_id n = ap (λ (p : PlainNode). p.id) (plain_parts n)
+plain_id n = ap (λ (p : PlainNode). p.id) (node_parts n)
 
 pub each_plain : (nodes : List Node) → each_node (plain_nodes nodes) ≡ map plain_node nodes
 each_plain [] = refl
@@ -159,17 +156,6 @@ module _ (scope : PlainScope) (nodes : List Node) (is : AreResolved scope nodes)
   state_of_id states k n at = ap (λ o. option_map_or (state_at states) o Unseen) (index_of k n at)
 
 -- ---- what is known of several nodes
-
-first_of : {X : Type 0} (x : X) (xs : List X) → Contains (x ∷ xs) x
-first_of x xs = (0, omega arith, refl)
-
-later_of : {X : Type 0} (x : X) (xs : List X) (y : X) → Contains xs y → Contains (x ∷ xs) y
-later_of x xs y has = let below = has.1 in (suc has.0, omega arith, has.2)
-
-first_or_later : {X : Type 0} (x : X) (xs : List X) (y : X) (k : ℕ) → k < length (x ∷ xs) → slice_index_or (x ∷ xs) k y ≡ y
-    → (x ≡ y) ⊎ Contains xs y
-first_or_later x xs y zero below is = inl is
-first_or_later x xs y (suc k) below is = inr (k, omega arith, is)
 
 unseen_one : (s : State) (b : Below) → worse_of (below_state s) b ≡ below.Unseen → (s ≡ Unseen) ⊎ (b ≡ below.Unseen)
 unseen_one Unseen b e = inl refl

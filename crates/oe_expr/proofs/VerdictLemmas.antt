@@ -9,6 +9,7 @@ use Rattle.oe_graph.specs.Tree.{PlainNode}
 use Rattle.oe_graph.specs.declared.code.Code.{Code}
 use Rattle.oe_graph.specs.declared.code.Code.TheVariants.{ProcessParameterInvalid}
 use Rattle.oe_graph.specs.declared.tree.Node.{Node}
+use Rattle.oe_graph.proofs.PartLemmas.{node_parts}
 use Rattle.oe_expr.specs.Below.{below_names}
 use Rattle.oe_expr.specs.NodeKinds.{request_kind}
 use Rattle.oe_expr.specs.PlainRequests.{plain_cell_request}
@@ -22,7 +23,6 @@ use Rattle.oe_expr.specs.declared.references.Below.TheVariants as below
 use Rattle.oe_expr.specs.declared.request.Request.{Request}
 use Rattle.oe_expr.specs.declared.state.State.{State}
 use Rattle.oe_expr.specs.declared.walk.Verdict.{Verdict}
-use Rattle.oe_expr.proofs.StateLemmas.{plain_parts}
 
 ok_parts : (fault : Option Code) (given kind : Option CellKind) → fault_or_kind fault given ≡ Ok kind → (fault ≡ None) × (given ≡ kind)
 ok_parts None given kind e = (refl, cc)
@@ -36,7 +36,7 @@ module _ (scope : PlainScope) (context : Cell) (nodes : List Node) (states : Lis
   below_of : (b c : Below) → b ≡ below_names nodes states (references_named (plain_named node.arguments.items)) → b ≡ c
       → below_names nodes states (references_named (plain_node node).arguments) ≡ c
   below_of b c is same =
-      ap (λ (n : PlainNode). below_names nodes states (references_named n.arguments)) (plain_parts node) ∙ (sym is ∙ same)
+      ap (λ (n : PlainNode). below_names nodes states (references_named n.arguments)) (node_parts node) ∙ (sym is ∙ same)
 
   module _ (b : Below) (is_below : b ≡ below_names nodes states (references_named (plain_named node.arguments.items))) (is_sound : b ≡ below.Sound)
       (asked : Option Request) (request : Request) (read : option_map plain_cell_request asked ≡ cell_request_at (plain_node node)) (some : asked ≡ Some request)

@@ -1,5 +1,5 @@
 -- The argument of a name among arguments, one by one.
-use Rattle.std.proofs.Common.{◌≡◌, ℕ, ◌+◌, ◌<◌, true, false, if◌then◌else◌, List, length, drop, get_or, Some, ap, ◌∙◌}
+use Rattle.std.proofs.Common.{◌≡◌, ℕ, ◌+◌, ◌<◌, true, false, if◌then◌else◌, List, length, drop, get_or, Some, ap, sym, ◌∙◌}
 use Rattle.std.proofs.lemmas.List.{at_drop_more}
 use Rattle.oe_dims.specs.Names.{same_name}
 use Rattle.oe_graph.specs.Plain.{plain_arg, plain_named}

@@ -1,4 +1,6 @@
 pub mod ArgumentLemmas
+pub mod PartLemmas
+pub mod ReferenceLemmas
 mod Views
 mod Depths
 mod Finds

@@ -1,16 +1,15 @@
 -- What a resolved graph gives the layers above: its references name nodes of the graph object, each argument that the
 -- catalogue asks for is there, and references end.
-use Rattle.std.proofs.Common.{◌≡◌, ◌≢◌, Ordering, Less, Equal, Greater, ◌⊎◌, inl, inr, ℕ, zero, suc, ◌+◌, ◌<◌, ◌≤◌, ◌||◌, Bool, true, false, if◌then◌else◌, List, [], ◌∷◌, ◌++◌, map, length, slice_get, slice_index_or, Contains, Decides, Option, Some, None, refl, sym, ap, ◌∙◌, subst, true≢false, arith}
+use Rattle.std.proofs.Common.{◌≡◌, ◌≢◌, ℕ, zero, suc, ◌+◌, ◌<◌, ◌||◌, Bool, true, false, if◌then◌else◌, List, [], ◌∷◌, ◌++◌, length, slice_get, slice_index_or, Contains, Decides, Option, Some, refl, sym, ap, ◌∙◌, subst, true≢false, arith}
 use Rattle.std.specs.Cmp.{IsEquivalence}
-use Rattle.std.specs.List.{IsDistinct, AllByRecursion, list_any}
+use Rattle.std.specs.List.{IsDistinct, AllByRecursion}
 use Rattle.std.specs.Set.{is_member}
 use Rattle.std.proofs.lemmas.List.Elements.{Contains-append_left, Contains-append_right}
 use Rattle.std.proofs.lemmas.Map.Made.{length-le_from_is_member, is_member-Decides}
-use Rattle.std.specs.Ordering.{is_lt}
 use Rattle.std.proofs.lemmas.Bool.{and_parts}
-use Rattle.std.proofs.lemmas.Cmp.{nat_list_cmp_total, tied_itself}
 use Rattle.oe_dims.specs.Names.{same_name, is_name_before, names_rise}
 use Rattle.oe_dims.proofs.OrderLemmas.{same_name_is, same_name_refl}
+use Rattle.oe_dims.proofs.NameOrderLemmas.{before_trans, not_before_itself}
 use Rattle.oe_graph.specs.Catalogue.{Process, process_named}
 use Rattle.oe_graph.specs.Printed.{ids_of, names_of, node_count}
 use Rattle.oe_graph.specs.References.{each_node, argument_named, references_in, references_named, parameters_in, parameters_named, callbacks_in, callbacks_named, Refers, Leads, refers, onwards, Chain, none, more}
@@ -267,17 +266,6 @@ resolved_from_parts in_callback scope g own callbacks =
     λ deep deep_scope nodes result within. within_parts deep deep_scope nodes result in_callback scope g.nodes g.result within own callbacks
 
 -- ---- an id names one node
-
-lt_is : (o : Ordering) → is_lt o ≡ true → o ≡ Less
-lt_is Less is = refl
-lt_is Equal is = absurd (true≢false (sym is))
-lt_is Greater is = absurd (true≢false (sym is))
-
-before_trans : (a b c : List ℕ) → is_name_before a b ≡ true → is_name_before b c ≡ true → is_name_before a c ≡ true
-before_trans a b c ab bc = ap is_lt (nat_list_cmp_total.trans a b c (lt_is _ ab) (lt_is _ bc))
-
-not_before_itself : (a : List ℕ) → is_name_before a a ≡ false
-not_before_itself a = ap is_lt (tied_itself nat_list_cmp_total a)
 
 head_before : (a : List ℕ) (rest : Nodes) → names_rise (a ∷ ids_of rest) ≡ true → (j : ℕ) (n : PlainNode)
     → slice_get (each_node rest) j ≡ Some n → is_name_before a n.id ≡ true

@@ -1,11 +1,12 @@
 -- Members that are put in byte order of their names stand one after the other.
-use Rattle.std.proofs.Common.{◌≡◌, ℕ, suc, ◌==◌, List, [], ◌∷◌, true, Ordering, Less, Equal, Greater, refl, ap, ◌∙◌}
+use Rattle.std.proofs.Common.{◌≡◌, ℕ, suc, ◌==◌, List, [], ◌∷◌, true, Less, Greater, refl, ap, ◌∙◌}
 use Rattle.std.proofs.lemmas.Bool.{and_parts, false≢true}
 use Rattle.std.proofs.lemmas.Cmp.{nat_list_cmp_total}
-use Rattle.std.specs.Ordering.{nat_cmp, is_lt, ordering_reverse}
+use Rattle.std.specs.Ordering.{nat_cmp, ordering_reverse}
 use Rattle.std.specs.Cmp.Lexicographic.{slice_cmp}
 use Rattle.serde_json.specs.Data.{Data, Members, no_members, member, put}
 use Rattle.oe_dims.specs.Names.{is_name_before, names_rise}
+use Rattle.oe_dims.proofs.NameOrderLemmas.{before_trans, is_less}
 use Rattle.oe_graph.specs.Tree as tree
 use Rattle.oe_graph.specs.Tree.{Named, Nodes}
 use Rattle.oe_graph.specs.Printed.{argument_data, named_data, nodes_data, node_data, names_of, ids_of}
@@ -26,19 +27,11 @@ append_none (member l e ms) = ap (member l e) (append_none ms)
 
 -- ---- the order of names
 
-is_less : (o : Ordering) → is_lt o ≡ true → o ≡ Less
-is_less Less h = refl
-is_less Equal h = absurd (false≢true h)
-is_less Greater h = absurd (false≢true h)
-
 before : (a b : List ℕ) → is_name_before a b ≡ true → slice_cmp nat_cmp a b ≡ Less
 before a b h = is_less (slice_cmp nat_cmp a b) h
 
 after : (a b : List ℕ) → is_name_before a b ≡ true → slice_cmp nat_cmp b a ≡ Greater
 after a b h = nat_list_cmp_total.antisymm b a ∙ ap ordering_reverse (before a b h)
-
-before_trans : (a b c : List ℕ) → is_name_before a b ≡ true → is_name_before b c ≡ true → is_name_before a c ≡ true
-before_trans a b c p q = ap is_lt (nat_list_cmp_total.trans a b c (before a b p) (before b c q))
 
 -- each name stands before this one
 abbrev AllBefore : List ℕ → Members → Type 0

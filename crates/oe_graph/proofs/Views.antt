@@ -1,5 +1,5 @@
 -- A value's entries beside the trees that they are.
-use Rattle.std.proofs.Common.{◌≡◌, ℕ, Bool, false, List, [], ◌∷◌, ◌++◌, map, length, slice_get, String, Global, string_bytes, refl, sym, ap, ◌∙◌, Option, Some, None, arith}
+use Rattle.std.proofs.Common.{◌≡◌, ℕ, Bool, List, [], ◌∷◌, ◌++◌, map, length, slice_get, String, Global, string_bytes, refl, sym, ap, ◌∙◌, Some, None, arith}
 use Rattle.std.proofs.lemmas.List.{map-append}
 use Rattle.serde_json.specs.View.{view, items_view, members_view}
 use Rattle.serde_json.specs.declared.value.Value.{Value}
@@ -7,13 +7,14 @@ use Rattle.serde_json.proofs.Views.{Entry}
 use Rattle.oe_graph.specs.Tree.{Argument, argument, named, callback, node, values_from_list, named_from_list, nodes_from_list, PlainGraph, PlainNode}
 use Rattle.oe_graph.specs.Plain.{plain_arg, plain_pair, plain_node, plain_named, plain_graph, arg_step, graph_step, node_step}
 use Rattle.oe_graph.specs.declared.tree.Arg.{Arg}
-use Rattle.oe_graph.specs.declared.tree.Arg.TheFolds.{fold_out-Node, fold-roll-Arg}
+use Rattle.oe_graph.specs.declared.tree.Arg.TheFolds.{fold-roll-Arg}
 use Rattle.oe_graph.specs.declared.tree.Arg.TheOpen.{Arg-F}
 use Rattle.oe_graph.specs.declared.tree.Arg.TheVariants.{Callback, rolls-Callback}
 use Rattle.oe_graph.specs.declared.tree.Graph.{Graph}
 use Rattle.oe_graph.specs.declared.tree.Node.{Node}
 use Rattle.oe_graph.specs.Built as built
 use Rattle.oe_graph.specs.Built.{value_of, values_of, members_of, the_member, argument_of, each_argument}
+use Rattle.oe_graph.proofs.PartLemmas.{node_parts}
 
 -- a member of an object, under what is made of its value
 abbrev pub entry_pair : (Value → Argument) → Entry → List ℕ × Argument
@@ -73,11 +74,6 @@ pub one_more : (f : Value → Argument) (args : List (List ℕ × Arg)) (done : 
 one_more f args done n a e before name value =
     rw (map-append plain_pair args ((n, a) ∷ []), map-append (entry_pair f) done (e ∷ []), before, name, value) refl
 
--- a node and a callback by their parts
-pub plain_parts : (n : Node)
-    → plain_node n ≡ record { id = n.id; process_id = n.process_id; namespace = n.namespace; arguments = plain_named n.arguments.items }
-plain_parts n = fold_out-Node Argument PlainGraph PlainNode arg_step graph_step node_step n
-
 pub plain_callback : (g : Graph) → plain_arg (Callback g) ≡ callback (plain_graph g).nodes (plain_graph g).result
 plain_callback g =
     ap plain_arg (sym (rolls-Callback g)) ∙ fold-roll-Arg Argument PlainGraph PlainNode arg_step graph_step node_step (Arg-F.Callback g)
@@ -88,7 +84,7 @@ pub is_entry_node : (n : Node) (e : Entry) → n.id ≡ string_bytes e.0
     → plain_named n.arguments.items ≡ built.arguments_from_data (view e.1)
     → plain_node n ≡ entry_node e
 is_entry_node n e id process namespace arguments =
-    plain_parts n ∙ (ap (λ i. record { id = i; process_id = n.process_id; namespace = n.namespace; arguments = plain_named n.arguments.items }) id
+    node_parts n ∙ (ap (λ i. record { id = i; process_id = n.process_id; namespace = n.namespace; arguments = plain_named n.arguments.items }) id
     ∙ (ap (λ p. record { id = string_bytes e.0; process_id = p; namespace = n.namespace; arguments = plain_named n.arguments.items }) process
     ∙ (ap (λ ns. record { id = string_bytes e.0; process_id = built.process_id_of (view e.1); namespace = ns; arguments = plain_named n.arguments.items }) namespace
     ∙ ap (λ args. record { id = string_bytes e.0; process_id = built.process_id_of (view e.1); namespace = built.namespace_of (view e.1); arguments = args }) arguments)))

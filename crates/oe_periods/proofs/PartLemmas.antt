@@ -7,11 +7,12 @@ use Rattle.jiff_core.proofs.CalendarLemmas.{day_count_bounds, days_from_civil-da
 use Rattle.oe_dims.specs.Calendar.{Civil, civil_date}
 use Rattle.oe_dims.specs.Dimensions.{first_instant}
 use Rattle.oe_dims.specs.Instant.{IsInstant}
+use Rattle.oe_dims.proofs.CivilLemmas.{IsDay, civil_date_is}
 use Rattle.oe_periods.specs.Calendar.{days_to, first_of_month, month_number, period_end, period_number, period_start, periods_in_all, year_number}
 use Rattle.oe_periods.specs.Periods.{PartTime}
 use Rattle.oe_periods.specs.declared.calendar.Period.{Period}
 use Rattle.oe_periods.specs.declared.calendar.Period.TheVariants.{Day, Month, Year}
-use Rattle.oe_periods.proofs.CivilLemmas.{IsDay, civil, civil_date_is, first_civil, from_year_1, is_before, is_reached}
+use Rattle.oe_periods.proofs.CivilLemmas.{civil, first_civil, from_year_1, is_before, is_reached}
 
 -- the first day of a period, counted from that of the year 1
 abbrev pub first_day : Period → ℕ → ℕ

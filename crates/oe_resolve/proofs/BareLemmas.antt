@@ -7,12 +7,12 @@ use Rattle.oe_graph.specs.Tree.{Named, Nodes, no_nodes, node, PlainGraph, PlainN
 use Rattle.oe_graph.specs.declared.stored.StoredProcess.{StoredProcess}
 use Rattle.oe_graph.specs.declared.tree.Graph.{out-Graph}
 use Rattle.oe_graph.specs.declared.tree.Node.{Node}
+use Rattle.oe_graph.proofs.PartLemmas.{graph_parts, node_parts}
 use Rattle.oe_resolve.specs.Calls.{callee}
 use Rattle.oe_resolve.specs.Replaced.{values_given, replaced_nodes}
 use Rattle.oe_resolve.specs.Rounds.{known_nodes, under_id, under_nodes, put_node, put_nodes, opened, round_named, round_nodes}
 use Rattle.oe_resolve.specs.Sizes.{size_bare, size_bare_nodes, opened_bare, round_bare}
 use Rattle.oe_resolve.specs.declared.weigh.Measure.{Measure}
-use Rattle.oe_resolve.proofs.NodeLemmas.{graph_parts, node_parts}
 
 module _ (m : Measure) where
   pub bare_known : (ids : List (List ℕ)) (ns : Nodes) → size_bare_nodes m (known_nodes ids ns) ≡ size_bare_nodes m ns

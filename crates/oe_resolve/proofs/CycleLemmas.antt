@@ -1,22 +1,18 @@
 -- References by id beside references by index.
-use Rattle.std.proofs.Common.{◌≡◌, ◌≢◌, ◌↔◌, ℕ, zero, suc, ◌+◌, ◌<◌, ◌≤◌, ◌⊎◌, inl, inr, Bool, true, false, List, [], ◌∷◌, ◌++◌, Option, Some, None, Contains, length, map, take, get_or, slice_get, slice_index_or, replicate, refl, sym, ap, ◌∙◌, subst, append_assoc, true≢false, arith}
-use Rattle.std.specs.Ordering.{is_lt}
-use Rattle.std.specs.declared.cmp.Ordering.{Ordering}
-use Rattle.std.proofs.lemmas.Bool.{and_parts}
-use Rattle.std.proofs.lemmas.Cmp.{nat_list_cmp_total, tied_itself}
+use Rattle.std.proofs.Common.{◌≡◌, ◌≢◌, ◌↔◌, ℕ, zero, suc, ◌+◌, ◌<◌, ◌⊎◌, inl, inr, Bool, true, false, List, [], ◌∷◌, ◌++◌, Option, Some, Contains, length, map, take, get_or, slice_get, slice_index_or, replicate, refl, sym, ap, ◌∙◌, subst, true≢false, arith}
 use Rattle.std.proofs.lemmas.List.{map-append}
 use Rattle.std.proofs.lemmas.List.Elements.{Contains-append_left, Contains-append_right, Contains-append_cases, Contains-push, Contains-push_cases}
 use Rattle.oe_dims.specs.Names.{is_name_before, names_rise}
+use Rattle.oe_dims.proofs.NameOrderLemmas.{head_before, not_before_itself, tail_rises}
 use Rattle.oe_graph.specs.Printed.{ids_of}
 use Rattle.oe_graph.specs.References as graph
-use Rattle.oe_graph.specs.References.{each_node, references_in, references_named, references_each, Refers, Leads}
-use Rattle.oe_graph.specs.Plain.{plain_arg, plain_args, plain_named, plain_node, plain_nodes, plain_pair}
-use Rattle.oe_graph.specs.Tree.{Argument, Named, Nodes, no_nodes, node, PlainNode, named_from_list, values_from_list, nodes_from_list}
-use Rattle.oe_graph.specs.declared.tree.Arg.{Arg}
+use Rattle.oe_graph.specs.References.{each_node, references_named, Refers, Leads}
+use Rattle.oe_graph.specs.Plain.{plain_node, plain_nodes}
+use Rattle.oe_graph.specs.Tree.{Nodes, no_nodes, node, PlainNode, nodes_from_list}
 use Rattle.oe_graph.specs.declared.tree.Node.{Node}
 use Rattle.oe_order.specs.Graph as order
 use Rattle.oe_order.specs.Graph.{arguments, RefersWithin, Reaches, IsAcyclic}
-use Rattle.oe_resolve.specs.Judged.{AreMarks, HasIndex, IsReferred, IsFoundBehind, IsIndexed, no_node, next_node}
+use Rattle.oe_resolve.specs.Judged.{AreMarks, IsReferred, IsFoundBehind, IsIndexed, no_node, next_node}
 use Rattle.oe_resolve.proofs.Along.{first_there, none_there, there_cases, take_pushed}
 
 -- ---- the indices of references
@@ -74,38 +70,6 @@ behind_one ids id index old new is pushed = subst (λ xs. IsFoundBehind ids (id 
     is_there = subst (λ name. slice_get ids index ≡ Some name) (only id other has) is;
   };
 })
-
-append_none : {X : Type 0} (xs : List X) → xs ++ [] ≡ xs
-append_none [] = refl
-append_none (x ∷ xs) = ap (λ ys. x ∷ ys) (append_none xs)
-
-pub named_push : (ms : List (List ℕ × Argument)) (m : List ℕ × Argument)
-    → references_named (named_from_list (ms ++ m ∷ [])) ≡ references_named (named_from_list ms) ++ references_in m.1
-named_push [] m = append_none (references_in m.1)
-named_push (x ∷ ms) m =
-    ap (λ r. references_in x.1 ++ r) (named_push ms m)
-    ∙ sym (append_assoc (references_in x.1) (references_named (named_from_list ms)) (references_in m.1))
-
-pub each_push : (xs : List Argument) (x : Argument)
-    → references_each (values_from_list (xs ++ x ∷ [])) ≡ references_each (values_from_list xs) ++ references_in x
-each_push [] x = append_none (references_in x)
-each_push (y ∷ xs) x =
-    ap (λ r. references_in y ++ r) (each_push xs x)
-    ∙ sym (append_assoc (references_in y) (references_each (values_from_list xs)) (references_in x))
-
-pub named_next : (ms : List (List ℕ × Arg)) (i : ℕ) (m : List ℕ × Arg) → i < length ms → m ≡ get_or ms i m
-    → references_named (plain_named (take (i + 1) ms)) ≡ references_named (plain_named (take i ms)) ++ references_in (plain_arg m.1)
-named_next ms i m below is =
-    ap (λ ys. references_named (plain_named ys)) (take_pushed ms i m below is)
-    ∙ ap (λ zs. references_named (named_from_list zs)) (map-append plain_pair (take i ms) (m ∷ []))
-    ∙ named_push (map plain_pair (take i ms)) (plain_pair m)
-
-pub each_next : (xs : List Arg) (i : ℕ) (x : Arg) → i < length xs → x ≡ get_or xs i x
-    → references_each (plain_args (take (i + 1) xs)) ≡ references_each (plain_args (take i xs)) ++ references_in (plain_arg x)
-each_next xs i x below is =
-    ap (λ ys. references_each (plain_args ys)) (take_pushed xs i x below is)
-    ∙ ap (λ zs. references_each (values_from_list zs)) (map-append plain_arg (take i xs) (x ∷ []))
-    ∙ each_push (map plain_arg (take i xs)) (plain_arg x)
 
 -- ---- the nodes, one by one
 
@@ -179,30 +143,6 @@ indexed_within ids ns xs is same a b has =
     omega arith
 
 -- ---- an id has one index
-
-lt_is : (o : Ordering) → is_lt o ≡ true → o ≡ Ordering.Less
-lt_is Ordering.Less is = refl
-lt_is Ordering.Equal is = absurd (true≢false (sym is))
-lt_is Ordering.Greater is = absurd (true≢false (sym is))
-
-pub before_trans : (a b c : List ℕ) → is_name_before a b ≡ true → is_name_before b c ≡ true → is_name_before a c ≡ true
-before_trans a b c ab bc = ap is_lt (nat_list_cmp_total.trans a b c (lt_is _ ab) (lt_is _ bc))
-
-pub not_before_itself : (a : List ℕ) → is_name_before a a ≡ false
-not_before_itself a = ap is_lt (tied_itself nat_list_cmp_total a)
-
-pub head_before : (a : List ℕ) (names : List (List ℕ)) → names_rise (a ∷ names) ≡ true → (j : ℕ) (n : List ℕ)
-    → slice_get names j ≡ Some n → is_name_before a n ≡ true
-head_before a [] rise j n is = absurd cc
-head_before a (b ∷ names) rise zero n is =
-    let same : b ≡ n = cc in subst (λ m. is_name_before a m ≡ true) same ((and_parts _ _ rise).0)
-head_before a (b ∷ names) rise (suc j) n is =
-    let parts = and_parts _ _ rise in
-    before_trans a b n parts.0 (head_before b names parts.1 j n is)
-
-pub tail_rises : (a : List ℕ) (names : List (List ℕ)) → names_rise (a ∷ names) ≡ true → names_rise names ≡ true
-tail_rises a [] rise = refl
-tail_rises a (b ∷ names) rise = (and_parts _ _ rise).1
 
 not_later : (a : List ℕ) (names : List (List ℕ)) → names_rise (a ∷ names) ≡ true → (j : ℕ) → slice_get names j ≡ Some a → ⊥
 not_later a names rise j is = true≢false (sym (head_before a names rise j a is) ∙ not_before_itself a)

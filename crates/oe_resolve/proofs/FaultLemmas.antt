@@ -1,37 +1,29 @@
 -- The faults of graph objects, node by node and argument by argument.
-use Rattle.std.proofs.Common.{◌≡◌, ◌↔◌, ℕ, zero, suc, ◌+◌, ◌<◌, ◌≤◌, ◌⊎◌, inl, inr, Bool, true, false, not, ◌&&◌, ◌||◌, List, [], ◌∷◌, ◌++◌, Option, Some, None, is_none, is_some, Contains, length, map, option_map, get_or, slice_get, slice_index_or, refl, sym, ap, ◌∙◌, subst, true≢false, Vec, Global, arith}
-use Rattle.std.specs.Cmp.Lexicographic.{slice_cmp}
-use Rattle.std.specs.List.{list_any}
-use Rattle.std.specs.Ordering.{nat_cmp, is_lt}
-use Rattle.std.proofs.lemmas.Cmp.{nat_cmp_total, nat_list_cmp_total, tied_itself}
+use Rattle.std.proofs.Common.{◌≡◌, ℕ, zero, suc, ◌<◌, ◌⊎◌, inl, inr, Bool, true, false, List, [], ◌∷◌, Option, Some, None, is_some, Contains, length, map, option_map, get_or, slice_get, slice_index_or, refl, sym, ap, ◌∙◌, subst, true≢false, Vec, Global, arith}
 use Rattle.std.proofs.lemmas.List.Elements.{Contains-append_left, Contains-append_right, Contains-append_cases}
-use Rattle.oe_dims.specs.Names.{same_name, names_rise}
-use Rattle.oe_dims.proofs.OrderLemmas.{same_name_is, same_name_refl}
-use Rattle.oe_graph.specs.Codes.{phase_of, number_in_phase}
-use Rattle.oe_graph.specs.Faults.{is_before, least}
+use Rattle.oe_dims.specs.Names.{names_rise}
+use Rattle.oe_graph.specs.Faults.{least}
 use Rattle.oe_graph.specs.Form.{node_name, callback_name}
-use Rattle.oe_graph.specs.Plain.{plain_arg, plain_args, plain_graph, plain_named, plain_node, plain_nodes, plain_pair, arg_step, graph_step, node_step}
-use Rattle.oe_graph.specs.Printed.{ids_of, names_of}
-use Rattle.oe_graph.specs.References.{each_node, argument_named, references_in, references_named, references_each, parameters_in, parameters_named, parameters_each, callbacks_in, callbacks_named, callbacks_each, Leads}
+use Rattle.oe_graph.specs.Plain.{plain_arg, plain_args, plain_named, plain_node, plain_nodes, plain_pair, arg_step, graph_step, node_step}
+use Rattle.oe_graph.specs.Printed.{ids_of}
+use Rattle.oe_graph.specs.References.{each_node, callbacks_in, callbacks_named, callbacks_each}
 use Rattle.oe_graph.specs.Resolved.{scope_inside}
-use Rattle.oe_graph.specs.Tree.{Argument, null, flag, whole, inexact, text, list, object, from_node, from_parameter, callback, ListValues, no_arguments, argument, Named, no_named, named, Nodes, PlainGraph, PlainNode, PlainParameter, PlainStored, named_from_list, values_from_list, nodes_from_list}
-use Rattle.oe_graph.specs.declared.code.Code.{Code}
-use Rattle.oe_graph.specs.declared.code.Code.TheVariants.{ArgumentUnknown, ProcessParameterMissing, ParameterUnknown, NodeUnknown, GraphCycle}
+use Rattle.oe_graph.specs.Tree.{Argument, whole, list, object, callback, argument, Nodes, PlainGraph, PlainNode, PlainStored, named_from_list}
 use Rattle.oe_graph.specs.declared.fault.Fault.{Fault}
 use Rattle.oe_graph.specs.declared.tree.Arg.{Arg}
-use Rattle.oe_graph.specs.declared.tree.Arg.TheFolds.{fold_out-Graph, fold-roll-Arg}
+use Rattle.oe_graph.specs.declared.tree.Arg.TheFolds.{fold-roll-Arg}
 use Rattle.oe_graph.specs.declared.tree.Arg.TheOpen.{Arg-F}
 use Rattle.oe_graph.specs.declared.tree.Arg.TheVariants as variant
 use Rattle.oe_graph.specs.declared.tree.Graph.{Graph, out-Graph}
 use Rattle.oe_graph.specs.declared.tree.Node.{Node}
 use Rattle.oe_graph.proofs.LeastLemmas.{IsLeastOf, IsLeastOf-iff, IsLeastOf-least, OneOf}
+use Rattle.oe_graph.proofs.PartLemmas.{graph_parts, node_parts}
 use Rattle.oe_resolve.specs.Calls.{callee}
 use Rattle.oe_resolve.specs.Faults.{each_argument}
 use Rattle.oe_resolve.specs.Judged.{AreMarks, IsMark, IdsRise, IdsRiseIn, itself, deeper, OfArgument, OfArguments, OfItself, OfNode, OfObject, by_itself, inside, know_named, node_code}
-use Rattle.oe_resolve.proofs.Along.{first_there, later_there, none_there, there_cases, map_there, map_back, one_mapped, one_back}
+use Rattle.oe_resolve.proofs.Along.{first_there, later_there, none_there, there_cases, map_there, one_back}
 use Rattle.oe_resolve.proofs.CodeLemmas.{own_least}
 use Rattle.oe_resolve.proofs.CycleLemmas.{each_nodes}
-use Rattle.oe_resolve.proofs.JudgeLemmas.{node_is}
 
 -- ---- the plain values of lists, objects and callbacks
 
@@ -45,15 +37,12 @@ object_is a v is =
     ap plain_arg (is ∙ sym (variant.rolls-Object v))
     ∙ fold-roll-Arg Argument PlainGraph PlainNode arg_step graph_step node_step (Arg-F.Object v)
 
-pub graph_is : (g : Graph) → plain_graph g ≡ record { nodes = plain_nodes (out-Graph g).nodes.items; result = (out-Graph g).result }
-graph_is g = fold_out-Graph Argument PlainGraph PlainNode arg_step graph_step node_step g
-
 pub callback_is : (a : Arg) (g : Graph) → a ≡ variant.Callback g
     → plain_arg a ≡ callback (plain_nodes (out-Graph g).nodes.items) (out-Graph g).result
 callback_is a g is =
     ap plain_arg (is ∙ sym (variant.rolls-Callback g))
     ∙ fold-roll-Arg Argument PlainGraph PlainNode arg_step graph_step node_step (Arg-F.Callback g)
-    ∙ ap (λ (p : PlainGraph). callback p.nodes p.result) (graph_is g)
+    ∙ ap (λ (p : PlainGraph). callback p.nodes p.result) (graph_parts g)
 
 -- ---- where callbacks stand
 
@@ -304,7 +293,7 @@ module _ (stored : List PlainStored) (last : Bool) where
       → IsLeastOf (OfItself stored last (node_name name (plain_node n).id) scope nodes (plain_node n)) own
   own_is name scope nodes n known mark own at called_at is knows marked =
       let m = plain_node n in
-      let called : at ≡ node_name name m.id = called_at ∙ ap (λ (k : PlainNode). node_name name k.id) (sym (node_is n)) in
+      let called : at ≡ node_name name m.id = called_at ∙ ap (λ (k : PlainNode). node_name name k.id) (sym (node_parts n)) in
       subst (λ a. IsLeastOf (OfItself stored last a scope nodes m) own) called
       (subst (IsLeastOf (OfItself stored last at scope nodes m))
       (sym (is ∙ ap (λ b. option_map (λ code. record { code = code; node = at }) (node_code stored last scope m b mark)) knows))
@@ -333,7 +322,7 @@ module _ (stored : List PlainStored) (last : Bool) where
   call_least name scope nodes n known mark own at call called_at is knows marked =
       let m = plain_node n in
       let calls : is_some (callee stored m.namespace m.process_id) ≡ true =
-      ap (λ (k : PlainNode). is_some (callee stored k.namespace k.process_id)) (node_is n) ∙ call in
+      ap (λ (k : PlainNode). is_some (callee stored k.namespace k.process_id)) (node_parts n) ∙ call in
       IsLeastOf-iff (OfItself stored last (node_name name m.id) scope nodes m) (OfNode stored last name scope nodes m) own
       (λ f has. inl has)
       (λ f has. own_only m has (called_none (callee stored m.namespace m.process_id) calls))
@@ -354,14 +343,14 @@ module _ (stored : List PlainStored) (last : Bool) where
       → IsLeastOf (OfNode stored last name scope nodes (plain_node n)) (least own inner)
   node_least name scope nodes n known mark own inner at inner_scope no_call called_at scoped is knows marked found =
       let m = plain_node n in
-      let called : at ≡ node_name name m.id = called_at ∙ ap (λ (k : PlainNode). node_name name k.id) (sym (node_is n)) in
+      let called : at ≡ node_name name m.id = called_at ∙ ap (λ (k : PlainNode). node_name name k.id) (sym (node_parts n)) in
       let none : callee stored m.namespace m.process_id ≡ None =
       uncalled (callee stored m.namespace m.process_id)
-      (ap (λ (k : PlainNode). is_some (callee stored k.namespace k.process_id)) (node_is n) ∙ no_call) in
+      (ap (λ (k : PlainNode). is_some (callee stored k.namespace k.process_id)) (node_parts n) ∙ no_call) in
       let arguments : IsLeastOf (OfArguments stored last (node_name name m.id) (scope_inside m scope) m.arguments) inner =
       subst (λ a. IsLeastOf (OfArguments stored last a (scope_inside m scope) m.arguments) inner) called
       (subst (λ sc. IsLeastOf (OfArguments stored last at sc m.arguments) inner) scoped
-      (subst (λ (k : PlainNode). IsLeastOf (OfArguments stored last at inner_scope k.arguments) inner) (sym (node_is n)) found)) in
+      (subst (λ (k : PlainNode). IsLeastOf (OfArguments stored last at inner_scope k.arguments) inner) (sym (node_parts n)) found)) in
       IsLeastOf-least (OfItself stored last (node_name name m.id) scope nodes m) (Inner name scope m) own inner
       (own_is name scope nodes n known mark own at called_at is knows marked)
       (IsLeastOf-iff (OfArguments stored last (node_name name m.id) (scope_inside m scope) m.arguments) (Inner name scope m) inner

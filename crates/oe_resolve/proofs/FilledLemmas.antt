@@ -1,6 +1,6 @@
 -- What defaults change in the arguments of a node: they add the names of parameters, keep names rising, and bring no
 -- reference, no parameter and no callback.
-use Rattle.std.proofs.Common.{◌≡◌, ◌⊎◌, inl, inr, ℕ, zero, suc, ◌+◌, ◌<◌, ◌&&◌, Bool, true, false, if◌then◌else◌, List, [], ◌∷◌, ◌++◌, map, length, Contains, Option, Some, None, is_some, option_map, Ordering, Less, Equal, Greater, slice_index_or, refl, sym, ap, ◌∙◌, subst, true≢false, arith}
+use Rattle.std.proofs.Common.{◌≡◌, ◌⊎◌, inl, inr, ℕ, ◌+◌, ◌&&◌, Bool, true, false, if◌then◌else◌, List, [], ◌∷◌, ◌++◌, map, Contains, Option, Some, None, is_some, option_map, Ordering, Less, Equal, Greater, refl, sym, ap, ◌∙◌, subst, true≢false, arith}
 use Rattle.std.specs.Cmp.Lexicographic.{slice_cmp}
 use Rattle.std.specs.Option.{option_or}
 use Rattle.std.specs.Ordering.{nat_cmp, is_lt, is_eq, ordering_reverse}
@@ -9,25 +9,20 @@ use Rattle.std.proofs.lemmas.Cmp.{nat_list_cmp_total}
 use Rattle.std.proofs.lemmas.List.Elements.{Contains-append_left, Contains-append_right, Contains-append_cases}
 use Rattle.std.proofs.lemmas.Map.Text.{is_eq-slice_cmp}
 use Rattle.oe_dims.specs.Names.{same_name, is_name_before, names_rise}
-use Rattle.oe_dims.proofs.OrderLemmas.{same_name-bytes_eq, same_name_is, same_name_refl}
+use Rattle.oe_dims.proofs.OrderLemmas.{same_name-bytes_eq, same_name_is}
 use Rattle.oe_graph.specs.Catalogue.{Parameter, plain_parameter, literal_value}
 use Rattle.oe_graph.specs.Printed.{names_of}
 use Rattle.oe_graph.specs.References.{argument_named, references_in, references_named, parameters_in, parameters_named, callbacks_in, callbacks_named}
-use Rattle.oe_graph.specs.Tree.{Argument, null, Named, no_named, named, PlainGraph, PlainParameter}
+use Rattle.oe_graph.specs.Tree.{Argument, null, Named, no_named, named, PlainGraph}
 use Rattle.oe_graph.specs.declared.table.Literal.{Literal}
 use Rattle.oe_graph.specs.declared.table.Literal.TheVariants as literal
 use Rattle.oe_resolve.specs.Filled.{put_argument, put_default, put_defaults}
-use Rattle.oe_resolve.specs.Replaced.{default_of}
+use Rattle.oe_memory.proofs.Lists.{first_or_later}
 
 -- ---- elements of lists
 
-in_cons_at : {X : Type 0} (x : X) (xs : List X) (y : X) (k : ℕ) → k < length (x ∷ xs) → slice_index_or (x ∷ xs) k y ≡ y
-    → (x ≡ y) ⊎ Contains xs y
-in_cons_at x xs y zero below is = inl is
-in_cons_at x xs y (suc k) below is = inr (k, omega arith, is)
-
 pub in_cons : {X : Type 0} (x : X) (xs : List X) (y : X) → Contains (x ∷ xs) y → (x ≡ y) ⊎ Contains xs y
-in_cons x xs y has = in_cons_at x xs y has.0 has.1 has.2
+in_cons x xs y has = first_or_later x xs y has.0 has.1 has.2
 
 pub in_none : {X : Type 0} (y : X) → Contains [] y → ⊥
 in_none y has = let no = has.1 in omega arith

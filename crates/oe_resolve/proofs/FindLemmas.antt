@@ -2,14 +2,15 @@
 use Rattle.std.proofs.Common.{◌≡◌, ◌≢◌, ℕ, zero, suc, ◌+◌, ◌<◌, ◌≤◌, ◌⊎◌, inl, inr, Bool, true, false, if◌then◌else◌, List, [], ◌∷◌, Some, Contains, length, get_or, slice_get, drop, refl, sym, ap, ◌∙◌, subst, true≢false, arith}
 use Rattle.oe_dims.specs.Names.{same_name, is_name_before, names_rise}
 use Rattle.oe_dims.proofs.OrderLemmas.{same_name_is, same_name_refl}
+use Rattle.oe_dims.proofs.NameOrderLemmas.{before_trans, head_before, not_before_itself, tail_rises}
 use Rattle.oe_graph.specs.Plain.{plain_node, plain_nodes}
 use Rattle.oe_graph.specs.Printed.{ids_of}
 use Rattle.oe_graph.specs.Tree.{PlainNode}
 use Rattle.oe_graph.specs.declared.tree.Node.{Node}
+use Rattle.oe_graph.proofs.PartLemmas.{node_parts}
 use Rattle.oe_resolve.specs.Rounds.{index_of}
 use Rattle.oe_resolve.proofs.Along.{none_there, there_cases}
-use Rattle.oe_resolve.proofs.CycleLemmas.{before_trans, head_before, not_before_itself, one_index, same_some, tail_rises, there_at}
-use Rattle.oe_resolve.proofs.JudgeLemmas.{node_is}
+use Rattle.oe_resolve.proofs.CycleLemmas.{one_index, same_some, there_at}
 use Rattle.oe_resolve.proofs.RoundLemmas.{index_of-within}
 
 -- the node at an index has an id
@@ -17,7 +18,7 @@ pub id_by : (ns : List Node) (i : ℕ) (n : Node) (id : List ℕ) → i < length
     → slice_get (ids_of (plain_nodes ns)) i ≡ Some id
 id_by [] i n id below is same = absurd (omega arith)
 id_by (m ∷ ns) zero n id below is same =
-    ap Some (ap (λ (k : PlainNode). k.id) (node_is m) ∙ ap (λ (k : Node). k.id) (sym is) ∙ sym (same_name_is n.id id same))
+    ap Some (ap (λ (k : PlainNode). k.id) (node_parts m) ∙ ap (λ (k : Node). k.id) (sym is) ∙ sym (same_name_is n.id id same))
 id_by (m ∷ ns) (suc i) n id below is same = id_by ns i n id (omega arith) is same
 
 found_by : (m : Node) (ns : List Node) (id : List ℕ) (b : Bool) → same_name (plain_node m).id id ≡ b

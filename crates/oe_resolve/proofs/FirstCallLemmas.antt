@@ -4,6 +4,7 @@ use Rattle.std.specs.Cmp.Lexicographic.{slice_cmp}
 use Rattle.std.specs.Ordering.{ordering_then, is_lt}
 use Rattle.std.proofs.lemmas.Cmp.{nat_list_cmp_total, tied_itself}
 use Rattle.oe_dims.specs.Names.{is_name_before, names_rise}
+use Rattle.oe_dims.proofs.NameOrderLemmas.{tail_rises}
 use Rattle.oe_graph.specs.Codes.{phase_of, number_in_phase}
 use Rattle.oe_graph.specs.Faults.{is_before}
 use Rattle.oe_graph.specs.Plain.{plain_node, plain_nodes}
@@ -20,7 +21,7 @@ use Rattle.oe_resolve.specs.Faults.{StandsWithStored}
 use Rattle.oe_resolve.specs.Judged.{IsLeastFault}
 use Rattle.oe_resolve.specs.Reached.{IsCallFault, IsCodeOf, unsupported, recursive, faultless, IsUnsupported, IsRecursive}
 use Rattle.oe_resolve.proofs.Along.{first_there, later_there, none_there, there_cases, map_there}
-use Rattle.oe_resolve.proofs.CycleLemmas.{each_nodes, rises_before, tail_rises}
+use Rattle.oe_resolve.proofs.CycleLemmas.{each_nodes, rises_before}
 
 -- ---- the order of these faults
 

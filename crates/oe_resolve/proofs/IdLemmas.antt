@@ -1,32 +1,20 @@
 -- Ids of the nodes of a graph object through a round. They rise, none is empty, and none is another one followed by `/`:
 -- so the ids that calls give way to are new, and differ from each other.
-use Rattle.std.proofs.Common.{◌≡◌, ◌≢◌, ◌⊎◌, inl, inr, ℕ, zero, suc, ◌+◌, ◌<◌, ◌≤◌, ◌&&◌, Bool, true, false, cond, if◌then◌else◌, List, [], ◌∷◌, ◌++◌, map, length, find, Contains, Ordering, Less, Equal, Greater, Option, Some, None, is_some, option_and_then, refl, sym, ap, ◌∙◌, subst, true≢false, append_assoc, arith}
-use Rattle.std.specs.Ordering.{is_lt}
-use Rattle.std.proofs.lemmas.Cmp.{nat_list_cmp_total, tied_itself}
+use Rattle.std.proofs.Common.{◌≡◌, ◌≢◌, ◌⊎◌, inl, inr, ℕ, zero, suc, ◌+◌, ◌<◌, Bool, true, false, cond, if◌then◌else◌, List, [], ◌∷◌, ◌++◌, map, find, Contains, Option, Some, None, is_some, option_and_then, refl, sym, ap, ◌∙◌, subst, true≢false, append_assoc, arith}
 use Rattle.std.proofs.lemmas.List.Elements.{Contains-append_left, Contains-append_right, Contains-append_cases}
 use Rattle.oe_dims.specs.Names.{same_name, is_name_before, names_rise}
 use Rattle.oe_dims.proofs.OrderLemmas.{same_name_is, same_name_refl}
+use Rattle.oe_dims.proofs.NameOrderLemmas.{before_trans, not_before_itself}
 use Rattle.oe_graph.specs.Printed.{ids_of, node_count}
 use Rattle.oe_graph.specs.References.{each_node}
-use Rattle.oe_graph.specs.Tree.{Named, Nodes, no_nodes, node, PlainGraph, PlainNode, PlainStored}
+use Rattle.oe_graph.specs.Tree.{Named, Nodes, no_nodes, node, PlainNode, PlainStored}
 use Rattle.oe_resolve.specs.Calls.{callee}
 use Rattle.oe_resolve.specs.Replaced.{replaced_nodes, values_given}
 use Rattle.oe_resolve.specs.Rounds.{under_id, under_nodes, put_node, put_nodes, id_at, index_of, landing, landed, opened, round_named, round_nodes}
 use Rattle.oe_resolve.proofs.FilledLemmas.{in_cons, in_none, in_first, in_rest, other_before, starts_after, rise_from, rise_parts}
-use Rattle.oe_resolve.proofs.ResolvingLemmas.{Image, in_map, map_in}
+use Rattle.oe_resolve.proofs.ResolvingLemmas.{in_map, map_in}
 
 -- ---- names that rise differ
-
-lt_is : (o : Ordering) → is_lt o ≡ true → o ≡ Less
-lt_is Less is = refl
-lt_is Equal is = absurd (true≢false (sym is))
-lt_is Greater is = absurd (true≢false (sym is))
-
-before_trans : (a b c : List ℕ) → is_name_before a b ≡ true → is_name_before b c ≡ true → is_name_before a c ≡ true
-before_trans a b c ab bc = ap is_lt (nat_list_cmp_total.trans a b c (lt_is _ ab) (lt_is _ bc))
-
-not_before_itself : (a : List ℕ) → is_name_before a a ≡ false
-not_before_itself a = ap is_lt (tied_itself nat_list_cmp_total a)
 
 -- the first of names that rise stands before each later one
 pub before_later : (a : List ℕ) (names : List (List ℕ)) (b : List ℕ) → names_rise (a ∷ names) ≡ true → Contains names b

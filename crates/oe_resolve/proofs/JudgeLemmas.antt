@@ -2,15 +2,11 @@
 use Rattle.std.proofs.Common.{◌≡◌, Bool, List, Option, None, map, option_map, sym, ap, ◌∙◌}
 use Rattle.std.specs.Option.{option_or}
 use Rattle.oe_graph.specs.Catalogue.{Process, plain_parameter}
-use Rattle.oe_graph.specs.Plain.{plain_node, plain_named, arg_step, graph_step, node_step}
-use Rattle.oe_graph.specs.Tree.{Argument, Named, PlainGraph, PlainNode, PlainParameter, PlainStored}
-use Rattle.oe_graph.specs.declared.tree.Arg.TheFolds.{fold_out-Node}
+use Rattle.oe_graph.specs.Plain.{plain_node, plain_named}
+use Rattle.oe_graph.specs.Tree.{Named, PlainNode, PlainParameter, PlainStored}
 use Rattle.oe_graph.specs.declared.tree.Node.{Node}
+use Rattle.oe_graph.proofs.PartLemmas.{node_parts}
 use Rattle.oe_resolve.specs.Calls.{callee, row_meant, parameters_of}
-
-pub node_is : (n : Node)
-    → plain_node n ≡ record { id = n.id; process_id = n.process_id; namespace = n.namespace; arguments = plain_named n.arguments.items }
-node_is n = fold_out-Node Argument PlainGraph PlainNode arg_step graph_step node_step n
 
 -- a test of the parameters and arguments of a node that calls no stored process
 pub test_meant : (stored : List PlainStored) (n : Node) (parameters : Option (List PlainParameter)) (b : Bool)
@@ -24,4 +20,4 @@ test_meant stored n parameters b test none is holds =
     ∙ ap (λ ps. test ps (plain_named n.arguments.items))
     (is ∙ ap (λ o. option_or (option_map (λ (s : PlainStored). s.parameters) o)
     (option_map (λ (p : Process). map plain_parameter p.parameters) (row_meant n.namespace n.process_id))) none)
-    ∙ ap (λ (m : PlainNode). test (parameters_of stored m) m.arguments) (sym (node_is n))
+    ∙ ap (λ (m : PlainNode). test (parameters_of stored m) m.arguments) (sym (node_parts n))

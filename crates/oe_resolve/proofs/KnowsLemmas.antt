@@ -5,9 +5,10 @@ use Rattle.oe_dims.specs.Names.{same_name}
 use Rattle.oe_graph.specs.Plain.{plain_arg, plain_args, plain_named}
 use Rattle.oe_graph.specs.References.{references_in, references_each, references_named}
 use Rattle.oe_graph.specs.declared.tree.Arg.{Arg}
+use Rattle.oe_graph.proofs.ReferenceLemmas.{each_next, named_next}
 use Rattle.oe_resolve.specs.Judged.{knows, know_each, know_named}
 use Rattle.oe_resolve.proofs.CodeLemmas.{all_in, joined, among, in_among, by_bool, knows_all, knows_all_each, knows_all_named}
-use Rattle.oe_resolve.proofs.CycleLemmas.{named_next, each_next, there_at}
+use Rattle.oe_resolve.proofs.CycleLemmas.{there_at}
 
 pub joined_true : (a b : Bool) → b ≡ true → a ≡ (a && b)
 joined_true true b is = sym is

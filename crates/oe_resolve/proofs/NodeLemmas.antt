@@ -1,25 +1,18 @@
 -- Nodes of the code beside the plain ones: their parts, and what stands at an index.
-use Rattle.std.proofs.Common.{◌≡◌, ℕ, zero, suc, ◌+◌, ◌<◌, ◌≤◌, ◌||◌, Bool, true, false, if◌then◌else◌, nat_lt, List, [], ◌∷◌, ◌++◌, map, length, get_or, take, drop, refl, sym, ap, ◌∙◌, subst, true≢false, arith}
+use Rattle.std.proofs.Common.{◌≡◌, ℕ, zero, suc, ◌<◌, ◌≤◌, ◌||◌, Bool, true, false, if◌then◌else◌, nat_lt, List, [], ◌∷◌, length, get_or, refl, sym, ap, ◌∙◌, subst, true≢false, arith}
 use Rattle.std.specs.List.{list_any}
 use Rattle.std.proofs.lemmas.Bool.Decides.{nat_tests}
 use Rattle.oe_dims.specs.Names.{same_name}
 use Rattle.oe_dims.proofs.OrderLemmas.{same_name_is, same_name_refl}
-use Rattle.oe_graph.specs.Plain.{plain_arg, plain_graph, plain_node, plain_named, plain_nodes, arg_step, graph_step, node_step}
+use Rattle.oe_graph.specs.Plain.{plain_arg, plain_node, plain_nodes, arg_step, graph_step, node_step}
 use Rattle.oe_graph.specs.Printed.{ids_of}
 use Rattle.oe_graph.specs.Tree.{Argument, from_parameter, PlainGraph, PlainNode}
-use Rattle.oe_graph.specs.declared.tree.Arg.TheFolds.{fold_out-Graph, fold_out-Node, fold-roll-Arg}
+use Rattle.oe_graph.specs.declared.tree.Arg.TheFolds.{fold-roll-Arg}
 use Rattle.oe_graph.specs.declared.tree.Arg.TheOpen.{Arg-F}
 use Rattle.oe_graph.specs.declared.tree.Arg.TheVariants.{FromParameter, rolls-FromParameter}
-use Rattle.oe_graph.specs.declared.tree.Graph.{Graph, out-Graph}
 use Rattle.oe_graph.specs.declared.tree.Node.{Node}
+use Rattle.oe_graph.proofs.PartLemmas.{node_parts}
 use Rattle.oe_resolve.specs.Rounds.{id_at, index_of}
-
-pub node_parts : (n : Node)
-    → plain_node n ≡ record { id = n.id; process_id = n.process_id; namespace = n.namespace; arguments = plain_named n.arguments.items }
-node_parts n = fold_out-Node Argument PlainGraph PlainNode arg_step graph_step node_step n
-
-pub graph_parts : (g : Graph) → plain_graph g ≡ record { nodes = plain_nodes (out-Graph g).nodes.items; result = (out-Graph g).result }
-graph_parts g = fold_out-Graph Argument PlainGraph PlainNode arg_step graph_step node_step g
 
 pub plain_from_parameter : (name : List ℕ) → plain_arg (FromParameter name) ≡ from_parameter name
 plain_from_parameter name =

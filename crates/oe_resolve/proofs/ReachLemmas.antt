@@ -1,17 +1,18 @@
 -- Calls by index beside calls of processes.
-use Rattle.std.proofs.Common.{◌≡◌, ℕ, zero, suc, ◌+◌, ◌<◌, ◌⊎◌, inl, inr, ◌&&◌, drop, Bool, true, false, List, [], ◌∷◌, ◌++◌, Option, Some, None, Contains, length, map, take, get_or, slice_get, option_and_then, refl, sym, ap, ◌∙◌, subst, append_assoc, arith}
+use Rattle.std.proofs.Common.{◌≡◌, ℕ, zero, suc, ◌+◌, ◌<◌, inl, inr, ◌&&◌, drop, Bool, List, [], ◌∷◌, ◌++◌, Option, Some, Contains, length, map, take, get_or, slice_get, refl, sym, ap, ◌∙◌, subst, append_assoc, arith}
 use Rattle.std.specs.List.{list_all}
 use Rattle.std.proofs.lemmas.List.{map-append, get_or_default}
 use Rattle.std.proofs.lemmas.List.Elements.{Contains-append_left, Contains-append_right, Contains-append_cases, Contains-push, Contains-push_cases}
 use Rattle.oe_graph.specs.Plain.{plain_arg, plain_args, plain_named, plain_node, plain_nodes, plain_pair}
-use Rattle.oe_graph.specs.Tree.{Argument, Nodes, PlainNode, PlainStored, named_from_list, values_from_list, nodes_from_list}
+use Rattle.oe_graph.specs.Tree.{Argument, PlainNode, PlainStored, named_from_list, values_from_list, nodes_from_list}
 use Rattle.oe_graph.specs.declared.tree.Arg.{Arg}
 use Rattle.oe_graph.specs.declared.tree.Node.{Node}
 use Rattle.oe_resolve.specs.Calls.{callee}
-use Rattle.oe_resolve.specs.Reached.{held_nodes, held_named, held_in, held_each, held_by, index_at, IsIndexOf, IsCalled, HasIndexOf, IsCalledBehind}
+use Rattle.oe_resolve.specs.Reached.{held_nodes, held_named, held_in, held_each, held_by, index_at, IsCalled, HasIndexOf, IsCalledBehind}
 use Rattle.oe_resolve.proofs.Along.{first_there, none_there, there_cases, take_pushed}
 use Rattle.oe_resolve.proofs.CycleLemmas.{nodes_next}
 use Rattle.oe_resolve.proofs.Tests.{at_next}
+use Rattle.oe_memory.proofs.Lists.{append_none}
 
 -- ---- the indices of calls
 
@@ -114,10 +115,6 @@ module _ (stored : List PlainStored) where
       behind_call caller at.0 place index old new (sym same ∙ at.1) at.1 is pushed
 
 -- ---- what nodes hold, one more each
-
-append_none : {X : Type 0} (xs : List X) → xs ++ [] ≡ xs
-append_none [] = refl
-append_none (x ∷ xs) = ap (λ ys. x ∷ ys) (append_none xs)
 
 named_push : (ms : List (List ℕ × Argument)) (m : List ℕ × Argument)
     → held_named (named_from_list (ms ++ m ∷ [])) ≡ held_named (named_from_list ms) ++ held_in m.1

@@ -6,9 +6,9 @@ use Rattle.oe_graph.specs.Plain.{plain_node, plain_named, plain_nodes}
 use Rattle.oe_graph.specs.References.{each_node}
 use Rattle.oe_graph.specs.Tree.{node, Named, Nodes, PlainNode, PlainStored}
 use Rattle.oe_graph.specs.declared.tree.Node.{Node}
+use Rattle.oe_graph.proofs.PartLemmas.{node_parts}
 use Rattle.oe_resolve.specs.Calls.{callee}
 use Rattle.oe_resolve.specs.Rounds.{index_of, landing, landed, opened, put_nodes, round_named, round_nodes}
-use Rattle.oe_resolve.proofs.NodeLemmas.{node_parts}
 
 -- ---- the node of an id
 

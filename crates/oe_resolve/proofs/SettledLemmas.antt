@@ -3,6 +3,7 @@ use Rattle.std.proofs.Common.{◌≡◌, ℕ, zero, suc, ◌+◌, ◌<◌, Bool,
 use Rattle.std.proofs.lemmas.List.Elements.{Contains-push_cases}
 use Rattle.oe_dims.specs.Names.{same_name, is_name_before, names_rise}
 use Rattle.oe_dims.proofs.OrderLemmas.{same_name_is, same_name_refl}
+use Rattle.oe_dims.proofs.NameOrderLemmas.{not_before_itself, tail_rises}
 use Rattle.oe_graph.specs.Printed.{ids_of, node_count}
 use Rattle.oe_graph.specs.References.{each_node}
 use Rattle.oe_graph.specs.Tree.{Argument, null, flag, whole, inexact, text, list, object, from_node, from_parameter, callback, ListValues, no_arguments, argument, Named, no_named, named, Nodes, no_nodes, node, PlainGraph, PlainNode, PlainStored}
@@ -10,7 +11,7 @@ use Rattle.oe_resolve.specs.Called.{nodes_call, named_call, calls, each_call}
 use Rattle.oe_resolve.specs.Calls.{callee}
 use Rattle.oe_resolve.specs.Rounds.{put_node, put_nodes, opened, round_nodes, round_named, round_argument, round_each, round, landed, landing, id_at, index_of, callback_with_result, graph_with_result}
 use Rattle.oe_resolve.proofs.Along.{first_there, later_there, none_there, there_cases}
-use Rattle.oe_resolve.proofs.CycleLemmas.{rises_before, tail_rises, not_before_itself}
+use Rattle.oe_resolve.proofs.CycleLemmas.{rises_before}
 use Rattle.oe_resolve.proofs.PlaceLemmas.{Place}
 use Rattle.oe_resolve.proofs.OrderLemmas.{Ordered, OrderedEach, OrderedNamed, OrderedNodes, IsInOrder}
 

@@ -13,6 +13,7 @@ use Rattle.oe_graph.specs.declared.catalogue.ParameterRow.{ParameterRow}
 use Rattle.oe_graph.specs.declared.stored.StoredProcess.{StoredProcess}
 use Rattle.oe_graph.specs.declared.tree.Graph.{Graph, out-Graph}
 use Rattle.oe_graph.specs.declared.tree.Node.{Node}
+use Rattle.oe_graph.proofs.PartLemmas.{graph_parts, node_parts}
 use Rattle.oe_resolve.specs.Calls.{callee, callback_parameters}
 use Rattle.oe_resolve.specs.Replaced.{default_of, value_before, values_given, carried, carried_each, carried_named, inside, replaced, replaced_each, replaced_named, replaced_nodes}
 use Rattle.oe_resolve.specs.Rounds.{known, known_each, known_named, known_nodes, known_graph, under, under_each, under_named, under_nodes, put_node, put_nodes, opened, round_argument, round_each, round_named, round_nodes, round}
@@ -22,7 +23,6 @@ use Rattle.oe_resolve.specs.declared.weigh.ParameterSize.{ParameterSize}
 use Rattle.oe_resolve.specs.declared.weigh.Measure.{Measure}
 use Rattle.oe_resolve.specs.declared.weigh.Measure.TheVariants.{Values, TextBytes, NameBytes}
 use Rattle.oe_resolve.proofs.BareLemmas.{bare_known, callee_none}
-use Rattle.oe_resolve.proofs.NodeLemmas.{graph_parts, node_parts}
 use Rattle.oe_resolve.proofs.ValueLemmas.{argument_named-inside, any_append}
 
 both : (a b c d : ℕ) → a ≡ b → c ≡ d → a + c ≡ b + d

@@ -1,18 +1,19 @@
 -- Values of parameters: given one after the other, hidden and carried.
-use Rattle.std.proofs.Common.{◌≡◌, ℕ, ◌+◌, ◌<◌, ◌||◌, Bool, true, false, if◌then◌else◌, List, [], ◌∷◌, ◌++◌, map, length, get_or, drop, refl, sym, ap, ◌∙◌, subst, Option, Some, None, option_map, unwrap_or, true≢false}
+use Rattle.std.proofs.Common.{◌≡◌, ℕ, ◌+◌, ◌<◌, ◌||◌, Bool, true, false, if◌then◌else◌, List, [], ◌∷◌, ◌++◌, map, length, get_or, drop, refl, sym, ap, ◌∙◌, Option, Some, None, option_map, true≢false}
 use denote.Bor.{Bor}
 use Rattle.std.specs.List.{list_any}
 use Rattle.std.specs.Option.{option_or}
 use Rattle.std.proofs.lemmas.List.{drop_more, map-append}
 use Rattle.oe_dims.specs.Names.{same_name}
 use Rattle.oe_dims.proofs.OrderLemmas.{same_name_is}
-use Rattle.oe_graph.specs.Plain.{plain_arg, plain_pair, plain_named, plain_parameter}
+use Rattle.oe_graph.specs.Plain.{plain_arg, plain_named, plain_parameter}
 use Rattle.oe_graph.specs.References.{argument_named}
-use Rattle.oe_graph.specs.Tree.{Argument, null, flag, whole, inexact, text, list, object, from_node, from_parameter, callback, ListValues, no_arguments, argument, Named, no_named, named, named_from_list}
+use Rattle.oe_graph.specs.Tree.{Argument, null, flag, whole, inexact, text, list, object, from_node, from_parameter, callback, ListValues, no_arguments, argument, Named, no_named, named}
 use Rattle.oe_graph.specs.declared.tree.Arg.{Arg}
 use Rattle.oe_graph.specs.declared.catalogue.ParameterRow.{ParameterRow}
 use Rattle.oe_resolve.specs.Replaced.{default_of, value_before, values_given, carried, carried_each, carried_named, without_names, inside}
 use Rattle.oe_resolve.specs.Seen.{names_behind}
+use Rattle.oe_memory.proofs.Lists.{append_none}
 
 -- ---- values one after the other
 
@@ -182,10 +183,6 @@ pub seen_value : (name : List ℕ) (names : List (List ℕ)) (ms : Named) → li
 seen_value name names ms seen =
     argument_named-inside name names ms
     ∙ ap (λ b. option_map carried (if b then None else argument_named name ms)) seen
-
-append_none : {X : Type 0} (xs : List X) → xs ++ [] ≡ xs
-append_none [] = refl
-append_none (x ∷ xs) = ap (λ more. x ∷ more) (append_none xs)
 
 -- what a callback sees, where names were hidden before or not
 pub inside_seen : (own hidden : List (Bor (List ℕ))) (given : Named) (was_carried : Bool)

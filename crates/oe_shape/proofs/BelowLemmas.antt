@@ -1,5 +1,5 @@
 -- What is known of several nodes by what is known of each.
-use Rattle.std.proofs.Common.{◌≡◌, true, false, true≢false, ◌⊎◌, inl, inr, ℕ, zero, suc, ◌+◌, ◌<◌, List, [], ◌∷◌, ◌++◌, take, map, length, slice_index_or, get_or, Contains, refl, sym, ap, ◌∙◌, subst, arith}
+use Rattle.std.proofs.Common.{◌≡◌, true, false, true≢false, ◌⊎◌, inl, inr, ℕ, zero, suc, ◌+◌, ◌<◌, List, [], ◌∷◌, ◌++◌, take, map, length, get_or, Contains, refl, sym, ap, ◌∙◌, subst, arith}
 use Rattle.std.specs.List.{list_any}
 use Rattle.std.proofs.lemmas.Bool.{or_parts}
 use Rattle.std.proofs.lemmas.Grind.{take_at_read}
@@ -9,6 +9,7 @@ use Rattle.oe_shape.specs.declared.checked.State.{State}
 use Rattle.oe_shape.specs.declared.checked.State.TheVariants.{Unseen, Faulty, Sound}
 use Rattle.oe_shape.specs.declared.walk.Below.{Below}
 use Rattle.oe_shape.specs.declared.walk.Below.TheVariants as below
+use Rattle.oe_memory.proofs.Lists.{first_of, first_or_later, later_of}
 
 pub unseen_so : (s : State) → is_unseen s ≡ true → s ≡ Unseen
 unseen_so Unseen e = refl
@@ -45,17 +46,6 @@ sound_one Faulty below.Unseen e = absurd cc
 sound_one Faulty below.Faulty e = absurd cc
 sound_one Faulty below.Sound e = absurd cc
 sound_one (Sound kept) b e = (kept, refl, e)
-
-pub first_of : {X : Type 0} (x : X) (xs : List X) → Contains (x ∷ xs) x
-first_of x xs = (0, omega arith, refl)
-
-pub later_of : {X : Type 0} (x : X) (xs : List X) (y : X) → Contains xs y → Contains (x ∷ xs) y
-later_of x xs y has = let below = has.1 in (suc has.0, omega arith, has.2)
-
-pub first_or_later : {X : Type 0} (x : X) (xs : List X) (y : X) (k : ℕ) → k < length (x ∷ xs) → slice_index_or (x ∷ xs) k y ≡ y
-    → (x ≡ y) ⊎ Contains xs y
-first_or_later x xs y zero below is = inl is
-first_or_later x xs y (suc k) below is = inr (k, omega arith, is)
 
 module _ (states : List State) (index_of : List ℕ → ℕ) where
   -- one of the names is that of a node with this state

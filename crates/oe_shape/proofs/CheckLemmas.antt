@@ -8,9 +8,9 @@ use Rattle.oe_graph.specs.Resolved.{IsResolved}
 use Rattle.oe_graph.specs.Tree.{Nodes, PlainGraph}
 use Rattle.oe_graph.specs.declared.tree.Graph.{Graph, out-Graph}
 use Rattle.oe_graph.proofs.ResolvedLemmas.{resolved_object}
+use Rattle.oe_graph.proofs.PartLemmas.{graph_parts}
 use Rattle.oe_order.specs.Graph.{graph_of}
 use Rattle.oe_order.specs.declared.Links.{Links}
-use Rattle.oe_expr.proofs.BuildLemmas.{graph_parts}
 use Rattle.oe_expr.proofs.NodeLemmas.{node_is}
 use Rattle.oe_expr.proofs.StateLemmas.{count_plain}
 use Rattle.oe_shape.specs.Checked.{CheckedGraph, AreFaultless, IsKept}

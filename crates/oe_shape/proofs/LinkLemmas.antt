@@ -4,13 +4,12 @@ use Rattle.std.specs.Cmp.Lexicographic.{slice_cmp}
 use Rattle.std.specs.FinMap.{slice_cmp-IsAntisymmetric, nat_cmp-IsAntisymmetric}
 use Rattle.std.specs.List.Sorted.{IsSortedBy, IsBinarySearchResult}
 use Rattle.std.specs.Option.{option_and_then}
-use Rattle.std.specs.Ordering.{nat_cmp, is_lt, ordering_reverse}
+use Rattle.std.specs.Ordering.{nat_cmp}
 use Rattle.std.specs.Prelude.{unwrap_or}
 use Rattle.std.specs.declared.cmp.Ordering.{Ordering}
 use Rattle.std.specs.declared.cmp.Ordering.TheVariants.{Less, Equal, Greater}
-use Rattle.std.proofs.lemmas.Bool.{cases_lt, and_parts, false≢true}
+use Rattle.std.proofs.lemmas.Bool.{cases_lt, false≢true}
 use Rattle.std.proofs.lemmas.Cmp.{nat_list_cmp_total, tied_itself}
-use Rattle.std.proofs.lemmas.Grind.{take_at_read}
 use Rattle.std.proofs.lemmas.List.{length-map, get_or-map, map-append, get_or_default}
 use Rattle.std.proofs.lemmas.List.Sorted.{searchable_from_sorted}
 use Rattle.std.proofs.lemmas.Option.{slice_get-get_or, slice_get-map}
@@ -20,47 +19,35 @@ use Rattle.oe_dims.proofs.OrderLemmas.{same_name_is, same_name_refl}
 use Rattle.oe_dims.proofs.ReaderLemmas.{IsUnrepeated-names, found_there}
 use Rattle.oe_dims.specs.Indices.{index_where}
 use Rattle.oe_dims.specs.Names.{same_name, is_name_before, names_rise}
+use Rattle.oe_dims.proofs.NameOrderLemmas.{names_sorted}
 use Rattle.oe_graph.proofs.ResolvedLemmas.{NodeAt, node_of_id, node_referred, resolved_object}
-use Rattle.oe_graph.specs.Plain.{plain_arg, plain_args, plain_named, plain_node, plain_nodes, plain_pair}
+use Rattle.oe_graph.specs.Plain.{plain_named, plain_node, plain_nodes}
 use Rattle.oe_graph.specs.Printed.{ids_of, node_count}
-use Rattle.oe_graph.specs.References.{each_node, references_in, references_each, references_named, Refers, Leads}
+use Rattle.oe_graph.specs.References.{each_node, references_named, Refers, Leads}
 use Rattle.oe_graph.specs.References as graph
 use Rattle.oe_graph.specs.Resolved.{IsResolvedObject}
-use Rattle.oe_graph.specs.Tree.{Argument, Nodes, no_nodes, node, PlainNode, named_from_list, values_from_list}
-use Rattle.oe_graph.specs.declared.tree.Arg.{Arg}
+use Rattle.oe_graph.specs.Tree.{Nodes, no_nodes, node, PlainNode}
 use Rattle.oe_graph.specs.declared.tree.Node.{Node}
+use Rattle.oe_graph.proofs.PartLemmas.{node_parts}
 use Rattle.oe_expr.specs.Nodes.{node_named}
 use Rattle.oe_expr.proofs.NodeLemmas.{contains_node}
-use Rattle.oe_expr.proofs.StateLemmas.{plain_parts, plain_id, each_plain, count_plain, node_at_index}
+use Rattle.oe_expr.proofs.StateLemmas.{plain_id, each_plain, count_plain, node_at_index}
 use Rattle.oe_order.specs.Graph as order
 use Rattle.oe_order.specs.Graph.{graph_of, arguments, RefersWithin, Reaches, IsAcyclic}
 use Rattle.oe_order.specs.declared.Links.{Links}
 use Rattle.oe_order.proofs.Graphs.{length-graph_of, arguments-graph_of}
 use Rattle.oe_shape.specs.Links.{index_named, index_referred, link_of, links_of, AreNamed}
 use Rattle.oe_shape.specs.Walked.{AreResolved, IsNodeAt, IsNodeOf}
+use Rattle.oe_memory.proofs.Lists.{first_of, later_of, take_next}
 
 -- ---- names that rise
-
-before_not_after : (o p : Ordering) → p ≡ ordering_reverse o → is_lt o ≡ true → is_lt p ≡ false
-before_not_after Less p e h = ap is_lt e
-before_not_after Equal p e h = absurd (false≢true h)
-before_not_after Greater p e h = absurd (false≢true h)
-
-sorted : (names : List (List ℕ)) → names_rise names ≡ true → IsSortedBy is_name_before names
-sorted [] rise k d low high = absurd (omega arith)
-sorted (a ∷ []) rise k d low high = absurd (omega arith)
-sorted (a ∷ b ∷ names) rise zero d low high =
-    before_not_after (slice_cmp nat_cmp a b) (slice_cmp nat_cmp b a) (nat_list_cmp_total.antisymm b a) (and_parts _ _ rise).0
-sorted (a ∷ b ∷ names) rise (suc k) d low high =
-    let next : suc k + 1 ≡ suc (k + 1) = omega arith in
-    rw next (sorted (b ∷ names) (and_parts _ _ rise).1 k d (omega arith) (omega arith))
 
 -- among names that rise, the index at which a name stands is the one that is found
 index_at : (names : List (List ℕ)) (k : ℕ) (name : List ℕ) → names_rise names ≡ true → slice_get names k ≡ Some name
     → index_where (λ (id : List ℕ). same_name id name) names ≡ Some k
 index_at names k name rise at =
     found_there (λ (a b : List ℕ). same_name b a) same_name_refl (λ a b is. sym (same_name_is b a is)) names
-    (IsUnrepeated-names names (sym (names_rise-sorted names (sorted names rise)) ∙ rise)) name k _ refl at
+    (IsUnrepeated-names names (sym (names_rise-sorted names (names_sorted names rise)) ∙ rise)) name k _ refl at
 
 -- ---- ids of nodes
 
@@ -100,7 +87,7 @@ module _ (nodes : List Node) (name : List ℕ) (rise : names_rise (ids_of (plain
       let long : length ids ≡ length nodes = length-map nodes (λ (n : Node). n.id) in
       let one : get_or ids k d.id ≡ (get_or nodes k d).id = get_or-map (λ (n : Node). n.id) nodes k d d.id (omega arith) in
       let two : get_or ids (k + 1) d.id ≡ (get_or nodes (k + 1) d).id = get_or-map (λ (n : Node). n.id) nodes (k + 1) d d.id high in
-      let sorted_ids : IsSortedBy is_name_before ids = sorted ids (ap names_rise (sym (ids_plain nodes)) ∙ rise) in
+      let sorted_ids : IsSortedBy is_name_before ids = names_sorted ids (ap names_rise (sym (ids_plain nodes)) ∙ rise) in
       let here : is_name_before (get_or ids (k + 1) d.id) (get_or ids k d.id) ≡ false = sorted_ids k d.id low (omega arith) in
       rw (one, two) at here
 
@@ -231,42 +218,6 @@ module _ (nodes : Nodes) (is : AreResolved nodes) where
 
 -- ---- references along arguments
 
-append_none : {X : Type 0} (xs : List X) → xs ++ [] ≡ xs
-append_none [] = refl
-append_none (x ∷ xs) = ap (λ ys. x ∷ ys) (append_none xs)
-
-pub take_next : {X : Type 0} (xs : List X) (i : ℕ) (x : X) → i < length xs → x ≡ get_or xs i x
-    → take (i + 1) xs ≡ take i xs ++ x ∷ []
-take_next xs i x within is = (take_at_read xs i x within).1 ∙ ap (λ y. take i xs ++ y ∷ []) (sym is)
-
-each_last : (xs : List Argument) (x : Argument)
-    → references_each (values_from_list (xs ++ x ∷ [])) ≡ references_each (values_from_list xs) ++ references_in x
-each_last [] x = append_none (references_in x)
-each_last (y ∷ xs) x =
-    ap (λ r. references_in y ++ r) (each_last xs x)
-    ∙ sym (append_assoc (references_in y) (references_each (values_from_list xs)) (references_in x))
-
-named_last : (ms : List (List ℕ × Argument)) (m : List ℕ × Argument)
-    → references_named (named_from_list (ms ++ m ∷ [])) ≡ references_named (named_from_list ms) ++ references_in m.1
-named_last [] m = append_none (references_in m.1)
-named_last (x ∷ ms) m =
-    ap (λ r. references_in x.1 ++ r) (named_last ms m)
-    ∙ sym (append_assoc (references_in x.1) (references_named (named_from_list ms)) (references_in m.1))
-
-pub each_next : (xs : List Arg) (i : ℕ) (x : Arg) → i < length xs → x ≡ get_or xs i x
-    → references_each (plain_args (take (i + 1) xs)) ≡ references_each (plain_args (take i xs)) ++ references_in (plain_arg x)
-each_next xs i x within is =
-    ap (λ ys. references_each (plain_args ys)) (take_next xs i x within is)
-    ∙ ap (λ zs. references_each (values_from_list zs)) (map-append plain_arg (take i xs) (x ∷ []))
-    ∙ each_last (map plain_arg (take i xs)) (plain_arg x)
-
-pub named_next : (ms : List (List ℕ × Arg)) (i : ℕ) (m : List ℕ × Arg) → i < length ms → m ≡ get_or ms i m
-    → references_named (plain_named (take (i + 1) ms)) ≡ references_named (plain_named (take i ms)) ++ references_in (plain_arg m.1)
-named_next ms i m within is =
-    ap (λ ys. references_named (plain_named ys)) (take_next ms i m within is)
-    ∙ ap (λ zs. references_named (named_from_list zs)) (map-append plain_pair (take i ms) (m ∷ []))
-    ∙ named_last (map plain_pair (take i ms)) (plain_pair m)
-
 -- the indices of more references, behind those of the first ones
 pub pushed_more : (nodes : Nodes) (r s : List (List ℕ)) (old mid new : List ℕ) → mid ≡ old ++ map (index_referred nodes) r
     → new ≡ mid ++ map (index_referred nodes) s → new ≡ old ++ map (index_referred nodes) (r ++ s)
@@ -318,7 +269,7 @@ pub link_parts : (all : Nodes) (n : Node) (load : Bool) (indices : List ℕ)
     → record { load = load; arguments = indices } ≡ link_of all (plain_node n)
 link_parts all n load indices loads refers =
     let parts : link_of all (record { id = n.id; process_id = n.process_id; namespace = n.namespace; arguments = plain_named n.arguments.items })
-    ≡ link_of all (plain_node n) = ap (link_of all) (sym (plain_parts n)) in
+    ≡ link_of all (plain_node n) = ap (link_of all) (sym (node_parts n)) in
     ap (λ (b : Bool). record { load = b; arguments = indices }) loads
     ∙ (ap (λ (xs : List ℕ). record { load = same_name n.process_id (codes "load_collection"); arguments = xs }) refers ∙ parts)
 
@@ -348,12 +299,6 @@ link_arguments nodes links k n link is within read at =
     sym (arguments-graph_of links k link within read) ∙ (ap (λ xs. arguments xs k) is ∙ links_arguments nodes k n at)
 
 -- ---- the graph of the links
-
-first_of : {X : Type 0} (x : X) (xs : List X) → Contains (x ∷ xs) x
-first_of x xs = (0, omega arith, refl)
-
-later_of : {X : Type 0} (x : X) (xs : List X) (y : X) → Contains xs y → Contains (x ∷ xs) y
-later_of x xs y has = let below = has.1 in (suc has.0, omega arith, has.2)
 
 -- an index among those of names is that of one of them
 one_index : (f : List ℕ → ℕ) (names : List (List ℕ)) (b : ℕ) → Contains (map f names) b

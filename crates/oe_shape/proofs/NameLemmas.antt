@@ -8,7 +8,7 @@ use Rattle.std.proofs.lemmas.Cmp.{nat_list_cmp_total}
 use Rattle.std.proofs.lemmas.List.{length-map, length-drop, get_or-map}
 use Rattle.std.proofs.lemmas.List.MinMax.{ranks_by}
 use Rattle.std.proofs.lemmas.List.Sorted.{IsPermutation-map}
-use Rattle.oe_dims.proofs.DistinctLemmas.{names_rise-sorted, all_differ-permutation}
+use Rattle.oe_dims.proofs.DistinctLemmas.{all_differ-permutation, names_rise-sorted, rise_short}
 use Rattle.oe_dims.specs.Dimensions.{all_differ}
 use Rattle.oe_dims.specs.Names.{same_name, is_name_before, names_rise}
 use Rattle.oe_dims.specs.declared.text.Text.{Text}
@@ -39,11 +39,6 @@ module _ {M : Type 0} (name_of : M → List ℕ) where
   pub differ_next : (first : M) (others : List M) → list_any (λ m. same_name (name_of first) (name_of m)) others ≡ false
       → all_differ (map name_of (first ∷ others)) ≡ all_differ (map name_of others)
   differ_next first others once = first_of first others ∙ ap (λ b. not b && all_differ (map name_of others)) once
-
-rise_short : (names : List (List ℕ)) → length names ≤ 1 → names_rise names ≡ true
-rise_short [] h = refl
-rise_short (a ∷ []) h = refl
-rise_short (a ∷ b ∷ names) h = absurd (omega arith)
 
 pub rise_end : (xs : List (Bor Text)) (k : ℕ) → length xs ≤ k + 1 → names_rise (map (λ n. n.now) (drop k xs)) ≡ true
 rise_end xs k h =

@@ -1,6 +1,5 @@
 -- The references of a node of a resolved graph are the cubes that its request works on, in their order.
-use Rattle.std.proofs.Common.{◌≡◌, ℕ, zero, suc, ◌<◌, Bool, true, false, ◌&&◌, List, [], ◌∷◌, ◌++◌, ◌⊎◌, length, slice_index_or, Option, Some, None, refl, sym, ap, ◌∙◌, subst, Contains, if◌then◌else◌, arith, inl, inr, Ordering}
-use Rattle.std.specs.declared.cmp.Ordering.TheVariants.{Less, Equal, Greater}
+use Rattle.std.proofs.Common.{◌≡◌, ℕ, zero, suc, ◌<◌, Bool, true, false, ◌&&◌, List, [], ◌∷◌, ◌++◌, ◌⊎◌, length, slice_index_or, Option, Some, None, refl, sym, ap, ◌∙◌, subst, Contains, if◌then◌else◌, arith, inl, inr}
 use Rattle.std.specs.Prelude.{⊤, codes, is_some}
 use Rattle.std.specs.List.{list_any}
 use Rattle.std.specs.Option.{option_map, option_and_then, option_map_or}
@@ -10,6 +9,7 @@ use Rattle.std.proofs.lemmas.Cmp.{nat_list_cmp_total, tied_itself}
 use Rattle.oe_dims.specs.Dimensions.{all_differ}
 use Rattle.oe_dims.specs.Names.{same_name, is_name_before, names_rise}
 use Rattle.oe_dims.proofs.OrderLemmas.{same_name_is, same_name_refl}
+use Rattle.oe_dims.proofs.NameOrderLemmas.{before_trans}
 use Rattle.oe_graph.specs.Catalogue.{Process, process_named}
 use Rattle.oe_graph.specs.Printed.{names_of}
 use Rattle.oe_graph.specs.References.{argument_named, references_in, references_each, references_named}
@@ -27,14 +27,6 @@ use Rattle.oe_shape.specs.Requests.{NamedProcess, process_among, cube_processes,
 use Rattle.oe_shape.proofs.RequestLemmas.{found, both_found}
 
 -- ---- names in byte order
-
-is_less : (o : Ordering) → is_lt o ≡ true → o ≡ Less
-is_less Less h = refl
-is_less Equal h = absurd (false≢true h)
-is_less Greater h = absurd (false≢true h)
-
-before_trans : (a b c : List ℕ) → is_name_before a b ≡ true → is_name_before b c ≡ true → is_name_before a c ≡ true
-before_trans a b c h k = ap is_lt (nat_list_cmp_total.trans a b c (is_less _ h) (is_less _ k))
 
 not_before_itself : (a : List ℕ) → is_name_before a a ≡ true → ⊥
 not_before_itself a h = false≢true (sym (ap is_lt (tied_itself nat_list_cmp_total a)) ∙ h)

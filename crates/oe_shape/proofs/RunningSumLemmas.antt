@@ -1,15 +1,16 @@
 -- The callback of running sums: its first node that is something else has the least fault.
-use Rattle.std.proofs.Common.{◌≡◌, ℕ, suc, ◌+◌, ◌<◌, ◌≤◌, Bool, true, false, ◌&&◌, if◌then◌else◌, true≢false, List, [], ◌∷◌, ◌++◌, Option, Some, None, is_some, is_none, Ordering, Less, Equal, Greater, nat_cmp, length, map, drop, get_or, append_assoc, slice_get, slice_index_or, Contains, inl, inr, refl, sym, ap, ◌∙◌, subst, arith}
+use Rattle.std.proofs.Common.{◌≡◌, ℕ, ◌+◌, ◌<◌, ◌≤◌, Bool, true, false, ◌&&◌, if◌then◌else◌, true≢false, List, [], ◌∷◌, ◌++◌, Option, Some, None, is_some, is_none, Ordering, Less, Equal, Greater, nat_cmp, length, map, drop, get_or, append_assoc, slice_get, Contains, inl, inr, refl, sym, ap, ◌∙◌, subst, arith}
 use Rattle.std.specs.Prelude.{codes, option_and_then, option_map, unwrap_or}
 use Rattle.std.specs.Cmp.Lexicographic.{slice_cmp}
 use Rattle.std.specs.Ordering.{ordering_then, is_lt}
 use Rattle.std.proofs.lemmas.Bool.{and_parts}
-use Rattle.std.proofs.lemmas.Cmp.{nat_cmp_total, nat_list_cmp_total, tied_itself}
+use Rattle.std.proofs.lemmas.Cmp.{nat_cmp_total, tied_itself}
 use Rattle.std.proofs.lemmas.List.{at_drop_more, drop_all}
 use Rattle.std.proofs.lemmas.Option.{slice_get-map}
 use Rattle.oe_dims.specs.Names.{is_name_before, names_rise, same_name}
+use Rattle.oe_dims.proofs.NameOrderLemmas.{before_trans, tail_rises}
 use Rattle.oe_expr.specs.Requests.{flag_in, passes, read}
-use Rattle.oe_graph.specs.Faults.{IsLeast, is_before}
+use Rattle.oe_graph.specs.Faults.{is_before}
 use Rattle.oe_graph.specs.Form.{callback_name, node_name}
 use Rattle.oe_graph.specs.Plain.{plain_graph, plain_named, plain_node, plain_nodes}
 use Rattle.oe_graph.specs.Printed.{ids_of}
@@ -21,25 +22,13 @@ use Rattle.oe_graph.specs.declared.fault.Fault.{Fault}
 use Rattle.oe_graph.specs.declared.tree.Graph.{Graph, out-Graph}
 use Rattle.oe_graph.specs.declared.tree.Node.{Node}
 use Rattle.oe_graph.proofs.LeastLemmas.{IsLeastOf, IsLeastOf-iff, before_not_after, not_before_itself}
-use Rattle.oe_expr.proofs.BuildLemmas.{graph_parts}
-use Rattle.oe_expr.proofs.StateLemmas.{each_plain, plain_id, plain_parts}
-use Rattle.oe_shape.proofs.BelowLemmas.{first_of, later_of, first_or_later}
+use Rattle.oe_graph.proofs.PartLemmas.{graph_parts, node_parts}
+use Rattle.oe_expr.proofs.StateLemmas.{each_plain, plain_id}
 use Rattle.oe_shape.proofs.InsideLemmas.{begins}
 use Rattle.oe_shape.specs.RunningSums.{is_data, running_sum_at, ignores_nulls, StandsInSums, AreSums, IsSumsFault}
+use Rattle.oe_memory.proofs.Lists.{first_of, first_or_later, later_of}
 
 -- ---- names in order
-
-lt_is : (o : Ordering) → is_lt o ≡ true → o ≡ Less
-lt_is Less is = refl
-lt_is Equal is = absurd (true≢false (sym is))
-lt_is Greater is = absurd (true≢false (sym is))
-
-before-trans : (a b c : List ℕ) → is_name_before a b ≡ true → is_name_before b c ≡ true → is_name_before a c ≡ true
-before-trans a b c ab bc = ap is_lt (nat_list_cmp_total.trans a b c (lt_is _ ab) (lt_is _ bc))
-
-tail_rises : (a : List ℕ) (names : List (List ℕ)) → names_rise (a ∷ names) ≡ true → names_rise names ≡ true
-tail_rises a [] rise = refl
-tail_rises a (b ∷ names) rise = (and_parts _ _ rise).1
 
 abbrev the_id : PlainNode → List ℕ
 the_id n = n.id
@@ -53,7 +42,7 @@ later_before a (m ∷ ns) n rise has =
     let parts = and_parts (is_name_before a m.id) (names_rise (m.id ∷ map the_id ns)) rise in
     elim (first_or_later m ns n has.0 has.1 has.2) [
       | inl is ↦ subst (λ (x : PlainNode). is_name_before a x.id ≡ true) is parts.0
-      | inr later ↦ before-trans a m.id n.id parts.0 (later_before m.id ns n parts.1 later)
+      | inr later ↦ before_trans a m.id n.id parts.0 (later_before m.id ns n parts.1 later)
     ]
 
 same_front : (front a b : List ℕ) → slice_cmp nat_cmp (front ++ a) (front ++ b) ≡ slice_cmp nat_cmp a b
@@ -229,7 +218,7 @@ module _ (n : Node) where
   sum_by named has = if named && has then read flag_in (codes "ignore_nodata") given else None
 
   sum_is : running_sum_at (plain_node n) ≡ sum_by (same_name n.process_id (codes "cumsum")) (passes is_data (codes "data") given)
-  sum_is = ap running_sum_at (plain_parts n)
+  sum_is = ap running_sum_at (node_parts n)
 
   pub of_another : same_name n.process_id (codes "cumsum") ≡ false → None ≡ running_sum_at (plain_node n)
   of_another other = sym (sum_is ∙ ap (λ b. sum_by b (passes is_data (codes "data") given)) other)

@@ -1,10 +1,10 @@
 -- A binary search among names that rise.
-use Rattle.std.proofs.Common.{◌≡◌, ℕ, zero, suc, ◌+◌, ◌<◌, true, false, List, [], ◌∷◌, length, get_or, refl, sym, ap, ◌∙◌, arith, inl, inr, Ordering, Ok, Err, Some, None}
-use Rattle.std.specs.declared.cmp.Ordering.TheVariants.{Less, Equal, Greater}
-use Rattle.std.specs.List.Sorted.{IsSortedBy, IsSearchInRange, IsBinarySearchResult}
+use Rattle.std.proofs.Common.{◌≡◌, ℕ, zero, suc, ◌<◌, true, false, List, [], ◌∷◌, length, get_or, refl, sym, ap, ◌∙◌, arith, inl, inr, Ordering, Ok, Err, Some, None}
+use Rattle.std.specs.declared.cmp.Ordering.TheVariants.{Less, Greater}
+use Rattle.std.specs.List.Sorted.{IsSearchInRange, IsBinarySearchResult}
 use Rattle.std.specs.Cmp.Lexicographic.{slice_cmp}
 use Rattle.std.specs.FinMap.{slice_cmp-IsAntisymmetric, nat_cmp-IsAntisymmetric}
-use Rattle.std.specs.Ordering.{nat_cmp, is_lt, is_eq, ordering_reverse}
+use Rattle.std.specs.Ordering.{nat_cmp, is_lt, is_eq}
 use Rattle.std.proofs.lemmas.Bool.{cases_Bool, cases_lt, and_parts, false≢true}
 use Rattle.std.proofs.lemmas.Cmp.{nat_list_cmp_total, tied_itself}
 use Rattle.std.proofs.lemmas.List.Sorted.{searchable_from_sorted}
@@ -12,25 +12,7 @@ use Rattle.oe_dims.specs.Indices.{index_where}
 use Rattle.oe_dims.specs.Names.{same_name, is_name_before, names_rise}
 use Rattle.oe_dims.proofs.IndexLemmas.{index_where_found, index_where_none}
 use Rattle.oe_dims.proofs.OrderLemmas.{same_name_is, same_name_refl}
-
-is_less : (o : Ordering) → is_lt o ≡ true → o ≡ Less
-is_less Less h = refl
-is_less Equal h = absurd (false≢true h)
-is_less Greater h = absurd (false≢true h)
-
-not_after : (o p : Ordering) → p ≡ ordering_reverse o → is_lt o ≡ true → is_lt p ≡ false
-not_after Less p e h = ap is_lt e
-not_after Equal p e h = absurd (false≢true h)
-not_after Greater p e h = absurd (false≢true h)
-
-names_sorted : (names : List (List ℕ)) → names_rise names ≡ true → IsSortedBy is_name_before names
-names_sorted [] h k d low high = absurd (omega arith)
-names_sorted (a ∷ []) h k d low high = absurd (omega arith)
-names_sorted (a ∷ b ∷ names) h zero d low high =
-    not_after (slice_cmp nat_cmp a b) (slice_cmp nat_cmp b a) (nat_list_cmp_total.antisymm b a) (and_parts _ _ h).0
-names_sorted (a ∷ b ∷ names) h (suc k) d low high =
-    let next : suc k + 1 ≡ suc (k + 1) = omega arith in
-    rw next (names_sorted (b ∷ names) (and_parts _ _ h).1 k d (omega arith) (omega arith))
+use Rattle.oe_dims.proofs.NameOrderLemmas.{is_less, names_sorted}
 
 -- each name stands before each later one
 before_later : (names : List (List ℕ)) → names_rise names ≡ true → (k i : ℕ) → k < i → i < length names

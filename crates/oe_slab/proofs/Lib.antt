@@ -19,7 +19,6 @@ pub mod ScheduleLemmas
 pub mod PlaneWindowLemmas
 pub mod SlabWindowLemmas
 pub mod GridLemmas
-pub mod CubeLemmas
 pub mod RenderLemmas
 pub mod WrittenLemmas
 pub mod RoundLemmas

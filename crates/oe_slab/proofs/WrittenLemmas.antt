@@ -12,6 +12,7 @@ use Rattle.oe_spool.specs.Least.{IsLeastOver, lesser_of}
 use Rattle.oe_spool.specs.Spooled.{ChangesOnly, HoldsRecord, HoldsRecords, IsInSome, IsRecordByte, record_offset}
 use Rattle.oe_spool.proofs.KeptLemmas.{change_of_one, in_either, no_common_byte, others_kept, store_piece_kept}
 use Rattle.oe_spool.proofs.LeastLemmas.{least_of_lists, least_of_one}
+use Rattle.oe_spool.proofs.CubeLemmas.{given_cube}
 use Rattle.oe_window.specs.Cells.{cell_at, cells_on}
 use Rattle.oe_window.specs.Windows.{Holds, IsIn, number_in, position_count, whole_window}
 use Rattle.oe_window.specs.declared.window.Window.{Window}
@@ -20,7 +21,6 @@ use Rattle.oe_window.proofs.WholeLemmas.{in_whole, number_in_below}
 use Rattle.oe_slab.specs.Plans.{IsSlabPlan, SlabPlanOf}
 use Rattle.oe_slab.specs.Results.{AreWritten}
 use Rattle.oe_slab.specs.Runs.{HasDone, HasRunRecords, HasSome, SlabRunOf, chunk_of, chunks_from, result_shape}
-use Rattle.oe_slab.proofs.CubeLemmas.{given_cube}
 use Rattle.oe_slab.proofs.GridLemmas.{chunk_inside, chunks_apart, chunks_inside, chunks_more}
 
 abbrev pub run : SlabPlanOf → ℕ → ℕ → Option ℕ → SlabRunOf

@@ -1,11 +1,10 @@
 -- The rows of a catalogue, put in the order of their ids.
-use Rattle.std.proofs.Common.{◌≡◌, ℕ, zero, suc, ◌+◌, ◌<◌, ◌≤◌, Bool, true, false, cond, not, ◌||◌, List, [], ◌∷◌, map, length, drop, get_or, add-one, Option, Some, None, Ordering, refl, sym, ap, ◌∙◌, arith, inl, inr}
+use Rattle.std.proofs.Common.{◌≡◌, ℕ, zero, suc, ◌+◌, ◌<◌, ◌≤◌, Bool, true, false, cond, not, ◌||◌, List, [], ◌∷◌, map, length, drop, get_or, add-one, Option, Some, None, refl, sym, ap, ◌∙◌, arith, inl, inr}
 use Rattle.std.specs.Cmp.Lexicographic.{slice_cmp}
 use Rattle.std.specs.FinMap.{slice_cmp-IsAntisymmetric, nat_cmp-IsAntisymmetric}
 use Rattle.std.specs.List.{find, list_any}
 use Rattle.std.specs.Option.{option_map}
-use Rattle.std.specs.Ordering.{nat_cmp, is_lt, ordering_reverse}
-use Rattle.std.specs.declared.cmp.Ordering.TheVariants.{Less, Equal, Greater}
+use Rattle.std.specs.Ordering.{nat_cmp}
 use Rattle.std.proofs.Math.Seq.{drop-cons}
 use Rattle.std.proofs.lemmas.Bool.{cases_Bool, and_parts, and_from, false≢true}
 use Rattle.std.proofs.lemmas.Cmp.{nat_list_cmp_total}
@@ -14,6 +13,7 @@ use Rattle.oe_dims.proofs.OrderLemmas.{same_name_is, same_name_refl}
 use Rattle.oe_dims.specs.Dimensions.{all_differ}
 use Rattle.oe_dims.specs.Names.{is_name_before, names_rise, same_name}
 use Rattle.oe_dims.specs.declared.dims.DimsRow.{DimsRow}
+use Rattle.oe_dims.proofs.DistinctLemmas.{neither_less}
 use Rattle.oe_sources.specs.Catalogue.{Row, mounted_ids, row_of, row_shown, rows_shown}
 use Rattle.oe_sources.specs.Source.{Source}
 use Rattle.oe_sources.specs.declared.catalogue.Mounted.{Mounted}
@@ -41,11 +41,6 @@ put_at row rows n x below is before =
     rw from (put_before row x (drop (suc n) rows) before)
 
 -- ---- ids that rise
-
-neither_less : (o p : Ordering) → o ≡ ordering_reverse p → is_lt o ≡ false → is_lt p ≡ false → o ≡ Equal
-neither_less o Less e h k = cc
-neither_less o Equal e h k = e
-neither_less o Greater e h k = absurd (false≢true (sym h ∙ ap is_lt e))
 
 -- of two names that differ one stands before the other
 other_before : (a b : List ℕ) → is_name_before a b ≡ false → same_name b a ≡ false → is_name_before b a ≡ true

@@ -34,6 +34,7 @@ use Rattle.oe_window.proofs.CellLemmas.{is_cells_on}
 use Rattle.oe_window.proofs.RangeLemmas.{range-slice_get, slice_get-range}
 use Rattle.oe_window.proofs.WholeLemmas.{count_whole, number_whole}
 use Rattle.oe_window.proofs.WindowLemmas.{length-positions, position_at}
+use Rattle.oe_memory.proofs.Lists.{append_none}
 
 -- ---- rests by 101
 
@@ -51,10 +52,6 @@ along_row w x = record { t = w.t.from; band = w.bands.from; y = w.y.from; x = x 
 
 one_index : (from n : ℕ) → n ≡ 1 → range_with_len from n ≡ from ∷ []
 one_index from n e = ap (range_with_len from) e
-
-append_none : {A : Type 0} (xs : List A) → xs ++ [] ≡ xs
-append_none {A = A} [] = refl
-append_none {A = A} (x ∷ xs) = ap (λ (ys : List A). x ∷ ys) (append_none xs)
 
 pub row_positions : (w : Window) → IsRow w → positions w ≡ map (along_row w) (range_with_len w.x.from (span_length w.x))
 row_positions w row =

@@ -1,3 +1,4 @@
+pub mod CubeLemmas
 pub mod CubeRecords
 pub mod KeptLemmas
 pub mod LeastLemmas

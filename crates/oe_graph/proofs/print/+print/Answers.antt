@@ -8,8 +8,8 @@ use Rattle.oe_graph.specs.Printed.{argument_data, named_data, nodes_data}
 use Rattle.oe_graph.specs.declared.tree.Arg.{Arg}
 use Rattle.oe_graph.specs.declared.tree.Node.{Node}
 use Rattle.oe_graph.proofs.PrintLemmas.{arguments_each, named_last, nodes_last, one_node}
-use Rattle.oe_graph.proofs.Views.{plain_parts}
 use Rattle.oe_graph.proofs.print.+print.Goals as goal
+use Rattle.oe_graph.proofs.PartLemmas.{node_parts}
 
 pub items_json-returns : goal.items_json-returns
 items_json-returns t c =
@@ -36,7 +36,7 @@ nodes_json-loop-index-preserved t c =
     let r = c.args.result_index in
     let more : take (i + 1) xs ≡ take i xs ++ x ∷ [] = (take_at_read xs i x c.loop-index-test.true).1 ∙ ap (λ y. take i xs ++ y ∷ []) (sym c.node-item.is) in
     let at : 0 + length (take i xs) ≡ i = omega (arith, length-take i xs, c.loop-index-test.true) in
-    let same_id : x.id ≡ (plain_node x).id = sym (ap (λ n. n.id) (plain_parts x)) in
+    let same_id : x.id ≡ (plain_node x).id = sym (ap (λ n. n.id) (node_parts x)) in
     c.in_ok-put.ensures.ok
     ∙ (rw (c.as_str.ensures, c.in_ok-value.ensures, c.loop-index.invariant) refl
     ∙ (ap (λ k. put k (one_node (i == r) (plain_node x)) (nodes_data 0 r (plain_nodes (take i xs)) no_members)) same_id

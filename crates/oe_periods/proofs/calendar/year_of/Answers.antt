@@ -1,7 +1,7 @@
 use Rattle.std.proofs.Common.{arith}
 use Rattle.jiff_core.proofs.SignedLemmas.{signed_casts}
-use Rattle.oe_periods.proofs.CivilLemmas.{civil_date_is}
 use Rattle.oe_periods.proofs.calendar.year_of.Goals as goal
+use Rattle.oe_dims.proofs.CivilLemmas.{civil_date_is}
 
 pub overflow_sub-result : goal.overflow_sub-result
 overflow_sub-result c =

@@ -4,8 +4,8 @@ use Rattle.std.specs.Prelude.{codes}
 use Rattle.oe_graph.specs.Plain.{plain_named, plain_node, plain_stored}
 use Rattle.oe_graph.specs.References.{callbacks_named}
 use Rattle.oe_graph.specs.Tree.{Named, PlainNode}
+use Rattle.oe_graph.proofs.PartLemmas.{node_parts}
 use Rattle.oe_resolve.specs.Calls.{fits_callback, means_row}
-use Rattle.oe_resolve.proofs.NodeLemmas.{node_parts}
 use Rattle.oe_resolve.proofs.calls.holds_fitting.Goals as goal
 
 pub returns : goal.returns

@@ -3,8 +3,8 @@ use Rattle.std.specs.Option.{option_map_or}
 use Rattle.oe_graph.specs.Catalogue.{Process}
 use Rattle.oe_graph.specs.Plain.{plain_stored}
 use Rattle.oe_graph.specs.declared.tree.Node.{Node}
+use Rattle.oe_graph.proofs.PartLemmas.{node_parts}
 use Rattle.oe_resolve.specs.Calls.{callee, row_meant, stands_in}
-use Rattle.oe_resolve.proofs.NodeLemmas.{node_parts}
 use Rattle.oe_resolve.proofs.calls.stands_in.Goals as goal
 
 pub returns-else-is_call : goal.returns-else-is_call

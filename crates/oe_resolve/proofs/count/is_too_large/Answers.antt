@@ -6,12 +6,13 @@ use Rattle.oe_graph.specs.References.{each_node}
 use Rattle.oe_graph.specs.Tree.{Nodes, PlainGraph, PlainNode, PlainStored}
 use Rattle.oe_graph.specs.declared.tree.Node.{Node}
 use Rattle.oe_graph.specs.declared.stored.StoredProcess.{StoredProcess}
+use Rattle.oe_graph.proofs.PartLemmas.{graph_parts}
 use Rattle.oe_order.proofs.Lists.{contains-at, contains-to}
 use Rattle.oe_resolve.specs.Counted.{total, size_by, fit_nodes}
 use Rattle.oe_resolve.specs.Reached.{index_at, IsReached}
 use Rattle.oe_resolve.proofs.Along.{take_pushed}
 use Rattle.oe_resolve.proofs.CycleLemmas.{each_nodes, get_below, nodes_next}
-use Rattle.oe_resolve.proofs.FaultLemmas.{graph_is, there_node}
+use Rattle.oe_resolve.proofs.FaultLemmas.{there_node}
 use Rattle.oe_resolve.proofs.ReadLemmas.{stored_at}
 use Rattle.oe_resolve.proofs.LargeLemmas.{size, main_large, written_large, reached_large, none_large}
 use Rattle.oe_resolve.proofs.count.is_too_large.Goals as goal
@@ -52,7 +53,7 @@ returns-then-total-gt-MOST_NODES c = (
       let g = plain_graph c.args.graph.now in
       let sizes = same_size c.args.stored.now c.as_slice.result.now c.in_ok-counts.counts.items c.as_slice.ensures.value c.in_ok-counts.ensures.sizes in
       let is : c.total.result ≡ total stored (size stored g) g.nodes = c.total.ensures (size stored g) sizes
-      ∙ ap (λ (h : PlainGraph). total stored (size stored g) h.nodes) (sym (graph_is c.args.graph.now)) in
+      ∙ ap (λ (h : PlainGraph). total stored (size stored g) h.nodes) (sym (graph_parts c.args.graph.now)) in
       main_large stored g (omega (arith, c.if-total-gt-MOST_NODES.true, is)),
   λ s. refl,
 )
@@ -64,7 +65,7 @@ returns-then-not-fit_nodes c = (
       let g = plain_graph c.args.graph.now in
       let sizes = same_size c.args.stored.now c.as_slice-2.result.now c.in_ok-counts.counts.items c.as_slice-2.ensures.value c.in_ok-counts.ensures.sizes in
       let is : c.fit_nodes.result ≡ fit_nodes stored (size stored g) g.nodes = c.fit_nodes.ensures (size stored g) sizes
-      ∙ ap (λ (h : PlainGraph). fit_nodes stored (size stored g) h.nodes) (sym (graph_is c.args.graph.now)) in
+      ∙ ap (λ (h : PlainGraph). fit_nodes stored (size stored g) h.nodes) (sym (graph_parts c.args.graph.now)) in
       written_large stored g (sym is ∙ c.if-not-fit_nodes.true),
   λ s. refl,
 )
@@ -95,10 +96,10 @@ returns-then-not-fit_nodes-2 c = (
       let same : r.called ≡ plain_stored p = called_is c.args.stored.now p n k r (place_below c.args.stored.now n k r) c.index-stored-index.is in
       let is : c.fit_nodes-in-loop-index.result ≡ fit_nodes stored (size stored g) r.called.graph.nodes =
       c.fit_nodes-in-loop-index.ensures (size stored g) sizes
-      ∙ ap (λ (h : PlainGraph). fit_nodes stored (size stored g) h.nodes) (sym (graph_is p.graph))
+      ∙ ap (λ (h : PlainGraph). fit_nodes stored (size stored g) h.nodes) (sym (graph_parts p.graph))
       ∙ ap (λ (s : PlainStored). fit_nodes stored (size stored g) s.graph.nodes) (sym same) in
       let there : Contains (each_node g.nodes) n =
-      subst (λ (h : PlainGraph). Contains (each_node h.nodes) n) (sym (graph_is c.args.graph.now))
+      subst (λ (h : PlainGraph). Contains (each_node h.nodes) n) (sym (graph_parts c.args.graph.now))
       (subst (λ (ms : List Node). Contains (each_node (plain_nodes ms)) n) c.deref-node-items.ensures.value
       (there_node ns c.loop-node.node-index c.node-item.result c.loop-node-test.true c.node-item.is)) in
       reached_large stored g n k there r (sym is ∙ c.if-not-fit_nodes-2.true),
@@ -123,7 +124,7 @@ loop-index-preserved c = λ m k has r.
           (subst (λ j. p ≡ get_or c.args.stored.now (j / 2) p) same c.index-stored-index.is) in
           let is : c.fit_nodes-in-loop-index.result ≡ fit_nodes stored (size stored g) r.called.graph.nodes =
           c.fit_nodes-in-loop-index.ensures (size stored g) sizes
-          ∙ ap (λ (h : PlainGraph). fit_nodes stored (size stored g) h.nodes) (sym (graph_is p.graph))
+          ∙ ap (λ (h : PlainGraph). fit_nodes stored (size stored g) h.nodes) (sym (graph_parts p.graph))
           ∙ ap (λ (s : PlainStored). fit_nodes stored (size stored g) s.graph.nodes) (sym at) in
           sym is ∙ c.if-not-fit_nodes-2.false
     ]
@@ -156,12 +157,12 @@ returns c = (
       let sizes = same_size c.args.stored.now c.as_slice.result.now c.in_ok-counts.counts.items c.as_slice.ensures.value c.in_ok-counts.ensures.sizes in
       let sizes_2 = same_size c.args.stored.now c.as_slice-2.result.now c.in_ok-counts.counts.items c.as_slice-2.ensures.value c.in_ok-counts.ensures.sizes in
       let counted : c.total.result ≡ total stored (size stored g) g.nodes = c.total.ensures (size stored g) sizes
-      ∙ ap (λ (h : PlainGraph). total stored (size stored g) h.nodes) (sym (graph_is c.args.graph.now)) in
+      ∙ ap (λ (h : PlainGraph). total stored (size stored g) h.nodes) (sym (graph_parts c.args.graph.now)) in
       let fit : c.fit_nodes.result ≡ fit_nodes stored (size stored g) g.nodes = c.fit_nodes.ensures (size stored g) sizes_2
-      ∙ ap (λ (h : PlainGraph). fit_nodes stored (size stored g) h.nodes) (sym (graph_is c.args.graph.now)) in
+      ∙ ap (λ (h : PlainGraph). fit_nodes stored (size stored g) h.nodes) (sym (graph_parts c.args.graph.now)) in
       let all : length ns ≤ c.loop-node.node-index = omega (arith, c.loop-node-test.false) in
       let nodes : each_node g.nodes ≡ map plain_node (take c.loop-node.node-index ns) =
-      ap (λ (h : PlainGraph). each_node h.nodes) (graph_is c.args.graph.now)
+      ap (λ (h : PlainGraph). each_node h.nodes) (graph_parts c.args.graph.now)
       ∙ ap (λ (ms : List Node). each_node (plain_nodes ms)) (sym c.deref-node-items.ensures.value)
       ∙ each_nodes (map plain_node ns) ∙ ap (map plain_node) (sym (take_all c.loop-node.node-index ns all)) in
       absurd (none_large stored g (omega (arith, c.if-total-gt-MOST_NODES.false, counted)) (sym fit ∙ c.if-not-fit_nodes.false)

@@ -2,8 +2,9 @@ use Rattle.std.proofs.Common.{Bool, take, sym, ◌∙◌, subst}
 use Rattle.oe_graph.specs.Plain.{plain_arg, plain_args, plain_named, plain_nodes}
 use Rattle.oe_graph.specs.Printed.{ids_of}
 use Rattle.oe_graph.specs.References.{references_in, references_each, references_named}
+use Rattle.oe_graph.proofs.ReferenceLemmas.{each_next, named_next}
 use Rattle.oe_resolve.specs.Judged.{IsFoundBehind, knows, know_each, know_named}
-use Rattle.oe_resolve.proofs.CycleLemmas.{behind_more, named_next, each_next}
+use Rattle.oe_resolve.proofs.CycleLemmas.{behind_more}
 use Rattle.oe_resolve.proofs.KnowsLemmas.{joined_true, joined_false, know_each-next, know_named-next}
 use Rattle.oe_resolve.proofs.cycle.+references.Goals as goal
 use Rattle.oe_resolve.proofs.cycle.+references.Goals.{add_args-then-branch, add_args-else-branch, add_named-then-branch, add_named-else-branch}

@@ -5,6 +5,7 @@ use Rattle.oe_graph.specs.Printed.{ids_of}
 use Rattle.oe_graph.specs.References.{references_named}
 use Rattle.oe_graph.specs.Tree.{PlainNode}
 use Rattle.oe_graph.specs.declared.tree.Node.{Node}
+use Rattle.oe_graph.proofs.PartLemmas.{node_parts}
 use Rattle.oe_order.specs.Graph.{graph_of}
 use Rattle.oe_order.specs.Graph as order
 use Rattle.oe_order.specs.Sorted.{AreNoLoads}
@@ -13,7 +14,6 @@ use Rattle.oe_order.proofs.Graphs.{graph_of-push, no_loads-push}
 use Rattle.oe_resolve.specs.Judged.{IsFoundBehind, IsIndexed, no_node, know_named}
 use Rattle.oe_resolve.proofs.Along.{take_pushed}
 use Rattle.oe_resolve.proofs.CycleLemmas.{indexed_push, nodes_next, each_nodes}
-use Rattle.oe_resolve.proofs.JudgeLemmas.{node_is}
 use Rattle.oe_resolve.proofs.cycle.references_beside.Goals as goal
 
 pub loop-node-init : goal.loop-node-init
@@ -30,7 +30,7 @@ loop-node-preserved c =
     let ns = c.deref-node-items.result.now in
     let i = c.loop-node.node-index in
     let n : Node = c.node-item.result in
-    let is_node = node_is n in
+    let is_node = node_parts n in
     let knows : Node → Bool = (λ (m : Node). know_named ids (plain_node m).arguments) in
     let x : Links = record { load = false; arguments = c.add_named.new.found } in
     let behind : IsFoundBehind ids (references_named (plain_node n).arguments) [] c.add_named.new.found.items =

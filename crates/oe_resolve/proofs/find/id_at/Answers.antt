@@ -1,8 +1,9 @@
 use Rattle.std.proofs.Common.{ℕ, List, sym, ap, ◌∙◌, arith}
 use Rattle.oe_graph.specs.Tree.{PlainGraph}
 use Rattle.oe_graph.specs.declared.tree.Graph.{Graph, out-Graph}
+use Rattle.oe_graph.proofs.PartLemmas.{graph_parts}
 use Rattle.oe_resolve.specs.Rounds.{id_at}
-use Rattle.oe_resolve.proofs.NodeLemmas.{graph_parts, id_at-found, id_at-none}
+use Rattle.oe_resolve.proofs.NodeLemmas.{id_at-found, id_at-none}
 use Rattle.oe_resolve.proofs.find.id_at.Goals as goal
 
 -- the id of the result node

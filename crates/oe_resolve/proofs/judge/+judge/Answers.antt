@@ -10,6 +10,7 @@ use Rattle.oe_graph.specs.Printed.{ids_of}
 use Rattle.oe_graph.specs.Tree.{Argument, PlainNode}
 use Rattle.oe_graph.specs.declared.tree.Arg.{Arg}
 use Rattle.oe_graph.specs.declared.tree.Node.{Node}
+use Rattle.oe_graph.proofs.PartLemmas.{node_parts}
 use Rattle.oe_order.specs.Graph.{graph_of}
 use Rattle.oe_order.specs.Sorted.{AreNoLoads}
 use Rattle.oe_order.specs.declared.Links.{Links}
@@ -17,7 +18,6 @@ use Rattle.oe_resolve.specs.Judged.{IdsRiseIn, OfArgument, OfArguments, OfNode, 
 use Rattle.oe_resolve.specs.Seen.{names_behind}
 use Rattle.oe_resolve.proofs.Along.{least_more}
 use Rattle.oe_resolve.proofs.FaultLemmas.{there_by, least-none, none_least, rise_of_item, rise_of_member, rise_of_node, rise_of_object, arguments_least, items_least, members_least, object_least, call_least, node_least, mapped_at, mark_there, there_node, list_is, object_is, callback_argument}
-use Rattle.oe_resolve.proofs.JudgeLemmas.{node_is}
 use Rattle.oe_resolve.proofs.judge.+judge.Goals as goal
 use Rattle.oe_resolve.proofs.judge.+judge.Goals.{items_fault-then-may_hold_callback+in_ok-found, items_fault-else-may_hold_callback, members_fault-then-may_hold_callback+in_ok-found, members_fault-else-may_hold_callback}
 
@@ -146,7 +146,7 @@ node_faults-returns t c nodes rise known marked =
     let arguments = plain_named n.arguments.items in
     let scoped = names_behind c.in_ok-scope.scope.items in
     let rises : IdsRiseIn (callbacks_named arguments) =
-    subst (λ (m : PlainNode). IdsRiseIn (callbacks_named m.arguments)) (node_is n) rise in
+    subst (λ (m : PlainNode). IdsRiseIn (callbacks_named m.arguments)) (node_parts n) rise in
     let found : IsLeastOf (OfArguments stored last c.in_ok-name.name scoped arguments) c.in_ok-inner.inner =
     subst (λ name. IsLeastOf (OfArguments stored last name scoped arguments) c.in_ok-inner.inner) c.as_str-3.ensures
     (subst (λ names. IsLeastOf (OfArguments stored last c.as_str-3.result.now (names_behind names) arguments) c.in_ok-inner.inner)

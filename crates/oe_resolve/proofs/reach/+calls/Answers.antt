@@ -2,8 +2,8 @@ use Rattle.std.proofs.Common.{◌∷◌, [], map, take, sym, ◌∙◌, subst}
 use Rattle.std.proofs.lemmas.Result.{on_ok_weaker}
 use Rattle.oe_graph.specs.Plain.{plain_arg, plain_args, plain_named, plain_node, plain_nodes, plain_stored}
 use Rattle.oe_graph.specs.Tree.{PlainNode}
+use Rattle.oe_graph.proofs.PartLemmas.{node_parts}
 use Rattle.oe_resolve.specs.Reached.{held_by, held_each, held_in, held_named, held_nodes, IsCalledBehind}
-use Rattle.oe_resolve.proofs.JudgeLemmas.{node_is}
 use Rattle.oe_resolve.proofs.ReachLemmas.{behind_more, each_next, held_next, named_next}
 use Rattle.oe_resolve.proofs.UncalledLemmas.{map_empty, uncalled_behind}
 use Rattle.oe_resolve.proofs.reach.+calls.Goals as goal
@@ -47,7 +47,7 @@ add_node-returns t c =
     (λ more. behind_more stored ((c.args.in_callback, n) ∷ []) (held_named n.arguments)
     c.args.found.now.items c.add_call.new.found.items c.add_named.new.found.items c.in_ok-add_call.ensures
     (subst (λ (m : PlainNode). IsCalledBehind stored (held_named m.arguments) c.add_call.new.found.items c.add_named.new.found.items)
-    (sym (node_is c.args.node.now)) more))
+    (sym (node_parts c.args.node.now)) more))
     c.add_named.ensures
 
 pub add_node-returns-then-is_empty : goal.add_node-returns-then-is_empty

@@ -2,8 +2,8 @@ use Rattle.std.proofs.Common.{◌≡◌, ◌<◌, ◌∙◌, sym, ap, length, ma
 use Rattle.std.proofs.lemmas.List.{length-map}
 use Rattle.oe_graph.specs.Plain.{plain_node, plain_stored}
 use Rattle.oe_graph.specs.Tree.{PlainNode}
+use Rattle.oe_graph.proofs.PartLemmas.{node_parts}
 use Rattle.oe_resolve.specs.Calls.{callee}
-use Rattle.oe_resolve.proofs.JudgeLemmas.{node_is}
 use Rattle.oe_resolve.proofs.ReachLemmas.{behind_one}
 use Rattle.oe_resolve.proofs.reach.add_call.Goals as goal
 
@@ -13,5 +13,5 @@ returns-in_ok-push c =
     behind_one stored (c.args.in_callback, plain_node c.args.node.now) c.in-Some.index c.index_at.result
     c.args.found.now.items c.push.new.self.items
     (omega (arith, c.in-Some.ensures.within, length-map c.args.stored.now plain_stored))
-    (c.in-Some.ensures.is ∙ ap (λ (m : PlainNode). callee stored m.namespace m.process_id) (sym (node_is c.args.node.now)))
+    (c.in-Some.ensures.is ∙ ap (λ (m : PlainNode). callee stored m.namespace m.process_id) (sym (node_parts c.args.node.now)))
     c.index_at.ensures c.in_ok-push.ensures.items

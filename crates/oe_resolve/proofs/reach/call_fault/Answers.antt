@@ -5,10 +5,9 @@ use Rattle.oe_graph.specs.Tree.{PlainGraph, PlainNode}
 use Rattle.oe_graph.specs.declared.code.Code.{Code}
 use Rattle.oe_graph.specs.declared.fault.Fault.{Fault}
 use Rattle.oe_graph.specs.declared.tree.Node.{Node}
+use Rattle.oe_graph.proofs.PartLemmas.{graph_parts, node_parts}
 use Rattle.oe_resolve.specs.Judged.{IsLeastFault}
 use Rattle.oe_resolve.specs.Reached.{IsCallFault, IsCodeOf}
-use Rattle.oe_resolve.proofs.FaultLemmas.{graph_is}
-use Rattle.oe_resolve.proofs.JudgeLemmas.{node_is}
 use Rattle.oe_resolve.proofs.Tests.{at_next}
 use Rattle.oe_resolve.proofs.FirstCallLemmas.{First, at_end, skip, here, first_call}
 use Rattle.oe_resolve.proofs.reach.call_fault.Goals as goal
@@ -24,10 +23,10 @@ returns-in-Some c =
     let first : First stored (map plain_node ns) fault = c.loop-node.invariant fault
     (subst (λ (ms : List PlainNode). First stored ms fault)
     (sym (at_next (map plain_node) ns c.loop-node.node-index n c.loop-node-test.true c.node-item.is)) (here code)) in
-    let id = c.in_ok-copy.ensures ∙ sym (ap (λ (m : PlainNode). m.id) (node_is n)) in
+    let id = c.in_ok-copy.ensures ∙ sym (ap (λ (m : PlainNode). m.id) (node_parts n)) in
     subst (λ xs. IsLeastFault (IsCallFault stored g) (Some (record { code = c.in-Some.code; node = xs }))) (sym id)
     (first_call stored g ns fault
-    (ap (λ (h : PlainGraph). h.nodes) (graph_is c.args.graph.now) ∙ ap plain_nodes (sym c.deref-node-items.ensures.value))
+    (ap (λ (h : PlainGraph). h.nodes) (graph_parts c.args.graph.now) ∙ ap plain_nodes (sym c.deref-node-items.ensures.value))
     c.requires.rise first)
 
 pub loop-node-preserved : goal.loop-node-preserved
@@ -49,5 +48,5 @@ returns c =
     let first : First stored (map plain_node ns) None = c.loop-node.invariant None
     (subst (λ (ms : List Node). First stored (map plain_node ms) None) (sym (drop_all c.loop-node.node-index ns all)) at_end) in
     first_call stored g ns None
-    (ap (λ (h : PlainGraph). h.nodes) (graph_is c.args.graph.now) ∙ ap plain_nodes (sym c.deref-node-items.ensures.value))
+    (ap (λ (h : PlainGraph). h.nodes) (graph_parts c.args.graph.now) ∙ ap plain_nodes (sym c.deref-node-items.ensures.value))
     c.requires.rise first

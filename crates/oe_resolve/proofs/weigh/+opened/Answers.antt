@@ -6,13 +6,13 @@ use Rattle.oe_graph.specs.Tree.{Argument, PlainNode}
 use Rattle.oe_graph.specs.declared.tree.Arg.{Arg}
 use Rattle.oe_graph.specs.declared.tree.Node.{Node}
 use Rattle.oe_graph.specs.declared.tree.Graph.{out-Graph}
+use Rattle.oe_graph.proofs.PartLemmas.{node_parts}
 use Rattle.oe_resolve.specs.Calls.{callback_parameters}
 use Rattle.oe_resolve.specs.Replaced.{inside, replaced, replaced_each, replaced_named, replaced_node, replaced_nodes}
 use Rattle.oe_resolve.specs.Seen.{names_behind, plain_sizes}
 use Rattle.oe_resolve.specs.Sizes.{HasSizes, value_size, size_bare_nodes, size_in, size_each, size_named, size_nodes}
 use Rattle.oe_resolve.proofs.BareLemmas.{bare_replaced}
 use Rattle.oe_resolve.proofs.FaultLemmas.{list_is, object_is, callback_is}
-use Rattle.oe_resolve.proofs.NodeLemmas.{node_parts}
 use Rattle.oe_resolve.proofs.SizeLemmas.{has_inside_behind, size_next}
 use Rattle.oe_resolve.proofs.weigh.+opened.Goals as goal
 

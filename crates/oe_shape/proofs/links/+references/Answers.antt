@@ -1,8 +1,9 @@
 use Rattle.std.proofs.Common.{◌≡◌, ◌++◌, map, take, sym, subst}
 use Rattle.oe_graph.specs.Plain.{plain_arg, plain_args, plain_named, plain_nodes}
 use Rattle.oe_graph.specs.References.{references_in, references_each, references_named}
+use Rattle.oe_graph.proofs.ReferenceLemmas.{each_next, named_next}
 use Rattle.oe_shape.specs.Links.{index_referred}
-use Rattle.oe_shape.proofs.LinkLemmas.{each_next, named_next, pushed_more}
+use Rattle.oe_shape.proofs.LinkLemmas.{pushed_more}
 use Rattle.oe_shape.proofs.links.+references.Goals as goal
 
 pub push_named-loop-member-preserved : goal.push_named-loop-member-preserved
