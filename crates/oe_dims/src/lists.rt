@@ -7,6 +7,7 @@ ghost use Rattle.oe_dims.specs.Names.{same_name};
 ghost use Rattle.oe_dims.specs.Indices.{same_number, index_where, count_before, is_inside, IsIndexRange};
 ghost use Rattle.oe_dims.specs.Lists.{items_of, dimensions_of, HaveSameLabels};
 
+use crate::copies::copy_texts;
 use crate::distinct::all_differ;
 use crate::instant::{FIRST_INSTANT, LAST_INSTANT};
 use crate::label_list::LabelList;
@@ -116,15 +117,11 @@ fn copy_numbers(labels: &Option<LabelList<i64>>) -> Result<Option<LabelList<i64>
 }
 
 /// A copy of names.
-fn copy_texts(names: &LabelList<Text>) -> Result<LabelList<Text>, OutOfMemory>
+fn copy_name_list(names: &LabelList<Text>) -> Result<LabelList<Text>, OutOfMemory>
     ensures { IfOk result (λ c. c ≡ names.now) }
 {
-    let all = names.as_slice();
-    let mut copies = Vec::with_capacity(names.allocator(), all.len())?;
-    for name in all {
-        copies.push(name.copy()?)?;
-    }
-    Ok(LabelList::of(copies))
+    let copy = copy_texts(names.allocator(), names.as_slice())?;
+    Ok(LabelList::of(copy))
 }
 
 /// A copy of names, if the dimension is there. Shared ones are taken over.
@@ -135,7 +132,7 @@ fn copy_names(names: &Option<LabelList<Text>>) -> Result<Option<LabelList<Text>>
         None => Ok(None),
         Some(names) => match names.taken_over() {
             Some(shared) => Ok(Some(shared)),
-            None => Ok(Some(copy_texts(names)?)),
+            None => Ok(Some(copy_name_list(names)?)),
         },
     }
 }

@@ -6,7 +6,7 @@ ghost use Rattle.oe_dims.specs.Lists.{items_of};
 ghost use Rattle.oe_dims.specs.Names.{same_name};
 ghost use Rattle.oe_mosaic.specs.Labels.{join_bands, join_labels, merge_labels, new_names, numbers_along, stands_before};
 
-use oe_dims::{Kind, Shape, Text};
+use oe_dims::{Kind, Shape, Text, copy_bands, same_name};
 use oe_memory::OutOfMemory;
 use std::alloc::Global;
 
@@ -95,13 +95,6 @@ pub fn join_labels(
     }
 }
 
-/// The two names have the same bytes.
-fn same_name(a: &Text, b: &Text) -> bool
-    ensures { result ≡ same_name a.now b.now }
-{
-    a.as_str() == b.as_str()
-}
-
 /// The name is among those before.
 fn has_name(before: &[Text], name: &Text) -> bool
     ensures { result ≡ list_any (same_name name.now) before.now }
@@ -142,24 +135,4 @@ pub fn join_bands(
             Ok(Some(names))
         }
     }
-}
-
-/// The bands of a cube, `None` where it has none.
-fn copy_bands(alloc: Global, shape: &Shape) -> Result<Option<Vec<Text>>, OutOfMemory>
-    ensures { IfOk result (λ names. option_map items_of names ≡ shape.now.bands) }
-{
-    match shape.count(Kind::Bands) {
-        None => Ok(None),
-        Some(_) => Ok(Some(copy_texts(alloc, shape.bands())?)),
-    }
-}
-
-fn copy_texts(alloc: Global, names: &[Text]) -> Result<Vec<Text>, OutOfMemory>
-    ensures { IfOk result (λ copies. copies.items ≡ names.now) }
-{
-    let mut copies = Vec::with_capacity(alloc, names.len())?;
-    for name in names {
-        copies.push(name.copy()?)?;
-    }
-    Ok(copies)
 }

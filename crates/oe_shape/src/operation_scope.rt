@@ -8,8 +8,7 @@ ghost use Rattle.oe_shape.specs.Extents as extent;
 ghost use Rattle.oe_shape.specs.Operations as spec;
 
 use crate::extent::{Interval, TemporalExtent};
-use crate::shape_parts::copy_texts;
-use oe_dims::{CellKind, Kind, Labels, Shape};
+use oe_dims::{CellKind, Kind, Labels, Shape, copy_texts};
 use oe_expr::{ListPart, Scope};
 use oe_memory::OutOfMemory;
 use std::alloc::Global;

@@ -13,7 +13,7 @@ ghost use Rattle.oe_shape.specs.Parameters as spec;
 
 use crate::extent::BoundingBox;
 use crate::parameter::whole_in;
-use oe_dims::Text;
+use oe_dims::{Text, same_name};
 use oe_graph::{Arg, argument_named};
 
 /// The largest code of a reference system.
@@ -143,18 +143,11 @@ fn are_box_members(members: &[(Text, Arg)]) -> bool
         .all(|member| is_box_member(member.0.as_str()))
 }
 
-/// The two names have the same bytes.
-fn is_same(a: &Text, b: &Text) -> bool
-    ensures { result ≡ same_name a.now b.now }
-{
-    a.as_str() == b.as_str()
-}
-
 /// A member has this name.
 fn is_named(name: &Text, members: &[(Text, Arg)]) -> bool
     ensures { result ≡ list_any (λ m. same_name name.now m.0) members.now }
 {
-    members.iter().any(|member| is_same(name, &member.0))
+    members.iter().any(|member| same_name(name, &member.0))
 }
 
 /// No two members have the same name.

@@ -7,8 +7,8 @@ ghost use Rattle.oe_shape.specs.Results.{where_within_limits};
 ghost use Rattle.oe_shape.specs.ValidShapes.{AreIntervalLabels, labels_of};
 
 use crate::extent::Interval;
-use crate::shape_parts::{copy_bands, copy_numbers, shape_within};
-use oe_dims::{Kind, Shape};
+use crate::shape_parts::{copy_numbers, shape_within};
+use oe_dims::{Kind, Shape, copy_bands};
 use oe_memory::OutOfMemory;
 use std::alloc::Global;
 

@@ -10,8 +10,8 @@ ghost use Rattle.oe_shape.specs.ValidShapes.{AreBands};
 use crate::extent::{BoundingBox, TemporalExtent};
 use crate::operation::Restriction;
 use crate::rows_extent::is_in_time;
-use crate::shape_parts::{copy_bands, copy_numbers, copy_texts, shape_within};
-use oe_dims::{Kind, Shape, Text};
+use crate::shape_parts::{copy_numbers, shape_within};
+use oe_dims::{Kind, Shape, Text, copy_bands, copy_texts};
 use oe_memory::OutOfMemory;
 use std::alloc::Global;
 

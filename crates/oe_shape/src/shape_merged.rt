@@ -10,8 +10,8 @@ ghost use Rattle.oe_shape.specs.Results.{numbers_along, IsRisingKind, where_with
 
 use crate::shape_aggregated::{sort_falling, sort_rising};
 use crate::shape_labels::{has_band, has_number};
-use crate::shape_parts::{copy_bands, copy_numbers, copy_texts, shape_within};
-use oe_dims::{BandIndex, Kind, Shape, Text};
+use crate::shape_parts::{copy_numbers, shape_within};
+use oe_dims::{BandIndex, Kind, Shape, Text, copy_bands, copy_texts};
 use oe_memory::OutOfMemory;
 use std::alloc::Global;
 

@@ -27,27 +27,6 @@ pub fn copy_numbers(
     }
 }
 
-/// A copy of names.
-pub fn copy_texts(alloc: Global, names: &[Text]) -> Result<Vec<Text>, OutOfMemory>
-    ensures { IfOk result (λ copies. copies.items ≡ names.now) }
-{
-    let mut copies = Vec::with_capacity(alloc, names.len())?;
-    for name in names {
-        copies.push(name.copy()?)?;
-    }
-    Ok(copies)
-}
-
-/// A copy of the names of the bands, `None` where the shape has no bands.
-pub fn copy_bands(alloc: Global, shape: &Shape) -> Result<Option<Vec<Text>>, OutOfMemory>
-    ensures { IfOk result (λ copy. option_map items_of copy ≡ shape.now.bands) }
-{
-    match shape.count(Kind::Bands) {
-        None => Ok(None),
-        Some(_) => Ok(Some(copy_texts(alloc, shape.bands())?)),
-    }
-}
-
 /// The shape of these labels, which keep every rule of a shape but its limits, `None` where there are over 65536 along
 /// a dimension or over 2^40 cells.
 pub fn shape_within(

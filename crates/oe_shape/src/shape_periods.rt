@@ -10,8 +10,8 @@ ghost use Rattle.oe_shape.specs.Periods as spec;
 ghost use Rattle.oe_shape.specs.Results.{where_within_limits};
 
 use crate::extent::{Interval, TemporalExtent};
-use crate::shape_parts::{copy_bands, copy_numbers, shape_within};
-use oe_dims::{Kind, Shape};
+use crate::shape_parts::{copy_numbers, shape_within};
+use oe_dims::{Kind, Shape, copy_bands};
 use oe_memory::OutOfMemory;
 use oe_periods::{Period, Periods};
 use std::alloc::Global;

@@ -1,5 +1,5 @@
 use Rattle.std.proofs.Common.{◌≡◌, take}
-use Rattle.oe_shape.proofs.shape_parts.copy_texts.Given as goal
+use Rattle.oe_dims.proofs.copies.copy_texts.Given as goal
 
 abbrev pub invariant-loop-name : goal.invariant-loop-name
 invariant-loop-name l = l.copies.items ≡ take l.name-index l.names
