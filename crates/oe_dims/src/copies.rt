@@ -1,4 +1,4 @@
-// Copies of names.
+// Copies of texts.
 ghost use Rattle.std.specs.Prelude.{◌≡◌, IfOk};
 ghost use Rattle.std.specs.Option.{option_map};
 ghost use Rattle.oe_dims.specs.Lists.{items_of};
@@ -6,6 +6,16 @@ ghost use Rattle.oe_dims.specs.Lists.{items_of};
 use crate::{Kind, Shape, Text};
 use oe_memory::OutOfMemory;
 use std::alloc::Global;
+
+/// A copy of a text, if there is one. Refuses: out of memory.
+pub fn copy_text(text: &Option<Text>) -> Result<Option<Text>, OutOfMemory>
+    ensures { IfOk result (λ copy. copy ≡ text.now) }
+{
+    match text {
+        Some(text) => Ok(Some(text.copy()?)),
+        None => Ok(None),
+    }
+}
 
 /// A copy of names. Refuses: out of memory.
 pub fn copy_texts(alloc: Global, names: &[Text]) -> Result<Vec<Text>, OutOfMemory>

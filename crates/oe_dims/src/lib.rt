@@ -22,11 +22,11 @@ mod shape;
 mod text;
 
 pub use bands::BandIndex;
-pub use copies::{copy_bands, copy_texts};
+pub use copies::{copy_bands, copy_text, copy_texts};
 pub use dims::{Dims, DimsRow};
 pub use instant::{InstantFault, is_instant, print_instant, read_instant};
 pub use kind::{CellKind, Kind, Labels};
 pub use name::is_name;
-pub use order::same_name;
+pub use order::{same_name, same_text};
 pub use shape::{Shape, ShapeFault};
 pub use text::Text;

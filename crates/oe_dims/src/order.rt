@@ -52,6 +52,13 @@ pub fn same_name(a: &Text, b: &Text) -> bool
     a.as_str() == b.as_str()
 }
 
+/// The two texts have the same bytes.
+pub fn same_text(a: &str, b: &str) -> bool
+    ensures { result ≡ same_name a.now b.now }
+{
+    a == b
+}
+
 /// The index of a name among these.
 pub fn index_of_name(name: &Text, names: &[Text]) -> Option<usize>
     ensures { result ≡ index_where (same_name name.now) names.now }

@@ -1,7 +1,7 @@
 // Which argument of a graph a fault is of.
 ghost use Rattle.std.specs.Prelude.{◌≡◌, IfOk, codes, find, is_none, map, option_and_then, option_map};
 ghost use Rattle.oe_graph.specs.Catalogue.{parameter_of};
-ghost use Rattle.oe_graph.specs.Plain.{plain_arg, plain_graph, plain_named, plain_node, plain_nodes};
+ghost use Rattle.oe_graph.specs.Plain.{plain_graph, plain_named, plain_node, plain_nodes};
 ghost use Rattle.oe_graph.specs.Printed.{names_of};
 ghost use Rattle.oe_graph.specs.References.{argument_named};
 ghost use Rattle.oe_expr.specs.Nodes.{node_named};

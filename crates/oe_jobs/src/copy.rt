@@ -7,7 +7,7 @@ ghost use Rattle.oe_jobs.specs.Plain.{plain_book, plain_change, plain_job, plain
 use crate::book::{Book, Owned};
 use crate::change::Change;
 use crate::job::{Asset, Job, LogEntry, Ran};
-use oe_dims::Text;
+use oe_dims::copy_text;
 use oe_graph::StoredProcess;
 use oe_memory::OutOfMemory;
 use std::alloc::Global;
@@ -139,15 +139,6 @@ pub(crate) fn bare(alloc: Global, job: &Job) -> Result<Job, OutOfMemory>
         logs: Vec::new(alloc),
         assets: Vec::new(alloc),
     })
-}
-
-pub(crate) fn copy_text(text: &Option<Text>) -> Result<Option<Text>, OutOfMemory>
-    ensures { IfOk result (λ t. t ≡ text.now) }
-{
-    match text {
-        Some(text) => Ok(Some(text.copy()?)),
-        None => Ok(None),
-    }
 }
 
 pub(crate) fn copy_ran(alloc: Global, ran: &Option<Ran>) -> Result<Option<Ran>, OutOfMemory>

@@ -3,7 +3,6 @@ ghost use Rattle.std.specs.Prelude.{◌≡◌, IfOk, false, filter, map};
 ghost use Rattle.serde_json.specs.Data.{string};
 ghost use Rattle.serde_json.specs.View.{members_view, view};
 ghost use Rattle.serde_json.specs.Written.{compact_text, has_float};
-ghost use Rattle.oe_dims.specs.Names as names;
 ghost use Rattle.oe_jobs.specs.Plain.{plain_book, plain_job};
 ghost use Rattle.oe_jobs.specs.Texts.{status_text};
 ghost use Rattle.oe_jobs.specs.Verdicts.{is_job_of};
@@ -11,6 +10,7 @@ ghost use Rattle.oe_replies.specs.Jobs as spec;
 
 use crate::moment::moment_json;
 use crate::values::{compact_body, listing_json, put_where, str_json, words_json};
+use oe_dims::same_text;
 use oe_jobs::{Book, Job};
 use oe_memory::OutOfMemory;
 use serde_json::{Map, Value, put};
@@ -121,18 +121,11 @@ fn job_values(alloc: Global, book: &Book, user: &str) -> Result<Vec<Value>, OutO
 {
     let mut values = Vec::new(alloc);
     for job in &book.jobs {
-        if is_same(job.user.as_str(), user) {
+        if same_text(job.user.as_str(), user) {
             values.push(job_row_json(alloc, job)?)?;
         }
     }
     Ok(values)
-}
-
-/// The two texts have the same bytes.
-pub(crate) fn is_same(a: &str, b: &str) -> bool
-    ensures { result ≡ names.same_name a.now b.now }
-{
-    a == b
 }
 
 /// A job in a list.

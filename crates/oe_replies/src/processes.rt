@@ -7,8 +7,8 @@ ghost use Rattle.oe_jobs.specs.Plain.{plain_book};
 ghost use Rattle.oe_jobs.specs.Verdicts.{stored_of};
 ghost use Rattle.oe_replies.specs.Jobs as spec;
 
-use crate::job::is_same;
 use crate::values::{compact_body, listing_json, single, str_json};
+use oe_dims::same_text;
 use oe_graph::processes_text;
 use oe_jobs::Book;
 use oe_memory::OutOfMemory;
@@ -77,7 +77,7 @@ fn stored_values(alloc: Global, book: &Book, user: &str) -> Result<Vec<Value>, O
 {
     let mut values = Vec::new(alloc);
     for owned in &book.processes {
-        if is_same(owned.user.as_str(), user) {
+        if same_text(owned.user.as_str(), user) {
             values.push(single(alloc, "id", str_json(alloc, owned.process.id.as_str())?)?)?;
         }
     }

@@ -8,8 +8,7 @@ ghost use Rattle.oe_graph.specs.Plain.{plain_arg, plain_args, plain_named, plain
 ghost use Rattle.oe_graph.specs.References.{callbacks_each, callbacks_in, callbacks_named};
 ghost use Rattle.oe_resolve.specs.Calls as spec;
 
-use crate::names::same_text;
-use oe_dims::Text;
+use oe_dims::{Text, same_text};
 use oe_graph::{Arg, Node, StoredProcess, process_entry};
 
 const NO_NAMES: &[&str] = &[];

@@ -7,10 +7,9 @@ ghost use Rattle.oe_resolve.specs.Filled as spec;
 ghost use Rattle.oe_resolve.specs.Replaced.{default_of};
 ghost use Rattle.oe_resolve.specs.Rounds.{index_among};
 
-use crate::known::copy_namespace;
 use crate::names::is_before;
 use crate::values::default_of;
-use oe_dims::Text;
+use oe_dims::{Text, copy_text};
 use oe_graph::{Arg, Graph, Node, ParameterRow, argument_named, process};
 use oe_memory::OutOfMemory;
 use std::alloc::Global;
@@ -48,7 +47,7 @@ fn filled_node(alloc: Global, node: &Node) -> Result<Node, OutOfMemory>
     Ok(Node {
         id: node.id.copy()?,
         process_id: node.process_id.copy()?,
-        namespace: copy_namespace(&node.namespace)?,
+        namespace: copy_text(&node.namespace)?,
         arguments,
     })
 }

@@ -1,5 +1,5 @@
 // Nodes by their names.
-ghost use Rattle.std.specs.Prelude.{◌≡◌, ◌≢◌, ℕ, true, false, IsTrue, IfOk, IfSome, IsNone, Some, Contains, map, slice_get};
+ghost use Rattle.std.specs.Prelude.{◌≡◌, ◌≢◌, ℕ, true, false, IsTrue, IfOk, IfSome, IsNone, Some, Contains, slice_get};
 ghost use Rattle.std.specs.List.{list_any};
 ghost use Rattle.oe_dims.specs.Names.{same_name, names_rise};
 ghost use Rattle.oe_graph.specs.Plain.{plain_graph, plain_nodes};
@@ -7,7 +7,8 @@ ghost use Rattle.oe_graph.specs.Printed.{ids_of};
 ghost use Rattle.oe_resolve.specs.Rounds as spec;
 ghost use Rattle.oe_resolve.specs.Seen.{NotesRise};
 
-use crate::names::{is_before, same_text};
+use crate::names::is_before;
+use oe_dims::same_text;
 use oe_graph::{Graph, Node};
 use oe_memory::OutOfMemory;
 use std::alloc::Global;

@@ -6,7 +6,7 @@ ghost use Rattle.oe_resolve.specs.Rounds as spec;
 ghost use Rattle.oe_resolve.specs.Seen.{NotesRise};
 
 use crate::find::{Beside, guesses_of, has_id};
-use oe_dims::Text;
+use oe_dims::{Text, copy_text};
 use oe_graph::{Arg, Graph, Node, StoredProcess};
 use oe_memory::OutOfMemory;
 use std::alloc::Global;
@@ -51,19 +51,9 @@ fn known_node(alloc: Global, node: &Node, beside: &Beside) -> Result<Node, OutOf
     Ok(Node {
         id: node.id.copy()?,
         process_id: node.process_id.copy()?,
-        namespace: copy_namespace(&node.namespace)?,
+        namespace: copy_text(&node.namespace)?,
         arguments: known_named(alloc, &node.arguments, beside)?,
     })
-}
-
-/// A copy of a namespace. Refuses: out of memory.
-pub fn copy_namespace(namespace: &Option<Text>) -> Result<Option<Text>, OutOfMemory>
-    ensures { IfOk result (λ copy. copy ≡ namespace.now) }
-{
-    match namespace {
-        Some(namespace) => Ok(Some(namespace.copy()?)),
-        None => Ok(None),
-    }
 }
 
 #[cycle(known)]

@@ -4,15 +4,9 @@ ghost use Rattle.std.specs.List.{list_any};
 ghost use Rattle.oe_dims.specs.Names.{same_name, is_name_before};
 ghost use Rattle.oe_resolve.specs.Seen.{names_behind};
 
+use oe_dims::same_text;
 use oe_memory::OutOfMemory;
 use std::alloc::Global;
-
-/// Whether two texts have the same bytes.
-pub fn same_text(text: &str, other: &str) -> bool
-    ensures { result ≡ same_name text.now other.now }
-{
-    text == other
-}
 
 /// Whether a text stands before another in the order of bytes.
 pub fn is_before(text: &str, other: &str) -> bool

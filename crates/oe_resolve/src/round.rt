@@ -9,11 +9,10 @@ ghost use Rattle.oe_resolve.specs.Seen.{NotesRise};
 
 use crate::calls::{callee, is_call};
 use crate::find::{Beside, guesses_of, id_at, index_beside, index_of};
-use crate::known::copy_namespace;
 use crate::names::is_before;
 use crate::under::{under_id, under_nodes};
 use crate::values::{Values, replaced_nodes, values_given};
-use oe_dims::Text;
+use oe_dims::{Text, copy_text};
 use oe_graph::{Arg, Graph, Node, StoredProcess, copy_arg};
 use oe_memory::OutOfMemory;
 use std::alloc::Global;
@@ -87,7 +86,7 @@ fn expand_node(
             one.push(Node {
                 id: node.id.copy()?,
                 process_id: node.process_id.copy()?,
-                namespace: copy_namespace(&node.namespace)?,
+                namespace: copy_text(&node.namespace)?,
                 arguments,
             })?;
             Ok(one)

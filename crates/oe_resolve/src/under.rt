@@ -3,8 +3,7 @@ ghost use Rattle.std.specs.Prelude.{◌≡◌, IfOk, map};
 ghost use Rattle.oe_graph.specs.Plain.{plain_arg, plain_args, plain_named, plain_nodes, plain_node};
 ghost use Rattle.oe_resolve.specs.Rounds as spec;
 
-use crate::known::copy_namespace;
-use oe_dims::Text;
+use oe_dims::{Text, copy_text};
 use oe_graph::{Arg, Node, copy_arg};
 use oe_memory::OutOfMemory;
 use std::alloc::Global;
@@ -40,7 +39,7 @@ fn under_node(alloc: Global, call: &str, node: &Node) -> Result<Node, OutOfMemor
     Ok(Node {
         id: under_id(alloc, call, node.id.as_str())?,
         process_id: node.process_id.copy()?,
-        namespace: copy_namespace(&node.namespace)?,
+        namespace: copy_text(&node.namespace)?,
         arguments: under_named(alloc, call, &node.arguments)?,
     })
 }

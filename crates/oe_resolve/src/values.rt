@@ -8,9 +8,8 @@ ghost use Rattle.oe_resolve.specs.Replaced as spec;
 ghost use Rattle.oe_resolve.specs.Seen.{names_behind, seen};
 
 use crate::calls::callback_parameters;
-use crate::known::copy_namespace;
 use crate::names::{is_among, names_of_both};
-use oe_dims::Text;
+use oe_dims::{Text, copy_text};
 use oe_graph::{Arg, Graph, Node, ParameterRow, StoredProcess, argument_named, copy_arg};
 use oe_memory::OutOfMemory;
 use std::alloc::Global;
@@ -213,7 +212,7 @@ fn replaced_node(
     Ok(Node {
         id: node.id.copy()?,
         process_id: node.process_id.copy()?,
-        namespace: copy_namespace(&node.namespace)?,
+        namespace: copy_text(&node.namespace)?,
         arguments,
     })
 }

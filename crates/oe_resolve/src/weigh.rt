@@ -13,9 +13,9 @@ ghost use Rattle.oe_resolve.specs.Seen.{names_behind, plain_sizes};
 ghost use Rattle.oe_resolve.specs.Sizes as spec;
 
 use crate::calls::{callback_parameters, callee};
-use crate::names::{is_among, names_of_both, same_text};
+use crate::names::{is_among, names_of_both};
 use crate::under::under_id;
-use oe_dims::Text;
+use oe_dims::{Text, same_text};
 use oe_graph::{Arg, Graph, Node, ParameterRow, StoredProcess, argument_named};
 use oe_memory::OutOfMemory;
 use std::alloc::Global;

@@ -1,6 +1,5 @@
 // The things that requests name.
 ghost use Rattle.std.specs.Prelude.{◌≡◌, slice_get};
-ghost use Rattle.oe_dims.specs.Names as names;
 ghost use Rattle.oe_jobs.specs.Changes.{is_owned};
 ghost use Rattle.oe_jobs.specs.Plain.{plain_book, plain_job, plain_owned};
 ghost use Rattle.oe_jobs.specs.Verdicts.{is_found};
@@ -8,7 +7,7 @@ ghost use Rattle.oe_routes.specs.Answers as spec;
 ghost use Rattle.oe_routes.specs.Rejections.{Settles, as_some};
 
 use crate::refusal::Rejection;
-use oe_dims::{DimsRow, Text};
+use oe_dims::{DimsRow, Text, same_text};
 use oe_jobs::{Asset, Book, Job, Owned};
 use oe_replies::ReplyCode;
 use std::alloc::Global;
@@ -47,14 +46,7 @@ pub(crate) fn named_job<'a>(book: &'a Book, user: &Text, id: &str) -> Result<&'a
 fn is_job_of(job: &Job, user: &Text, id: &str) -> bool
     ensures { result ≡ is_found user.now id.now (plain_job job.now) }
 {
-    is_same(job.id.as_str(), id) && is_same(job.user.as_str(), user.as_str())
-}
-
-/// The two texts have the same bytes.
-fn is_same(a: &str, b: &str) -> bool
-    ensures { result ≡ names.same_name a.now b.now }
-{
-    a == b
+    same_text(job.id.as_str(), id) && same_text(job.user.as_str(), user.as_str())
 }
 
 /// The user's stored process of an id.
@@ -77,7 +69,7 @@ pub(crate) fn named_process<'a>(
 fn is_process_of(owned: &Owned, user: &Text, id: &str) -> bool
     ensures { result ≡ is_owned user.now id.now (plain_owned owned.now) }
 {
-    is_same(owned.user.as_str(), user.as_str()) && is_same(owned.process.id.as_str(), id)
+    same_text(owned.user.as_str(), user.as_str()) && same_text(owned.process.id.as_str(), id)
 }
 
 /// The index of the user's job of an id in the book.

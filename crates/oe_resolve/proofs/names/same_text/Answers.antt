@@ -1,6 +1,0 @@
-use Rattle.std.proofs.Common.{◌∙◌}
-use Rattle.oe_dims.proofs.OrderLemmas.{same_name-bytes_eq}
-use Rattle.oe_resolve.proofs.names.same_text.Goals as goal
-
-pub returns : goal.returns
-returns c = c.eq.ensures ∙ same_name-bytes_eq c.args.text.now c.args.other.now
