@@ -13,15 +13,15 @@ returns-then-branch-clause-exact c rise =
     let nodes = plain_nodes c.args.nodes.now.items in
     let xs = graph_of c.args.links.now in
     let is : c.in_ok-vec.field-0.items ≡ replicate c.len.result false = c.in_ok-vec.ensures.items_if_clones_equal (λ y h. search rules) in
-    let acyclic : IsAcyclic xs = c.in_ok-is_acyclic.ensures.0 c.if-branch.true in
+    let acyclic : IsAcyclic xs = c.in_ok-has_no_cycle.ensures.0 c.if-branch.true in
     let long : c.len.result ≡ length (each_node nodes) =
     omega (arith, c.len.ensures, ids_length nodes, ids_count c.args.nodes.now.items) in
     subst (λ ms. AreMarks true nodes ms) (sym is)
     (marks_from nodes xs (replicate c.len.result false) c.requires.indexed rise
     (replicate_length c.len.result ∙ long) (back_none xs c.len.result acyclic))
 
-pub is_acyclic-requires-clause-few : goal.is_acyclic-requires-clause-few
-is_acyclic-requires-clause-few c =
+pub has_no_cycle-requires-clause-few : goal.has_no_cycle-requires-clause-few
+has_no_cycle-requires-clause-few c =
     let nodes = plain_nodes c.args.nodes.now.items in
     omega (
       arith,
@@ -32,8 +32,8 @@ is_acyclic-requires-clause-few c =
       ids_count c.args.nodes.now.items,
     )
 
-pub is_acyclic-requires-clause-named : goal.is_acyclic-requires-clause-named
-is_acyclic-requires-clause-named c =
+pub has_no_cycle-requires-clause-named : goal.has_no_cycle-requires-clause-named
+has_no_cycle-requires-clause-named c =
     let nodes = plain_nodes c.args.nodes.now.items in
     let xs = graph_of c.args.links.now in
     indexed_within (ids_of nodes) (each_node nodes) xs c.requires.indexed
