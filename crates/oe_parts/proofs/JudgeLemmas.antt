@@ -28,7 +28,7 @@ later_here : (after : Option ℕ) (n : ℕ) → after ≡ Some n → option_map 
 later_here after n e = let next : n + 1 ≡ suc n = omega arith in ap (option_map (λ n. n + 1)) e ∙ ap Some next
 
 -- one that was found is the first still
-pub first_kept : (cells : List Cell) (c : Cell) (i : ℕ) → least_over_of cells ≡ Some i → least_over_of (cells ++ c ∷ []) ≡ Some i
+first_kept : (cells : List Cell) (c : Cell) (i : ℕ) → least_over_of cells ≡ Some i → least_over_of (cells ++ c ∷ []) ≡ Some i
 first_kept [] c i e = cc
 first_kept (Over ∷ cs) c i e = e
 first_kept (Empty ∷ cs) c i e = later_kept (least_over_of cs) (least_over_of (cs ++ c ∷ [])) i (first_kept cs c) e
@@ -36,14 +36,14 @@ first_kept (Flag b ∷ cs) c i e = later_kept (least_over_of cs) (least_over_of 
 first_kept (Number q ∷ cs) c i e = later_kept (least_over_of cs) (least_over_of (cs ++ c ∷ [])) i (first_kept cs c) e
 
 -- and else the one more where it is Over
-pub first_here : (cells : List Cell) (c : Cell) → least_over_of cells ≡ None → is_over c ≡ true → least_over_of (cells ++ c ∷ []) ≡ Some (length cells)
+first_here : (cells : List Cell) (c : Cell) → least_over_of cells ≡ None → is_over c ≡ true → least_over_of (cells ++ c ∷ []) ≡ Some (length cells)
 first_here [] c e over = rw over refl
 first_here (Over ∷ cs) c e over = cc
 first_here (Empty ∷ cs) c e over = later_here (least_over_of (cs ++ c ∷ [])) (length cs) (first_here cs c (later_none (least_over_of cs) e) over)
 first_here (Flag b ∷ cs) c e over = later_here (least_over_of (cs ++ c ∷ [])) (length cs) (first_here cs c (later_none (least_over_of cs) e) over)
 first_here (Number q ∷ cs) c e over = later_here (least_over_of (cs ++ c ∷ [])) (length cs) (first_here cs c (later_none (least_over_of cs) e) over)
 
-pub first_nowhere : (cells : List Cell) (c : Cell) → least_over_of cells ≡ None → is_over c ≡ false → least_over_of (cells ++ c ∷ []) ≡ None
+first_nowhere : (cells : List Cell) (c : Cell) → least_over_of cells ≡ None → is_over c ≡ false → least_over_of (cells ++ c ∷ []) ≡ None
 first_nowhere [] c e over = rw over refl
 first_nowhere (Over ∷ cs) c e over = cc
 first_nowhere (Empty ∷ cs) c e over = ap (option_map (λ n. n + 1)) (first_nowhere cs c (later_none (least_over_of cs) e) over)
@@ -61,7 +61,7 @@ judged_none bytes = record {
   over_is = refl;
 }
 
-pub judged_more : (bytes : List ℕ) (k : ℕ) (c : Cell) (before after : Option ℕ) → AreRecords k (take (17 * k) bytes) before → IsCell c → record_of c ≡ take 17 (drop (17 * k) bytes)
+judged_more : (bytes : List ℕ) (k : ℕ) (c : Cell) (before after : Option ℕ) → AreRecords k (take (17 * k) bytes) before → IsCell c → record_of c ≡ take 17 (drop (17 * k) bytes)
     → ((cells : List Cell) → length cells ≡ k → before ≡ least_over_of cells → after ≡ least_over_of (cells ++ c ∷ [])) → AreRecords (k + 1) (take (17 * (k + 1)) bytes) after
 judged_more bytes k c before after r valid here next =
     let more : 17 * (k + 1) ≡ 17 * k + 17 = omega arith in
@@ -79,6 +79,21 @@ judged_more bytes k c before after r valid here next =
           ∙ sym (flat_map-append record_of r.cells (c ∷ []));
       over_is = next r.cells many r.over_is;
     }
+
+-- one more after one that is Over
+pub judged_behind : (bytes : List ℕ) (k over : ℕ) (c : Cell) → AreRecords k (take (17 * k) bytes) (Some over) → IsCell c → record_of c ≡ take 17 (drop (17 * k) bytes) → AreRecords (k + 1) (take (17 * (k + 1)) bytes) (Some over)
+judged_behind bytes k over c r valid here =
+    judged_more bytes k c (Some over) (Some over) r valid here (λ cells many found. sym (first_kept cells c over (sym found)))
+
+-- the first one that is Over
+pub judged_over : (bytes : List ℕ) (k : ℕ) (c : Cell) → AreRecords k (take (17 * k) bytes) None → IsCell c → record_of c ≡ take 17 (drop (17 * k) bytes) → is_over c ≡ true → AreRecords (k + 1) (take (17 * (k + 1)) bytes) (Some k)
+judged_over bytes k c r valid here over =
+    judged_more bytes k c None (Some k) r valid here (λ cells many found. sym (first_here cells c (sym found) over ∙ ap Some many))
+
+-- one that is not, where none was
+pub judged_plain : (bytes : List ℕ) (k : ℕ) (c : Cell) → AreRecords k (take (17 * k) bytes) None → IsCell c → record_of c ≡ take 17 (drop (17 * k) bytes) → is_over c ≡ false → AreRecords (k + 1) (take (17 * (k + 1)) bytes) None
+judged_plain bytes k c r valid here plain =
+    judged_more bytes k c None None r valid here (λ cells many found. sym (first_nowhere cells c (sym found) plain))
 
 -- ---- all of them
 

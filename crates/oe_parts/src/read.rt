@@ -1,11 +1,9 @@
 // Records that are read from a store.
-ghost use Rattle.std.specs.Prelude.{◌≡◌, ◌+◌, ◌++◌, ◌∷◌, ◌*◌, ◌≤◌, ◌<◌, [], List, IfErr, IfNone, IfOk, IfSome, OnOk, drop, length, take};
+ghost use Rattle.std.specs.Prelude.{◌≡◌, ◌+◌, ◌*◌, ◌≤◌, ◌<◌, IfErr, IfNone, IfOk, IfSome, None, OnOk, Some, drop, length, take};
 ghost use Rattle.oe_cell.specs.Cells.{IsCell};
 ghost use Rattle.oe_cell.specs.Record.{IsRecord, record_of};
-ghost use Rattle.oe_cell.specs.declared.cell.Cell.{Cell};
 ghost use Rattle.oe_outside.specs.Faults.{HasCauseOf};
 ghost use Rattle.oe_outside.specs.Stored.{StoreHolds};
-ghost use Rattle.oe_spool.specs.Least.{least_over_of};
 ghost use Rattle.oe_parts.specs.Rows.{AreRecords, TellsDamage};
 
 use oe_cell::{Cell, read_record};
@@ -60,25 +58,40 @@ fn judge(bytes: &[u8], count: usize) -> Result<Option<usize>, usize>
         × ¬ IsRecord (take 17 (drop (17 * index) bytes.now))) }
 {
     let whole = (bytes.len() / 17).min(count);
-    let mut over = None;
     for index in 0..whole {
         match cell_at(bytes, 17 * index) {
-            Some(cell) => over = first_over(over, index, cell),
+            Some(cell) => {
+                if cell.is_over() {
+                    return judge_rest(bytes, count, index);
+                }
+            }
             None => return Err(index),
         }
     }
-    if whole < count { Err(whole) } else { Ok(over) }
+    if whole < count { Err(whole) } else { Ok(None) }
 }
 
-/// The index of the first cell that is `Over`, of those before an index and the cell with it.
-#[inline(always)]
-fn first_over(before: Option<usize>, index: usize, cell: Cell) -> Option<usize>
-    ensures { (cells : List Cell) → length cells ≡ index → before ≡ least_over_of cells →
-        result ≡ least_over_of (cells ++ cell ∷ []) }
+/// The same where the cell with an index is the first that is `Over`: those behind it are only to have records.
+fn judge_rest(bytes: &[u8], count: usize, over: usize) -> Result<Option<usize>, usize>
+    requires room { 17 * (over + 1) ≤ length bytes.now }
+    requires within { over < count }
+    requires cells { AreRecords (over + 1) (take (17 * (over + 1)) bytes.now) (Some over) }
+    ensures cells { IfOk result (λ over. (17 * count ≤ length bytes.now)
+        × AreRecords count (take (17 * count) bytes.now) over) }
+    ensures none { IfErr result (λ index. (index < count)
+        × ¬ IsRecord (take 17 (drop (17 * index) bytes.now))) }
 {
-    match before {
-        Some(first) => Some(first),
-        None => { if cell.is_over() { Some(index) } else { None } }
+    let whole = (bytes.len() / 17).min(count);
+    for index in over + 1..whole {
+        match cell_at(bytes, 17 * index) {
+            Some(_cell) => {}
+            None => return Err(index),
+        }
+    }
+    if whole < count {
+        Err(whole)
+    } else {
+        Ok(Some(over))
     }
 }
 
