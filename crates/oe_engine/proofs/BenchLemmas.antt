@@ -3,7 +3,7 @@ use Rattle.std.proofs.Common.{◌≡◌, ℕ, ◌<◌, List, length, get_or, ref
 use Rattle.oe_cell.specs.declared.cell.Cell.{Cell}
 use Rattle.oe_plan.specs.Plans.{IsPlan, PlanOf}
 use Rattle.oe_plan.specs.Windows.{window_at}
-use Rattle.oe_shape.specs.Graphs.{Collections}
+use Rattle.oe_meanings.specs.Graphs.{Collections}
 use Rattle.oe_window.specs.declared.window.Window.{Window}
 use Rattle.oe_engine.specs.Benches.{AreCells, AreOfKind, BenchOf, HaveRoomFor, IsBenchFor, IsDone, OfResult}
 use Rattle.oe_steps.specs.Steps.{node_cells}

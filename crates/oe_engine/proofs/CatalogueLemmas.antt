@@ -19,13 +19,13 @@ use Rattle.oe_dims.proofs.OrderLemmas.{same_name_is, same_name_refl}
 use Rattle.oe_dims.proofs.NameOrderLemmas.{before_trans, not_before_itself}
 use Rattle.oe_expr.specs.Nodes.{down_from, id_at}
 use Rattle.oe_graph.specs.Tree.{PlainNode}
-use Rattle.oe_shape.specs.Checked.{CheckedGraph}
-use Rattle.oe_shape.specs.Graphs as graph
-use Rattle.oe_shape.specs.Graphs.{Collections, NamedCollection, collection_named, datacube_of, request_inputs, no_datacube}
-use Rattle.oe_shape.specs.Laws.{meaning_of_node}
-use Rattle.oe_shape.specs.Meaning.{Datacube, operated, outline}
-use Rattle.oe_shape.specs.Operations.{Operation, operation_of}
-use Rattle.oe_shape.specs.Requests.{CubeRequest, cube_request_at}
+use Rattle.oe_check.specs.Checked.{CheckedGraph}
+use Rattle.oe_meanings.specs.Graphs as graph
+use Rattle.oe_meanings.specs.Graphs.{Collections, NamedCollection, collection_named, datacube_of, request_inputs, no_datacube}
+use Rattle.oe_check.specs.Laws.{meaning_of_node}
+use Rattle.oe_meanings.specs.Meaning.{Datacube, operated, outline}
+use Rattle.oe_requests.specs.Operations.{Operation, operation_of}
+use Rattle.oe_requests.specs.Requests.{CubeRequest, cube_request_at}
 use Rattle.oe_sources.specs.Catalogue.{Row, collections_shown, row_of, source_at}
 use Rattle.oe_sources.specs.CatalogueDims.{AreDimsOf, dims_of, dims_row}
 use Rattle.oe_sources.specs.Source.{Contents, Source, collection_of, collection_with}

@@ -10,10 +10,10 @@ use Rattle.oe_plan.specs.Plans.{IsPlan, PlanOf, schedule_of}
 use Rattle.oe_plan.specs.Windows.{window_at}
 use Rattle.oe_plan.proofs.RunLemmas.{only_step}
 use Rattle.oe_plan.proofs.ScheduleLemmas.{plan_schedule, plan_windows}
-use Rattle.oe_shape.specs.Graphs.{Collections}
-use Rattle.oe_shape.specs.Laws.{AreCollectionsOf}
-use Rattle.oe_shape.specs.Operations.{Outline}
-use Rattle.oe_shape.proofs.CheckedLemmas.{give_cubes}
+use Rattle.oe_meanings.specs.Graphs.{Collections}
+use Rattle.oe_check.specs.Laws.{AreCollectionsOf}
+use Rattle.oe_requests.specs.Operations.{Outline}
+use Rattle.oe_check.proofs.CheckedLemmas.{give_cubes}
 use Rattle.oe_window.specs.Cells.{cell_at, cells_on}
 use Rattle.oe_window.specs.Windows.{Holds, IsIn, number_in, position_count, whole_window}
 use Rattle.oe_window.specs.declared.window.Window.{Window}

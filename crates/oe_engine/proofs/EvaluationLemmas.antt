@@ -3,8 +3,8 @@ use Rattle.std.proofs.Common.{◌≡◌, ◌+◌, ◌<◌, ◌≤◌, ℕ, zero,
 use Rattle.std.specs.Prelude.{slice_get}
 use Rattle.std.proofs.lemmas.Option.{slice_get-get_or, slice_get_within}
 use Rattle.oe_plan.specs.Plans.{PlanOf}
-use Rattle.oe_shape.specs.Graphs.{Collections}
-use Rattle.oe_shape.specs.Laws.{AreCollectionsOf}
+use Rattle.oe_meanings.specs.Graphs.{Collections}
+use Rattle.oe_check.specs.Laws.{AreCollectionsOf}
 use Rattle.oe_engine.specs.Benches.{BenchOf, IsBenchFor, IsDone, IsEvaluated, IsLoaded}
 use Rattle.oe_engine.specs.Chunks.{EachBench, IsAtDone, IsAtLoaded}
 use Rattle.oe_engine.specs.Views.{AreEvaluations}

@@ -4,7 +4,7 @@ use Rattle.std.specs.Option.{option_map_or}
 use Rattle.oe_cube.specs.Collections.{Collection}
 use Rattle.oe_dims.specs.Positions.{IsPosition, Position}
 use Rattle.oe_graph.specs.Printed.{node_count}
-use Rattle.oe_shape.specs.Graphs.{Collections}
+use Rattle.oe_meanings.specs.Graphs.{Collections}
 use Rattle.oe_sources.specs.Catalogue.{Row, collections_shown}
 use Rattle.oe_sources.specs.Source.{collection_of}
 use Rattle.oe_spool.specs.Least.{IsLeastOver}

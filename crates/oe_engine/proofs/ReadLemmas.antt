@@ -5,8 +5,8 @@ use Rattle.std.proofs.Math.Path.{fun_ext}
 use Rattle.oe_cube.specs.Collections.{Collection}
 use Rattle.oe_dims.specs.Names.{same_name}
 use Rattle.oe_dims.specs.declared.dims.DimsRow.{DimsRow}
-use Rattle.oe_shape.specs.Checked.{CheckedGraph}
-use Rattle.oe_shape.specs.Laws.{AreCollectionsOf}
+use Rattle.oe_check.specs.Checked.{CheckedGraph}
+use Rattle.oe_check.specs.Laws.{AreCollectionsOf}
 use Rattle.oe_sources.specs.Catalogue.{Row, row_of}
 use Rattle.oe_sources.specs.CatalogueDims.{dims_of, dims_row, put_row, put_rows}
 use Rattle.oe_sources.specs.Source.{Source, collection_of}

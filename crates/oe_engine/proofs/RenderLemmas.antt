@@ -16,10 +16,10 @@ use Rattle.oe_plan.specs.Plans.{IsPlan, PlanOf}
 use Rattle.oe_render.specs.Rendered.{AppendsCube, AppendsCubePrefix, CountsCube, CountsCubePrefix}
 use Rattle.oe_render.specs.Stored.{AreStored, HasCells}
 use Rattle.oe_render.specs.Text.{cube_text}
-use Rattle.oe_shape.specs.Graphs.{Collections}
-use Rattle.oe_shape.specs.Laws.{AreCollectionsOf}
-use Rattle.oe_shape.specs.Operations.{Outline}
-use Rattle.oe_shape.proofs.CheckedLemmas.{give_cubes}
+use Rattle.oe_meanings.specs.Graphs.{Collections}
+use Rattle.oe_check.specs.Laws.{AreCollectionsOf}
+use Rattle.oe_requests.specs.Operations.{Outline}
+use Rattle.oe_check.proofs.CheckedLemmas.{give_cubes}
 use Rattle.oe_spool.specs.Spooled.{HoldsCube, HoldsRecord, IsInSome}
 use Rattle.oe_spool.proofs.CubeRecords.{cells_counted, cube_from_positions, cube_from_windows}
 use Rattle.oe_engine.specs.Runs.{HasDone, HasRunRecords, HasSome, RunOf, ShowsDone, chunk_total, chunks_from, result_cube, result_shape}

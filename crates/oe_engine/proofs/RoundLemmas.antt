@@ -7,8 +7,8 @@ use Rattle.std.proofs.lemmas.Option.{slice_get-get_or}
 use Rattle.oe_outside.specs.Faults.{last_count}
 use Rattle.oe_plan.specs.Figures.{largest_window}
 use Rattle.oe_plan.specs.Plans.{IsPlan, PlanOf}
-use Rattle.oe_shape.specs.Graphs.{Collections}
-use Rattle.oe_shape.specs.Laws.{AreCollectionsOf}
+use Rattle.oe_meanings.specs.Graphs.{Collections}
+use Rattle.oe_check.specs.Laws.{AreCollectionsOf}
 use Rattle.oe_sources.specs.Catalogue.{Row, cells_asked}
 use Rattle.oe_spool.specs.Least.{lesser_of}
 use Rattle.oe_spool.specs.Spooled.{ChangesOnly, IsInSome, IsRecordByte}

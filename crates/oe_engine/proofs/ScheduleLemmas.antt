@@ -2,7 +2,7 @@
 use Rattle.std.proofs.Common.{◌≡◌, sym, subst}
 use Rattle.oe_plan.specs.Plans.{PlanOf, schedule_of}
 use Rattle.oe_plan.specs.Schedules.{ScheduleOf}
-use Rattle.oe_shape.specs.Checked.{CheckedGraph}
+use Rattle.oe_check.specs.Checked.{CheckedGraph}
 
 module _ (P : CheckedGraph → ScheduleOf → Type 0) (p : PlanOf) (graph : CheckedGraph) (schedule : ScheduleOf) (same : graph ≡ p.graph)
     (is : schedule ≡ schedule_of p) where

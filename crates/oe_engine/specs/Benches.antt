@@ -1,8 +1,8 @@
 -- A bench: what one chunk of a run is evaluated in. Its cells, and when they are those of the nodes of a plan.
 use Rattle.std.specs.Prelude.{◌≡◌, ⊤, ◌<◌, ℕ, ◌+◌, Bool, List, length, sum_by}
 use Rattle.oe_cell.specs.declared.cell.Cell.{Cell}
-use Rattle.oe_shape.specs.Graphs.{Collections}
-use Rattle.oe_shape.specs.Laws.{AreCollectionsOf}
+use Rattle.oe_meanings.specs.Graphs.{Collections}
+use Rattle.oe_check.specs.Laws.{AreCollectionsOf}
 use Rattle.oe_window.specs.Chunks.{chunk_window, tiling_of}
 use Rattle.oe_window.specs.declared.window.Window.{Window}
 use Rattle.oe_plan.specs.Figures.{chunks_of, scratch_of, shape_of_node}

@@ -8,9 +8,9 @@ use Rattle.oe_dims.specs.Cube.{Cube}
 use Rattle.oe_dims.specs.Dimensions.{IsShape, cell_count}
 use Rattle.oe_dims.specs.declared.dims.DimsRow.{DimsRow}
 use Rattle.oe_plan.specs.Plans.{IsPlan, PlanOf}
-use Rattle.oe_shape.specs.Checked.{CheckedGraph}
-use Rattle.oe_shape.specs.Graphs.{Collections, NamedCollection}
-use Rattle.oe_shape.specs.Laws.{AreCollectionsOf, meaning_of_node}
+use Rattle.oe_check.specs.Checked.{CheckedGraph}
+use Rattle.oe_meanings.specs.Graphs.{Collections, NamedCollection}
+use Rattle.oe_check.specs.Laws.{AreCollectionsOf, meaning_of_node}
 use Rattle.oe_sources.specs.Catalogue.{Row, collections_shown, row_of, source_at}
 use Rattle.oe_sources.specs.CatalogueDims.{AreDimsOf, dims_of}
 use Rattle.oe_sources.specs.Source.{collection_of}

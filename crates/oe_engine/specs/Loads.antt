@@ -2,8 +2,8 @@
 use Rattle.std.specs.Prelude.{◌≡◌, ℕ, List}
 use Rattle.oe_cell.specs.declared.cell.Cell.{Cell}
 use Rattle.oe_plan.specs.Plans.{PlanOf, schedule_of}
-use Rattle.oe_shape.specs.Graphs.{Collections}
-use Rattle.oe_shape.specs.Laws.{AreCollectionsOf}
+use Rattle.oe_meanings.specs.Graphs.{Collections}
+use Rattle.oe_check.specs.Laws.{AreCollectionsOf}
 use Rattle.oe_sources.specs.Catalogue.{Row}
 use Rattle.oe_steps.specs.Collections.{Shows}
 use Rattle.oe_steps.specs.Loads as loads

@@ -2,8 +2,8 @@
 use Rattle.std.specs.Prelude.{◌≡◌, ◌≤◌, ◌↔◌, ℕ, ◌+◌, ◌*◌, List, Option, Result, IsErrOf, OnOk, OnErr, IfOk, IfErr}
 use Rattle.oe_outside.specs.Faults.{HasCauseOf}
 use Rattle.oe_plan.specs.Figures.{largest_window, shape_of_node}
-use Rattle.oe_shape.specs.Graphs.{Collections}
-use Rattle.oe_shape.specs.Laws.{AreCollectionsOf}
+use Rattle.oe_meanings.specs.Graphs.{Collections}
+use Rattle.oe_check.specs.Laws.{AreCollectionsOf}
 use Rattle.oe_sources.specs.Catalogue.{Row, cells_asked}
 use Rattle.oe_spool.specs.Spooled.{ChangesOnly, IsInSome}
 use Rattle.oe_steps.specs.Collections.{AreRead, LoadRose, Shows}

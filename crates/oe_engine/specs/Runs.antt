@@ -8,8 +8,8 @@ use Rattle.oe_dims.specs.Cube.{Cube}
 use Rattle.oe_dims.specs.Dimensions.{Dimensions}
 use Rattle.oe_dims.specs.Positions.{Position, number_of}
 use Rattle.oe_outside.specs.Faults.{last_count}
-use Rattle.oe_shape.specs.Graphs.{Collections}
-use Rattle.oe_shape.specs.Laws.{meaning_of_node}
+use Rattle.oe_meanings.specs.Graphs.{Collections}
+use Rattle.oe_check.specs.Laws.{meaning_of_node}
 use Rattle.oe_spool.specs.Least.{IsLeastOver}
 use Rattle.oe_spool.specs.Spooled.{HoldsRecord, HoldsRecords, IsInSome}
 use Rattle.oe_window.specs.Cells.{cell_at}

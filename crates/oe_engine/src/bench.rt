@@ -1,7 +1,7 @@
 // A bench: what one chunk of a run is evaluated in.
 ghost use Rattle.std.specs.Prelude.{◌≡◌, ◌<◌, ◌+◌, ◌*◌, ℕ, IfOk, length, ◌≤◌, ◌^◌, OnOk, OnErr, IfErr, List, take, Some, true};
-ghost use Rattle.oe_shape.specs.Graphs.{Collections};
-ghost use Rattle.oe_shape.specs.Laws.{AreCollectionsOf};
+ghost use Rattle.oe_meanings.specs.Graphs.{Collections};
+ghost use Rattle.oe_check.specs.Laws.{AreCollectionsOf};
 ghost use Rattle.oe_plan.specs.Fits.{bench_cells};
 ghost use Rattle.oe_engine.specs.Benches.{IsBenchFor, IsDone, IsLoaded, chunk_of, held_cells, IsAtChunk, is_load_at, node_at};
 ghost use Rattle.oe_steps.specs.Steps.{node_cells};
@@ -23,7 +23,7 @@ ghost use Rattle.oe_engine.specs.Hulls.{HasLoadedRows, HasLoadedSteps, IsBegun, 
 ghost use Rattle.oe_ops.specs.Needs.{plane_window};
 ghost use Rattle.oe_plan.specs.Plans.{IsPlan, PlanOf};
 ghost use Rattle.oe_plan.specs.Windows.{window_at};
-ghost use Rattle.oe_shape.specs.Checked.{collection_of_node};
+ghost use Rattle.oe_check.specs.Checked.{collection_of_node};
 ghost use Rattle.oe_sources.specs.Catalogue.{Row};
 ghost use Rattle.oe_window.specs.Parts.{row_count, row_of};
 ghost use Rattle.oe_window.specs.Windows.{Holds, position_count, span_length, whole_window};

@@ -1,11 +1,11 @@
 // A run: rounds of chunks, from collections to the records of a spool.
 use crate::part_run::PartRun;
 use crate::workspace::Workspace;
+use oe_check::Checked;
 use oe_dims::Shape;
 use oe_outside::{Gate, Pending, Sink, Store};
 use oe_plan::Plan;
 use oe_render::RenderFail;
-use oe_shape::Checked;
 use oe_sources::Catalogue;
 use oe_steps::RunFail;
 use std::marker::Model;
@@ -53,8 +53,8 @@ impl Run {
     ghost use Rattle.oe_render.specs.Rendered.{AppendsCube, IsRefusalWithin};
     ghost use Rattle.oe_render.specs.Text.{cube_text};
     ghost use Rattle.oe_render.specs.declared.rendering.RenderFail.{RenderFail};
-    ghost use Rattle.oe_shape.specs.Graphs.{Collections};
-    ghost use Rattle.oe_shape.specs.Laws.{AreCollectionsOf};
+    ghost use Rattle.oe_meanings.specs.Graphs.{Collections};
+    ghost use Rattle.oe_check.specs.Laws.{AreCollectionsOf};
     ghost use Rattle.oe_sources.specs.CatalogueRows.{rows_of};
     ghost use Rattle.oe_steps.specs.Collections.{HasCollections};
     ghost use Rattle.oe_engine.specs.Going as spec;

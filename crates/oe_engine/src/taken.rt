@@ -2,8 +2,8 @@
 ghost use Rattle.std.specs.Prelude.{◌≡◌, ◌+◌, ◌*◌, ◌≤◌, OnOk, length, take};
 ghost use Rattle.std.specs.List.{All};
 ghost use Rattle.oe_plan.specs.Figures.{largest_window};
-ghost use Rattle.oe_shape.specs.Graphs.{Collections};
-ghost use Rattle.oe_shape.specs.Laws.{AreCollectionsOf};
+ghost use Rattle.oe_meanings.specs.Graphs.{Collections};
+ghost use Rattle.oe_check.specs.Laws.{AreCollectionsOf};
 ghost use Rattle.oe_sources.specs.CatalogueRows.{rows_of};
 ghost use Rattle.oe_engine.specs.Benches.{IsBenchFor, IsDone, IsLoaded};
 ghost use Rattle.oe_engine.specs.Chunks.{EachBench, IsAtDone, IsAtLoaded};

@@ -6,9 +6,9 @@ use Rattle.oe_graph.specs.Tree.{Argument, Named, named}
 use Rattle.oe_graph.specs.declared.tree.Arg.{Arg}
 use Rattle.oe_expr.specs.Requests.{with_both}
 use Rattle.oe_kernel.specs.Kernels.{KernelValues}
-use Rattle.oe_shape.specs.Parameters.{bands_in, box_in, kernel_in}
-use Rattle.oe_shape.specs.Requests.{convolution_request, cube_request_at, filter_bands, filter_bbox}
-use Rattle.oe_shape.specs.declared.extent.BoundingBox.{BoundingBox}
+use Rattle.oe_requests.specs.Parameters.{bands_in, box_in, kernel_in}
+use Rattle.oe_requests.specs.Requests.{convolution_request, cube_request_at, filter_bands, filter_bbox}
+use Rattle.oe_requests.specs.declared.extent.BoundingBox.{BoundingBox}
 use Rattle.oe_explain.specs.Asked.{node_with, on_cube, with_argument}
 
 -- one argument more

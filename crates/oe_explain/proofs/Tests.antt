@@ -13,8 +13,8 @@ use Rattle.oe_graph.specs.declared.tree.Arg.{Arg}
 use Rattle.oe_expr.specs.Requests as cell
 use Rattle.oe_expr.specs.Requests.{with_both}
 use Rattle.oe_kernel.specs.declared.border.Border.TheVariants.{Value}
-use Rattle.oe_shape.specs.Parameters as cube
-use Rattle.oe_shape.proofs.ReadingLemmas as reading
+use Rattle.oe_requests.specs.Parameters as cube
+use Rattle.oe_requests.proofs.ReadingLemmas as reading
 
 -- ---- what is there
 

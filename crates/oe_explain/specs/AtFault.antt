@@ -12,8 +12,8 @@ use Rattle.oe_graph.specs.declared.code.Code.TheVariants.{ArgumentUnknown, Proce
 use Rattle.oe_graph.specs.declared.fault.Fault.{Fault}
 use Rattle.oe_graph.specs.declared.table.ArgumentKind.{ArgumentKind}
 use Rattle.oe_expr.specs.Nodes.{node_named}
-use Rattle.oe_shape.specs.Held.{may_hold}
-use Rattle.oe_shape.specs.Parameters.{callback_in}
+use Rattle.oe_check.specs.Held.{may_hold}
+use Rattle.oe_requests.specs.Parameters.{callback_in}
 
 -- ---- the node of a fault
 

@@ -2,14 +2,14 @@
 ghost use Rattle.std.specs.Prelude.{◌≡◌, [], IfOk, codes, is_some};
 ghost use Rattle.oe_graph.specs.Plain.{plain_arg, plain_named, plain_node};
 ghost use Rattle.oe_graph.specs.Tree.{from_node, list, no_arguments};
-ghost use Rattle.oe_shape.specs.Parameters.{bands_in, box_in, kernel_in};
-ghost use Rattle.oe_shape.specs.Requests.{cube_request_at};
+ghost use Rattle.oe_requests.specs.Parameters.{bands_in, box_in, kernel_in};
+ghost use Rattle.oe_requests.specs.Requests.{cube_request_at};
 ghost use Rattle.oe_explain.specs.Asked.{node_with, on_cube as cube_with, with_argument};
 
 use oe_dims::Text;
 use oe_graph::{Arg, Node, copy_arg};
 use oe_memory::OutOfMemory;
-use oe_shape::read_request;
+use oe_requests::read_request;
 use std::alloc::Global;
 
 /// A node of a process with these arguments.

@@ -5,7 +5,7 @@ ghost use Rattle.oe_graph.specs.Plain.{plain_graph, plain_named, plain_node, pla
 ghost use Rattle.oe_graph.specs.Printed.{names_of};
 ghost use Rattle.oe_graph.specs.References.{argument_named};
 ghost use Rattle.oe_expr.specs.Nodes.{node_named};
-ghost use Rattle.oe_shape.specs.Parameters.{callback_in};
+ghost use Rattle.oe_requests.specs.Parameters.{callback_in};
 ghost use Rattle.oe_explain.specs.AtFault as spec;
 
 use crate::held::may_hold;

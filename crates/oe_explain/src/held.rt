@@ -7,9 +7,9 @@ ghost use Rattle.oe_graph.specs.Built as built;
 ghost use Rattle.oe_graph.specs.Plain.{plain_arg, plain_args, plain_named};
 ghost use Rattle.oe_graph.specs.Tree as tree;
 ghost use Rattle.oe_expr.specs.Requests as cell;
-ghost use Rattle.oe_shape.specs.Held as held;
-ghost use Rattle.oe_shape.specs.Parameters as cube;
-ghost use Rattle.oe_shape.specs.RunningSums as sums;
+ghost use Rattle.oe_check.specs.Held as held;
+ghost use Rattle.oe_requests.specs.Parameters as cube;
+ghost use Rattle.oe_requests.specs.RunningSums as sums;
 
 use crate::asked::{are_bands, is_box, is_kernel};
 use oe_dims::{Text, read_instant};

@@ -2,7 +2,7 @@
 //!
 //! A fault is a code and a node. [`explain`] finds the argument that it is of, by the graph and the table of processes,
 //! and writes what that argument must hold and what to do. The tests of arguments are those of the definition by which a
-//! graph is judged (`may_hold` of `oe_shape`), so that what is said to be wrong is what was refused.
+//! graph is judged (`may_hold` of `oe_check`), so that what is said to be wrong is what was refused.
 #![tactic(auto)]
 
 mod asked;

@@ -11,8 +11,8 @@ use Rattle.oe_graph.specs.declared.fault.Refusal.TheVariants as refusal
 use Rattle.oe_judge.specs.Judged.{StandsWithCollections, of_names, of_cubes, checked_over}
 use Rattle.oe_resolve.specs.Faults as names
 use Rattle.oe_resolve.specs.Filled.{resolved}
-use Rattle.oe_shape.specs.Checked.{CheckedGraph}
-use Rattle.oe_shape.specs.Stands as cubes
+use Rattle.oe_check.specs.Checked.{CheckedGraph}
+use Rattle.oe_meanings.specs.Stands as cubes
 
 module _ (rows : List DimsRow) (stored : List PlainStored) (g : PlainGraph) where
   names_only : (fault : Fault) → IsLeast (names.StandsWithStored stored g) fault → (code : Code) (node : List ℕ)

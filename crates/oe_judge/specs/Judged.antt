@@ -6,8 +6,8 @@ use Rattle.oe_graph.specs.Tree.{PlainGraph, PlainStored}
 use Rattle.oe_graph.specs.declared.code.Code.{Code}
 use Rattle.oe_resolve.specs.Faults as names
 use Rattle.oe_resolve.specs.Filled.{resolved}
-use Rattle.oe_shape.specs.Checked.{CheckedGraph}
-use Rattle.oe_shape.specs.Stands as cubes
+use Rattle.oe_check.specs.Checked.{CheckedGraph}
+use Rattle.oe_meanings.specs.Stands as cubes
 
 -- A fault stands in a graph that may call these stored processes, over collections of these rows. Faults of arguments
 -- and cubes are looked for only where none stands in what the graph calls and names, in the graph with all calls replaced

@@ -6,10 +6,10 @@ ghost use Rattle.oe_graph.specs.Read.{IsFault, IsFaultless};
 ghost use Rattle.oe_graph.specs.Valid.{AreValidStored, IsValidGraph};
 ghost use Rattle.oe_judge.specs.Judged.{StandsWithCollections, checked_over};
 
+use oe_check::{Checked, check};
 use oe_dims::Dims;
 use oe_graph::{Graph, Refusal, StoredProcess};
 use oe_resolve::resolve;
-use oe_shape::{Checked, check};
 use std::alloc::Global;
 
 /// The graph with each call of a stored process replaced, with all defaults, and with the operation, shape and kind of

@@ -31,7 +31,7 @@ use Rattle.oe_window.proofs.WindowLemmas.{length-positions, position_at, positio
 use Rattle.oe_ops.specs.Lists.{list_from, with_index}
 use Rattle.oe_ops.specs.Needs.{HasLabelsBeside, HoldsNeed}
 use Rattle.oe_ops.specs.Slices.{IsOn, along_x, at_indices, cell_of}
-use Rattle.oe_shape.specs.Meaning.{accumulated, cell, cells_at, labels_before}
+use Rattle.oe_meanings.specs.Meaning.{accumulated, cell, cells_at, labels_before}
 use Rattle.oe_ops.specs.Sums.{HoldsAllBefore, sum_at}
 use Rattle.oe_ops.specs.declared.slice.Slice.{Slice}
 use Rattle.oe_ops.proofs.KindLemmas.{fits_at}

@@ -25,14 +25,14 @@ use Rattle.oe_window.specs.declared.window.Window.{Window}
 use Rattle.oe_window.proofs.CellLemmas.{cells_on-tabulate}
 use Rattle.oe_window.proofs.WholeLemmas.{position_in}
 use Rattle.oe_window.proofs.WindowLemmas.{IsFilled, within_from_holds}
-use Rattle.oe_shape.specs.Extents.{has_not_ended, labels_in_time, part_in_time}
-use Rattle.oe_shape.specs.Labels.{sorted_labels, is_below, insert_label}
-use Rattle.oe_shape.specs.Meaning.{aggregated, cell, cells_at, extent_labelled, instants_inside, value_on_list}
-use Rattle.oe_shape.specs.Operations.{aggregated_shape}
-use Rattle.oe_shape.specs.declared.extent.Interval.{Interval}
-use Rattle.oe_shape.specs.declared.extent.TemporalExtent.{TemporalExtent}
-use Rattle.oe_shape.proofs.InputLemmas.{find_here, find_over}
-use Rattle.oe_shape.proofs.TimeLemmas.{part_in_time_is}
+use Rattle.oe_requests.specs.Extents.{has_not_ended, labels_in_time, part_in_time}
+use Rattle.oe_requests.specs.Labels.{sorted_labels, is_below, insert_label}
+use Rattle.oe_meanings.specs.Meaning.{aggregated, cell, cells_at, extent_labelled, instants_inside, value_on_list}
+use Rattle.oe_requests.specs.Operations.{aggregated_shape}
+use Rattle.oe_requests.specs.declared.extent.Interval.{Interval}
+use Rattle.oe_requests.specs.declared.extent.TemporalExtent.{TemporalExtent}
+use Rattle.oe_check.proofs.InputLemmas.{find_here, find_over}
+use Rattle.oe_meanings.proofs.TimeLemmas.{part_in_time_is}
 use Rattle.oe_ops.specs.Lists.{TakesIntervals, TakesList, interval_labelled, list_from, value_of_list, with_index}
 use Rattle.oe_ops.specs.Needs.{HasLabelsBeside, HoldsNeed}
 use Rattle.oe_ops.specs.Slices.{IsOn, cell_of}

@@ -15,7 +15,7 @@ use Rattle.oe_expr.specs.Callback.{Callback, callback_kind, callback_value, envi
 use Rattle.oe_expr.specs.EnvRows.{AreEnvironments, HasRowCells, environment_at, x_at, y_at, list_at}
 use Rattle.oe_expr.specs.Scope.{PlainScope, IsEnvironmentOf, IsListNumber, list_labels, no_labels}
 use Rattle.oe_expr.specs.declared.row.EnvRow.{EnvRow}
-use Rattle.oe_shape.specs.Meaning.{cell, applied, value_on_cells}
+use Rattle.oe_meanings.specs.Meaning.{cell, applied, value_on_cells}
 use Rattle.oe_ops.specs.Needs.{HasLabelsOf, HoldsNeed}
 use Rattle.oe_ops.specs.Slices.{IsOn, TakesCell, TakesCells, cell_of}
 use Rattle.oe_ops.specs.declared.slice.Slice.{Slice}

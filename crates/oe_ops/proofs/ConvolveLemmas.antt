@@ -24,9 +24,9 @@ use Rattle.oe_window.specs.declared.window.Window.{Window}
 use Rattle.oe_window.proofs.CellLemmas.{cell_at-at, cells_on-tabulate}
 use Rattle.oe_window.proofs.WholeLemmas.{position_in}
 use Rattle.oe_window.proofs.WindowLemmas.{filled_by, length-positions, position_number, within_from_holds}
-use Rattle.oe_shape.specs.Meaning as meaning
-use Rattle.oe_shape.specs.Meaning.{cell, convolution, plane_of_tuple}
-use Rattle.oe_shape.specs.Operations.{convolve}
+use Rattle.oe_meanings.specs.Meaning as meaning
+use Rattle.oe_meanings.specs.Meaning.{cell, convolution, plane_of_tuple}
+use Rattle.oe_requests.specs.Operations.{convolve}
 use Rattle.oe_ops.specs.Needs.{HoldsNeed, IsWithinReach, Needs, plane_window}
 use Rattle.oe_ops.specs.Slices.{IsOn, at_indices}
 use Rattle.oe_ops.specs.declared.slice.Slice.{Slice}

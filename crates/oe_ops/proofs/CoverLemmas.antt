@@ -12,8 +12,8 @@ use Rattle.oe_window.specs.Windows.{Holds, IsIn, positions, whole_window}
 use Rattle.oe_window.specs.declared.window.Window.{Window}
 use Rattle.oe_window.proofs.CellLemmas.{cell_at-at, cells_on-tabulate}
 use Rattle.oe_window.proofs.WholeLemmas.{position_in}
-use Rattle.oe_shape.specs.Labels.{only_along, restrict}
-use Rattle.oe_shape.specs.Meaning.{cell, covered, covered_by}
+use Rattle.oe_requests.specs.Labels.{only_along, restrict}
+use Rattle.oe_meanings.specs.Meaning.{cell, covered, covered_by}
 use Rattle.oe_ops.specs.Indices.{found_in}
 use Rattle.oe_ops.specs.Needs.{HasLabelsOf, HoldsNeed}
 use Rattle.oe_ops.specs.Slices.{IsOn, cell_of}

@@ -19,7 +19,7 @@ use Rattle.oe_window.specs.Cells.{cell_at}
 use Rattle.oe_window.specs.Windows.{IsIn, number_in, position_count}
 use Rattle.oe_window.specs.declared.window.Window.{Window}
 use Rattle.oe_window.proofs.CellLemmas.{cell_at-at, cells_on-get}
-use Rattle.oe_shape.specs.Labels.{only_along, restrict}
+use Rattle.oe_requests.specs.Labels.{only_along, restrict}
 use Rattle.oe_ops.specs.Indices.{index_in_argument, row_in, position_on, position_in, found_in, IsHeld}
 use Rattle.oe_ops.specs.Needs.{HasLabelsOf, plane_window}
 use Rattle.oe_ops.specs.Slices.{at_indices, cell_of, IsOn}

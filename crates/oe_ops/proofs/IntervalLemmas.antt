@@ -6,12 +6,12 @@ use Rattle.oe_dims.specs.Indices.{same_number}
 use Rattle.oe_dims.specs.declared.kind.Kind.TheVariants.{Time}
 use Rattle.oe_dims.proofs.IndexLemmas.{same_number_is, same_number_refl}
 use Rattle.oe_dims.proofs.ShapeLemmas.{t_rises}
-use Rattle.oe_shape.specs.Labels.{are_distinct, insert_label, is_below, sorted_labels}
-use Rattle.oe_shape.specs.Operations.{aggregated_shape}
-use Rattle.oe_shape.specs.ValidShapes.{labels_of}
-use Rattle.oe_shape.specs.declared.extent.Interval.{Interval}
-use Rattle.oe_shape.proofs.LabelLemmas.{keep_all_labels}
-use Rattle.oe_shape.proofs.OrderedLemmas.{below_is_order, first_not, left_of, ordered_differ, right_of, rises_stand, second_not, turned}
+use Rattle.oe_requests.specs.Labels.{are_distinct, insert_label, is_below, sorted_labels}
+use Rattle.oe_requests.specs.Operations.{aggregated_shape}
+use Rattle.oe_meanings.specs.ValidShapes.{labels_of}
+use Rattle.oe_requests.specs.declared.extent.Interval.{Interval}
+use Rattle.oe_meanings.proofs.LabelLemmas.{keep_all_labels}
+use Rattle.oe_meanings.proofs.OrderedLemmas.{below_is_order, first_not, left_of, ordered_differ, right_of, rises_stand, second_not, turned}
 use Rattle.oe_ops.specs.Lists.{interval_labelled, is_labelled_at}
 
 -- ---- labels differ where they differ once they are in order

@@ -10,9 +10,9 @@ use Rattle.oe_window.specs.Cells.{cells_on}
 use Rattle.oe_window.specs.Windows.{Holds, IsIn, positions, whole_window}
 use Rattle.oe_window.specs.declared.window.Window.{Window}
 use Rattle.oe_window.proofs.CellLemmas.{cells_on-tabulate}
-use Rattle.oe_shape.specs.Extents.{Restriction, kept_labels, kept_bands, kept_shape, is_in_time, is_up, is_across}
-use Rattle.oe_shape.specs.Labels.{only_along, restrict}
-use Rattle.oe_shape.specs.Meaning.{cell, restricted_cube}
+use Rattle.oe_requests.specs.Extents.{Restriction, kept_labels, kept_bands, kept_shape, is_in_time, is_up, is_across}
+use Rattle.oe_requests.specs.Labels.{only_along, restrict}
+use Rattle.oe_meanings.specs.Meaning.{cell, restricted_cube}
 use Rattle.oe_ops.specs.Indices.{found_in, IsHeld}
 use Rattle.oe_ops.specs.Needs.{HasLabelsOf, HoldsNeed}
 use Rattle.oe_ops.specs.Slices.{IsOn}

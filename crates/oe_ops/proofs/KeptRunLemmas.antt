@@ -10,10 +10,10 @@ use Rattle.oe_dims.specs.Dimensions.{extent, falls, rises}
 use Rattle.oe_dims.specs.Indices.{same_number}
 use Rattle.oe_dims.specs.Positions.{label_of}
 use Rattle.oe_dims.proofs.IndexLemmas.{falls_lt, rises_lt}
-use Rattle.oe_shape.specs.Extents.{has_begun, has_not_ended, is_across, is_in_time, is_up, kept_labels}
-use Rattle.oe_shape.specs.Labels.{only_along}
-use Rattle.oe_shape.specs.declared.extent.BoundingBox.{BoundingBox}
-use Rattle.oe_shape.specs.declared.extent.TemporalExtent.{TemporalExtent}
+use Rattle.oe_requests.specs.Extents.{has_begun, has_not_ended, is_across, is_in_time, is_up, kept_labels}
+use Rattle.oe_requests.specs.Labels.{only_along}
+use Rattle.oe_requests.specs.declared.extent.BoundingBox.{BoundingBox}
+use Rattle.oe_requests.specs.declared.extent.TemporalExtent.{TemporalExtent}
 
 -- ---- labels that pass a test
 

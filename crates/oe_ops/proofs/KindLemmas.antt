@@ -13,7 +13,7 @@ use Rattle.oe_dims.specs.Dimensions.{Dimensions}
 use Rattle.oe_dims.specs.Positions.{Position}
 use Rattle.oe_dims.specs.declared.kind.CellKind.{CellKind}
 use Rattle.oe_dims.specs.declared.kind.CellKind.TheVariants.{Numbers, Flags}
-use Rattle.oe_shape.specs.Meaning.{covered_by}
+use Rattle.oe_meanings.specs.Meaning.{covered_by}
 use Rattle.oe_ops.specs.Indices.{found_in, position_in}
 use Rattle.oe_ops.specs.Slices.{cell_of}
 use Rattle.oe_ops.specs.declared.slice.Slice.{Slice}

@@ -14,8 +14,8 @@ use Rattle.oe_expr.specs.Callback.{Callback, IsEnvironment, KeepsKind, callback_
 use Rattle.oe_expr.specs.EnvRows.{AreEnvironments, HasRowCells, environment_at, x_at, y_at, list_at}
 use Rattle.oe_expr.specs.Scope.{PlainScope, IsEnvironmentOf, IsListNumber, list_labels, merge, no_labels}
 use Rattle.oe_expr.specs.declared.row.EnvRow.{EnvRow}
-use Rattle.oe_shape.specs.Labels.{merged_shape, restrict}
-use Rattle.oe_shape.specs.Meaning.{joined, merged, value_on_cells}
+use Rattle.oe_requests.specs.Labels.{merged_shape, restrict}
+use Rattle.oe_meanings.specs.Meaning.{joined, merged, value_on_cells}
 use Rattle.oe_window.specs.Cells.{cells_on}
 use Rattle.oe_window.specs.Windows.{Holds, positions, whole_window}
 use Rattle.oe_window.specs.declared.window.Window.{Window}

@@ -16,9 +16,9 @@ use Rattle.oe_window.specs.Windows.{Holds, IsAlong, IsEmpty, IsIn, whole_window}
 use Rattle.oe_window.specs.declared.window.Span.{Span}
 use Rattle.oe_window.specs.declared.window.Window.{Window}
 use Rattle.oe_window.proofs.WindowLemmas.{AreWithin, IsFilled, filled_or_not, filled_unless_empty, not_empty, within_from_holds}
-use Rattle.oe_shape.specs.Labels.{only_along}
-use Rattle.oe_shape.specs.Operations.{convolve}
-use Rattle.oe_shape.specs.Reach.{is_wrap, same_kind}
+use Rattle.oe_requests.specs.Labels.{only_along}
+use Rattle.oe_requests.specs.Operations.{convolve}
+use Rattle.oe_check.specs.Reach.{is_wrap, same_kind}
 use Rattle.oe_ops.specs.Needs.{HasLabelsBeside, HasLabelsOf, HoldsNeed, IsNeed, IsWithinReach, Needs, plane_window, zero_window}
 use Rattle.oe_ops.specs.Spans.{EndsAreNeeded, IsBeside, IsLabelAt, IsNeededFor, IsReached, IsSpanOf, product}
 use Rattle.oe_ops.proofs.FoundLemmas.{found_label, has_labels}

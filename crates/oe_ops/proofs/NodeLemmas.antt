@@ -14,14 +14,14 @@ use Rattle.oe_expr.specs.Callback.{Callback, KeepsKind}
 use Rattle.oe_expr.specs.Scope.{count_labels}
 use Rattle.oe_kernel.specs.Kernels.{KernelValues}
 use Rattle.oe_kernel.specs.declared.border.Border.{Border}
-use Rattle.oe_shape.specs.Extents.{Restriction}
-use Rattle.oe_shape.specs.Meaning.{cube_of}
-use Rattle.oe_shape.specs.Operations.{Operation, keep, each_cell, convolve, reduce, aggregate, accumulate, merge, cover, give_back, labels_along, shape_of}
-use Rattle.oe_shape.specs.Reach.{halo_of, needs_whole}
-use Rattle.oe_shape.specs.PlainRequests.{plain_operation, plain_restriction}
-use Rattle.oe_shape.specs.declared.extent.Interval.{Interval}
-use Rattle.oe_shape.specs.declared.operation.Operation as declared
-use Rattle.oe_shape.specs.declared.operation.Operation.TheVariants.{Keep, EachCell, Convolve, Reduce, Aggregate, Accumulate, Merge, Cover, GiveBack}
+use Rattle.oe_requests.specs.Extents.{Restriction}
+use Rattle.oe_meanings.specs.Meaning.{cube_of}
+use Rattle.oe_requests.specs.Operations.{Operation, keep, each_cell, convolve, reduce, aggregate, accumulate, merge, cover, give_back, labels_along, shape_of}
+use Rattle.oe_check.specs.Reach.{halo_of, needs_whole}
+use Rattle.oe_requests.specs.PlainRequests.{plain_operation, plain_restriction}
+use Rattle.oe_requests.specs.declared.extent.Interval.{Interval}
+use Rattle.oe_requests.specs.declared.operation.Operation as declared
+use Rattle.oe_requests.specs.declared.operation.Operation.TheVariants.{Keep, EachCell, Convolve, Reduce, Aggregate, Accumulate, Merge, Cover, GiveBack}
 use Rattle.oe_window.specs.Cells.{cells_on}
 use Rattle.oe_window.specs.Windows.{Holds, position_count, positions, span_length, whole_window}
 use Rattle.oe_window.specs.declared.window.Window.{Window}

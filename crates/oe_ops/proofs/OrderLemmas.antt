@@ -13,7 +13,7 @@ use Rattle.oe_dims.specs.declared.kind.Kind.TheVariants.{Time, Bands, Y, X}
 use Rattle.oe_dims.proofs.IndexLemmas.{same_number_is}
 use Rattle.oe_dims.proofs.ReaderLemmas.{IsInOrder-shape}
 use Rattle.oe_window.specs.declared.window.Span.{Span}
-use Rattle.oe_shape.specs.Reach.{same_kind}
+use Rattle.oe_check.specs.Reach.{same_kind}
 use Rattle.oe_ops.specs.Indices.{index_in_argument, index_under}
 use Rattle.oe_ops.specs.Spans.{IsLabelAt, IsSpanOf}
 use Rattle.oe_ops.proofs.FoundLemmas.{found_label}

@@ -17,8 +17,8 @@ use Rattle.oe_window.specs.declared.window.Window.{Window}
 use Rattle.oe_window.proofs.CellLemmas.{cell_at-tabulate, cells_on-at, cells_on-tabulate, is_cells_on, length-cells_on}
 use Rattle.oe_window.proofs.WindowLemmas.{AreWithin, IsWithin, filled_by, filled_unless_empty, first_in, first_position, length-positions, within_from_holds}
 use Rattle.oe_window.proofs.WholeLemmas.{position_in as inside_shape}
-use Rattle.oe_shape.specs.Extents.{Restriction, is_across, is_up, kept_shape}
-use Rattle.oe_shape.specs.Meaning.{cell, restricted_cube}
+use Rattle.oe_requests.specs.Extents.{Restriction, is_across, is_up, kept_shape}
+use Rattle.oe_meanings.specs.Meaning.{cell, restricted_cube}
 use Rattle.oe_ops.specs.Indices.{index_in_argument, position_in}
 use Rattle.oe_ops.specs.Loads.{GivesPlane}
 use Rattle.oe_ops.specs.Needs.{HasLabelsOf, HoldsNeed, IsNeed, plane_window, zero_window}

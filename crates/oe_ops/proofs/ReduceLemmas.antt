@@ -20,8 +20,8 @@ use Rattle.oe_window.specs.Windows.{Holds, IsIn, positions, whole_window}
 use Rattle.oe_window.specs.declared.window.Window.{Window}
 use Rattle.oe_window.proofs.CellLemmas.{cell_at-at, cells_on-tabulate}
 use Rattle.oe_window.proofs.WholeLemmas.{position_in}
-use Rattle.oe_shape.specs.Meaning.{cell, cells_along, reduced, value_on_list}
-use Rattle.oe_shape.specs.Operations.{labels_along, without_dimension}
+use Rattle.oe_meanings.specs.Meaning.{cell, cells_along, reduced, value_on_list}
+use Rattle.oe_requests.specs.Operations.{labels_along, without_dimension}
 use Rattle.oe_ops.specs.Lists.{TakesList, TakesLists, list_from, value_of_list, with_index}
 use Rattle.oe_ops.specs.Needs.{HasLabelsBeside, HoldsNeed}
 use Rattle.oe_ops.specs.Slices.{IsOn, cell_of}

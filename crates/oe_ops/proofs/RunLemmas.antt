@@ -12,7 +12,7 @@ use Rattle.oe_dims.specs.declared.kind.Kind.TheVariants.{Time, Bands, Y, X}
 use Rattle.oe_dims.proofs.ReaderLemmas.{IsIndexOf-number}
 use Rattle.oe_dims.proofs.ShapeLemmas.{extents_of_shape}
 use Rattle.oe_window.specs.Windows.{extent_along}
-use Rattle.oe_shape.specs.Labels.{only_along}
+use Rattle.oe_requests.specs.Labels.{only_along}
 use Rattle.oe_ops.specs.Indices.{IsOnRun, index_under, index_in_argument}
 use Rattle.oe_ops.specs.declared.run.Run.{Run}
 

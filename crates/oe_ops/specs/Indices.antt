@@ -10,7 +10,7 @@ use Rattle.oe_dims.specs.Positions.{Position, label_of}
 use Rattle.oe_dims.specs.declared.kind.Kind.{Kind}
 use Rattle.oe_dims.specs.declared.kind.Kind.TheVariants.{Time, Bands, Y, X}
 use Rattle.oe_window.specs.Windows.{IsIn}
-use Rattle.oe_shape.specs.Labels.{only_along}
+use Rattle.oe_requests.specs.Labels.{only_along}
 use Rattle.oe_ops.specs.Slices.{at_indices, cell_of}
 use Rattle.oe_ops.specs.declared.slice.Slice.{Slice}
 use Rattle.oe_ops.specs.declared.run.Run.{Run}

@@ -15,8 +15,8 @@ use Rattle.oe_dims.specs.declared.kind.Kind.TheVariants.{Time, Bands, Y, X}
 use Rattle.oe_expr.specs.Callback.{Callback, callback_value, environment}
 use Rattle.oe_expr.specs.Scope.{count_labels, labels_in, no_labels, reduce}
 use Rattle.oe_expr.specs.declared.scope.ListPart.{ListPart}
-use Rattle.oe_shape.specs.Operations.{interval_scope, reduction_scope}
-use Rattle.oe_shape.specs.declared.extent.Interval.{Interval}
+use Rattle.oe_requests.specs.Operations.{interval_scope, reduction_scope}
+use Rattle.oe_requests.specs.declared.extent.Interval.{Interval}
 use Rattle.oe_window.specs.Windows.{span_length}
 use Rattle.oe_window.specs.declared.window.Window.{Window}
 use Rattle.oe_ops.specs.Slices.{cell_of}

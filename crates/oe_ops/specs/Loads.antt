@@ -5,8 +5,8 @@ use Rattle.oe_cell.specs.declared.cell.Cell.TheVariants.{Empty}
 use Rattle.oe_dims.specs.Cube.{Cube, IsCube}
 use Rattle.oe_dims.specs.Dimensions.{Dimensions}
 use Rattle.oe_dims.specs.Positions.{Position}
-use Rattle.oe_shape.specs.Extents.{Restriction}
-use Rattle.oe_shape.specs.Meaning.{restricted_cube}
+use Rattle.oe_requests.specs.Extents.{Restriction}
+use Rattle.oe_meanings.specs.Meaning.{restricted_cube}
 use Rattle.oe_window.specs.Cells.{cells_on}
 use Rattle.oe_window.specs.Windows.{IsEmpty, IsIn, position_count}
 use Rattle.oe_window.specs.declared.window.Window.{Window}

@@ -7,10 +7,10 @@ use Rattle.oe_dims.specs.declared.kind.Kind.{Kind}
 use Rattle.oe_dims.specs.declared.kind.Kind.TheVariants.{Time, Bands, Y, X}
 use Rattle.oe_window.specs.Windows.{IsIn, Holds, span_at, span_below}
 use Rattle.oe_window.specs.declared.window.Window.{Window}
-use Rattle.oe_shape.specs.Labels.{restrict}
-use Rattle.oe_shape.specs.Operations.{Operation, keep, each_cell, convolve, reduce, aggregate, accumulate, merge, cover, give_back}
-use Rattle.oe_shape.specs.Operations.{no_dimensions, shape_of, without_dimension}
-use Rattle.oe_shape.specs.Reach.{needs_whole, halo_of}
+use Rattle.oe_requests.specs.Labels.{restrict}
+use Rattle.oe_requests.specs.Operations.{Operation, keep, each_cell, convolve, reduce, aggregate, accumulate, merge, cover, give_back}
+use Rattle.oe_requests.specs.Operations.{no_dimensions, shape_of, without_dimension}
+use Rattle.oe_check.specs.Reach.{needs_whole, halo_of}
 
 -- ---- one position for another
 

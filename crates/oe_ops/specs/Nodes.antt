@@ -7,7 +7,7 @@ use Rattle.oe_dims.specs.Dimensions.{Dimensions}
 use Rattle.oe_dims.specs.declared.kind.CellKind.{CellKind}
 use Rattle.oe_dims.specs.declared.kind.Kind.{Kind}
 use Rattle.oe_expr.specs.Callback.{KeepsKind, callback_kind}
-use Rattle.oe_shape.specs.Operations.{Operation, keep, each_cell, convolve, reduce, aggregate, accumulate, merge, cover, give_back}
+use Rattle.oe_requests.specs.Operations.{Operation, keep, each_cell, convolve, reduce, aggregate, accumulate, merge, cover, give_back}
 use Rattle.oe_window.specs.Windows.{extent_along}
 use Rattle.oe_ops.specs.Lists.{TakesIntervals, TakesLists}
 use Rattle.oe_ops.specs.Slices.{TakesCells, TakesPairs}

@@ -14,7 +14,7 @@ ghost use Rattle.oe_window.specs.Cells.{cells_on};
 ghost use Rattle.oe_window.specs.Windows.{Holds, IsIn, extent_along, number_in, position_count, positions, span_length, whole_window};
 ghost use Rattle.oe_ops.specs.Needs.{HasLabelsBeside, HoldsNeed};
 ghost use Rattle.oe_ops.specs.Slices.{IsCounted, IsOn, along_x, at_indices};
-ghost use Rattle.oe_shape.specs.Meaning.{accumulated};
+ghost use Rattle.oe_meanings.specs.Meaning.{accumulated};
 ghost use Rattle.oe_ops.specs.Sums.{HoldsAllBefore, sum_at};
 
 use crate::slice::{Slice, indices, number_on, row_of};

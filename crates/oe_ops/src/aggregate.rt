@@ -9,11 +9,11 @@ ghost use Rattle.oe_dims.specs.Dimensions.{IsShape};
 ghost use Rattle.oe_dims.specs.Indices.{same_number};
 ghost use Rattle.oe_dims.specs.declared.kind.Kind.{Kind};
 ghost use Rattle.oe_expr.specs.Callback.{KeepsKind, callback_kind};
-ghost use Rattle.oe_shape.specs.Labels.{are_distinct};
-ghost use Rattle.oe_shape.specs.Meaning.{aggregated};
-ghost use Rattle.oe_shape.specs.Operations.{aggregated_shape};
-ghost use Rattle.oe_shape.specs.ValidShapes.{labels_of};
-ghost use Rattle.oe_shape.specs.declared.extent.Interval.{Interval};
+ghost use Rattle.oe_requests.specs.Labels.{are_distinct};
+ghost use Rattle.oe_meanings.specs.Meaning.{aggregated};
+ghost use Rattle.oe_requests.specs.Operations.{aggregated_shape};
+ghost use Rattle.oe_meanings.specs.ValidShapes.{labels_of};
+ghost use Rattle.oe_requests.specs.declared.extent.Interval.{Interval};
 ghost use Rattle.oe_window.specs.Cells.{cells_on};
 ghost use Rattle.oe_window.specs.Windows.{Holds, IsAlong, extent_along, position_count, whole_window};
 ghost use Rattle.oe_ops.specs.Lists.{TakesIntervals, interval_labelled, is_labelled_at};
@@ -27,7 +27,8 @@ use crate::slice::{Slice, indices};
 use oe_cell::Cell;
 use oe_dims::{Kind, Shape};
 use oe_expr::Expr;
-use oe_shape::{Interval, Intervals, TemporalExtent, part_in_time};
+use oe_meanings::part_in_time;
+use oe_requests::{Interval, Intervals, TemporalExtent};
 use oe_window::Window;
 
 /// The interval has a label.

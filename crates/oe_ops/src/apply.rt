@@ -7,7 +7,7 @@ ghost use Rattle.oe_cube.specs.Kinds.{IsOfKind};
 ghost use Rattle.oe_dims.specs.Cube.{Cube, IsCube};
 ghost use Rattle.oe_dims.specs.Dimensions.{IsShape};
 ghost use Rattle.oe_expr.specs.Callback.{KeepsKind, callback_kind};
-ghost use Rattle.oe_shape.specs.Meaning.{applied};
+ghost use Rattle.oe_meanings.specs.Meaning.{applied};
 ghost use Rattle.oe_window.specs.Cells.{cells_on};
 ghost use Rattle.oe_window.specs.Windows.{Holds, position_count, whole_window};
 ghost use Rattle.oe_ops.specs.Needs.{HasLabelsOf, HoldsNeed};
@@ -29,7 +29,7 @@ struct AppliedRows<'a> {
 
 impl Rows for AppliedRows<'_> {
     ghost use Rattle.oe_cell.specs.declared.cell.Cell.TheVariants.{Empty};
-    ghost use Rattle.oe_shape.specs.Meaning.{value_on_cells};
+    ghost use Rattle.oe_meanings.specs.Meaning.{value_on_cells};
     ghost use Rattle.oe_window.specs.Windows.{IsIn};
     ghost use Rattle.oe_ops.specs.Slices.{IsCounted, TakesCell, cell_of};
 

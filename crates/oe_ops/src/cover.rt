@@ -7,7 +7,7 @@ ghost use Rattle.oe_cube.specs.Kinds.{IsOfKind};
 ghost use Rattle.oe_dims.specs.Cube.{Cube, IsCube};
 ghost use Rattle.oe_dims.specs.declared.kind.CellKind.{CellKind};
 ghost use Rattle.oe_dims.specs.Dimensions.{IsShape};
-ghost use Rattle.oe_shape.specs.Meaning.{covered, covered_by};
+ghost use Rattle.oe_meanings.specs.Meaning.{covered, covered_by};
 ghost use Rattle.oe_window.specs.Cells.{cells_on};
 ghost use Rattle.oe_window.specs.Windows.{Holds, position_count, whole_window};
 ghost use Rattle.oe_ops.specs.Needs.{HasLabelsOf, HoldsNeed};
@@ -89,7 +89,7 @@ impl Rows for CoveredRows<'_> {
     ghost use Rattle.oe_cell.specs.declared.cell.Cell.TheVariants.{Empty};
     ghost use Rattle.oe_dims.specs.Dimensions.{IsShape};
     ghost use Rattle.oe_dims.specs.Positions.{IsPosition};
-    ghost use Rattle.oe_shape.specs.Meaning.{covered_by};
+    ghost use Rattle.oe_meanings.specs.Meaning.{covered_by};
     ghost use Rattle.oe_window.specs.Windows.{IsIn};
     ghost use Rattle.oe_ops.specs.Indices.{AreIndicesAt, IsHeld, found_in};
     ghost use Rattle.oe_ops.specs.Slices.{IsCounted, cell_of};
@@ -120,7 +120,7 @@ impl Planes for CoveredPlanes<'_> {
     ghost use Rattle.oe_cell.specs.declared.cell.Cell.TheVariants.{Empty};
     ghost use Rattle.oe_dims.specs.Dimensions.{IsShape};
     ghost use Rattle.oe_dims.specs.Positions.{IsPosition};
-    ghost use Rattle.oe_shape.specs.Meaning.{covered_by};
+    ghost use Rattle.oe_meanings.specs.Meaning.{covered_by};
     ghost use Rattle.oe_window.specs.Windows.{IsIn};
     ghost use Rattle.oe_ops.specs.Indices.{IsHeld, found_in};
     ghost use Rattle.oe_ops.specs.Slices.{IsCounted, cell_of};

@@ -10,8 +10,8 @@ ghost use Rattle.oe_dims.specs.declared.kind.CellKind.{CellKind};
 ghost use Rattle.oe_dims.specs.declared.kind.Kind.{Kind};
 ghost use Rattle.oe_dims.specs.Dimensions.{IsShape};
 ghost use Rattle.oe_expr.specs.Callback.{KeepsKind, callback_kind};
-ghost use Rattle.oe_shape.specs.Labels.{merged_shape};
-ghost use Rattle.oe_shape.specs.Meaning.{joined, merged};
+ghost use Rattle.oe_requests.specs.Labels.{merged_shape};
+ghost use Rattle.oe_meanings.specs.Meaning.{joined, merged};
 ghost use Rattle.oe_window.specs.Cells.{cells_on};
 ghost use Rattle.oe_window.specs.Windows.{Holds, IsIn, extent_along, position_count, span_length, whole_window};
 ghost use Rattle.oe_ops.specs.Indices.{IsOnRun, index_in_argument, position_on};
@@ -191,7 +191,7 @@ impl Rows for MergedRows<'_> {
     ghost use Rattle.std.specs.Prelude.{IfSome};
     ghost use Rattle.oe_dims.specs.Dimensions.{IsShape};
     ghost use Rattle.oe_dims.specs.Positions.{IsPosition};
-    ghost use Rattle.oe_shape.specs.Meaning.{joined};
+    ghost use Rattle.oe_meanings.specs.Meaning.{joined};
     ghost use Rattle.oe_ops.specs.Indices.{AreIndicesAt, IsHeld, found_in};
     ghost use Rattle.oe_ops.specs.Slices.{IsCounted, TakesPairs};
 
@@ -247,7 +247,7 @@ impl Planes for MergedPlanes<'_> {
     ghost use Rattle.std.specs.Prelude.{IfSome};
     ghost use Rattle.oe_dims.specs.Dimensions.{IsShape};
     ghost use Rattle.oe_dims.specs.Positions.{IsPosition};
-    ghost use Rattle.oe_shape.specs.Meaning.{joined};
+    ghost use Rattle.oe_meanings.specs.Meaning.{joined};
     ghost use Rattle.oe_ops.specs.Indices.{IsHeld, found_in};
     ghost use Rattle.oe_ops.specs.Slices.{IsCounted, TakesPairs};
 

@@ -3,9 +3,9 @@ ghost use Rattle.std.specs.Prelude.{◌≡◌, ◌∷◌, [], ◌+◌, ◌^◌, 
 ghost use Rattle.oe_cell.specs.Fraction.{Fraction};
 ghost use Rattle.oe_dims.specs.Dimensions.{IsShape};
 ghost use Rattle.oe_dims.specs.declared.kind.Kind.{Kind};
-ghost use Rattle.oe_shape.specs.Extents.{Restriction, kept_shape};
-ghost use Rattle.oe_shape.specs.Operations.{convolve};
-ghost use Rattle.oe_shape.specs.Reach.{is_wrap, same_kind};
+ghost use Rattle.oe_requests.specs.Extents.{Restriction, kept_shape};
+ghost use Rattle.oe_requests.specs.Operations.{convolve};
+ghost use Rattle.oe_check.specs.Reach.{is_wrap, same_kind};
 ghost use Rattle.oe_window.specs.Windows.{Holds, IsAlong, IsEmpty, extent_along, span_at, span_below, whole_window};
 ghost use Rattle.oe_ops.specs.Indices.{index_in_argument};
 ghost use Rattle.oe_ops.specs.Loads.{GivesPlane};

@@ -7,9 +7,9 @@ ghost use Rattle.oe_cube.specs.Kinds.{IsOfKind};
 ghost use Rattle.oe_dims.specs.Cube.{Cube, IsCube};
 ghost use Rattle.oe_dims.specs.Dimensions.{Dimensions, IsShape};
 ghost use Rattle.oe_dims.specs.declared.kind.CellKind.{CellKind};
-ghost use Rattle.oe_shape.specs.Meaning.{cube_of};
-ghost use Rattle.oe_shape.specs.Operations.{operation_kind, shape_of};
-ghost use Rattle.oe_shape.specs.PlainRequests.{plain_operation};
+ghost use Rattle.oe_meanings.specs.Meaning.{cube_of};
+ghost use Rattle.oe_requests.specs.Operations.{operation_kind, shape_of};
+ghost use Rattle.oe_requests.specs.PlainRequests.{plain_operation};
 ghost use Rattle.oe_window.specs.Cells.{cells_on};
 ghost use Rattle.oe_window.specs.Windows.{Holds, position_count, whole_window};
 ghost use Rattle.oe_ops.specs.Needs.{HoldsNeed, IsNeed, Needs, argument_shape};
@@ -28,7 +28,7 @@ use crate::needs::{need_beside, need_labels, need_pixels};
 use crate::reduce::eval_reduce;
 use oe_cell::Cell;
 use oe_dims::{Kind, Shape};
-use oe_shape::Operation;
+use oe_requests::Operation;
 use oe_window::Window;
 
 /// The least window of an argument of the shape `argument` that an operation needs for a window of its result, which

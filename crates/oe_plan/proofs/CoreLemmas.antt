@@ -12,7 +12,7 @@ use Rattle.oe_dims.specs.Dimensions.{extent}
 use Rattle.oe_dims.specs.Positions.{label_of}
 use Rattle.oe_window.specs.Windows.{IsAlong, span_below, span_length}
 use Rattle.oe_window.specs.declared.window.Span.{Span}
-use Rattle.oe_shape.specs.Labels.{only_along}
+use Rattle.oe_requests.specs.Labels.{only_along}
 
 -- ---- parts of a list
 

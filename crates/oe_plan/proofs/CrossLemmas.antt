@@ -3,7 +3,7 @@ use denote.Param.Send.{IsSend, IsSync, sendable}
 use Rattle.std.proofs.Crossing.{crosses}
 use Rattle.oe_order.specs.contracts.NodeOrder as order
 use Rattle.oe_window.specs.contracts.grid.Grid as grid
-use Rattle.oe_shape.proofs.CrossLemmas.{checked_send, checked_sync}
+use Rattle.oe_check.proofs.CrossLemmas.{checked_send, checked_sync}
 use Rattle.oe_plan.specs.contracts.plan.Plan as plan
 use Rattle.oe_plan.specs.contracts.schedule.Schedule as schedule
 

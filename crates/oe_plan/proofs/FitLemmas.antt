@@ -2,8 +2,8 @@
 use Rattle.std.specs.Prelude.{◌≡◌, ◌<◌, ◌≤◌, ◌+◌, ◌*◌, ℕ}
 use Rattle.std.proofs.Common.{sym, ap, ◌∙◌, subst, arith}
 use Rattle.std.proofs.Math.Nat.{mul-le-mul}
-use Rattle.oe_shape.specs.Checked.{CheckedGraph}
-use Rattle.oe_shape.specs.Links.{links_of}
+use Rattle.oe_check.specs.Checked.{CheckedGraph}
+use Rattle.oe_check.specs.Links.{links_of}
 use Rattle.oe_window.specs.declared.grid.ChunkSize.{ChunkSize}
 use Rattle.oe_plan.proofs.RunLemmas.{some_width}
 use Rattle.oe_plan.specs.Figures.{bound_of, largest_window, most_held_cells, scratch_of, width_of_run}

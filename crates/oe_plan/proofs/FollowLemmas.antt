@@ -12,14 +12,14 @@ use Rattle.oe_dims.specs.declared.kind.Kind.{Kind}
 use Rattle.oe_dims.specs.declared.kind.Kind.TheVariants.{Time, Bands, Y, X}
 use Rattle.oe_dims.proofs.ReaderLemmas.{IsUnrepeated, IsUnrepeated-numbers}
 use Rattle.oe_dims.proofs.ShapeLemmas.{t_rises, x_rises, y_falls}
-use Rattle.oe_shape.specs.Extents.{Restriction, has_begun, has_not_ended, is_across, is_in_time, is_up, kept_labels}
-use Rattle.oe_shape.specs.Labels.{differ_along, differ_in, is_above, is_below, merged_shape, only_along}
-use Rattle.oe_shape.specs.Operations.{Operation, keep, each_cell, convolve, reduce, aggregate, accumulate, merge, cover, give_back, aggregated_shape, first_or, no_dimensions, second_or, shape_of, without_dimension}
-use Rattle.oe_shape.specs.Reach.{halo_of, needs_whole, same_kind}
-use Rattle.oe_shape.specs.declared.extent.BoundingBox.{BoundingBox}
-use Rattle.oe_shape.specs.declared.extent.Interval.{Interval}
-use Rattle.oe_shape.specs.declared.extent.TemporalExtent.{TemporalExtent}
-use Rattle.oe_shape.proofs.OrderedLemmas.{IsOrder, above_is_order, below_is_order, falls_stand, left_of, right_of, rises_stand}
+use Rattle.oe_requests.specs.Extents.{Restriction, has_begun, has_not_ended, is_across, is_in_time, is_up, kept_labels}
+use Rattle.oe_requests.specs.Labels.{differ_along, differ_in, is_above, is_below, merged_shape, only_along}
+use Rattle.oe_requests.specs.Operations.{Operation, keep, each_cell, convolve, reduce, aggregate, accumulate, merge, cover, give_back, aggregated_shape, first_or, no_dimensions, second_or, shape_of, without_dimension}
+use Rattle.oe_check.specs.Reach.{halo_of, needs_whole, same_kind}
+use Rattle.oe_requests.specs.declared.extent.BoundingBox.{BoundingBox}
+use Rattle.oe_requests.specs.declared.extent.Interval.{Interval}
+use Rattle.oe_requests.specs.declared.extent.TemporalExtent.{TemporalExtent}
+use Rattle.oe_meanings.proofs.OrderedLemmas.{IsOrder, above_is_order, below_is_order, falls_stand, left_of, right_of, rises_stand}
 use Rattle.oe_ops.specs.Needs.{HasLabelsBeside, HasLabelsOf, IsInReach, IsWithinReach, Needs, argument_shape}
 use Rattle.oe_plan.proofs.CoreLemmas.{Differ, Follows, IsAsked, asked_label, asked_near, asked_wider, follows_same}
 use Rattle.oe_plan.proofs.PartsLemmas.{IsConvex, StandInOrder, follows_mask, inside_part, merge_follows_one, merge_follows_two}

@@ -3,9 +3,9 @@ use Rattle.std.specs.Prelude.{◌≡◌, ℕ, List, [], ◌∷◌, Option, Some,
 use Rattle.std.proofs.Common.{refl, arith}
 use Rattle.std.proofs.lemmas.List.Sums.{sum_by-cons}
 use Rattle.oe_dims.specs.declared.kind.Kind.TheVariants.{Time}
-use Rattle.oe_shape.specs.Checked.{CheckedGraph, operation_of_node}
-use Rattle.oe_shape.specs.Operations.{Operation, keep, each_cell, convolve, reduce, aggregate, accumulate, merge, cover, give_back}
-use Rattle.oe_shape.specs.Reach.{halo_of, halo_of_node}
+use Rattle.oe_check.specs.Checked.{CheckedGraph, operation_of_node}
+use Rattle.oe_requests.specs.Operations.{Operation, keep, each_cell, convolve, reduce, aggregate, accumulate, merge, cover, give_back}
+use Rattle.oe_check.specs.Reach.{halo_of, halo_of_node}
 use Rattle.oe_plan.specs.Figures.{halo_along, steps_of}
 
 no_halo : (operation : Operation) → halo_of operation Time ≡ 0

@@ -20,24 +20,24 @@ use Rattle.oe_expr.specs.Nodes.{id_at, node_named}
 use Rattle.oe_expr.specs.Requests.{with_both}
 use Rattle.oe_expr.specs.Rows.{JudgedRow, first_row}
 use Rattle.oe_expr.proofs.NodeLemmas.{contains_node, id_at_is}
-use Rattle.oe_shape.specs.Checked.{AreFaultless, CheckedGraph, collection_of_node, operation_of_node, outline_of_node}
-use Rattle.oe_shape.specs.Graphs.{request_inputs, operation_at, outline_at, outline_named, request_outline}
-use Rattle.oe_shape.specs.Labels.{differ_along, differing, one_if}
-use Rattle.oe_shape.specs.Links.{loaded_collection, index_referred, links_of, loaded_by}
-use Rattle.oe_shape.specs.Operations.{Operation, Outline, dimension_named, first_or, no_dimensions, no_outline, operation_of, outline_of, second_or, shape_of}
-use Rattle.oe_shape.specs.Operations as operation
-use Rattle.oe_shape.specs.Reach.{input_shapes, needs_whole, whole_of_node}
-use Rattle.oe_shape.specs.Requests.{CubeRequest, aggregate_temporal, aggregate_temporal_period, apply_dimension, apply, apply_kernel, cube_ids, filter_bands, filter_bbox, filter_temporal, load_collection, mask, merge_cubes, reduce_dimension, cube_request_at, save_result}
-use Rattle.oe_shape.specs.Rows.{differs_from_data, dimension_not_available, first_shape, mask_dimensions_differ}
-use Rattle.oe_shape.specs.SoundNodes.{input_outlines}
-use Rattle.oe_shape.specs.Stands.{HasNoFault, IsSound, asks_for_nothing, cubes_of, early, early_rows, sound}
-use Rattle.oe_shape.specs.Words.{codes_differ, has_another, lacks_named}
-use Rattle.oe_shape.proofs.BuildableLemmas.{none_holds}
-use Rattle.oe_shape.proofs.CheckedLemmas.{refer}
-use Rattle.oe_shape.proofs.GraphLemmas.{unfold_at_nodes}
-use Rattle.oe_shape.proofs.LinkLemmas.{index_is, links_arguments, named_at, object, referred}
-use Rattle.oe_shape.proofs.LoadLemmas.{loads_where}
-use Rattle.oe_shape.proofs.RequestLemmas.{found}
+use Rattle.oe_check.specs.Checked.{AreFaultless, CheckedGraph, collection_of_node, operation_of_node, outline_of_node}
+use Rattle.oe_meanings.specs.Graphs.{request_inputs, operation_at, outline_at, outline_named, request_outline}
+use Rattle.oe_requests.specs.Labels.{differ_along, differing, one_if}
+use Rattle.oe_check.specs.Links.{loaded_collection, index_referred, links_of, loaded_by}
+use Rattle.oe_requests.specs.Operations.{Operation, Outline, dimension_named, first_or, no_dimensions, no_outline, operation_of, outline_of, second_or, shape_of}
+use Rattle.oe_requests.specs.Operations as operation
+use Rattle.oe_check.specs.Reach.{input_shapes, needs_whole, whole_of_node}
+use Rattle.oe_requests.specs.Requests.{CubeRequest, aggregate_temporal, aggregate_temporal_period, apply_dimension, apply, apply_kernel, cube_ids, filter_bands, filter_bbox, filter_temporal, load_collection, mask, merge_cubes, reduce_dimension, cube_request_at, save_result}
+use Rattle.oe_meanings.specs.Rows.{differs_from_data, dimension_not_available, first_shape, mask_dimensions_differ}
+use Rattle.oe_meanings.specs.SoundNodes.{input_outlines}
+use Rattle.oe_meanings.specs.Stands.{HasNoFault, IsSound, asks_for_nothing, cubes_of, early, early_rows, sound}
+use Rattle.oe_meanings.specs.Words.{codes_differ, has_another, lacks_named}
+use Rattle.oe_check.proofs.BuildableLemmas.{none_holds}
+use Rattle.oe_check.proofs.CheckedLemmas.{refer}
+use Rattle.oe_meanings.proofs.GraphLemmas.{unfold_at_nodes}
+use Rattle.oe_check.proofs.LinkLemmas.{index_is, links_arguments, named_at, object, referred}
+use Rattle.oe_check.proofs.LoadLemmas.{loads_where}
+use Rattle.oe_meanings.proofs.RequestLemmas.{found}
 use Rattle.oe_ops.specs.Needs.{argument_shape}
 use Rattle.oe_plan.specs.Figures.{shape_of_node}
 use Rattle.oe_plan.specs.Steps.{argument_shapes, arguments_of_node}

@@ -7,8 +7,8 @@ use Rattle.std.proofs.lemmas.Bool.{and_from}
 use Rattle.std.proofs.lemmas.List.{append-nil}
 use Rattle.oe_dims.specs.Indices.{same_number}
 use Rattle.oe_dims.proofs.IndexLemmas.{same_number_refl, same_number_is}
-use Rattle.oe_shape.specs.Labels.{insert_label, sorted_labels, new_among, all_in_order, are_among, differ_in}
-use Rattle.oe_shape.proofs.OrderedLemmas.{IsOrder, stand_in_order, left_of, right_of}
+use Rattle.oe_requests.specs.Labels.{insert_label, sorted_labels, new_among, all_in_order, are_among, differ_in}
+use Rattle.oe_meanings.proofs.OrderedLemmas.{IsOrder, stand_in_order, left_of, right_of}
 use Rattle.oe_plan.proofs.CoreLemmas.{IsPartOf, Follows, whole_part}
 
 module _ (is_before : ℤ → ℤ → Bool) (o : IsOrder is_before) where

@@ -10,8 +10,8 @@ use Rattle.oe_order.specs.Evaluation.{IsEvaluationOrder}
 use Rattle.oe_order.specs.Graph.{IsInRun, Node, Reaches, arguments, is_load, onwards, refers}
 use Rattle.oe_order.specs.Live.{IsSlotted, Steps}
 use Rattle.oe_order.specs.Order.{IsListing}
-use Rattle.oe_shape.specs.Checked.{AreFaultless, CheckedGraph}
-use Rattle.oe_shape.specs.Links.{links_of}
+use Rattle.oe_check.specs.Checked.{AreFaultless, CheckedGraph}
+use Rattle.oe_check.specs.Links.{links_of}
 use Rattle.oe_window.specs.Chunks.{Tiling, tiling_of}
 use Rattle.oe_window.specs.Windows.{Holds, IsIn, whole_window}
 use Rattle.oe_window.specs.declared.grid.ChunkSize.{ChunkSize}

@@ -18,12 +18,12 @@ use Rattle.oe_order.specs.Live.{largest}
 use Rattle.oe_order.specs.Order.{IsListing}
 use Rattle.oe_order.proofs.Reach.{IsInRun-push}
 use Rattle.oe_ops.specs.Needs.{argument_shape, zero_window}
-use Rattle.oe_shape.specs.Checked.{AreFaultless, CheckedGraph, operation_of_node}
-use Rattle.oe_shape.specs.Links.{links_of}
-use Rattle.oe_shape.specs.Operations.{Operation, no_dimensions}
-use Rattle.oe_shape.specs.Reach.{halo_of, halo_of_node, needs_whole, whole_of_node}
-use Rattle.oe_shape.proofs.OrderedLemmas.{first_not, second_not}
-use Rattle.oe_shape.proofs.ValidLemmas.{no_dimensions_is_shape}
+use Rattle.oe_check.specs.Checked.{AreFaultless, CheckedGraph, operation_of_node}
+use Rattle.oe_check.specs.Links.{links_of}
+use Rattle.oe_requests.specs.Operations.{Operation, no_dimensions}
+use Rattle.oe_check.specs.Reach.{halo_of, halo_of_node, needs_whole, whole_of_node}
+use Rattle.oe_meanings.proofs.OrderedLemmas.{first_not, second_not}
+use Rattle.oe_meanings.proofs.ValidLemmas.{no_dimensions_is_shape}
 use Rattle.oe_window.specs.Chunks.{FitsSides, tiling_of}
 use Rattle.oe_window.specs.Windows.{Holds, IsAlong, IsEmpty, IsIn, extent_along, position_count, span_below, span_length, whole_window}
 use Rattle.oe_window.specs.declared.grid.ChunkSize.{ChunkSize}

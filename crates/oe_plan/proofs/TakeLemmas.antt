@@ -8,8 +8,8 @@ use Rattle.oe_order.specs.Live.{Steps}
 use Rattle.oe_order.specs.Order.{IsListing}
 use Rattle.oe_order.specs.Turns.{order_by_turns}
 use Rattle.oe_order.specs.declared.Links.{Links}
-use Rattle.oe_shape.specs.Checked.{CheckedGraph}
-use Rattle.oe_shape.specs.Links.{links_of}
+use Rattle.oe_check.specs.Checked.{CheckedGraph}
+use Rattle.oe_check.specs.Links.{links_of}
 use Rattle.oe_plan.proofs.RunLemmas.{argument_before, step_within}
 use Rattle.oe_plan.specs.Figures.{steps_of}
 use Rattle.oe_plan.specs.Ranges.{AreStepsOf}

@@ -11,7 +11,7 @@ use Rattle.oe_dims.specs.Names.{is_name_before}
 use Rattle.oe_graph.specs.Printed.{node_count}
 use Rattle.oe_order.proofs.Lists.{one_if}
 use Rattle.oe_order.specs.Turns.{AreTurns}
-use Rattle.oe_shape.specs.Checked.{CheckedGraph}
+use Rattle.oe_check.specs.Checked.{CheckedGraph}
 use Rattle.oe_plan.specs.Turns.{in_order_of, turn_name, turns_of}
 
 -- one node more is put at an index

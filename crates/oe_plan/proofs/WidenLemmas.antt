@@ -16,9 +16,9 @@ use Rattle.oe_order.specs.Order.{IsListing}
 use Rattle.oe_order.proofs.Reach.{IsInRun-push, Reaches-push}
 use Rattle.oe_ops.specs.Needs.{HoldsNeed, IsNeed, Needs, argument_shape, zero_window}
 use Rattle.oe_ops.specs.Nodes.{IsConvolution}
-use Rattle.oe_shape.specs.Checked.{AreFaultless, CheckedGraph, operation_of_node}
-use Rattle.oe_shape.specs.Links.{links_of}
-use Rattle.oe_shape.specs.Operations.{Operation, keep, each_cell, convolve, reduce, aggregate, accumulate, merge, cover, give_back, shape_of}
+use Rattle.oe_check.specs.Checked.{AreFaultless, CheckedGraph, operation_of_node}
+use Rattle.oe_check.specs.Links.{links_of}
+use Rattle.oe_requests.specs.Operations.{Operation, keep, each_cell, convolve, reduce, aggregate, accumulate, merge, cover, give_back, shape_of}
 use Rattle.oe_window.specs.Chunks.{FitsSides, tiling_of}
 use Rattle.oe_window.specs.Windows.{Holds, IsEmpty, IsIn, whole_window}
 use Rattle.oe_window.specs.declared.grid.ChunkSize.{ChunkSize}

@@ -15,8 +15,8 @@ use Rattle.oe_order.specs.declared.Links.{Links}
 use Rattle.oe_order.proofs.Graphs.{arguments-graph_of}
 use Rattle.oe_order.proofs.Lists.{Apart, bool_split, contains-at, contains-index, length-apart, one_if}
 use Rattle.oe_order.proofs.Lives.{is_live-after, is_live-before, is_live-here, taken_from-more}
-use Rattle.oe_shape.specs.Checked.{CheckedGraph}
-use Rattle.oe_shape.specs.Links.{links_of}
+use Rattle.oe_check.specs.Checked.{CheckedGraph}
+use Rattle.oe_check.specs.Links.{links_of}
 use Rattle.oe_window.specs.declared.grid.ChunkSize.{ChunkSize}
 use Rattle.oe_dims.specs.declared.kind.Kind.TheVariants.{Time, Bands, Y, X}
 use Rattle.oe_plan.proofs.SizeLemmas.{largest_of_more}

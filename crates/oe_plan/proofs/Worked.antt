@@ -11,7 +11,7 @@ use Rattle.oe_order.specs.Graph.{reaches_within, in_run, run_of}
 use Rattle.oe_order.specs.Live.{taken_from, is_live, live_count}
 use Rattle.oe_order.specs.Order.{next_of, extend_order, loads_of, order_of}
 use Rattle.oe_order.specs.Turns.{order_by_turns}
-use Rattle.oe_shape.specs.Checked.{CheckedGraph}
+use Rattle.oe_check.specs.Checked.{CheckedGraph}
 use Rattle.oe_window.specs.declared.grid.ChunkSize.{ChunkSize}
 use Rattle.oe_plan.specs.Figures.{steps_of, side_along, width_of_run, bound_of, chunks_of}
 use Rattle.oe_plan.specs.Turns.{in_order_of, turns_of}

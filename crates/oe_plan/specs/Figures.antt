@@ -6,9 +6,9 @@ use Rattle.oe_dims.specs.declared.kind.Kind.{Kind}
 use Rattle.oe_dims.specs.declared.kind.Kind.TheVariants.{Time, Bands, Y, X}
 use Rattle.oe_order.specs.Live.{largest, live_count}
 use Rattle.oe_order.specs.Turns.{order_by_turns}
-use Rattle.oe_shape.specs.Checked.{CheckedGraph, outline_of_node}
-use Rattle.oe_shape.specs.Links.{links_of}
-use Rattle.oe_shape.specs.Reach.{halo_of_node, whole_of_node}
+use Rattle.oe_check.specs.Checked.{CheckedGraph, outline_of_node}
+use Rattle.oe_check.specs.Links.{links_of}
+use Rattle.oe_check.specs.Reach.{halo_of_node, whole_of_node}
 use Rattle.oe_window.specs.Chunks.{chunk_count, tiling_of}
 use Rattle.oe_window.specs.Windows.{extent_along}
 use Rattle.oe_window.specs.declared.grid.ChunkSize.{ChunkSize}

@@ -4,8 +4,8 @@ use Rattle.oe_order.specs.Evaluation.{IsEvaluationOrder}
 use Rattle.oe_order.specs.Graph.{IsInRun}
 use Rattle.oe_order.specs.Live.{IsSlotted}
 use Rattle.oe_order.specs.Order.{IsListing}
-use Rattle.oe_shape.specs.Checked.{AreFaultless, CheckedGraph}
-use Rattle.oe_shape.specs.Links.{links_of}
+use Rattle.oe_check.specs.Checked.{AreFaultless, CheckedGraph}
+use Rattle.oe_check.specs.Links.{links_of}
 use Rattle.oe_window.specs.Windows.{position_count}
 use Rattle.oe_window.specs.declared.grid.ChunkSize.{ChunkSize}
 use Rattle.oe_window.specs.declared.window.Window.{Window}

@@ -4,8 +4,8 @@ use Rattle.oe_graph.specs.Printed.{node_count}
 use Rattle.oe_order.specs.Evaluation.{IsEvaluationOrder}
 use Rattle.oe_order.specs.Live.{IsSlotted, Steps}
 use Rattle.oe_order.specs.Order.{IsListing}
-use Rattle.oe_shape.specs.Checked.{AreFaultless, CheckedGraph}
-use Rattle.oe_shape.specs.Links.{links_of}
+use Rattle.oe_check.specs.Checked.{AreFaultless, CheckedGraph}
+use Rattle.oe_check.specs.Links.{links_of}
 use Rattle.oe_window.specs.Chunks.{Tiling, tiling_of}
 use Rattle.oe_window.specs.declared.grid.ChunkSize.{ChunkSize}
 use Rattle.oe_plan.specs.Figures.{bound_of, largest_window, most_held_cells, scratch_of, shape_of_node, steps_of, width_of_run}

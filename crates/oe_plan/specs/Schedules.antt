@@ -6,8 +6,8 @@ use Rattle.oe_order.specs.Evaluation.{IsEvaluationOrder}
 use Rattle.oe_order.specs.Graph.{Node, is_load}
 use Rattle.oe_order.specs.Live.{IsSlotted, Steps}
 use Rattle.oe_order.specs.Order.{IsListing}
-use Rattle.oe_shape.specs.Checked.{AreFaultless, CheckedGraph}
-use Rattle.oe_shape.specs.Links.{links_of}
+use Rattle.oe_check.specs.Checked.{AreFaultless, CheckedGraph}
+use Rattle.oe_check.specs.Links.{links_of}
 use Rattle.oe_window.specs.Windows.{Holds, position_count, whole_window}
 use Rattle.oe_window.specs.declared.window.Window.{Window}
 use Rattle.oe_plan.specs.Figures.{most_held_cells, shape_of_node, steps_of}

@@ -5,9 +5,9 @@ use Rattle.oe_dims.specs.Positions.{Position}
 use Rattle.oe_ops.specs.Needs.{Needs}
 use Rattle.oe_order.specs.Graph as order
 use Rattle.oe_order.specs.declared.Links.{Links}
-use Rattle.oe_shape.specs.Checked.{CheckedGraph, operation_of_node}
-use Rattle.oe_shape.specs.Links.{links_of}
-use Rattle.oe_shape.specs.Operations.{Operation}
+use Rattle.oe_check.specs.Checked.{CheckedGraph, operation_of_node}
+use Rattle.oe_check.specs.Links.{links_of}
+use Rattle.oe_requests.specs.Operations.{Operation}
 use Rattle.oe_plan.specs.Figures.{shape_of_node, steps_of}
 
 -- the nodes whose cubes a node takes

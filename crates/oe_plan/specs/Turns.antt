@@ -6,8 +6,8 @@ use Rattle.std.specs.Option.{option_map_or}
 use Rattle.oe_dims.specs.Names.{is_name_before}
 use Rattle.oe_expr.specs.Nodes.{id_at}
 use Rattle.oe_graph.specs.Printed.{node_count}
-use Rattle.oe_shape.specs.Checked.{CheckedGraph, operation_of_node}
-use Rattle.oe_shape.specs.Operations.{Operation, accumulate}
+use Rattle.oe_check.specs.Checked.{CheckedGraph, operation_of_node}
+use Rattle.oe_requests.specs.Operations.{Operation, accumulate}
 
 -- whether an operation takes running sums
 abbrev pub is_accumulate : Operation → Bool

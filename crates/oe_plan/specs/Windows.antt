@@ -5,8 +5,8 @@ use Rattle.oe_dims.specs.declared.kind.Kind.TheVariants.{Time, Bands, Y, X}
 use Rattle.oe_ops.specs.Needs.{HoldsNeed, zero_window}
 use Rattle.oe_order.specs.Live.{Steps}
 use Rattle.oe_order.specs.Order.{IsListing}
-use Rattle.oe_shape.specs.Checked.{CheckedGraph}
-use Rattle.oe_shape.specs.Links.{links_of}
+use Rattle.oe_check.specs.Checked.{CheckedGraph}
+use Rattle.oe_check.specs.Links.{links_of}
 use Rattle.oe_window.specs.Windows.{Holds, position_count, span_length, whole_window}
 use Rattle.oe_window.specs.declared.grid.ChunkSize.{ChunkSize}
 use Rattle.oe_window.specs.declared.window.Span.{Span}

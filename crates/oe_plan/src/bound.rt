@@ -6,7 +6,7 @@ ghost use Rattle.oe_order.specs.Evaluation.{IsEvaluationOrder};
 ghost use Rattle.oe_order.specs.Live as live;
 ghost use Rattle.oe_order.specs.Live.{IsSlotted};
 ghost use Rattle.oe_order.specs.Order.{IsListing};
-ghost use Rattle.oe_shape.specs.Links.{links_of};
+ghost use Rattle.oe_check.specs.Links.{links_of};
 ghost use Rattle.oe_window.specs.Windows.{extent_along};
 ghost use Rattle.oe_plan.specs.Figures as spec;
 ghost use Rattle.oe_plan.specs.Figures.{side_along};
@@ -14,10 +14,10 @@ ghost use Rattle.oe_plan.specs.Ranges.{AreStepsOf, IsWithinRanges, most_reach};
 
 use crate::turns::turns_of;
 use crate::widths::width_of;
+use oe_check::Checked;
 use oe_dims::{Kind, Shape};
 use oe_memory::OutOfMemory;
 use oe_order::{NodeOrder, order_by};
-use oe_shape::Checked;
 use oe_window::{ChunkSize, Grid};
 use std::alloc::Global;
 

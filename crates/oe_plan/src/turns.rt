@@ -5,9 +5,10 @@ ghost use Rattle.oe_graph.specs.Printed.{node_count};
 ghost use Rattle.oe_order.specs.Turns.{AreTurns};
 ghost use Rattle.oe_plan.specs.Turns as spec;
 
+use oe_check::Checked;
 use oe_dims::Text;
 use oe_memory::OutOfMemory;
-use oe_shape::{Checked, Operation};
+use oe_requests::Operation;
 use std::alloc::Global;
 
 /// Whether a node takes running sums.

@@ -3,13 +3,13 @@ ghost use Rattle.std.specs.Prelude.{◌≡◌, ◌<◌, ◌≤◌, ℕ, length, 
 ghost use Rattle.oe_order.specs.Graph.{graph_of};
 ghost use Rattle.oe_order.specs.Live as live;
 ghost use Rattle.oe_order.specs.Order.{IsListing, contains};
-ghost use Rattle.oe_shape.specs.Links.{links_of};
+ghost use Rattle.oe_check.specs.Links.{links_of};
 ghost use Rattle.oe_plan.specs.Figures as spec;
 ghost use Rattle.oe_plan.specs.Ranges.{AreStepsOf};
 
 use crate::turns::takes_sums;
+use oe_check::Checked;
 use oe_order::Links;
-use oe_shape::Checked;
 
 /// Whether a node of these links takes the node.
 fn takes(links: &Links, node: u32) -> bool

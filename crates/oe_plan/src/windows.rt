@@ -4,8 +4,8 @@ ghost use Rattle.oe_dims.specs.Dimensions.{IsShape};
 ghost use Rattle.oe_graph.specs.Printed.{node_count};
 ghost use Rattle.oe_ops.specs.Needs.{IsNeed, zero_window};
 ghost use Rattle.oe_order.specs.Graph.{IsAcyclic, is_load};
-ghost use Rattle.oe_shape.specs.Checked.{AreFaultless};
-ghost use Rattle.oe_shape.specs.Links.{links_of};
+ghost use Rattle.oe_check.specs.Checked.{AreFaultless};
+ghost use Rattle.oe_check.specs.Links.{links_of};
 ghost use Rattle.oe_window.specs.Chunks.{FitsSides, tiling_of};
 ghost use Rattle.oe_window.specs.Windows.{Holds, IsEmpty, whole_window};
 ghost use Rattle.oe_window.specs.declared.grid.ChunkSize.{ChunkSize};
@@ -17,9 +17,9 @@ ghost use Rattle.oe_plan.specs.Widening.{AreWidened, IsWidenedBy};
 ghost use Rattle.oe_plan.specs.Windows.{AreWindows, IsOrderOf, window_at};
 
 use crate::schedule::Schedule;
+use oe_check::Checked;
 use oe_dims::{Kind, Shape};
 use oe_ops::need;
-use oe_shape::Checked;
 use oe_window::{Span, Window, hull};
 
 const NO_INDEX: Span = Span { from: 0, to: 0 };

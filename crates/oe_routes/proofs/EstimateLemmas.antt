@@ -15,7 +15,7 @@ use Rattle.oe_resolve.specs.Faults as faults
 use Rattle.oe_resolve.specs.Faults.{HasNode, IsWithin, StandsWithStored}
 use Rattle.oe_resolve.specs.Filled.{filled_nodes, resolved}
 use Rattle.oe_resolve.specs.Rounds.{expanded, expanded_by, known_graph, known_nodes, known_stored, most_rounds, round_nodes, rounds}
-use Rattle.oe_shape.specs.Stands as cubes
+use Rattle.oe_meanings.specs.Stands as cubes
 use Rattle.oe_http.specs.Plain.{PlainRequest}
 use Rattle.oe_jobs.specs.Plain.{PlainJob}
 use Rattle.oe_routes.specs.Actions.{PlainAction, estimate}

@@ -14,7 +14,7 @@ use Rattle.oe_routes.specs.Scenes.{PlainScene}
 use Rattle.oe_routes.specs.declared.action.Action.{Action}
 use Rattle.oe_routes.specs.declared.action.Action.TheVariants as action
 use Rattle.oe_routes.specs.declared.action.EstimateGraph.{EstimateGraph}
-use Rattle.oe_shape.specs.Checked.{CheckedGraph}
+use Rattle.oe_check.specs.Checked.{CheckedGraph}
 
 pub data PlainAction : Type 0 where
   answer : PlainResponse → PlainAction

@@ -20,13 +20,13 @@ use crate::perform::perform;
 use crate::refusal::Rejection;
 use crate::site::Site;
 use crate::user::user_of;
+use oe_check::Checked;
 use oe_dims::{Dims, Text};
 use oe_graph::Fault;
 use oe_http::{Request, Response};
 use oe_jobs::{Book, Change};
 use oe_memory::OutOfMemory;
 use oe_replies::{ReplyCode, refused_reply};
-use oe_shape::Checked;
 use std::alloc::Global;
 
 /// What is to be done for a request.

@@ -24,12 +24,12 @@ use crate::named::named_job;
 use crate::path::id_in;
 use crate::refusal::Rejection;
 use oe_book::{asset_ids, asset_name, assets_of, stored_is_valid};
+use oe_check::Checked;
 use oe_dims::Text;
 use oe_graph::{Graph, Refusal as GraphRefusal};
 use oe_http::Request;
 use oe_judge::{judge, with_result};
 use oe_memory::OutOfMemory;
-use oe_shape::Checked;
 use std::alloc::Global;
 
 /// The assets of the job that a request names, whatever its status is, with the user's stored processes as they are now.

@@ -29,6 +29,7 @@ use crate::refusal::Rejection;
 use crate::sent::graph_sent;
 use crate::shown::shown;
 use oe_book::{assets_of, stored_is_valid};
+use oe_check::Checked;
 use oe_dims::Text;
 use oe_graph::{Fault, Graph, Refusal as GraphRefusal, read_graph};
 use oe_http::{Request, Response};
@@ -36,7 +37,6 @@ use oe_jobs::{Command, Job};
 use oe_judge::judge;
 use oe_memory::OutOfMemory;
 use oe_replies::{ReplyCode, validation_body};
-use oe_shape::Checked;
 use std::alloc::Global;
 
 /// Most assets of a job that is queued.

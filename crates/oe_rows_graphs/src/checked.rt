@@ -3,11 +3,11 @@ ghost use Rattle.std.specs.Prelude.{◌≡◌, IfOk};
 ghost use Rattle.oe_dims.specs.Plain.{plain_rows};
 ghost use Rattle.oe_plan.specs.Ranges.{IsWithinRanges};
 
+use oe_check::{Checked, check};
 use oe_dims::Dims;
 use oe_graph::read_graph;
 use oe_lines::{Fault, number_of, words_of};
 use oe_resolve::resolve;
-use oe_shape::{Checked, check};
 use oe_window::ChunkSize;
 use std::alloc::Global;
 

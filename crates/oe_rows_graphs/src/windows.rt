@@ -1,7 +1,7 @@
 // The answers to lines about the windows of steps.
+use oe_check::Checked;
 use oe_lines::{Answers, Fault, Line, push_number, push_window};
 use oe_plan::{Schedule, order_of, windows_of};
-use oe_shape::Checked;
 use oe_window::{Window, holds, whole};
 use std::alloc::Global;
 use std::thread::{self, Threads};

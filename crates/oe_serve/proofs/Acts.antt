@@ -19,7 +19,7 @@ use Rattle.oe_service.specs.Causes.{IsVisible, Outside, outside}
 use Rattle.oe_service.specs.GoesOn.{GoesOn, IsService, records_end_of, state_of}
 use Rattle.oe_service.specs.States.{Event, Setting, State, no_command}
 use Rattle.oe_service.specs.declared.service.Service.{Service}
-use Rattle.oe_shape.specs.Checked.{CheckedGraph}
+use Rattle.oe_check.specs.Checked.{CheckedGraph}
 use Rattle.oe_sources.specs.Catalogue.{Row}
 use Rattle.oe_sources.specs.CatalogueDims.{AreDimsOf}
 use Rattle.oe_spool.specs.Spooled.{KeepsBytesBut}

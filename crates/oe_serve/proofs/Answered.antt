@@ -12,9 +12,9 @@ use Rattle.oe_outside.proofs.Causes.{then-Rose}
 use Rattle.oe_plan.specs.Plans.{PlanOf}
 use Rattle.oe_render.specs.Text.{cube_text}
 use Rattle.oe_service.specs.Causes.{Outside, outside, result_of}
-use Rattle.oe_shape.specs.Checked.{CheckedGraph, collection_of_node}
-use Rattle.oe_shape.specs.Links.{loaded_collection}
-use Rattle.oe_shape.proofs.LinkLemmas.{each_count}
+use Rattle.oe_check.specs.Checked.{CheckedGraph, collection_of_node}
+use Rattle.oe_check.specs.Links.{loaded_collection}
+use Rattle.oe_check.proofs.LinkLemmas.{each_count}
 use Rattle.oe_sources.specs.Catalogue.{Row}
 use Rattle.std.proofs.lemmas.Option.{slice_get_within}
 use Rattle.std.specs.List.{slice_get}

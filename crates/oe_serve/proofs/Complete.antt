@@ -7,7 +7,7 @@ use Rattle.oe_jobs.specs.Plain.{PlainBook}
 use Rattle.oe_routes.specs.Actions.{PlainAction}
 use Rattle.oe_routes.specs.Scenes.{PlainScene}
 use Rattle.oe_service.specs.Causes.{IsVisible, Outside}
-use Rattle.oe_shape.specs.Checked.{CheckedGraph}
+use Rattle.oe_check.specs.Checked.{CheckedGraph}
 use Rattle.oe_window.specs.declared.grid.ChunkSize.{ChunkSize}
 use Rattle.oe_serve.specs.Answers.{Answer, IsAnswer, IsAnswerTo, SendsAnswer, bytes_of, change, no_result, out_of_memory, reply, result, status_of, store_fault, unreadable}
 use Rattle.oe_serve.specs.Laws.{IsOfGraph, IsOfRequest, IsWholeAnswer, NoneRose, ServingIsComplete}

@@ -14,8 +14,8 @@ use Rattle.oe_outside.proofs.Causes.{NeverFalls-trans, then-Rose}
 use Rattle.oe_plan.specs.Plans.{IsPlan, PlanOf}
 use Rattle.oe_render.specs.Text.{cube_text}
 use Rattle.oe_service.specs.Causes.{IsVisible, IsWithoutOver, OfMeaning, result_of}
-use Rattle.oe_shape.specs.Graphs.{Collections}
-use Rattle.oe_shape.specs.Laws.{AreCollectionsOf}
+use Rattle.oe_meanings.specs.Graphs.{Collections}
+use Rattle.oe_check.specs.Laws.{AreCollectionsOf}
 use Rattle.oe_sources.specs.Catalogue.{Row}
 use Rattle.oe_spool.specs.Least.{least_over_of}
 use Rattle.oe_serve.specs.Evaluations.{Completes, Evaluates, Goes, OfRun, TextRefused}

@@ -18,9 +18,9 @@ use Rattle.oe_plan.specs.Plans.{IsPlan}
 use Rattle.oe_render.specs.Laws.{HasText}
 use Rattle.oe_render.specs.Text.{cube_text}
 use Rattle.oe_render.proofs.LawLemmas.{exact}
-use Rattle.oe_shape.specs.Graphs.{Collections}
-use Rattle.oe_shape.specs.Laws.{AreCollectionsOf}
-use Rattle.oe_shape.proofs.CheckedLemmas.{give_cubes}
+use Rattle.oe_meanings.specs.Graphs.{Collections}
+use Rattle.oe_check.specs.Laws.{AreCollectionsOf}
+use Rattle.oe_check.proofs.CheckedLemmas.{give_cubes}
 use Rattle.oe_spool.specs.Least.{IsLeastOver}
 use Rattle.oe_spool.specs.Spooled.{IsInSome}
 use Rattle.oe_spool.proofs.CubeRecords.{cells_counted}

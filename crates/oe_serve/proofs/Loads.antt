@@ -6,8 +6,8 @@ use Rattle.oe_engine.specs.Runs.{RunOf, chunk_total, load_count}
 use Rattle.oe_order.specs.Graph.{is_load}
 use Rattle.oe_plan.specs.Figures.{chunks_of, largest_window, steps_of}
 use Rattle.oe_plan.specs.Plans.{IsPlan, PlanOf}
-use Rattle.oe_shape.specs.Checked.{CheckedGraph}
-use Rattle.oe_shape.specs.Links.{links_of}
+use Rattle.oe_check.specs.Checked.{CheckedGraph}
+use Rattle.oe_check.specs.Links.{links_of}
 use Rattle.oe_sources.specs.Catalogue.{Row, cells_asked}
 use Rattle.oe_steps.specs.Collections.{AreRead}
 use Rattle.oe_window.specs.declared.grid.ChunkSize.{ChunkSize}

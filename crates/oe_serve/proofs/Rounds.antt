@@ -6,7 +6,7 @@ use Rattle.oe_dims.specs.Positions.{IsPosition}
 use Rattle.oe_outside.proofs.Causes.{NeverFalls-trans, then-Rose}
 use Rattle.oe_outside.specs.Faults.{NeverFalls}
 use Rattle.oe_plan.specs.Plans.{IsPlan, PlanOf}
-use Rattle.oe_shape.specs.Laws.{AreCollectionsOf}
+use Rattle.oe_check.specs.Laws.{AreCollectionsOf}
 use Rattle.oe_sources.specs.Catalogue.{Row, cells_asked}
 use Rattle.oe_spool.specs.Spooled.{ChangesOnly, KeepsBytesBut}
 use Rattle.oe_steps.specs.Collections.{AreRead, HasCollections, LoadRose, Shows}

@@ -27,7 +27,7 @@ use Rattle.oe_routes.specs.declared.action.EstimateGraph.{EstimateGraph}
 use Rattle.oe_service.specs.Calls.{Failed}
 use Rattle.oe_service.specs.Causes.{Outside}
 use Rattle.oe_service.specs.States.{Event, command, no_command}
-use Rattle.oe_shape.specs.Checked.{CheckedGraph}
+use Rattle.oe_check.specs.Checked.{CheckedGraph}
 use Rattle.oe_window.specs.declared.grid.ChunkSize.{ChunkSize}
 use Rattle.oe_serve.specs.Links.{Came, LinkOf, SendsReply, broken, request, unread}
 use Rattle.oe_serve.specs.Results.{IsResult, ResultRefused, SendsResult, code_of, refusal_reply, result_head}

@@ -5,7 +5,7 @@ use Rattle.oe_outside.specs.Faults.{Rose}
 use Rattle.oe_outside.specs.Visible.{Appends}
 use Rattle.oe_service.specs.Causes.{IsVisible, Outside}
 use Rattle.oe_service.specs.States.{Event, State}
-use Rattle.oe_shape.specs.Checked.{CheckedGraph}
+use Rattle.oe_check.specs.Checked.{CheckedGraph}
 use Rattle.oe_serve.specs.Answers.{Answer, IsAnswer, bytes_of, change, no_result, out_of_memory, reply, result, status_of, store_fault, unreadable}
 use Rattle.oe_serve.specs.Links.{Came, IsCame, LinkOf}
 use Rattle.oe_serve.specs.Serves.{Serves, ServerOf, scene_at}

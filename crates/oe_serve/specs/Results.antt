@@ -19,8 +19,8 @@ use Rattle.oe_replies.specs.Codes.{status_of}
 use Rattle.oe_replies.specs.declared.code.ReplyCode.{ReplyCode}
 use Rattle.oe_replies.specs.declared.code.ReplyCode.TheVariants as code
 use Rattle.oe_service.specs.Causes.{IsVisible, IsWithoutOver, OfMeaning, Outside}
-use Rattle.oe_shape.specs.Checked.{CheckedGraph, collection_of_node}
-use Rattle.oe_shape.specs.Links.{links_of}
+use Rattle.oe_check.specs.Checked.{CheckedGraph, collection_of_node}
+use Rattle.oe_check.specs.Links.{links_of}
 use Rattle.oe_sources.specs.Catalogue.{Row, cells_asked}
 use Rattle.oe_spool.specs.Least.{least_over_of}
 use Rattle.oe_window.specs.declared.grid.ChunkSize.{ChunkSize}

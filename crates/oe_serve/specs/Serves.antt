@@ -22,7 +22,7 @@ use Rattle.oe_service.specs.Causes.{IsVisible, Outside}
 use Rattle.oe_service.specs.GoesOn.{GoesOn, HasSizesOf, IsService, state_of}
 use Rattle.oe_service.specs.States.{Event, State, no_command, setting_of}
 use Rattle.oe_service.specs.declared.service.Service.{Service}
-use Rattle.oe_shape.specs.Checked.{CheckedGraph}
+use Rattle.oe_check.specs.Checked.{CheckedGraph}
 use Rattle.oe_sources.specs.Catalogue.{Row}
 use Rattle.oe_sources.specs.CatalogueDims.{AreDimsOf, dims_of}
 use Rattle.oe_window.specs.declared.grid.ChunkSize.{ChunkSize}

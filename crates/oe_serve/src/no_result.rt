@@ -1,7 +1,7 @@
 // The replies of graphs whose runs have no result.
 ghost use Rattle.std.specs.Prelude.{◌≡◌, ◌<◌, ◌++◌, [], IfOk, codes, decimal, string_bytes, unwrap_or};
 ghost use Rattle.oe_graph.specs.Printed.{node_count};
-ghost use Rattle.oe_shape.specs.Checked.{collection_of_node};
+ghost use Rattle.oe_check.specs.Checked.{collection_of_node};
 ghost use Rattle.oe_serve.specs.Evaluations.{CanBeNamed};
 ghost use Rattle.oe_serve.specs.Links.{SendsCode, link_of};
 ghost use Rattle.oe_serve.specs.Results as spec;
@@ -10,10 +10,10 @@ use crate::links::{answer_code, answer_out_of_memory};
 use crate::refusal::ResultRefusal;
 use crate::served::Served;
 use itoa::Buffer;
+use oe_check::Checked;
 use oe_memory::OutOfMemory;
 use oe_outside::Link;
 use oe_replies::ReplyCode;
-use oe_shape::Checked;
 use std::alloc::Global;
 
 /// Answers that a run has no result.

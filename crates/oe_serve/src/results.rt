@@ -22,6 +22,7 @@ use crate::links::answer_out_of_memory;
 use crate::no_result::{answer_number, answer_refusal};
 use crate::served::Served;
 use crate::setup::Setup;
+use oe_check::Checked;
 use oe_engine::Run;
 use oe_http::write_head;
 use oe_outside::{Gate, Link, Pending, Store};
@@ -29,7 +30,6 @@ use oe_plan::PlanFail;
 use oe_render::RenderFail;
 use oe_replies::ReplyCode;
 use oe_service::Service;
-use oe_shape::Checked;
 use oe_sources::Catalogue;
 use std::thread::Threads;
 

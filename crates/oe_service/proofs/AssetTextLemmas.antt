@@ -21,11 +21,11 @@ use Rattle.oe_render.specs.Text.{cube_text}
 use Rattle.oe_render.specs.declared.rendering.RenderFail.{RenderFail}
 use Rattle.oe_render.specs.declared.rendering.RenderFail.TheVariants as text
 use Rattle.oe_render.proofs.LawLemmas.{utf8}
-use Rattle.oe_shape.specs.Checked.{CheckedGraph}
-use Rattle.oe_shape.specs.Graphs.{Collections}
-use Rattle.oe_shape.specs.Laws.{AreCollectionsOf}
-use Rattle.oe_shape.specs.Operations.{Outline}
-use Rattle.oe_shape.proofs.CheckedLemmas.{give_cubes}
+use Rattle.oe_check.specs.Checked.{CheckedGraph}
+use Rattle.oe_meanings.specs.Graphs.{Collections}
+use Rattle.oe_check.specs.Laws.{AreCollectionsOf}
+use Rattle.oe_requests.specs.Operations.{Outline}
+use Rattle.oe_check.proofs.CheckedLemmas.{give_cubes}
 use Rattle.oe_sources.specs.Catalogue.{Row}
 use Rattle.oe_spool.specs.Least.{least_over_of}
 use Rattle.oe_service.specs.Causes.{HasNoText, IsAssetText, IsTextTooLong, IsVisible, IsWithoutOver, OfMeaning, TextRefused, result_of}

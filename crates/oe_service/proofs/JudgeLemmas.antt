@@ -10,7 +10,7 @@ use Rattle.oe_graph.specs.declared.fault.Refusal.TheVariants as refusal
 use Rattle.oe_jobs.specs.Plain.{PlainRan}
 use Rattle.oe_jobs.specs.Valid.{IsProcessText}
 use Rattle.oe_judge.specs.Judged.{StandsWithCollections, checked_over}
-use Rattle.oe_shape.specs.Checked.{CheckedGraph}
+use Rattle.oe_check.specs.Checked.{CheckedGraph}
 use Rattle.oe_service.specs.Causes.{JudgeRefused, Stands}
 use Rattle.oe_service.specs.Runs.{asset_graph, asset_source}
 use Rattle.oe_service.specs.declared.refusal.RunRefusal.TheVariants.{Graph}

@@ -16,7 +16,7 @@ use Rattle.oe_plan.specs.Plans.{IsPlan, PlanOf}
 use Rattle.oe_plan.specs.Figures.{bound_of, chunks_of, most_held_cells}
 use Rattle.oe_plan.specs.declared.plan.PlanFail.{PlanFail}
 use Rattle.oe_plan.specs.declared.plan.PlanFail.TheVariants as plan
-use Rattle.oe_shape.specs.Checked.{CheckedGraph}
+use Rattle.oe_check.specs.Checked.{CheckedGraph}
 use Rattle.oe_sources.specs.Catalogue.{Row}
 use Rattle.oe_sources.specs.CatalogueDims.{AreDimsOf, dims_of}
 use Rattle.oe_window.specs.declared.grid.ChunkSize.{ChunkSize}

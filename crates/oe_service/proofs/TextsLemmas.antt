@@ -9,8 +9,8 @@ use Rattle.oe_engine.specs.Laws.{collection_at, collection_named_by, collections
 use Rattle.oe_engine.proofs.LawLemmas.{stay_after_reads}
 use Rattle.oe_jobs.specs.Plain.{PlainRan}
 use Rattle.oe_render.specs.Text.{cube_text}
-use Rattle.oe_shape.specs.Graphs.{Collections}
-use Rattle.oe_shape.specs.Laws.{meaning_of_node}
+use Rattle.oe_meanings.specs.Graphs.{Collections}
+use Rattle.oe_check.specs.Laws.{meaning_of_node}
 use Rattle.oe_sources.specs.Catalogue.{Row, row_of}
 use Rattle.oe_sources.specs.CatalogueDims.{dims_of}
 use Rattle.oe_sources.specs.Source.{collection_of}

@@ -17,8 +17,8 @@ use Rattle.oe_judge.specs.Judged.{StandsWithCollections}
 use Rattle.oe_outside.specs.Faults.{Rose}
 use Rattle.oe_plan.specs.Figures.{bound_of, most_held_cells}
 use Rattle.oe_render.specs.Text.{cube_text}
-use Rattle.oe_shape.specs.Checked.{CheckedGraph}
-use Rattle.oe_shape.specs.Laws.{meaning_of_node}
+use Rattle.oe_check.specs.Checked.{CheckedGraph}
+use Rattle.oe_check.specs.Laws.{meaning_of_node}
 use Rattle.oe_sources.specs.Catalogue.{Row}
 use Rattle.oe_sources.specs.CatalogueDims.{dims_of}
 use Rattle.oe_spool.specs.Least.{least_over_of}

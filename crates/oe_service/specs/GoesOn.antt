@@ -10,7 +10,7 @@ use Rattle.oe_jobs.specs.Valid.{IsBook, IsRan}
 use Rattle.oe_plan.specs.Figures.{largest_window}
 use Rattle.oe_plan.specs.Plans.{IsPlan, PlanOf}
 use Rattle.oe_plan.specs.Ranges.{IsWithinRanges}
-use Rattle.oe_shape.specs.Checked.{CheckedGraph}
+use Rattle.oe_check.specs.Checked.{CheckedGraph}
 use Rattle.oe_sources.specs.Catalogue.{Row, cells_asked}
 use Rattle.oe_window.specs.declared.grid.ChunkSize.{ChunkSize}
 use Rattle.oe_service.specs.Runs.{asset_graph, ids_of_ran, ran_of}

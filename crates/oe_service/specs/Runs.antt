@@ -10,7 +10,7 @@ use Rattle.oe_graph.specs.Tree.{PlainGraph, no_nodes}
 use Rattle.oe_jobs.specs.Plain.{PlainJob, PlainRan}
 use Rattle.oe_judge.specs.Judged.{checked_over, having_result}
 use Rattle.oe_plan.specs.Figures.{chunks_of}
-use Rattle.oe_shape.specs.Checked.{CheckedGraph}
+use Rattle.oe_check.specs.Checked.{CheckedGraph}
 use Rattle.oe_window.specs.declared.grid.ChunkSize.{ChunkSize}
 
 -- ---- what was queued

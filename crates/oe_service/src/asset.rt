@@ -17,6 +17,7 @@ ghost use Rattle.oe_sources.specs.CatalogueRows.{rows_of};
 
 use crate::refusal::RunRefusal;
 use oe_book::{asset_ids, assets_of, stored_is_valid};
+use oe_check::Checked;
 use oe_dims::Text;
 use oe_engine::{Run, Workspace, collections_are_valid};
 use oe_graph::{Graph, Refusal, read_graph};
@@ -24,7 +25,6 @@ use oe_jobs::{Job, Ran};
 use oe_judge::{judge, with_result};
 use oe_memory::OutOfMemory;
 use oe_plan::Plan;
-use oe_shape::Checked;
 use oe_sources::Catalogue;
 use oe_window::ChunkSize;
 use std::alloc::Global;

@@ -13,10 +13,10 @@ use Rattle.oe_plan.specs.Laws.{ArePicked}
 use Rattle.oe_plan.specs.Schedules.{is_load_at, links_along, links_given, node_at, part_of}
 use Rattle.oe_plan.specs.Windows.{AreWindows, IsOrderOf, window_at}
 use Rattle.oe_plan.proofs.ScheduleLemmas.{load_elsewhere}
-use Rattle.oe_shape.specs.Checked.{CheckedGraph}
-use Rattle.oe_shape.specs.Links.{links_of}
-use Rattle.oe_shape.proofs.LinkLemmas.{is_acyclic}
-use Rattle.oe_shape.specs.Graphs.{Collections}
+use Rattle.oe_check.specs.Checked.{CheckedGraph}
+use Rattle.oe_check.specs.Links.{links_of}
+use Rattle.oe_check.proofs.LinkLemmas.{is_acyclic}
+use Rattle.oe_meanings.specs.Graphs.{Collections}
 use Rattle.oe_steps.specs.Steps.{AreCells, OfLast, buffer_cells_at, node_cells}
 use Rattle.oe_window.specs.Cells.{cells_on}
 use Rattle.oe_window.specs.Windows.{position_count}

@@ -11,9 +11,9 @@ use Rattle.oe_order.specs.Graph.{Node, is_load}
 use Rattle.oe_order.specs.Live.{width_of}
 use Rattle.oe_order.specs.Order.{IsListing, order_of}
 use Rattle.oe_order.proofs.Lists.{contains-from, contains-index}
-use Rattle.oe_shape.specs.Checked.{CheckedGraph}
-use Rattle.oe_shape.specs.Links.{links_of}
-use Rattle.oe_shape.specs.Reach.{time_fold_of_node, whole_of_node}
+use Rattle.oe_check.specs.Checked.{CheckedGraph}
+use Rattle.oe_check.specs.Links.{links_of}
+use Rattle.oe_check.specs.Reach.{time_fold_of_node, whole_of_node}
 use Rattle.oe_slab.specs.Cuts.{HasNoTimeCut, IsLoneFold, IsOfRun, IsTimeCut, links_behind}
 use Rattle.oe_slab.specs.Figures.{width_behind}
 use Rattle.oe_plan.specs.Schedules.{as_load}

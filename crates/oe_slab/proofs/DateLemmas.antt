@@ -20,13 +20,13 @@ use Rattle.oe_plan.specs.Figures.{shape_of_node, side_along, steps_of}
 use Rattle.oe_plan.specs.Steps.{argument_shapes, arguments_of_node}
 use Rattle.oe_plan.specs.Windows.{AreWindows, span_along, window_at}
 use Rattle.oe_plan.proofs.NodeLemmas.{has_operation, seen, whole_is}
-use Rattle.oe_shape.specs.Checked.{AreFaultless, CheckedGraph}
-use Rattle.oe_shape.specs.Links.{index_referred, links_of}
-use Rattle.oe_shape.specs.declared.extent.TemporalExtent.{TemporalExtent}
-use Rattle.oe_shape.specs.Operations.{Operation, keep, each_cell, convolve, reduce, aggregate, accumulate, merge, cover, give_back, first_or, no_dimensions, second_or, shape_of}
-use Rattle.oe_shape.specs.Reach.{needs_whole, time_fold, time_fold_of_node}
-use Rattle.oe_shape.specs.Stands.{IsSound, sound}
-use Rattle.oe_shape.proofs.LinkLemmas.{index_is, links_arguments, named_at, referred, within_nodes}
+use Rattle.oe_check.specs.Checked.{AreFaultless, CheckedGraph}
+use Rattle.oe_check.specs.Links.{index_referred, links_of}
+use Rattle.oe_requests.specs.declared.extent.TemporalExtent.{TemporalExtent}
+use Rattle.oe_requests.specs.Operations.{Operation, keep, each_cell, convolve, reduce, aggregate, accumulate, merge, cover, give_back, first_or, no_dimensions, second_or, shape_of}
+use Rattle.oe_check.specs.Reach.{needs_whole, time_fold, time_fold_of_node}
+use Rattle.oe_meanings.specs.Stands.{IsSound, sound}
+use Rattle.oe_check.proofs.LinkLemmas.{index_is, links_arguments, named_at, referred, within_nodes}
 use Rattle.oe_window.specs.Windows.{Holds, position_count, span_length, whole_window}
 use Rattle.oe_window.specs.declared.grid.ChunkSize.{ChunkSize}
 use Rattle.oe_window.specs.declared.window.Window.{Window}

@@ -11,16 +11,16 @@ use Rattle.oe_graph.proofs.ResolvedLemmas.{node_below}
 use Rattle.oe_graph.specs.Printed.{node_count}
 use Rattle.oe_order.specs.Live.{Steps, width_of}
 use Rattle.oe_plan.specs.Steps.{arguments_of_node}
-use Rattle.oe_shape.specs.Checked.{AreFaultless, CheckedGraph, operation_of_node}
-use Rattle.oe_shape.specs.Graphs.{operation_at}
-use Rattle.oe_shape.specs.Links.{index_referred, links_of}
-use Rattle.oe_shape.specs.Operations.{Operation, keep, each_cell, convolve, reduce, aggregate, accumulate, merge, cover, give_back, Outline, operation_of}
-use Rattle.oe_shape.specs.Reach.{time_fold, time_fold_of_node}
-use Rattle.oe_shape.specs.Requests.{CubeRequest, aggregate_temporal, aggregate_temporal_period, apply_dimension, apply, apply_kernel, cube_ids, filter_bands, filter_bbox, filter_temporal, load_collection, mask, merge_cubes, reduce_dimension, cube_request_at, save_result}
-use Rattle.oe_shape.specs.SoundNodes.{input_outlines}
-use Rattle.oe_shape.proofs.CheckedLemmas.{refer}
-use Rattle.oe_shape.proofs.LinkLemmas.{links_arguments}
-use Rattle.oe_shape.proofs.RequestLemmas.{found}
+use Rattle.oe_check.specs.Checked.{AreFaultless, CheckedGraph, operation_of_node}
+use Rattle.oe_meanings.specs.Graphs.{operation_at}
+use Rattle.oe_check.specs.Links.{index_referred, links_of}
+use Rattle.oe_requests.specs.Operations.{Operation, keep, each_cell, convolve, reduce, aggregate, accumulate, merge, cover, give_back, Outline, operation_of}
+use Rattle.oe_check.specs.Reach.{time_fold, time_fold_of_node}
+use Rattle.oe_requests.specs.Requests.{CubeRequest, aggregate_temporal, aggregate_temporal_period, apply_dimension, apply, apply_kernel, cube_ids, filter_bands, filter_bbox, filter_temporal, load_collection, mask, merge_cubes, reduce_dimension, cube_request_at, save_result}
+use Rattle.oe_meanings.specs.SoundNodes.{input_outlines}
+use Rattle.oe_check.proofs.CheckedLemmas.{refer}
+use Rattle.oe_check.proofs.LinkLemmas.{links_arguments}
+use Rattle.oe_meanings.proofs.RequestLemmas.{found}
 use Rattle.oe_plan.specs.Figures.{scratch_of, steps_of}
 use Rattle.oe_window.specs.declared.grid.ChunkSize.{ChunkSize}
 use Rattle.oe_slab.specs.Figures.{largest_plane, largest_slab, slab_bound, taken_by, width_before, width_behind}

@@ -13,9 +13,9 @@ use Rattle.oe_fold.specs.declared.pass.Pass.{Pass}
 use Rattle.oe_fold.specs.declared.reducer.Reducer.{Reducer}
 use Rattle.oe_plan.specs.Schedules.{AreWindowsFor, IsSchedule, ScheduleOf, node_at}
 use Rattle.oe_plan.specs.Windows.{window_at}
-use Rattle.oe_shape.specs.Checked.{CheckedGraph, outline_of_node}
-use Rattle.oe_shape.specs.Graphs.{Collections}
-use Rattle.oe_shape.specs.Laws.{meaning_of_node}
+use Rattle.oe_check.specs.Checked.{CheckedGraph, outline_of_node}
+use Rattle.oe_meanings.specs.Graphs.{Collections}
+use Rattle.oe_check.specs.Laws.{meaning_of_node}
 use Rattle.oe_steps.specs.Steps.{AreCells, AreOfKind, HaveRoomFor, OfLast, buffer_cells_at}
 use Rattle.oe_window.specs.Cells.{cells_on}
 use Rattle.oe_window.specs.Windows.{position_count, span_length}

@@ -10,15 +10,15 @@ use Rattle.oe_expr.specs.Callback.{Callback, KeepsKind, callback_kind}
 use Rattle.oe_expr.specs.Scope.{count_labels}
 use Rattle.oe_fold.specs.Value.{reduction_of}
 use Rattle.oe_plan.specs.Steps.{arguments_of_node}
-use Rattle.oe_shape.specs.CellKinds.{IsSoundOn}
-use Rattle.oe_shape.specs.Checked.{AreFaultless, CheckedGraph, collection_of_node, operation_of_node, outline_of_node}
-use Rattle.oe_shape.specs.Meaning.{value_on_list}
-use Rattle.oe_shape.specs.Operations.{Outline, labels_along, reduce, reduction_scope}
-use Rattle.oe_shape.specs.Reach.{time_fold}
-use Rattle.oe_shape.proofs.CellKindLemmas.{all_labels, list_value_fits, under_scope}
-use Rattle.oe_shape.proofs.LoadLemmas.{loads_where}
-use Rattle.oe_shape.proofs.ReachLemmas.{fold_date_by_date}
-use Rattle.oe_shape.proofs.RequestLemmas.{found}
+use Rattle.oe_meanings.specs.CellKinds.{IsSoundOn}
+use Rattle.oe_check.specs.Checked.{AreFaultless, CheckedGraph, collection_of_node, operation_of_node, outline_of_node}
+use Rattle.oe_meanings.specs.Meaning.{value_on_list}
+use Rattle.oe_requests.specs.Operations.{Outline, labels_along, reduce, reduction_scope}
+use Rattle.oe_check.specs.Reach.{time_fold}
+use Rattle.oe_meanings.proofs.CellKindLemmas.{all_labels, list_value_fits, under_scope}
+use Rattle.oe_check.proofs.LoadLemmas.{loads_where}
+use Rattle.oe_check.proofs.ReachLemmas.{fold_date_by_date}
+use Rattle.oe_meanings.proofs.RequestLemmas.{found}
 use Rattle.oe_steps.proofs.NodeLemmas.{WorksOn, works_on}
 use Rattle.oe_slab.specs.Cuts.{IsTimeCut}
 use Rattle.oe_slab.specs.Figures.{taken_by}

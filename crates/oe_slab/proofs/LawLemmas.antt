@@ -1,9 +1,9 @@
 -- Each time cut parts its run, and a run has no two.
 use Rattle.std.proofs.Common.{◌≡◌, ℕ, List, [], ◌∷◌, length, get_or, refl, arith}
 use Rattle.oe_plan.specs.Steps.{arguments_of_node}
-use Rattle.oe_shape.specs.Checked.{AreFaultless, CheckedGraph}
-use Rattle.oe_shape.specs.Links.{links_of}
-use Rattle.oe_shape.proofs.LinkLemmas.{is_acyclic}
+use Rattle.oe_check.specs.Checked.{AreFaultless, CheckedGraph}
+use Rattle.oe_check.specs.Links.{links_of}
+use Rattle.oe_check.proofs.LinkLemmas.{is_acyclic}
 use Rattle.oe_slab.specs.Cuts.{IsTimeCut}
 use Rattle.oe_slab.specs.Figures.{taken_by}
 use Rattle.oe_slab.specs.Laws.{CutsAreOne, CutsPart}

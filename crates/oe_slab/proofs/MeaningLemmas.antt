@@ -16,15 +16,15 @@ use Rattle.oe_order.specs.Graph.{is_load}
 use Rattle.oe_plan.specs.Figures.{shape_of_node}
 use Rattle.oe_plan.specs.Steps.{arguments_of_node}
 use Rattle.oe_plan.proofs.NodeLemmas.{argument_below, load_alone}
-use Rattle.oe_shape.specs.Checked.{AreFaultless, CheckedGraph, collection_of_node, operation_of_node}
-use Rattle.oe_shape.specs.Graphs.{Collections}
-use Rattle.oe_shape.specs.Laws.{AreCollectionsOf, meaning_of_node}
-use Rattle.oe_shape.specs.Links.{links_of}
-use Rattle.oe_shape.specs.Meaning.{Datacube, operated, reduced}
-use Rattle.oe_shape.specs.Operations.{Outline, reduce, without_dimension}
-use Rattle.oe_shape.specs.Reach.{time_fold}
-use Rattle.oe_shape.proofs.CheckedLemmas.{give_cubes}
-use Rattle.oe_shape.proofs.RequestLemmas.{found}
+use Rattle.oe_check.specs.Checked.{AreFaultless, CheckedGraph, collection_of_node, operation_of_node}
+use Rattle.oe_meanings.specs.Graphs.{Collections}
+use Rattle.oe_check.specs.Laws.{AreCollectionsOf, meaning_of_node}
+use Rattle.oe_check.specs.Links.{links_of}
+use Rattle.oe_meanings.specs.Meaning.{Datacube, operated, reduced}
+use Rattle.oe_requests.specs.Operations.{Outline, reduce, without_dimension}
+use Rattle.oe_check.specs.Reach.{time_fold}
+use Rattle.oe_check.proofs.CheckedLemmas.{give_cubes}
+use Rattle.oe_meanings.proofs.RequestLemmas.{found}
 use Rattle.oe_window.specs.Cells.{cells_on}
 use Rattle.oe_window.specs.Windows.{Holds, position_count, whole_window}
 use Rattle.oe_window.specs.declared.window.Window.{Window}

@@ -9,9 +9,9 @@ use Rattle.oe_fold.specs.declared.pass.Pass.{Pass}
 use Rattle.oe_fold.specs.declared.reducer.Reducer.{Reducer}
 use Rattle.oe_fold.specs.declared.reducer.Reducer.TheVariants.{Median}
 use Rattle.oe_graph.specs.Tree.{Nodes, no_nodes, node}
-use Rattle.oe_shape.specs.Checked.{CheckedGraph, operation_of_node}
-use Rattle.oe_shape.specs.Reach.{time_fold}
-use Rattle.oe_shape.proofs.RequestLemmas.{found}
+use Rattle.oe_check.specs.Checked.{CheckedGraph, operation_of_node}
+use Rattle.oe_check.specs.Reach.{time_fold}
+use Rattle.oe_meanings.proofs.RequestLemmas.{found}
 use Rattle.oe_slab.specs.Cuts.{IsTimeCut}
 use Rattle.oe_slab.specs.Folds.{AreNoMedians, HaveSeen}
 use Rattle.oe_slab.proofs.FoldLemmas.{folds_reduce}

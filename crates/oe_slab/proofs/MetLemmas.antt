@@ -8,7 +8,7 @@ use Rattle.oe_ops.specs.Needs.{zero_window}
 use Rattle.oe_plan.specs.Figures.{steps_of}
 use Rattle.oe_plan.specs.Schedules.{ScheduleOf, node_at}
 use Rattle.oe_plan.specs.Windows.{window_at}
-use Rattle.oe_shape.specs.Checked.{CheckedGraph}
+use Rattle.oe_check.specs.Checked.{CheckedGraph}
 use Rattle.oe_window.specs.Windows.{IsIn}
 use Rattle.oe_window.specs.declared.window.Window.{Window}
 

@@ -19,21 +19,21 @@ use Rattle.oe_graph.specs.declared.code.Code.{Code}
 use Rattle.oe_graph.specs.declared.code.Code.TheVariants.{ProcessParameterInvalid}
 use Rattle.oe_order.specs.Graph.{Reaches, arguments, is_load}
 use Rattle.oe_order.proofs.Reach.{IsInRun-within}
-use Rattle.oe_shape.specs.Callbacks.{IsResolvedCallback}
-use Rattle.oe_shape.specs.Checked.{AreFaultless, CheckedGraph, operation_of_node}
-use Rattle.oe_shape.specs.Graphs.{operation_at, outline_at}
-use Rattle.oe_shape.specs.Links.{index_referred, link_of, links_of, loaded_by, loaded_collection}
-use Rattle.oe_shape.specs.Operations.{Outline, aggregate, callback_under, dimension_named, first_or, no_outline, operation_of, reduce, reduction_scope}
-use Rattle.oe_shape.specs.declared.extent.Interval.{Interval}
-use Rattle.oe_shape.specs.Requests.{Called, CubeRequest, aggregate_temporal, aggregate_temporal_period, apply_dimension, apply, apply_kernel, cube_ids, filter_bands, filter_bbox, filter_temporal, load_collection, mask, merge_cubes, reduce_dimension, cube_request_at, save_result}
-use Rattle.oe_shape.specs.SoundNodes.{input_outlines}
-use Rattle.oe_shape.specs.Stands.{HasNoFault, IsSound, asks_for_nothing, callback_in, cubes_of, early, early_rows, sound}
+use Rattle.oe_meanings.specs.Callbacks.{IsResolvedCallback}
+use Rattle.oe_check.specs.Checked.{AreFaultless, CheckedGraph, operation_of_node}
+use Rattle.oe_meanings.specs.Graphs.{operation_at, outline_at}
+use Rattle.oe_check.specs.Links.{index_referred, link_of, links_of, loaded_by, loaded_collection}
+use Rattle.oe_requests.specs.Operations.{Outline, aggregate, callback_under, dimension_named, first_or, no_outline, operation_of, reduce, reduction_scope}
+use Rattle.oe_requests.specs.declared.extent.Interval.{Interval}
+use Rattle.oe_requests.specs.Requests.{Called, CubeRequest, aggregate_temporal, aggregate_temporal_period, apply_dimension, apply, apply_kernel, cube_ids, filter_bands, filter_bbox, filter_temporal, load_collection, mask, merge_cubes, reduce_dimension, cube_request_at, save_result}
+use Rattle.oe_meanings.specs.SoundNodes.{input_outlines}
+use Rattle.oe_meanings.specs.Stands.{HasNoFault, IsSound, asks_for_nothing, callback_in, cubes_of, early, early_rows, sound}
 use Rattle.oe_expr.specs.Rows.{first_row}
-use Rattle.oe_shape.proofs.BuildableLemmas.{buildable, none_holds}
-use Rattle.oe_shape.proofs.CheckedLemmas.{refer}
-use Rattle.oe_shape.proofs.LinkLemmas.{index_is, links_arguments, named_at, referred, within_nodes, refers_within, each_count}
-use Rattle.oe_shape.proofs.LoadLemmas.{loads_where}
-use Rattle.oe_shape.proofs.RequestLemmas.{found}
+use Rattle.oe_check.proofs.BuildableLemmas.{buildable, none_holds}
+use Rattle.oe_check.proofs.CheckedLemmas.{refer}
+use Rattle.oe_check.proofs.LinkLemmas.{index_is, links_arguments, named_at, referred, within_nodes, refers_within, each_count}
+use Rattle.oe_check.proofs.LoadLemmas.{loads_where}
+use Rattle.oe_meanings.proofs.RequestLemmas.{found}
 use Rattle.oe_slab.proofs.ApartLemmas.{ComesFrom, onwards_from}
 
 -- ---- what a node asks for

@@ -15,10 +15,10 @@ use Rattle.oe_expr.specs.Scope.{scope_parameters}
 use Rattle.oe_fold.specs.Value.{reduction_of}
 use Rattle.oe_fold.specs.declared.reducer.Reducer.{Reducer}
 use Rattle.oe_graph.specs.Resolved.{IsResolvedUnder}
-use Rattle.oe_shape.specs.Meaning.{cell, cells_along, reduced, value_on_list}
-use Rattle.oe_shape.specs.Operations.{labels_along, reduce, without_dimension}
-use Rattle.oe_shape.specs.Reach.{time_fold}
-use Rattle.oe_shape.proofs.ReachLemmas.{fold_date_by_date}
+use Rattle.oe_meanings.specs.Meaning.{cell, cells_along, reduced, value_on_list}
+use Rattle.oe_requests.specs.Operations.{labels_along, reduce, without_dimension}
+use Rattle.oe_check.specs.Reach.{time_fold}
+use Rattle.oe_check.proofs.ReachLemmas.{fold_date_by_date}
 use Rattle.oe_window.specs.Cells.{cell_at, cells_on}
 use Rattle.oe_window.specs.Windows.{Holds, IsIn, number_in, position_count, positions, whole_window}
 use Rattle.oe_window.specs.declared.window.Window.{Window}

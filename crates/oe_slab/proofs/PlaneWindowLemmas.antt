@@ -15,11 +15,11 @@ use Rattle.oe_plan.specs.Steps.{NeedsOfNode, Takes, argument_shapes, arguments_o
 use Rattle.oe_plan.specs.Windows.{AreWindows, window_at}
 use Rattle.oe_plan.proofs.NodeLemmas.{load_alone, seen}
 use Rattle.oe_plan.proofs.RunLemmas.{argument_before}
-use Rattle.oe_shape.specs.Checked.{AreFaultless, CheckedGraph, operation_of_node}
-use Rattle.oe_shape.specs.Links.{links_of}
-use Rattle.oe_shape.specs.Operations.{reduce, shape_of, without_dimension}
-use Rattle.oe_shape.specs.Reach.{time_fold}
-use Rattle.oe_shape.proofs.RequestLemmas.{found}
+use Rattle.oe_check.specs.Checked.{AreFaultless, CheckedGraph, operation_of_node}
+use Rattle.oe_check.specs.Links.{links_of}
+use Rattle.oe_requests.specs.Operations.{reduce, shape_of, without_dimension}
+use Rattle.oe_check.specs.Reach.{time_fold}
+use Rattle.oe_meanings.proofs.RequestLemmas.{found}
 use Rattle.oe_window.specs.Windows.{Holds, IsEmpty, IsIn, whole_window}
 use Rattle.oe_window.specs.declared.grid.ChunkSize.{ChunkSize}
 use Rattle.oe_window.specs.declared.window.Window.{Window}

@@ -12,9 +12,9 @@ use Rattle.oe_plan.specs.Figures.{shape_of_node}
 use Rattle.oe_plan.specs.Schedules.{AreWindowsFor, is_load_at, node_at}
 use Rattle.oe_plan.specs.Windows.{window_at}
 use Rattle.oe_plan.proofs.RunLemmas.{only_step}
-use Rattle.oe_shape.specs.Checked.{CheckedGraph, outline_of_node}
-use Rattle.oe_shape.specs.Graphs.{Collections}
-use Rattle.oe_shape.specs.Laws.{AreCollectionsOf}
+use Rattle.oe_check.specs.Checked.{CheckedGraph, outline_of_node}
+use Rattle.oe_meanings.specs.Graphs.{Collections}
+use Rattle.oe_check.specs.Laws.{AreCollectionsOf}
 use Rattle.oe_steps.specs.Buffers.{buffer_at}
 use Rattle.oe_steps.specs.Steps.{AreCells, AreOfKind, EachLoad, buffer_cells_at, node_cells}
 use Rattle.oe_window.specs.Windows.{Holds, position_count, whole_window}

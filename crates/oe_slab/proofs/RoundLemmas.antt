@@ -5,8 +5,8 @@ use Rattle.oe_cell.specs.declared.cell.Cell.{Cell}
 use Rattle.oe_cell.specs.declared.cell.Cell.TheVariants.{Empty}
 use Rattle.oe_outside.proofs.Causes.{NeverFalls-refl}
 use Rattle.oe_outside.specs.Faults.{HasCauseOf}
-use Rattle.oe_shape.specs.Graphs.{Collections}
-use Rattle.oe_shape.specs.Laws.{AreCollectionsOf}
+use Rattle.oe_meanings.specs.Graphs.{Collections}
+use Rattle.oe_check.specs.Laws.{AreCollectionsOf}
 use Rattle.oe_sources.specs.Catalogue.{Row, cells_asked}
 use Rattle.oe_spool.specs.Least.{lesser_of}
 use Rattle.oe_spool.specs.Spooled.{ChangesOnly, IsInSome, IsRecordByte}

@@ -14,8 +14,8 @@ use Rattle.oe_plan.specs.Windows.{IsOrderOf}
 use Rattle.oe_plan.proofs.NodeLemmas.{argument_below}
 use Rattle.oe_plan.proofs.RunLemmas.{some_width}
 use Rattle.oe_plan.proofs.ScheduleLemmas.{schedules_serve}
-use Rattle.oe_shape.specs.Checked.{AreFaultless, CheckedGraph}
-use Rattle.oe_shape.specs.Links.{links_of}
+use Rattle.oe_check.specs.Checked.{AreFaultless, CheckedGraph}
+use Rattle.oe_check.specs.Links.{links_of}
 use Rattle.oe_window.specs.declared.grid.ChunkSize.{ChunkSize}
 use Rattle.oe_slab.specs.Cuts.{IsTimeCut, links_behind}
 use Rattle.oe_slab.specs.Figures.{largest_plane, largest_slab, taken_by, width_before, width_behind}

@@ -23,10 +23,10 @@ use Rattle.oe_plan.specs.Windows.{AreWindows, span_along, window_at}
 use Rattle.oe_plan.proofs.HaloLemmas.{none_in_time}
 use Rattle.oe_plan.proofs.RunLemmas.{argument_before, only_step}
 use Rattle.oe_plan.proofs.ScheduleLemmas.{schedules_serve, works_along}
-use Rattle.oe_shape.specs.Checked.{AreFaultless, CheckedGraph}
-use Rattle.oe_shape.specs.Links.{links_of}
-use Rattle.oe_shape.specs.Reach.{whole_of_node}
-use Rattle.oe_shape.proofs.LinkLemmas.{is_acyclic}
+use Rattle.oe_check.specs.Checked.{AreFaultless, CheckedGraph}
+use Rattle.oe_check.specs.Links.{links_of}
+use Rattle.oe_check.specs.Reach.{whole_of_node}
+use Rattle.oe_check.proofs.LinkLemmas.{is_acyclic}
 use Rattle.oe_window.specs.Chunks.{FitsSides, tiling_of}
 use Rattle.oe_window.specs.Windows.{Holds, IsEmpty, IsIn, extent_along, position_count, span_length, whole_window}
 use Rattle.oe_window.specs.declared.grid.ChunkSize.{ChunkSize}

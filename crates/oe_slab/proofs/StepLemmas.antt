@@ -6,8 +6,8 @@ use Rattle.std.specs.List.{count_by, range_with_len}
 use Rattle.std.proofs.Math.Nat.{mul-le-mul}
 use Rattle.oe_order.specs.Graph.{is_load}
 use Rattle.oe_plan.specs.Schedules.{ScheduleOf, is_load_at, links_given, node_at}
-use Rattle.oe_shape.specs.Checked.{CheckedGraph}
-use Rattle.oe_shape.specs.Links.{links_of}
+use Rattle.oe_check.specs.Checked.{CheckedGraph}
+use Rattle.oe_check.specs.Links.{links_of}
 use Rattle.oe_steps.specs.Steps.{EachLive, loads_at}
 use Rattle.oe_window.specs.Chunks.{parts_along}
 use Rattle.oe_slab.specs.Schedules.{load_count}

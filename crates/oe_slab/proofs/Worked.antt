@@ -13,8 +13,8 @@ use Rattle.oe_order.specs.Order.{next_of, extend_order, loads_of, order_of}
 use Rattle.oe_order.specs.Turns.{order_by_turns}
 use Rattle.oe_plan.specs.Figures.{chunks_of}
 use Rattle.oe_plan.specs.Turns.{in_order_of, turns_of}
-use Rattle.oe_shape.specs.Checked.{CheckedGraph}
-use Rattle.oe_shape.specs.Reach.{time_fold_of_node}
+use Rattle.oe_check.specs.Checked.{CheckedGraph}
+use Rattle.oe_check.specs.Reach.{time_fold_of_node}
 use Rattle.oe_window.specs.declared.grid.ChunkSize.{ChunkSize}
 use Rattle.oe_slab.specs.Cuts.{links_behind}
 use Rattle.oe_slab.specs.Figures.{largest_plane, largest_slab, slab_bound, width_before}

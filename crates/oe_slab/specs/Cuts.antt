@@ -5,9 +5,9 @@ use Rattle.oe_dims.specs.declared.kind.Kind.TheVariants.{Time}
 use Rattle.oe_fold.specs.declared.reducer.Reducer.{Reducer}
 use Rattle.oe_graph.specs.Printed.{node_count}
 use Rattle.oe_order.specs.Graph.{Node, IsInRun, is_load}
-use Rattle.oe_shape.specs.Checked.{CheckedGraph}
-use Rattle.oe_shape.specs.Links.{links_of}
-use Rattle.oe_shape.specs.Reach.{time_fold_of_node, whole_of_node}
+use Rattle.oe_check.specs.Checked.{CheckedGraph}
+use Rattle.oe_check.specs.Links.{links_of}
+use Rattle.oe_check.specs.Reach.{time_fold_of_node, whole_of_node}
 use Rattle.oe_plan.specs.Schedules.{as_load}
 
 -- a node of the run: the result, or one that it reaches by references

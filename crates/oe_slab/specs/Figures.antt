@@ -6,8 +6,8 @@ use Rattle.oe_order.specs.Live.{width_of}
 use Rattle.oe_order.specs.Order.{order_of}
 use Rattle.oe_plan.specs.Figures.{chunks_of, most_along, scratch_of, side_along, steps_of}
 use Rattle.oe_plan.specs.Steps.{arguments_of_node}
-use Rattle.oe_shape.specs.Checked.{CheckedGraph}
-use Rattle.oe_shape.specs.Links.{links_of}
+use Rattle.oe_check.specs.Checked.{CheckedGraph}
+use Rattle.oe_check.specs.Links.{links_of}
 use Rattle.oe_window.specs.Chunks.{IsSide}
 use Rattle.oe_window.specs.declared.grid.ChunkSize.{ChunkSize}
 use Rattle.oe_slab.specs.Cuts.{IsTimeCut, links_behind}

@@ -7,10 +7,10 @@ use Rattle.oe_fold.specs.Value.{reduction_of}
 use Rattle.oe_order.specs.Graph.{IsInRun, Reaches}
 use Rattle.oe_plan.specs.Figures.{shape_of_node}
 use Rattle.oe_plan.specs.Steps.{arguments_of_node}
-use Rattle.oe_shape.specs.Checked.{AreFaultless, CheckedGraph}
-use Rattle.oe_shape.specs.Graphs.{Collections}
-use Rattle.oe_shape.specs.Laws.{AreCollectionsOf, meaning_of_node}
-use Rattle.oe_shape.specs.Links.{links_of}
+use Rattle.oe_check.specs.Checked.{AreFaultless, CheckedGraph}
+use Rattle.oe_meanings.specs.Graphs.{Collections}
+use Rattle.oe_check.specs.Laws.{AreCollectionsOf, meaning_of_node}
+use Rattle.oe_check.specs.Links.{links_of}
 use Rattle.oe_spool.specs.Least.{least_over_of}
 use Rattle.oe_window.specs.Cells.{cells_on}
 use Rattle.oe_window.specs.Windows.{Holds, position_count, whole_window}

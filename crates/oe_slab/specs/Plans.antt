@@ -2,7 +2,7 @@
 use Rattle.std.specs.Prelude.{◌≡◌, ◌<◌, ◌≤◌, ◌*◌, ◌^◌, ℕ}
 use Rattle.oe_plan.specs.Figures.{most_held_cells, scratch_of, shape_of_node}
 use Rattle.oe_plan.specs.Schedules.{ScheduleOf}
-use Rattle.oe_shape.specs.Checked.{AreFaultless, CheckedGraph}
+use Rattle.oe_check.specs.Checked.{AreFaultless, CheckedGraph}
 use Rattle.oe_window.specs.Chunks.{Tiling, parts_along, tiling_of}
 use Rattle.oe_window.specs.declared.grid.ChunkSize.{ChunkSize}
 use Rattle.oe_slab.specs.Cuts.{IsTimeCut}

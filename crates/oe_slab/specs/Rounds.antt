@@ -1,8 +1,8 @@
 -- How a round of a run ends that is folded slab by slab.
 use Rattle.std.specs.Prelude.{◌≡◌, ◌≤◌, ◌↔◌, ℕ, ◌+◌, ◌*◌, List, Option, Result, IsErrOf, OnErr, OnOk, IfErr, IfOk}
 use Rattle.oe_outside.specs.Faults.{HasCauseOf}
-use Rattle.oe_shape.specs.Graphs.{Collections}
-use Rattle.oe_shape.specs.Laws.{AreCollectionsOf}
+use Rattle.oe_meanings.specs.Graphs.{Collections}
+use Rattle.oe_check.specs.Laws.{AreCollectionsOf}
 use Rattle.oe_sources.specs.Catalogue.{Row, cells_asked}
 use Rattle.oe_spool.specs.Spooled.{ChangesOnly, IsInSome}
 use Rattle.oe_steps.specs.Collections.{AreRead, LoadRose, Shows}

@@ -5,7 +5,7 @@ use Rattle.oe_dims.specs.Positions.{Position}
 use Rattle.oe_plan.specs.Figures.{steps_of}
 use Rattle.oe_plan.specs.Schedules.{IsSchedule, ScheduleOf, is_load_at, node_at, steps_to_last}
 use Rattle.oe_plan.specs.Windows.{AreWindows, window_at}
-use Rattle.oe_shape.specs.Checked.{CheckedGraph}
+use Rattle.oe_check.specs.Checked.{CheckedGraph}
 use Rattle.oe_window.specs.Windows.{Holds, IsEmpty, IsIn, span_length}
 use Rattle.oe_window.specs.declared.grid.ChunkSize.{ChunkSize}
 use Rattle.oe_window.specs.declared.window.Window.{Window}

@@ -12,10 +12,10 @@ use Rattle.oe_dims.specs.declared.kind.Kind.TheVariants.{Time}
 use Rattle.oe_fold.specs.declared.pass.Pass.{Pass}
 use Rattle.oe_fold.specs.declared.reducer.Reducer.{Reducer}
 use Rattle.oe_plan.specs.Figures.{shape_of_node}
-use Rattle.oe_shape.specs.Checked.{CheckedGraph, outline_of_node}
-use Rattle.oe_shape.specs.Graphs.{Collections}
-use Rattle.oe_shape.specs.Laws.{meaning_of_node}
-use Rattle.oe_shape.specs.Reach.{time_fold_of_node}
+use Rattle.oe_check.specs.Checked.{CheckedGraph, outline_of_node}
+use Rattle.oe_meanings.specs.Graphs.{Collections}
+use Rattle.oe_check.specs.Laws.{meaning_of_node}
+use Rattle.oe_check.specs.Reach.{time_fold_of_node}
 use Rattle.oe_window.specs.Cells.{cell_at}
 use Rattle.oe_window.specs.Windows.{positions, span_length}
 use Rattle.oe_window.specs.declared.window.Window.{Window}

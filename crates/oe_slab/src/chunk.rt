@@ -3,8 +3,8 @@ ghost use Rattle.std.specs.Prelude.{◌≡◌, ◌<◌, ◌≤◌, ℕ, Contains
 ghost use Rattle.oe_plan.specs.Figures.{scratch_of};
 ghost use Rattle.oe_plan.specs.Schedules.{AreWindowsFor, node_at};
 ghost use Rattle.oe_plan.specs.Windows.{AreWindows, window_at};
-ghost use Rattle.oe_shape.specs.Graphs.{Collections};
-ghost use Rattle.oe_shape.specs.Laws.{AreCollectionsOf};
+ghost use Rattle.oe_meanings.specs.Graphs.{Collections};
+ghost use Rattle.oe_check.specs.Laws.{AreCollectionsOf};
 ghost use Rattle.oe_sources.specs.CatalogueRows.{rows_of};
 ghost use Rattle.oe_steps.specs.Buffers.{lists_of};
 ghost use Rattle.oe_steps.specs.Collections.{HasCollections, Shows};

@@ -5,19 +5,19 @@ ghost use Rattle.oe_graph.specs.Printed.{node_count};
 ghost use Rattle.oe_order.specs.Evaluation.{IsEvaluationOrder};
 ghost use Rattle.oe_order.specs.Live.{IsSlotted};
 ghost use Rattle.oe_order.specs.Order.{IsListing};
-ghost use Rattle.oe_shape.specs.Links.{links_of};
-ghost use Rattle.oe_shape.specs.Reach.{whole_of_node};
+ghost use Rattle.oe_check.specs.Links.{links_of};
+ghost use Rattle.oe_check.specs.Reach.{whole_of_node};
 ghost use Rattle.oe_plan.specs.Figures.{steps_of};
 ghost use Rattle.oe_plan.specs.Ranges.{AreStepsOf};
 ghost use Rattle.oe_slab.specs.Cuts.{HasNoTimeCut, IsLoneFold, IsTimeCut};
 ghost use Rattle.oe_slab.specs.Figures.{taken_by, width_before, width_behind};
 
 use crate::parts::{loads_nothing, order_behind};
+use oe_check::Checked;
 use oe_dims::Kind;
 use oe_memory::OutOfMemory;
 use oe_order::NodeOrder;
 use oe_plan::{argument_of, order_to};
-use oe_shape::Checked;
 use std::alloc::Global;
 
 /// A time cut, and how many windows are kept at once before it and behind it.

@@ -7,10 +7,10 @@ ghost use Rattle.oe_slab.specs.Figures.{AreSlabFigures, AreSlabSides, largest_pl
 ghost use Rattle.oe_slab.specs.declared.figures.SlabNumbersFail.{SlabNumbersFail};
 
 use crate::cut::{TimeCut, time_cut};
+use oe_check::Checked;
 use oe_dims::Kind;
 use oe_memory::OutOfMemory;
 use oe_plan::{Sides, most_along, order_of, scratch_of, sides_of};
-use oe_shape::Checked;
 use oe_window::{ChunkSize, Grid};
 use std::alloc::Global;
 

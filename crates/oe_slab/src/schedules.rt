@@ -4,7 +4,7 @@ ghost use Rattle.oe_order.specs.Evaluation.{IsEvaluationOrder};
 ghost use Rattle.oe_order.specs.Live.{IsSlotted};
 ghost use Rattle.oe_order.specs.Order.{IsListing};
 ghost use Rattle.oe_plan.specs.Figures.{most_held_cells, steps_of};
-ghost use Rattle.oe_shape.specs.Links.{links_of};
+ghost use Rattle.oe_check.specs.Links.{links_of};
 ghost use Rattle.oe_window.specs.declared.grid.ChunkSize.{ChunkSize};
 ghost use Rattle.oe_slab.specs.Cuts.{IsTimeCut};
 ghost use Rattle.oe_slab.specs.Figures.{largest_plane, largest_slab, width_before};
@@ -13,10 +13,10 @@ ghost use Rattle.oe_slab.specs.Schedules.{AreSchedules};
 use crate::cut::order_before;
 use crate::figures::SlabSizes;
 use crate::parts::order_behind;
+use oe_check::Checked;
 use oe_memory::OutOfMemory;
 use oe_order::NodeOrder;
 use oe_plan::{Schedule, argument_of};
-use oe_shape::Checked;
 use std::alloc::Global;
 
 /// The schedules of a run that is cut at a node: of the whole run, whose windows are found first; of the cube that the

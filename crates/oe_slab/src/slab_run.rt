@@ -5,10 +5,10 @@ ghost use Rattle.oe_slab.specs.declared.slab_run.SlabProgress.TheVariants.{Compl
 use crate::plan::SlabPlan;
 use crate::records::write_chunk;
 use crate::workspace::SlabWorkspace;
+use oe_check::Checked;
 use oe_dims::Shape;
 use oe_outside::{Pending, Sink, Store};
 use oe_render::RenderFail;
-use oe_shape::Checked;
 use oe_sources::Catalogue;
 use oe_spool::lesser;
 use oe_steps::RunFail;
@@ -69,8 +69,8 @@ impl SlabRun {
     ghost use Rattle.oe_render.specs.Rendered.{AppendsCube, IsRefusalWithin};
     ghost use Rattle.oe_render.specs.Text.{cube_text};
     ghost use Rattle.oe_render.specs.declared.rendering.RenderFail.{RenderFail};
-    ghost use Rattle.oe_shape.specs.Graphs.{Collections};
-    ghost use Rattle.oe_shape.specs.Laws.{AreCollectionsOf};
+    ghost use Rattle.oe_meanings.specs.Graphs.{Collections};
+    ghost use Rattle.oe_check.specs.Laws.{AreCollectionsOf};
     ghost use Rattle.oe_sources.specs.CatalogueRows.{rows_of};
     ghost use Rattle.oe_steps.specs.Collections.{HasCollections};
     ghost use Rattle.oe_slab.specs.Figures.{slab_bound};

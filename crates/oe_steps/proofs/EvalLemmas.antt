@@ -14,12 +14,12 @@ use Rattle.oe_plan.specs.Figures.{scratch_of, shape_of_node, steps_of}
 use Rattle.oe_plan.specs.Schedules.{is_load_at, node_at, ScheduleOf, IsSchedule, AreWindowsFor, TakesAt}
 use Rattle.oe_plan.specs.Steps.{NeedsOfNode, arguments_of_node}
 use Rattle.oe_plan.specs.Windows.{window_at}
-use Rattle.oe_shape.proofs.CheckedLemmas.{give_cubes}
-use Rattle.oe_shape.specs.Checked.{operation_of_node, CheckedGraph}
-use Rattle.oe_shape.specs.Graphs.{Collections}
-use Rattle.oe_shape.specs.Laws.{AreCollectionsOf, meaning_of_node}
-use Rattle.oe_shape.specs.Meaning.{cube_of}
-use Rattle.oe_shape.specs.Operations.{Operation, Outline, operation_kind, shape_of}
+use Rattle.oe_check.proofs.CheckedLemmas.{give_cubes}
+use Rattle.oe_check.specs.Checked.{operation_of_node, CheckedGraph}
+use Rattle.oe_meanings.specs.Graphs.{Collections}
+use Rattle.oe_check.specs.Laws.{AreCollectionsOf, meaning_of_node}
+use Rattle.oe_meanings.specs.Meaning.{cube_of}
+use Rattle.oe_requests.specs.Operations.{Operation, Outline, operation_kind, shape_of}
 use Rattle.oe_window.specs.Cells.{cells_on}
 use Rattle.oe_window.specs.Windows.{Holds, whole_window}
 use Rattle.oe_window.specs.declared.window.Window.{Window}

@@ -5,7 +5,7 @@ use Rattle.oe_dims.specs.declared.kind.Kind.{Kind}
 use Rattle.oe_ops.specs.Nodes.{HasScratch}
 use Rattle.oe_order.specs.Live.{largest}
 use Rattle.oe_plan.specs.Figures.{scratch_of, shape_of_node, steps_of}
-use Rattle.oe_shape.specs.Checked.{CheckedGraph}
+use Rattle.oe_check.specs.Checked.{CheckedGraph}
 use Rattle.oe_window.specs.Windows.{extent_along}
 
 pub one_of_largest : (f : ℕ → ℕ) (xs : List ℕ) (i : ℕ) → i < length xs → f (get_or xs i 0) ≤ largest (map f xs)

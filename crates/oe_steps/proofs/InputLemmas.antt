@@ -12,9 +12,9 @@ use Rattle.oe_expr.specs.Callback.{Callback, KeepsKind, callback_kind}
 use Rattle.oe_ops.specs.Needs.{Needs}
 use Rattle.oe_ops.specs.Nodes.{TakesInputs, FitsFirstKind}
 use Rattle.oe_ops.specs.Slices.{TakesPairs}
-use Rattle.oe_shape.specs.CellKinds.{IsSoundOn, ResolvesTo}
-use Rattle.oe_shape.specs.Meaning.{cube_of}
-use Rattle.oe_shape.specs.Operations.{Operation, keep, each_cell, convolve, reduce, aggregate, accumulate, merge, cover, give_back, Outline, operation_kind, shape_of}
+use Rattle.oe_meanings.specs.CellKinds.{IsSoundOn, ResolvesTo}
+use Rattle.oe_meanings.specs.Meaning.{cube_of}
+use Rattle.oe_requests.specs.Operations.{Operation, keep, each_cell, convolve, reduce, aggregate, accumulate, merge, cover, give_back, Outline, operation_kind, shape_of}
 use Rattle.oe_steps.proofs.NodeLemmas.{cube_count}
 
 -- ---- an operation on one cube does not look at the second

@@ -1,7 +1,7 @@
 -- The nodes that load a collection: what they keep of it, and that they are live until all are loaded.
 use Rattle.std.proofs.Common.{◌≡◌, inl, inr, ℕ, ◌<◌, ◌≤◌, List, [], ◌∷◌, length, map, Contains, Option, Some, None, is_some, true, false, refl, sym, ap, ◌∙◌, subst, arith}
 use Rattle.oe_order.specs.Graph as order
-use Rattle.oe_shape.specs.Requests as request
+use Rattle.oe_requests.specs.Requests as request
 use Rattle.std.specs.Option.{option_and_then, option_map_or}
 use Rattle.std.proofs.lemmas.Bool.{cases_lt, false_from_ne_true, true≢false}
 use Rattle.std.proofs.lemmas.List.{get_or_default}
@@ -14,17 +14,17 @@ use Rattle.oe_plan.proofs.RunLemmas.{only_step}
 use Rattle.oe_plan.proofs.ScheduleLemmas.{none_taken_along}
 use Rattle.oe_plan.specs.Schedules.{is_load_at, node_at, links_along, ScheduleOf, IsSchedule}
 use Rattle.oe_plan.specs.Steps.{arguments_of_node}
-use Rattle.oe_shape.proofs.CheckedLemmas.{refer}
-use Rattle.oe_shape.proofs.GraphLemmas.{unfold_at_nodes}
-use Rattle.oe_shape.proofs.LinkLemmas.{links_arguments, named_at, object}
-use Rattle.oe_shape.proofs.LoadLemmas.{loads_where}
-use Rattle.oe_shape.proofs.RequestLemmas.{found}
-use Rattle.oe_shape.specs.Checked.{AreFaultless, CheckedGraph, collection_of_node, operation_of_node, outline_of_node}
-use Rattle.oe_shape.specs.Extents.{Restriction}
-use Rattle.oe_shape.specs.Graphs.{request_inputs, operation_at, outline_at, outline_named, request_outline}
-use Rattle.oe_shape.specs.Links.{links_of, loaded_collection, index_referred, loaded_by}
-use Rattle.oe_shape.specs.Operations.{keep, no_outline, operation_of, outline_of}
-use Rattle.oe_shape.specs.Requests.{CubeRequest, cube_ids, cube_request_at}
+use Rattle.oe_check.proofs.CheckedLemmas.{refer}
+use Rattle.oe_meanings.proofs.GraphLemmas.{unfold_at_nodes}
+use Rattle.oe_check.proofs.LinkLemmas.{links_arguments, named_at, object}
+use Rattle.oe_check.proofs.LoadLemmas.{loads_where}
+use Rattle.oe_meanings.proofs.RequestLemmas.{found}
+use Rattle.oe_check.specs.Checked.{AreFaultless, CheckedGraph, collection_of_node, operation_of_node, outline_of_node}
+use Rattle.oe_requests.specs.Extents.{Restriction}
+use Rattle.oe_meanings.specs.Graphs.{request_inputs, operation_at, outline_at, outline_named, request_outline}
+use Rattle.oe_check.specs.Links.{links_of, loaded_collection, index_referred, loaded_by}
+use Rattle.oe_requests.specs.Operations.{keep, no_outline, operation_of, outline_of}
+use Rattle.oe_requests.specs.Requests.{CubeRequest, cube_ids, cube_request_at}
 use Rattle.oe_steps.proofs.ScheduleLemmas.{node_within}
 use Rattle.oe_steps.specs.Steps.{loads_at, EachLive, EachLoad}
 

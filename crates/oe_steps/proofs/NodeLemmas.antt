@@ -1,6 +1,6 @@
 -- What the nodes of a graph without a fault work on: their operations, on the outlines of the nodes that they refer to.
 use Rattle.std.proofs.Common.{◌≡◌, ℕ, suc, ◌<◌, List, [], ◌∷◌, length, map, Contains, Option, Some, None, refl, sym, ap, ◌∙◌, subst, arith}
-use Rattle.oe_shape.specs.Requests as request
+use Rattle.oe_requests.specs.Requests as request
 use Rattle.std.specs.Option.{option_and_then, option_map, option_map_or}
 use Rattle.std.proofs.lemmas.List.{length-map}
 use Rattle.oe_dims.specs.declared.kind.Kind.{Kind}
@@ -11,17 +11,17 @@ use Rattle.oe_graph.proofs.ResolvedLemmas.{SomeNode, node_below}
 use Rattle.oe_graph.specs.Printed.{node_count}
 use Rattle.oe_graph.specs.References.{references_named}
 use Rattle.oe_plan.specs.Steps.{arguments_of_node}
-use Rattle.oe_shape.proofs.CheckedLemmas.{refer}
-use Rattle.oe_shape.proofs.GraphLemmas.{unfold_at_nodes}
-use Rattle.oe_shape.proofs.LinkLemmas.{object, named_at, referred, index_is, links_arguments}
-use Rattle.oe_shape.proofs.RequestLemmas.{found}
-use Rattle.oe_shape.specs.CellKinds.{IsSoundOn}
-use Rattle.oe_shape.specs.Checked.{CheckedGraph, AreFaultless, operation_of_node, collection_of_node, outline_of_node}
-use Rattle.oe_shape.specs.Graphs.{request_inputs, outline_named, outline_at, request_outline, operation_at}
-use Rattle.oe_shape.specs.Links.{index_referred, loaded_by, loaded_collection}
-use Rattle.oe_shape.specs.Operations.{Operation, keep, each_cell, convolve, reduce, aggregate, accumulate, merge, cover, give_back, Outline, callback_under, dimension_named, first_or, no_outline, operation_of, outline_of, reduction_scope}
-use Rattle.oe_shape.specs.Requests.{CubeRequest, cube_ids, cube_request_at}
-use Rattle.oe_shape.specs.SoundNodes.{AreAcyclic, IsSoundNode, sound_node, IsSoundOperation, input_outlines}
+use Rattle.oe_check.proofs.CheckedLemmas.{refer}
+use Rattle.oe_meanings.proofs.GraphLemmas.{unfold_at_nodes}
+use Rattle.oe_check.proofs.LinkLemmas.{object, named_at, referred, index_is, links_arguments}
+use Rattle.oe_meanings.proofs.RequestLemmas.{found}
+use Rattle.oe_meanings.specs.CellKinds.{IsSoundOn}
+use Rattle.oe_check.specs.Checked.{CheckedGraph, AreFaultless, operation_of_node, collection_of_node, outline_of_node}
+use Rattle.oe_meanings.specs.Graphs.{request_inputs, outline_named, outline_at, request_outline, operation_at}
+use Rattle.oe_check.specs.Links.{index_referred, loaded_by, loaded_collection}
+use Rattle.oe_requests.specs.Operations.{Operation, keep, each_cell, convolve, reduce, aggregate, accumulate, merge, cover, give_back, Outline, callback_under, dimension_named, first_or, no_outline, operation_of, outline_of, reduction_scope}
+use Rattle.oe_requests.specs.Requests.{CubeRequest, cube_ids, cube_request_at}
+use Rattle.oe_meanings.specs.SoundNodes.{AreAcyclic, IsSoundNode, sound_node, IsSoundOperation, input_outlines}
 
 -- how many cubes an operation works on
 abbrev pub cube_count : Operation → ℕ

@@ -18,13 +18,13 @@ use Rattle.oe_dims.specs.declared.kind.CellKind.{CellKind}
 use Rattle.oe_ops.specs.Loads.{GivesPlane}
 use Rattle.oe_plan.specs.Figures.{steps_of, shape_of_node}
 use Rattle.oe_plan.specs.Schedules.{node_at, ScheduleOf, IsSchedule}
-use Rattle.oe_shape.proofs.CheckedLemmas.{give_cubes}
-use Rattle.oe_shape.specs.Checked.{collection_of_node, CheckedGraph}
-use Rattle.oe_shape.specs.Extents.{kept_shape, Restriction}
-use Rattle.oe_shape.specs.Graphs.{Collections, collection_named, datacube_of}
-use Rattle.oe_shape.specs.Laws.{AreCollectionsOf}
-use Rattle.oe_shape.specs.Meaning.{Datacube, restricted_cube, operated}
-use Rattle.oe_shape.specs.Operations.{Outline, keep}
+use Rattle.oe_check.proofs.CheckedLemmas.{give_cubes}
+use Rattle.oe_check.specs.Checked.{collection_of_node, CheckedGraph}
+use Rattle.oe_requests.specs.Extents.{kept_shape, Restriction}
+use Rattle.oe_meanings.specs.Graphs.{Collections, collection_named, datacube_of}
+use Rattle.oe_check.specs.Laws.{AreCollectionsOf}
+use Rattle.oe_meanings.specs.Meaning.{Datacube, restricted_cube, operated}
+use Rattle.oe_requests.specs.Operations.{Outline, keep}
 use Rattle.oe_sources.proofs.CatalogueLawLemmas.{ask_no_more}
 use Rattle.oe_sources.specs.Catalogue.{ReadsRow, Row, row_index, source_at}
 use Rattle.oe_sources.specs.Source.{AreCellsOf, Contents, collection_of, collection_with}

@@ -10,8 +10,8 @@ use Rattle.oe_ops.specs.Needs.{HasLabelsOf}
 use Rattle.oe_outside.proofs.Causes.{NeverFalls-refl, NeverFalls-trans, Rose-then, then-Rose}
 use Rattle.oe_outside.specs.Faults.{NeverFalls}
 use Rattle.oe_plan.specs.Figures.{shape_of_node}
-use Rattle.oe_shape.specs.Checked.{CheckedGraph}
-use Rattle.oe_shape.specs.Graphs.{Collections}
+use Rattle.oe_check.specs.Checked.{CheckedGraph}
+use Rattle.oe_meanings.specs.Graphs.{Collections}
 use Rattle.oe_sources.specs.Catalogue.{ReadsRow, Row, row_index, rows_at, source_at}
 use Rattle.oe_sources.specs.Source.{Source, collection_of}
 use Rattle.oe_sources.specs.declared.source.SourceFail.{SourceFail}

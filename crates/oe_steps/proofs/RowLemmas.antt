@@ -7,8 +7,8 @@ use Rattle.oe_cell.specs.declared.cell.Cell.{Cell}
 use Rattle.oe_cube.specs.Kinds.{IsOfKind}
 use Rattle.oe_plan.specs.Schedules.{node_at, ScheduleOf, IsSchedule}
 use Rattle.oe_plan.specs.Windows.{window_at}
-use Rattle.oe_shape.specs.Checked.{CheckedGraph, outline_of_node}
-use Rattle.oe_shape.specs.Laws.{meaning_of_node}
+use Rattle.oe_check.specs.Checked.{CheckedGraph, outline_of_node}
+use Rattle.oe_check.specs.Laws.{meaning_of_node}
 use Rattle.oe_sources.specs.Catalogue.{Row}
 use Rattle.oe_window.proofs.CellLemmas.{cells_on-part}
 use Rattle.oe_window.proofs.PartLemmas.{row_of_size, row_part}

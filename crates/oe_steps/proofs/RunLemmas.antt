@@ -8,13 +8,13 @@ use Rattle.std.proofs.lemmas.List.{length-map}
 use Rattle.oe_order.proofs.Graphs.{is_load-graph_of}
 use Rattle.oe_graph.specs.Printed.{node_count}
 use Rattle.oe_graph.specs.References.{each_node}
-use Rattle.oe_shape.proofs.LinkLemmas.{each_count}
+use Rattle.oe_check.proofs.LinkLemmas.{each_count}
 use Rattle.oe_order.specs.Graph.{Node, graph_of, is_load}
 use Rattle.oe_order.specs.declared.Links.{Links}
 use Rattle.oe_plan.specs.Schedules.{is_load_at, links_along, ScheduleOf, IsSchedule, TakesAt}
-use Rattle.oe_shape.specs.Checked.{CheckedGraph}
-use Rattle.oe_shape.specs.Links.{link_of, links_of}
-use Rattle.oe_shape.specs.Graphs.{Collections}
+use Rattle.oe_check.specs.Checked.{CheckedGraph}
+use Rattle.oe_check.specs.Links.{link_of, links_of}
+use Rattle.oe_meanings.specs.Graphs.{Collections}
 use Rattle.oe_window.specs.declared.window.Window.{Window}
 use Rattle.oe_steps.proofs.LiveLemmas.{live_after}
 use Rattle.oe_steps.proofs.ScheduleLemmas.{taken_live}

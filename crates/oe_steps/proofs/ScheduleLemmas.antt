@@ -18,11 +18,11 @@ use Rattle.oe_plan.specs.Figures.{most_held_cells}
 use Rattle.oe_plan.specs.Schedules.{is_load_at, node_at, links_along, ScheduleOf, IsSchedule, AreWindowsFor, TakesAt}
 use Rattle.oe_plan.specs.Steps.{arguments_of_node}
 use Rattle.oe_plan.specs.Windows.{window_at}
-use Rattle.oe_shape.proofs.LinkLemmas.{each_count, few as few_nodes}
-use Rattle.oe_shape.proofs.LoadLemmas.{loads_where}
-use Rattle.oe_shape.specs.Checked.{collection_of_node, CheckedGraph}
-use Rattle.oe_shape.specs.Links.{link_of, links_of}
-use Rattle.oe_shape.specs.Operations.{Operation}
+use Rattle.oe_check.proofs.LinkLemmas.{each_count, few as few_nodes}
+use Rattle.oe_check.proofs.LoadLemmas.{loads_where}
+use Rattle.oe_check.specs.Checked.{collection_of_node, CheckedGraph}
+use Rattle.oe_check.specs.Links.{link_of, links_of}
+use Rattle.oe_requests.specs.Operations.{Operation}
 use Rattle.oe_window.specs.Windows.{position_count}
 use Rattle.oe_window.specs.declared.window.Window.{Window}
 use Rattle.oe_steps.proofs.NodeLemmas.{WorksOn, cube_count}

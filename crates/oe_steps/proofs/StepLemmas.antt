@@ -4,12 +4,12 @@ use Rattle.oe_dims.specs.Positions.{Position}
 use Rattle.oe_ops.specs.Needs.{Needs}
 use Rattle.oe_plan.specs.Figures.{shape_of_node}
 use Rattle.oe_plan.specs.Steps.{arguments_of_node, NeedsOfNode}
-use Rattle.oe_shape.specs.CellKinds.{IsSoundOn}
-use Rattle.oe_shape.specs.Checked.{CheckedGraph, operation_of_node, outline_of_node}
-use Rattle.oe_shape.specs.Graphs.{Collections}
-use Rattle.oe_shape.specs.Laws.{meaning_of_node}
-use Rattle.oe_shape.specs.Meaning.{Datacube, cube_of, operated}
-use Rattle.oe_shape.specs.Operations.{Operation, Outline, keep, each_cell, convolve, reduce, aggregate, accumulate, merge, cover, give_back, operation_kind, outline_of, shape_of}
+use Rattle.oe_meanings.specs.CellKinds.{IsSoundOn}
+use Rattle.oe_check.specs.Checked.{CheckedGraph, operation_of_node, outline_of_node}
+use Rattle.oe_meanings.specs.Graphs.{Collections}
+use Rattle.oe_check.specs.Laws.{meaning_of_node}
+use Rattle.oe_meanings.specs.Meaning.{Datacube, cube_of, operated}
+use Rattle.oe_requests.specs.Operations.{Operation, Outline, keep, each_cell, convolve, reduce, aggregate, accumulate, merge, cover, give_back, operation_kind, outline_of, shape_of}
 use Rattle.oe_steps.proofs.InputLemmas.{cube_twice, kind_first, needs_second, needs_twice, shape_twice, sound_twice}
 use Rattle.oe_steps.proofs.NodeLemmas.{WorksOn, cube_count}
 

@@ -12,8 +12,8 @@ use Rattle.oe_cube.specs.Kinds.{IsOfKind}
 use Rattle.oe_ops.specs.Needs.{plane_window}
 use Rattle.oe_plan.specs.Schedules.{node_at, links_along, ScheduleOf, IsSchedule}
 use Rattle.oe_plan.specs.Windows.{window_at}
-use Rattle.oe_shape.specs.Checked.{CheckedGraph, collection_of_node, outline_of_node}
-use Rattle.oe_shape.specs.Laws.{meaning_of_node}
+use Rattle.oe_check.specs.Checked.{CheckedGraph, collection_of_node, outline_of_node}
+use Rattle.oe_check.specs.Laws.{meaning_of_node}
 use Rattle.oe_sources.specs.Catalogue.{Row}
 use Rattle.oe_window.proofs.CellLemmas.{cells_on-part, length-cells_on}
 use Rattle.oe_window.proofs.PartLemmas.{plane_ends, plane_of_size}

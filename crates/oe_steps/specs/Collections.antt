@@ -2,8 +2,8 @@
 use Rattle.std.specs.Prelude.{◌≡◌, ◌<◌, ℕ, List, length, map, slice_index, Some}
 use Rattle.oe_cube.specs.Collections.{Collection}
 use Rattle.oe_outside.specs.Faults.{NeverFalls, Rose}
-use Rattle.oe_shape.specs.Checked.{CheckedGraph, collection_of_node}
-use Rattle.oe_shape.specs.Graphs.{Collections, collection_named, datacube_of, outline_named}
+use Rattle.oe_check.specs.Checked.{CheckedGraph, collection_of_node}
+use Rattle.oe_meanings.specs.Graphs.{Collections, collection_named, datacube_of, outline_named}
 use Rattle.oe_sources.specs.Catalogue.{Row, row_index, source_at}
 use Rattle.oe_sources.specs.Source.{collection_of}
 use Rattle.oe_plan.specs.Figures.{steps_of}

@@ -3,8 +3,8 @@ use Rattle.std.specs.Prelude.{◌≡◌, ◌<◌, ℕ, List, length}
 use Rattle.std.specs.List.{All}
 use Rattle.oe_cell.specs.declared.cell.Cell.{Cell}
 use Rattle.oe_cube.specs.Kinds.{IsOfKind}
-use Rattle.oe_shape.specs.Checked.{CheckedGraph}
-use Rattle.oe_shape.specs.Graphs.{Collections}
+use Rattle.oe_check.specs.Checked.{CheckedGraph}
+use Rattle.oe_meanings.specs.Graphs.{Collections}
 use Rattle.oe_window.specs.Windows.{position_count}
 use Rattle.oe_window.specs.declared.window.Window.{Window}
 use Rattle.oe_plan.specs.Schedules.{ScheduleOf, node_at}

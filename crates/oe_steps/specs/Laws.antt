@@ -1,6 +1,6 @@
 -- What the layers above may rely on of collections that are read.
 use Rattle.std.specs.Prelude.{List}
-use Rattle.oe_shape.specs.Checked.{AreFaultless, CheckedGraph}
+use Rattle.oe_check.specs.Checked.{AreFaultless, CheckedGraph}
 use Rattle.oe_sources.specs.Catalogue.{Row}
 use Rattle.oe_sources.specs.CatalogueDims.{AreDimsOf}
 use Rattle.oe_steps.specs.Collections.{HasCollections}

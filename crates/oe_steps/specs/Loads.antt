@@ -4,9 +4,9 @@ use Rattle.std.specs.List.{All}
 use Rattle.oe_cell.specs.declared.cell.Cell.{Cell}
 use Rattle.oe_cube.specs.Kinds.{IsOfKind}
 use Rattle.oe_plan.specs.Windows.{window_at}
-use Rattle.oe_shape.specs.Checked.{CheckedGraph, outline_of_node}
-use Rattle.oe_shape.specs.Graphs.{Collections}
-use Rattle.oe_shape.specs.Laws.{AreCollectionsOf}
+use Rattle.oe_check.specs.Checked.{CheckedGraph, outline_of_node}
+use Rattle.oe_meanings.specs.Graphs.{Collections}
+use Rattle.oe_check.specs.Laws.{AreCollectionsOf}
 use Rattle.oe_sources.specs.Catalogue.{ReadsRow, Row, cells_asked}
 use Rattle.oe_sources.specs.declared.source.SourceFail.{SourceFail}
 use Rattle.oe_sources.specs.declared.source.SourceFail.TheVariants.{Failed, Damaged}

@@ -3,7 +3,7 @@ use Rattle.std.specs.Prelude.{◌≡◌, ⊤, ℕ, List, Contains, slice_index, 
 use Rattle.oe_dims.specs.Positions.{IsPosition, Position, number_of}
 use Rattle.oe_ops.specs.Needs.{HasLabelsOf}
 use Rattle.oe_plan.specs.Figures.{shape_of_node, steps_of}
-use Rattle.oe_shape.specs.Checked.{CheckedGraph}
+use Rattle.oe_check.specs.Checked.{CheckedGraph}
 use Rattle.oe_sources.specs.Catalogue.{Row, source_at}
 use Rattle.oe_steps.specs.Collections.{IsLoadedBy, IsMountedAt}
 use Rattle.oe_steps.specs.declared.fail.RunFail.{RunFail}

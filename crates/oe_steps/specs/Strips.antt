@@ -3,7 +3,7 @@ use Rattle.std.specs.Prelude.{◌≡◌, ◌≤◌, ℕ, ◌*◌, List, slice_in
 use Rattle.oe_cell.specs.declared.cell.Cell.{Cell}
 use Rattle.oe_plan.specs.Schedules.{ScheduleOf, node_at}
 use Rattle.oe_plan.specs.Windows.{window_at}
-use Rattle.oe_shape.specs.Checked.{CheckedGraph}
+use Rattle.oe_check.specs.Checked.{CheckedGraph}
 use Rattle.oe_sources.specs.Catalogue.{Row}
 use Rattle.oe_window.specs.Windows.{IsEmpty, span_length}
 use Rattle.oe_window.specs.declared.window.Window.{Window}

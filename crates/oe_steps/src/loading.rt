@@ -10,7 +10,7 @@ ghost use Rattle.oe_steps.specs.Loads.{AreLoaded, HasRead, IsLoadedAt, ReadsBox}
 ghost use Rattle.oe_ops.specs.Needs.{plane_window};
 ghost use Rattle.oe_plan.specs.Figures.{shape_of_node};
 ghost use Rattle.oe_plan.specs.Schedules.{AreWindowsFor, IsSchedule, node_at};
-ghost use Rattle.oe_shape.specs.Checked.{collection_of_node};
+ghost use Rattle.oe_check.specs.Checked.{collection_of_node};
 ghost use Rattle.oe_sources.specs.Catalogue.{Row, source_at};
 ghost use Rattle.oe_sources.specs.CatalogueRows.{rows_of};
 ghost use Rattle.oe_sources.specs.Source.{collection_of};
@@ -18,10 +18,10 @@ ghost use Rattle.oe_window.specs.Windows.{Holds, position_count, span_length, wh
 
 use crate::fail::RunFail;
 use oe_cell::Cell;
+use oe_check::Checked;
 use oe_dims::{Kind, Shape};
 use oe_ops::source_window;
 use oe_plan::Schedule;
-use oe_shape::Checked;
 use oe_sources::{Catalogue, SourceFail};
 use oe_window::{Window, size};
 

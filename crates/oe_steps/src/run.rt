@@ -2,9 +2,9 @@
 ghost use Rattle.std.specs.Prelude.{◌≡◌, ◌<◌, ◌≤◌, ℕ, false, true, length};
 ghost use Rattle.oe_graph.specs.Printed.{node_count};
 ghost use Rattle.oe_order.specs.Graph.{is_load};
-ghost use Rattle.oe_shape.specs.Graphs.{Collections};
-ghost use Rattle.oe_shape.specs.Laws.{AreCollectionsOf};
-ghost use Rattle.oe_shape.specs.Links.{links_of};
+ghost use Rattle.oe_meanings.specs.Graphs.{Collections};
+ghost use Rattle.oe_check.specs.Laws.{AreCollectionsOf};
+ghost use Rattle.oe_check.specs.Links.{links_of};
 ghost use Rattle.oe_plan.specs.Figures.{scratch_of};
 ghost use Rattle.oe_plan.specs.Schedules.{AreWindowsFor, IsSchedule, is_load_at, links_along, node_at};
 ghost use Rattle.oe_steps.specs.Steps.{AreCells, AreOfKind, EachLoad, HaveRoomFor, OfLast};
@@ -12,8 +12,8 @@ ghost use Rattle.oe_steps.specs.Buffers.{lists_of};
 
 use crate::step::evaluate_step;
 use oe_cell::Cell;
+use oe_check::Checked;
 use oe_plan::Schedule;
-use oe_shape::Checked;
 use oe_window::Window;
 
 /// The step of the last node.

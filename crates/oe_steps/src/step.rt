@@ -3,8 +3,8 @@ ghost use Rattle.std.specs.Prelude.{◌≡◌, ◌≢◌, ◌<◌, ◌≤◌, �
 ghost use Rattle.std.specs.List.{All};
 ghost use Rattle.oe_cube.specs.Kinds.{IsOfKind};
 ghost use Rattle.oe_dims.specs.Dimensions.{IsShape};
-ghost use Rattle.oe_shape.specs.Graphs.{Collections};
-ghost use Rattle.oe_shape.specs.Laws.{AreCollectionsOf};
+ghost use Rattle.oe_meanings.specs.Graphs.{Collections};
+ghost use Rattle.oe_check.specs.Laws.{AreCollectionsOf};
 ghost use Rattle.oe_window.specs.Windows.{position_count};
 ghost use Rattle.oe_plan.specs.Figures.{scratch_of, shape_of_node};
 ghost use Rattle.oe_plan.specs.Schedules.{AreWindowsFor, IsSchedule, TakesAt, is_load_at, node_at};
@@ -15,10 +15,10 @@ ghost use Rattle.oe_steps.specs.Buffers.{buffer_at, buffer_beside, lists_of};
 ghost use Rattle.oe_steps.specs.Inputs.{AreNodeCells, IsInput};
 
 use oe_cell::Cell;
+use oe_check::Checked;
 use oe_dims::{Kind, Shape};
 use oe_ops::{Input, Slice, eval_node};
 use oe_plan::{Schedule, argument_count, argument_of};
-use oe_shape::Checked;
 use oe_window::{Window, size};
 
 /// The steps of one evaluation: the step whose cells are evaluated, and those whose cubes it takes. One that takes one

@@ -11,8 +11,8 @@ ghost use Rattle.oe_window.specs.Parts.{row_count, row_of};
 ghost use Rattle.oe_window.specs.Windows.{span_length};
 
 use oe_cell::Cell;
+use oe_check::Checked;
 use oe_plan::Schedule;
-use oe_shape::Checked;
 use oe_window::Window;
 
 /// Says yes only where a window has positions and differs from a hull along x alone, where its indices are some of the

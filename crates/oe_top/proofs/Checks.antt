@@ -14,7 +14,7 @@ use Rattle.oe_graph.specs.declared.fault.Refusal as graph
 use Rattle.oe_graph.specs.declared.fault.Refusal.TheVariants as refusal
 use Rattle.oe_judge.specs.Judged.{StandsWithCollections, checked_over}
 use Rattle.oe_outside.specs.Input.{ReadsUpTo}
-use Rattle.oe_shape.specs.Checked.{CheckedGraph}
+use Rattle.oe_check.specs.Checked.{CheckedGraph}
 use Rattle.oe_sources.specs.Catalogue.{Row}
 use Rattle.oe_sources.specs.CatalogueDims.{AreDimsOf}
 use Rattle.oe_top.proofs.Inputs.{read_whole, sizes, whole_same, within}

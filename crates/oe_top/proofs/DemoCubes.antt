@@ -26,13 +26,13 @@ use Rattle.oe_kernel.specs.Kernels.{KernelValues}
 use Rattle.oe_kernel.specs.declared.border.Border.TheVariants.{Replicate}
 use Rattle.oe_resolve.specs.Filled.{filled_graph, resolved}
 use Rattle.oe_resolve.specs.Rounds.{most_rounds}
-use Rattle.oe_shape.specs.Graphs.{outline_at}
-use Rattle.oe_shape.specs.Operations.{Outline}
-use Rattle.oe_shape.specs.Requests.{CubeRequest, apply_kernel, called, cube_request_at, load_collection, reduce_dimension}
-use Rattle.oe_shape.specs.Rows.{cell_kind_invalid, cube_too_large}
-use Rattle.oe_shape.specs.Stands as stands
-use Rattle.oe_shape.specs.Stands.{HasNoFault, StandsInGraph, callback_on, cubes_of, early_rows}
-use Rattle.oe_shape.specs.ValidShapes.{is_within_limits}
+use Rattle.oe_meanings.specs.Graphs.{outline_at}
+use Rattle.oe_requests.specs.Operations.{Outline}
+use Rattle.oe_requests.specs.Requests.{CubeRequest, apply_kernel, called, cube_request_at, load_collection, reduce_dimension}
+use Rattle.oe_meanings.specs.Rows.{cell_kind_invalid, cube_too_large}
+use Rattle.oe_meanings.specs.Stands as stands
+use Rattle.oe_meanings.specs.Stands.{HasNoFault, StandsInGraph, callback_on, cubes_of, early_rows}
+use Rattle.oe_meanings.specs.ValidShapes.{is_within_limits}
 use Rattle.oe_sources.specs.Catalogue.{demonstration}
 use Rattle.oe_sources.specs.CatalogueDims.{dims_of}
 use Rattle.oe_sources.specs.Generated.{falling_labels, generated_days, generated_shape, rising_labels}

@@ -9,7 +9,7 @@ use Rattle.oe_dims.specs.Names.{same_name}
 use Rattle.oe_dims.specs.declared.dims.DimsRow.{DimsRow}
 use Rattle.oe_outside.specs.Faults.{NeverFalls}
 use Rattle.oe_replies.specs.Collections.{collection_data}
-use Rattle.oe_shape.proofs.InputLemmas.{find_here, find_over}
+use Rattle.oe_check.proofs.InputLemmas.{find_here, find_over}
 use Rattle.oe_sources.specs.Catalogue.{Row, row_of}
 use Rattle.oe_sources.specs.CatalogueDims.{AreDimsOf, dims_row}
 use Rattle.oe_top.specs.DescribeAnswer.{DescribeAnswers, IsRowAt, IsUnwrittenBy, UsesOutputAlone, collection_text, row_named}

@@ -8,7 +8,7 @@ use Rattle.oe_graph.specs.declared.fault.Fault.{Fault}
 use Rattle.oe_outside.specs.Faults.{Rose}
 use Rattle.oe_outside.specs.Input.{ReadsUpTo}
 use Rattle.oe_outside.specs.Visible.{Appends, AppendsPrefix}
-use Rattle.oe_shape.specs.Checked.{CheckedGraph}
+use Rattle.oe_check.specs.Checked.{CheckedGraph}
 use Rattle.oe_top.proofs.Checks.{fault_of_all, judges}
 use Rattle.oe_sources.specs.CatalogueDims.{dims_of}
 use Rattle.oe_top.specs.CheckAnswer.{IsValidInput, valid_text}

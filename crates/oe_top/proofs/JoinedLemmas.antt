@@ -6,10 +6,10 @@ use Rattle.oe_parts.specs.Head.{PartHead}
 use Rattle.oe_parts.specs.Parts.{PartState, ShowPartsOf, heads_of}
 use Rattle.oe_parts.specs.Whole.{IsOfRun}
 use Rattle.oe_plan.specs.Figures.{shape_of_node}
-use Rattle.oe_shape.proofs.CheckedLemmas.{give_cubes}
-use Rattle.oe_shape.specs.Checked.{AreFaultless, CheckedGraph}
-use Rattle.oe_shape.specs.Laws.{AreCollectionsOf, IsCubeOfNode, meaning_of_node}
-use Rattle.oe_shape.specs.Operations.{Outline}
+use Rattle.oe_check.proofs.CheckedLemmas.{give_cubes}
+use Rattle.oe_check.specs.Checked.{AreFaultless, CheckedGraph}
+use Rattle.oe_check.specs.Laws.{AreCollectionsOf, IsCubeOfNode, meaning_of_node}
+use Rattle.oe_requests.specs.Operations.{Outline}
 use Rattle.oe_sources.specs.Catalogue.{Row}
 use Rattle.oe_window.specs.declared.grid.ChunkSize.{ChunkSize}
 use Rattle.oe_top.specs.Evaluated.{result_of}

@@ -21,7 +21,7 @@ use Rattle.oe_parts.specs.declared.laying.LayFail.TheVariants.{PartDamaged, Part
 use Rattle.oe_parts.specs.declared.whole.Misfit.{Misfit}
 use Rattle.oe_parts.specs.declared.whole.Misfit.TheVariants as misfit
 use Rattle.oe_plan.specs.Figures.{shape_of_node}
-use Rattle.oe_shape.specs.Checked.{CheckedGraph, outline_of_node}
+use Rattle.oe_check.specs.Checked.{CheckedGraph, outline_of_node}
 use Rattle.oe_render.specs.Rendered.{AppendsCube, AppendsCubePrefix, IsRefusalWithin}
 use Rattle.oe_render.specs.Stored.{AreStored}
 use Rattle.oe_render.specs.Text.{cube_text}

@@ -6,7 +6,7 @@ use Rattle.oe_engine.specs.Runs.{load_count}
 use Rattle.oe_order.specs.Graph.{is_load}
 use Rattle.oe_plan.specs.Figures.{chunks_of, largest_window, steps_of}
 use Rattle.oe_plan.specs.Plans.{IsPlan, PlanOf}
-use Rattle.oe_shape.specs.Links.{links_of}
+use Rattle.oe_check.specs.Links.{links_of}
 use Rattle.oe_sources.specs.Catalogue.{Row, cells_asked}
 use Rattle.oe_top.specs.Evaluated.{ReadsForPlan, ReadsForRun, loads_of}
 

@@ -5,7 +5,7 @@ use Rattle.std.specs.Result.{IsErrOf}
 use Rattle.oe_outside.proofs.Causes.{NeverFalls-trans, then-Rose}
 use Rattle.oe_outside.specs.Faults.{NeverFalls}
 use Rattle.oe_plan.specs.Plans.{IsPlan, PlanOf}
-use Rattle.oe_shape.specs.Laws.{AreCollectionsOf}
+use Rattle.oe_check.specs.Laws.{AreCollectionsOf}
 use Rattle.oe_sources.specs.Catalogue.{Row, cells_asked}
 use Rattle.oe_steps.specs.Collections.{AreRead, HasCollections, LoadRose, Shows}
 use Rattle.oe_steps.specs.Refusals.{RefusalSays}

@@ -2,7 +2,7 @@
 use Rattle.std.proofs.Common.{◌≡◌, ℕ, List, Ok, Err, subst}
 use Rattle.oe_outside.specs.Faults.{Rose}
 use Rattle.oe_outside.specs.Visible.{Appends, AppendsPrefix}
-use Rattle.oe_shape.specs.Checked.{CheckedGraph}
+use Rattle.oe_check.specs.Checked.{CheckedGraph}
 use Rattle.oe_top.specs.Judged.{IsInput}
 use Rattle.oe_top.specs.Objects.{Objects}
 use Rattle.oe_top.specs.PlanAnswer.{PlanEnds, plan_text}

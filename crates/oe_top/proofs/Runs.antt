@@ -5,7 +5,7 @@ use Rattle.oe_outside.specs.Faults.{NeverFalls}
 use Rattle.oe_outside.specs.Input.{TakesAtMost}
 use Rattle.oe_plan.specs.Figures.{bound_of, most_held_cells}
 use Rattle.oe_plan.specs.Plans.{PlanOf}
-use Rattle.oe_shape.specs.Checked.{CheckedGraph}
+use Rattle.oe_check.specs.Checked.{CheckedGraph}
 use Rattle.oe_window.specs.declared.grid.ChunkSize.{ChunkSize}
 use Rattle.oe_top.specs.Evaluated.{IsPlanOf}
 use Rattle.oe_top.specs.Judged.{IsInput}

@@ -17,8 +17,8 @@ use Rattle.oe_render.specs.Rendered.{IsRefusalWithin}
 use Rattle.oe_render.specs.Text.{cube_text}
 use Rattle.oe_render.specs.declared.rendering.RenderFail.{RenderFail}
 use Rattle.oe_render.specs.declared.rendering.RenderFail.TheVariants as text
-use Rattle.oe_shape.specs.Graphs.{Collections}
-use Rattle.oe_shape.specs.Laws.{AreCollectionsOf}
+use Rattle.oe_meanings.specs.Graphs.{Collections}
+use Rattle.oe_check.specs.Laws.{AreCollectionsOf}
 use Rattle.oe_sources.specs.Catalogue.{Row}
 use Rattle.oe_sources.specs.CatalogueDims.{dims_of}
 use Rattle.oe_spool.specs.Least.{least_over_of}

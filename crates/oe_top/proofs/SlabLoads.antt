@@ -4,7 +4,7 @@ use Rattle.std.specs.List.{count_by, range_with_len}
 use Rattle.oe_order.specs.Graph.{is_load}
 use Rattle.oe_plan.specs.Figures.{chunks_of, steps_of}
 use Rattle.oe_plan.specs.Schedules.{links_given}
-use Rattle.oe_shape.specs.Links.{links_of}
+use Rattle.oe_check.specs.Links.{links_of}
 use Rattle.oe_slab.specs.Figures.{largest_slab}
 use Rattle.oe_slab.specs.Plans.{IsSlabPlan, SlabPlanOf}
 use Rattle.oe_slab.specs.Schedules.{load_count}

@@ -2,7 +2,7 @@
 use Rattle.std.proofs.Common.{List, ℕ, Ok, Err, ◌≡◌, sym, subst}
 use Rattle.oe_outside.specs.Faults.{Rose}
 use Rattle.oe_outside.specs.Visible.{Appends, AppendsPrefix}
-use Rattle.oe_shape.specs.Checked.{CheckedGraph}
+use Rattle.oe_check.specs.Checked.{CheckedGraph}
 use Rattle.oe_top.specs.Judged.{IsInput}
 use Rattle.oe_top.specs.Objects.{Objects}
 use Rattle.oe_top.specs.SlabPlanAnswer.{IsSlabLine, SlabPlanEnds}

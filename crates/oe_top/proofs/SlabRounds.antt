@@ -5,7 +5,7 @@ use Rattle.std.specs.Result.{IsErrOf}
 use Rattle.oe_engine.specs.Laws.{StayAfterReads}
 use Rattle.oe_outside.proofs.Causes.{NeverFalls-trans, then-Rose}
 use Rattle.oe_outside.specs.Faults.{NeverFalls}
-use Rattle.oe_shape.specs.Laws.{AreCollectionsOf}
+use Rattle.oe_check.specs.Laws.{AreCollectionsOf}
 use Rattle.oe_slab.specs.Laws.{BeginAndEnd}
 use Rattle.oe_slab.specs.Plans.{SlabPlanOf, most_asked}
 use Rattle.oe_slab.specs.Rounds.{Advances, HasCauses, ReadsChunk, WritesChunk}

@@ -4,7 +4,7 @@ use Rattle.oe_graph.specs.Form.{most_input}
 use Rattle.oe_outside.specs.Faults.{NeverFalls}
 use Rattle.oe_outside.specs.Input.{TakesAtMost}
 use Rattle.oe_plan.specs.Figures.{most_held_cells}
-use Rattle.oe_shape.specs.Checked.{CheckedGraph}
+use Rattle.oe_check.specs.Checked.{CheckedGraph}
 use Rattle.oe_slab.specs.Cuts.{HasNoTimeCut, IsTimeCut}
 use Rattle.oe_slab.specs.Figures.{slab_bound}
 use Rattle.oe_slab.specs.Plans as plan

@@ -4,7 +4,7 @@ use Rattle.oe_graph.specs.Form.{most_input}
 use Rattle.oe_outside.specs.Faults.{NeverFalls}
 use Rattle.oe_outside.specs.Input.{TakesAtMost}
 use Rattle.oe_outside.specs.Visible.{Appends}
-use Rattle.oe_shape.specs.Checked.{CheckedGraph}
+use Rattle.oe_check.specs.Checked.{CheckedGraph}
 use Rattle.oe_top.specs.Judged.{IsInput, IsRefused}
 use Rattle.oe_top.specs.Objects.{Objects, UsesStreamsAlone}
 use Rattle.oe_top.specs.Written.{IsUnwritten, StopsWriting}

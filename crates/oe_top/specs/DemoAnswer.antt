@@ -3,7 +3,7 @@ use Rattle.std.specs.Prelude.{◌≡◌, ◌<◌, ◌≤◌, ℕ, List, None, Re
 use Rattle.oe_outside.specs.Faults.{NeverFalls, Rose}
 use Rattle.oe_outside.specs.Visible.{Appends, AppendsPrefix}
 use Rattle.oe_plan.specs.Figures.{bound_of, most_held_cells}
-use Rattle.oe_shape.specs.Checked.{CheckedGraph}
+use Rattle.oe_check.specs.Checked.{CheckedGraph}
 use Rattle.oe_sources.specs.Catalogue.{Row, demonstration}
 use Rattle.oe_sources.specs.CatalogueDims.{dims_of}
 use Rattle.oe_window.specs.declared.grid.ChunkSize.{ChunkSize}

@@ -16,10 +16,10 @@ use Rattle.oe_plan.specs.Figures.{chunks_of, largest_window, steps_of}
 use Rattle.oe_plan.specs.Plans.{IsPlan, PlanOf}
 use Rattle.oe_render.specs.declared.rendering.RenderFail.{RenderFail}
 use Rattle.oe_render.specs.declared.rendering.RenderFail.TheVariants as text
-use Rattle.oe_shape.specs.Checked.{CheckedGraph, collection_of_node}
-use Rattle.oe_shape.specs.Graphs.{Collections}
-use Rattle.oe_shape.specs.Links.{links_of}
-use Rattle.oe_shape.specs.Laws.{AreCollectionsOf, meaning_of_node}
+use Rattle.oe_check.specs.Checked.{CheckedGraph, collection_of_node}
+use Rattle.oe_meanings.specs.Graphs.{Collections}
+use Rattle.oe_check.specs.Links.{links_of}
+use Rattle.oe_check.specs.Laws.{AreCollectionsOf, meaning_of_node}
 use Rattle.oe_sources.specs.Catalogue.{Row, cells_asked}
 use Rattle.oe_spool.specs.Least.{least_over_of}
 use Rattle.oe_window.specs.declared.grid.ChunkSize.{ChunkSize}

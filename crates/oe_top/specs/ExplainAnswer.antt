@@ -7,7 +7,7 @@ use Rattle.oe_graph.specs.declared.fault.Fault.{Fault}
 use Rattle.oe_outside.specs.Faults.{NeverFalls, Rose}
 use Rattle.oe_outside.specs.Input.{TakesAtMost}
 use Rattle.oe_outside.specs.Visible.{Appends}
-use Rattle.oe_shape.specs.Checked.{CheckedGraph}
+use Rattle.oe_check.specs.Checked.{CheckedGraph}
 use Rattle.oe_sources.specs.CatalogueDims.{dims_of}
 use Rattle.oe_top.specs.CheckAnswer.{IsValidInput, valid_text}
 use Rattle.oe_top.specs.Judged.{IsCheckedInput, IsFaultOfInput}

@@ -15,7 +15,7 @@ use Rattle.oe_parts.specs.declared.whole.Misfit.{Misfit}
 use Rattle.oe_parts.specs.declared.whole.Misfit.TheVariants as misfit
 use Rattle.oe_plan.specs.Figures.{shape_of_node}
 use Rattle.oe_render.specs.Text.{cube_text}
-use Rattle.oe_shape.specs.Checked.{CheckedGraph}
+use Rattle.oe_check.specs.Checked.{CheckedGraph}
 use Rattle.oe_top.specs.PartAnswer.{kind_of_result}
 use Rattle.oe_top.specs.Evaluated.{IsVisible, IsWithoutOver, IsOverFirst}
 use Rattle.oe_top.specs.Judged.{IsInputText, IsRefused}

@@ -7,8 +7,8 @@ use Rattle.oe_parts.specs.Parts.{PartState, ShowsPartOf, heads_of}
 use Rattle.oe_parts.specs.Whole.{AreWhole, Tile}
 use Rattle.oe_plan.specs.Figures.{chunks_of, shape_of_node}
 use Rattle.oe_render.specs.Text.{cube_text}
-use Rattle.oe_shape.specs.Checked.{AreFaultless, CheckedGraph}
-use Rattle.oe_shape.specs.Laws.{AreCollectionsOf}
+use Rattle.oe_check.specs.Checked.{AreFaultless, CheckedGraph}
+use Rattle.oe_check.specs.Laws.{AreCollectionsOf}
 use Rattle.oe_sources.specs.Catalogue.{Row}
 use Rattle.oe_window.specs.declared.grid.ChunkSize.{ChunkSize}
 use Rattle.oe_top.specs.Evaluated.{IsVisible, IsWithoutOver, result_of}

@@ -9,7 +9,7 @@ use Rattle.oe_graph.specs.declared.fault.Fault.{Fault}
 use Rattle.oe_judge.specs.Judged.{checked_over}
 use Rattle.oe_outside.specs.Faults.{NeverFalls, Rose}
 use Rattle.oe_outside.specs.Input.{ReadsUpTo, TakesAtMost}
-use Rattle.oe_shape.specs.Checked.{CheckedGraph}
+use Rattle.oe_check.specs.Checked.{CheckedGraph}
 use Rattle.oe_sources.specs.CatalogueDims.{dims_of}
 use Rattle.oe_top.specs.Faults.{StandsOver}
 use Rattle.oe_top.specs.Objects.{IsReadWhole, Objects}

@@ -11,7 +11,7 @@ use Rattle.oe_parts.specs.PartFile as part
 use Rattle.oe_parts.specs.PartFile.{IsPartOf, part_bytes}
 use Rattle.oe_parts.specs.Sent.{AppendsRecords}
 use Rattle.oe_plan.specs.Figures.{bound_of, chunks_of, largest_window, most_held_cells, shape_of_node}
-use Rattle.oe_shape.specs.Checked.{CheckedGraph, outline_of_node}
+use Rattle.oe_check.specs.Checked.{CheckedGraph, outline_of_node}
 use Rattle.oe_sources.specs.Catalogue.{cells_asked}
 use Rattle.oe_spool.specs.Spooled.{IsInSome}
 use Rattle.oe_steps.specs.Collections.{AreRead, LoadRose}

@@ -9,7 +9,7 @@ use Rattle.oe_outside.specs.Input.{TakesAtMost}
 use Rattle.oe_outside.specs.Visible.{Appends, AppendsPrefix}
 use Rattle.oe_plan.specs.Figures.{bound_of, most_held_cells, shape_of_node}
 use Rattle.oe_render.specs.Text.{cube_text}
-use Rattle.oe_shape.specs.Checked.{CheckedGraph, collection_of_node}
+use Rattle.oe_check.specs.Checked.{CheckedGraph, collection_of_node}
 use Rattle.oe_window.specs.declared.grid.ChunkSize.{ChunkSize}
 use Rattle.oe_top.specs.Evaluated.{IsWithoutOver, IsOverFirst, IsVisible, OfMeaning, ReadsForRun}
 use Rattle.oe_top.specs.Judged.{IsInput, IsRefused}

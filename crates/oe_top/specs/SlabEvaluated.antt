@@ -2,9 +2,9 @@
 use Rattle.std.specs.Prelude.{◌≡◌, ◌≤◌, ℕ, ◌+◌, ◌*◌, List, Option, None, Some, Result, IsErrOf, OnOk}
 use Rattle.oe_outside.specs.Faults.{HasCauseOf}
 use Rattle.oe_plan.specs.Figures.{chunks_of}
-use Rattle.oe_shape.specs.Checked.{CheckedGraph}
-use Rattle.oe_shape.specs.Graphs.{Collections}
-use Rattle.oe_shape.specs.Laws.{AreCollectionsOf}
+use Rattle.oe_check.specs.Checked.{CheckedGraph}
+use Rattle.oe_meanings.specs.Graphs.{Collections}
+use Rattle.oe_check.specs.Laws.{AreCollectionsOf}
 use Rattle.oe_slab.specs.Figures.{largest_slab, taken_by}
 use Rattle.oe_slab.specs.Plans.{IsSlabPlan, SlabPlanOf, most_asked}
 use Rattle.oe_slab.specs.Runs.{HasDone, HasRunRecords, SlabRunOf, chunk_total, result_cube}

@@ -10,11 +10,11 @@ ghost use Rattle.oe_top.specs.Evaluated as spec;
 
 use crate::laws;
 use crate::short_name::ShortName;
+use oe_check::Checked;
 use oe_engine::{Progress, Run, RunFail, Workspace};
 use oe_outside::{Gate, Store};
 use oe_plan::{Plan, PlanFail};
 use oe_render::RenderFail;
-use oe_shape::Checked;
 use oe_sources::Catalogue;
 use oe_window::ChunkSize;
 use std::alloc::Global;

@@ -13,11 +13,11 @@ ghost use Rattle.oe_sources.specs.CatalogueRows.{rows_of};
 
 use crate::input::read_input;
 use crate::laws;
+use oe_check::Checked;
 use oe_dims::Dims;
 use oe_graph::{Fault, read_graph};
 use oe_judge::judge;
 use oe_outside::{ReadRefusal, Source};
-use oe_shape::Checked;
 use oe_sources::Catalogue;
 use std::alloc::Global;
 

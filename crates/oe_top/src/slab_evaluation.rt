@@ -9,9 +9,9 @@ ghost use Rattle.oe_steps.specs.Collections.{HasCollections};
 ghost use Rattle.oe_top.specs.SlabEvaluated.{CompletesSlabs, FoldsThrough, IsSlabBegun, IsSlabPlanOf};
 
 use crate::laws;
+use oe_check::Checked;
 use oe_engine::RunFail;
 use oe_outside::{Gate, Store};
-use oe_shape::Checked;
 use oe_slab::{SlabPlan, SlabPlanFail, SlabRun, SlabWorkspace};
 use oe_sources::Catalogue;
 use oe_window::ChunkSize;

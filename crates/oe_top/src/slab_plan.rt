@@ -9,8 +9,8 @@ ghost use Rattle.oe_top.specs.SlabPlanAnswer.{IsSlabLine, SlabPlanAnswers};
 
 use crate::judge::{InputRefusal, judge_input};
 use crate::plan::spell_figures;
+use oe_check::Checked;
 use oe_outside::{Sink, Source};
-use oe_shape::Checked;
 use oe_slab::{SlabNumbersFail, slab_figures};
 use oe_sources::Catalogue;
 use oe_window::ChunkSize;

@@ -2,8 +2,8 @@ use Rattle.std.proofs.Common.{◌≡◌, length}
 use Rattle.oe_plan.specs.Schedules.{AreWindowsFor, IsSchedule}
 use Rattle.oe_plan.proofs.ScheduleLemmas.{plan_schedule, plan_windows}
 use Rattle.oe_plan.specs.Figures.{scratch_of}
-use Rattle.oe_shape.specs.Graphs.{Collections}
-use Rattle.oe_shape.specs.Laws.{AreCollectionsOf}
+use Rattle.oe_meanings.specs.Graphs.{Collections}
+use Rattle.oe_check.specs.Laws.{AreCollectionsOf}
 use Rattle.oe_steps.specs.Buffers.{lists_of}
 use Rattle.oe_steps.specs.Steps.{AreCells, AreOfKind, EachLoad, HaveRoomFor, OfLast}
 use Rattle.oe_engine.proofs.ScheduleLemmas.{as_read, of_plan}

@@ -2,7 +2,7 @@ use Rattle.std.proofs.Common.{◌≡◌, ◌<◌, ℕ, List, true, Some, OnOk, l
 use Rattle.oe_plan.specs.Schedules.{IsSchedule, node_at}
 use Rattle.oe_plan.proofs.ScheduleLemmas.{plan_schedule}
 use Rattle.oe_plan.specs.Figures.{shape_of_node}
-use Rattle.oe_shape.specs.Checked.{collection_of_node}
+use Rattle.oe_check.specs.Checked.{collection_of_node}
 use Rattle.oe_sources.specs.CatalogueRows.{rows_of}
 use Rattle.oe_steps.specs.Collections.{IsMountedAt}
 use Rattle.oe_steps.specs.Loads.{AreLoaded, HasRead}

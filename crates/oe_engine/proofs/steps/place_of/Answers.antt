@@ -1,7 +1,7 @@
 use Rattle.std.proofs.Common.{◌≡◌, ◌<◌, ℕ, List, true, Some, length}
 use Rattle.oe_plan.specs.Schedules.{IsSchedule, node_at}
 use Rattle.oe_plan.proofs.ScheduleLemmas.{plan_schedule}
-use Rattle.oe_shape.specs.Checked.{collection_of_node}
+use Rattle.oe_check.specs.Checked.{collection_of_node}
 use Rattle.oe_sources.specs.CatalogueRows.{rows_of}
 use Rattle.oe_steps.specs.Collections.{HasCollections, IsMountedAt}
 use Rattle.oe_steps.specs.Steps.{loads_at}

@@ -1,6 +1,6 @@
 use Rattle.std.proofs.Common.{is_some, sym, ap, ◌∙◌}
-use Rattle.oe_shape.specs.PlainRequests.{plain_cube_request}
-use Rattle.oe_shape.specs.Requests.{cube_request_at}
+use Rattle.oe_requests.specs.PlainRequests.{plain_cube_request}
+use Rattle.oe_requests.specs.Requests.{cube_request_at}
 use Rattle.oe_explain.proofs.Tests.{map_some}
 use Rattle.oe_explain.proofs.asked.asks.Goals as goal
 

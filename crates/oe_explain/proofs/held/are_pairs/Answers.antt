@@ -1,5 +1,5 @@
 use Rattle.std.proofs.Common.{◌∙◌}
-use Rattle.oe_shape.specs.Parameters.{extent_in}
+use Rattle.oe_requests.specs.Parameters.{extent_in}
 use Rattle.oe_explain.proofs.Tests.{each_some}
 use Rattle.oe_explain.proofs.held.are_pairs.Goals as goal
 

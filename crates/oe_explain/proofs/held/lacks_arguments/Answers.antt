@@ -1,5 +1,5 @@
 use Rattle.std.proofs.Common.{◌∙◌}
-use Rattle.oe_shape.proofs.ReadingLemmas.{empty_list}
+use Rattle.oe_requests.proofs.ReadingLemmas.{empty_list}
 use Rattle.oe_explain.proofs.held.lacks_arguments.Goals as goal
 
 pub returns : goal.returns

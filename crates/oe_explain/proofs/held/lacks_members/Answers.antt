@@ -1,5 +1,5 @@
 use Rattle.std.proofs.Common.{◌∙◌, ◌==◌, length, ap}
-use Rattle.oe_shape.proofs.ReadingLemmas.{empty_object}
+use Rattle.oe_requests.proofs.ReadingLemmas.{empty_object}
 use Rattle.oe_explain.proofs.held.lacks_members.Goals as goal
 
 pub returns : goal.returns

@@ -1,6 +1,6 @@
 use Rattle.std.proofs.Common.{rules, ◌≡◌, ◌<◌, length, arith, ◌∙◌}
 use Rattle.oe_window.specs.Windows.{position_count, positions}
-use Rattle.oe_shape.specs.Meaning.{accumulated}
+use Rattle.oe_meanings.specs.Meaning.{accumulated}
 use Rattle.oe_ops.specs.Sums.{sum_at}
 use Rattle.oe_ops.proofs.AccumulateLemmas.{all_before, sum_fits, sums_are, width_within}
 use Rattle.oe_ops.proofs.KindLemmas.{all_fit}

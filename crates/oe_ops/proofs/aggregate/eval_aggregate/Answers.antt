@@ -1,7 +1,7 @@
 use Rattle.std.proofs.Common.{◌≡◌, length, rules}
 use Rattle.oe_cube.specs.Kinds.{IsOfKind}
 use Rattle.oe_expr.specs.Callback.{callback_kind}
-use Rattle.oe_shape.specs.Meaning.{aggregated}
+use Rattle.oe_meanings.specs.Meaning.{aggregated}
 use Rattle.oe_ops.proofs.NodeLemmas.{all_of_none, nothing_there}
 use Rattle.oe_ops.proofs.aggregate.eval_aggregate.Goals as goal
 

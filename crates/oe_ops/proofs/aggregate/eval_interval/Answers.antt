@@ -6,8 +6,8 @@ use Rattle.oe_dims.proofs.ShapeLemmas.{t_rises}
 use Rattle.oe_expr.specs.Callback.{callback_kind}
 use Rattle.oe_expr.specs.declared.scope.ListPart.{ListPart}
 use Rattle.oe_window.specs.Windows.{IsIn, positions}
-use Rattle.oe_shape.specs.Extents.{part_in_time}
-use Rattle.oe_shape.specs.declared.extent.TemporalExtent.{TemporalExtent}
+use Rattle.oe_requests.specs.Extents.{part_in_time}
+use Rattle.oe_requests.specs.declared.extent.TemporalExtent.{TemporalExtent}
 use Rattle.oe_ops.specs.Lists.{TakesList, list_from, value_of_list, with_index}
 use Rattle.oe_ops.proofs.AggregateLemmas.{aggregated_is, count_of, few_intervals, first_label, from_of, held_inside, labelled_by, takes_interval, to_of}
 use Rattle.oe_ops.proofs.ColumnLemmas.{value_fits}

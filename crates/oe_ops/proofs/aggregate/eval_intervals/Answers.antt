@@ -4,7 +4,7 @@ use Rattle.oe_cell.specs.declared.cell.Cell.TheVariants.{Empty}
 use Rattle.oe_cube.specs.Kinds.{IsOfKind}
 use Rattle.oe_dims.specs.declared.kind.Kind.TheVariants.{Time}
 use Rattle.oe_expr.specs.Callback.{callback_kind}
-use Rattle.oe_shape.specs.Meaning.{aggregated}
+use Rattle.oe_meanings.specs.Meaning.{aggregated}
 use Rattle.oe_window.specs.Cells.{cells_on}
 use Rattle.oe_window.specs.Windows.{position_count, span_length, whole_window}
 use Rattle.oe_window.proofs.CellLemmas.{length-cells_on}

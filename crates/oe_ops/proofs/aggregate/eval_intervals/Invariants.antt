@@ -5,7 +5,7 @@ use Rattle.oe_cell.specs.declared.cell.Cell.TheVariants.{Empty}
 use Rattle.oe_cube.specs.Kinds.{IsOfKind}
 use Rattle.oe_dims.specs.Cube.{Cube, IsCube}
 use Rattle.oe_expr.specs.Callback.{callback_kind}
-use Rattle.oe_shape.specs.Meaning.{aggregated}
+use Rattle.oe_meanings.specs.Meaning.{aggregated}
 use Rattle.oe_window.specs.Cells.{cells_on}
 use Rattle.oe_ops.specs.Slices.{IsOn}
 use Rattle.oe_ops.proofs.aggregate.eval_intervals.Given as goal

@@ -1,6 +1,6 @@
 use Rattle.std.proofs.Common.{◌≡◌, ap, List, Some, slice_get, subst, sym}
 use Rattle.std.proofs.lemmas.Option.{get_or_from_slice_get}
-use Rattle.oe_shape.specs.declared.extent.Interval.{Interval}
+use Rattle.oe_requests.specs.declared.extent.Interval.{Interval}
 use Rattle.oe_ops.proofs.aggregate.extent_at.Goals as goal
 
 pub returns : goal.returns

@@ -1,7 +1,7 @@
 use Rattle.std.proofs.Common.{◌∙◌}
 use Rattle.oe_cell.specs.declared.cell.Cell.TheVariants.{Empty}
 use Rattle.oe_expr.specs.Callback.{callback_kind}
-use Rattle.oe_shape.specs.Meaning.{value_on_cells}
+use Rattle.oe_meanings.specs.Meaning.{value_on_cells}
 use Rattle.oe_window.specs.Windows.{positions}
 use Rattle.oe_ops.specs.Slices.{cell_of}
 use Rattle.oe_ops.proofs.ApplyLemmas.{applied_fits, applied_is, taken_at}

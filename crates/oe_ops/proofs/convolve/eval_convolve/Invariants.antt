@@ -5,7 +5,7 @@ use Rattle.oe_cell.specs.declared.cell.Cell.TheVariants.{Empty}
 use Rattle.oe_cube.specs.Kinds.{IsOfKind}
 use Rattle.oe_dims.specs.Cube.{Cube, IsCube}
 use Rattle.oe_dims.specs.declared.kind.CellKind.TheVariants.{Numbers}
-use Rattle.oe_shape.specs.Meaning.{convolution}
+use Rattle.oe_meanings.specs.Meaning.{convolution}
 use Rattle.oe_window.specs.Cells.{cells_on}
 use Rattle.oe_window.specs.Parts.{plane_size}
 use Rattle.oe_ops.specs.Slices.{IsOn}

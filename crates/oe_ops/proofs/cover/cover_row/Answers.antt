@@ -4,7 +4,7 @@ use Rattle.std.proofs.lemmas.List.{get_or_read}
 use Rattle.std.proofs.lemmas.List.Edits.{fill_by_more}
 use Rattle.oe_cell.specs.declared.cell.Cell.{Cell}
 use Rattle.oe_cell.specs.declared.cell.Cell.TheVariants.{Empty}
-use Rattle.oe_shape.specs.Meaning.{covered_by}
+use Rattle.oe_meanings.specs.Meaning.{covered_by}
 use Rattle.oe_ops.proofs.cover.cover_row.Goals as goal
 
 pub loop-k-preserved : goal.loop-k-preserved

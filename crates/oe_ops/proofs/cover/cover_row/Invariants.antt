@@ -1,6 +1,6 @@
 use Rattle.std.proofs.Common.{◌≡◌, ℕ, ◌<◌, ◌≤◌, slice_index_or}
 use Rattle.oe_cell.specs.declared.cell.Cell.TheVariants.{Empty}
-use Rattle.oe_shape.specs.Meaning.{covered_by}
+use Rattle.oe_meanings.specs.Meaning.{covered_by}
 use Rattle.oe_ops.proofs.cover.cover_row.Given as goal
 
 -- done up to an index, and from there on as it was

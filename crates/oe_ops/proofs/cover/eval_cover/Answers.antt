@@ -1,7 +1,7 @@
 use Rattle.std.proofs.Common.{◌∙◌}
 use Rattle.std.specs.Option.{unwrap_or}
 use Rattle.oe_cell.specs.declared.cell.Cell.TheVariants.{Empty}
-use Rattle.oe_shape.specs.Meaning.{covered_by}
+use Rattle.oe_meanings.specs.Meaning.{covered_by}
 use Rattle.oe_window.specs.Windows.{number_in, positions}
 use Rattle.oe_window.proofs.WholeLemmas.{position_in}
 use Rattle.oe_ops.specs.Indices.{found_in}

@@ -1,5 +1,5 @@
 use Rattle.std.proofs.Common.{◌∙◌, arith}
-use Rattle.oe_shape.specs.Meaning.{joined}
+use Rattle.oe_meanings.specs.Meaning.{joined}
 use Rattle.oe_window.specs.Windows.{positions}
 use Rattle.oe_window.proofs.WholeLemmas.{position_in}
 use Rattle.oe_ops.specs.Indices.{found_in}

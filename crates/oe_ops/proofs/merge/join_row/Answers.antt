@@ -3,7 +3,7 @@ use Rattle.std.specs.Option.{option_map, unwrap_or}
 use Rattle.oe_cell.specs.declared.cell.Cell.{Cell}
 use Rattle.oe_cell.specs.declared.cell.Cell.TheVariants.{Empty}
 use Rattle.oe_dims.specs.declared.kind.Kind.TheVariants.{X}
-use Rattle.oe_shape.specs.Meaning.{joined}
+use Rattle.oe_meanings.specs.Meaning.{joined}
 use Rattle.oe_ops.specs.Indices.{index_in_argument, position_on}
 use Rattle.oe_ops.specs.Joins.{where_found}
 use Rattle.oe_ops.specs.Slices.{cell_of}

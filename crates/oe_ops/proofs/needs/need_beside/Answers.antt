@@ -1,5 +1,5 @@
 use Rattle.oe_dims.specs.declared.kind.Kind.TheVariants.{Time, Bands, Y, X}
-use Rattle.oe_shape.specs.Reach.{same_kind}
+use Rattle.oe_check.specs.Reach.{same_kind}
 use Rattle.oe_ops.specs.Needs.{HasLabelsBeside}
 use Rattle.oe_ops.specs.Spans.{IsBeside}
 use Rattle.oe_ops.proofs.NeedLemmas.{beside_all, beside_each, empty_window_need, not_both, product_need, spans_some, spans_within}

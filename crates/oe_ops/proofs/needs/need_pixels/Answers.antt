@@ -1,8 +1,8 @@
 use Rattle.std.proofs.Common.{◌∷◌, [], false}
 use Rattle.oe_dims.specs.Dimensions.{extent}
 use Rattle.oe_kernel.specs.Kernels.{radius_of}
-use Rattle.oe_shape.specs.Operations.{convolve}
-use Rattle.oe_shape.specs.Reach.{is_wrap}
+use Rattle.oe_requests.specs.Operations.{convolve}
+use Rattle.oe_check.specs.Reach.{is_wrap}
 use Rattle.oe_ops.specs.Needs.{Needs}
 use Rattle.oe_ops.specs.Spans.{IsReached}
 use Rattle.oe_ops.proofs.NeedLemmas.{empty_window_need, not_both, product_need, reach_all, reach_each, spans_some, spans_within}

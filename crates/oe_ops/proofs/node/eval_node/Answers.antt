@@ -4,10 +4,10 @@ use Rattle.oe_cell.specs.declared.cell.Cell.TheVariants.{Empty}
 use Rattle.oe_cube.specs.Kinds.{IsOfKind}
 use Rattle.oe_dims.specs.Dimensions.{Dimensions}
 use Rattle.oe_dims.specs.declared.kind.Kind.TheVariants.{Time, X}
-use Rattle.oe_shape.specs.Meaning.{cube_of}
-use Rattle.oe_shape.specs.Operations.{operation_kind}
-use Rattle.oe_shape.specs.PlainRequests.{plain_operation, plain_restriction}
-use Rattle.oe_shape.specs.declared.operation.Operation.{Operation}
+use Rattle.oe_meanings.specs.Meaning.{cube_of}
+use Rattle.oe_requests.specs.Operations.{operation_kind}
+use Rattle.oe_requests.specs.PlainRequests.{plain_operation, plain_restriction}
+use Rattle.oe_requests.specs.declared.operation.Operation.{Operation}
 use Rattle.oe_window.specs.Cells.{cells_on}
 use Rattle.oe_window.specs.Windows.{Holds, whole_window}
 use Rattle.oe_ops.specs.Nodes.{FitsFirstKind}

@@ -1,6 +1,6 @@
 use Rattle.std.proofs.Common.{sym, subst}
-use Rattle.oe_shape.specs.PlainRequests.{plain_operation}
-use Rattle.oe_shape.specs.declared.operation.Operation.{Operation}
+use Rattle.oe_requests.specs.PlainRequests.{plain_operation}
+use Rattle.oe_requests.specs.declared.operation.Operation.{Operation}
 use Rattle.oe_ops.specs.Nodes.{IsConvolution}
 use Rattle.oe_ops.proofs.NodeLemmas.{aggregate_needs, accumulate_needs, labels_needs, reach_needs, reduce_needs}
 use Rattle.oe_ops.proofs.node.need.Goals as goal

@@ -1,7 +1,7 @@
 use Rattle.std.proofs.Common.{◌≡◌, take}
 use Rattle.std.specs.Prelude.{min, sum_by, unwrap_or}
 use Rattle.oe_dims.specs.declared.kind.Kind.TheVariants.{Y, X}
-use Rattle.oe_shape.specs.Reach.{halo_of_node}
+use Rattle.oe_check.specs.Reach.{halo_of_node}
 use Rattle.oe_plan.proofs.bound.halos.Given as goal
 
 -- the reach of the nodes so far, cut at the limit

@@ -1,7 +1,7 @@
 use Rattle.std.proofs.Common.{◌≡◌, false, take}
 use Rattle.std.specs.Prelude.{unwrap_or}
 use Rattle.std.specs.List.{list_any}
-use Rattle.oe_shape.specs.Reach.{whole_of_node}
+use Rattle.oe_check.specs.Reach.{whole_of_node}
 use Rattle.oe_plan.proofs.bound.is_whole_along.Given as goal
 
 -- none of the nodes so far needs the whole side

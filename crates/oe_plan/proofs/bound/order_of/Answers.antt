@@ -3,7 +3,7 @@ use Rattle.std.specs.Prelude.{IfOk}
 use Rattle.oe_order.specs.Evaluation.{IsEvaluationOrder}
 use Rattle.oe_order.specs.Live.{IsSlotted, width_of}
 use Rattle.oe_order.specs.Order.{IsListing}
-use Rattle.oe_shape.specs.Links.{links_of}
+use Rattle.oe_check.specs.Links.{links_of}
 use Rattle.oe_plan.specs.Figures.{steps_of}
 use Rattle.oe_plan.specs.Ranges.{AreStepsOf}
 use Rattle.oe_plan.proofs.bound.order_of.Goals as goal

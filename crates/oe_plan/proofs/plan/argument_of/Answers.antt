@@ -1,6 +1,6 @@
 use Rattle.std.proofs.Common.{◌≡◌, ◌<◌, ◌∙◌, ℕ, List, Some, None, length, sym, ap, arith}
 use Rattle.std.specs.Prelude.{slice_index}
-use Rattle.oe_shape.specs.Links.{links_of}
+use Rattle.oe_check.specs.Links.{links_of}
 use Rattle.oe_plan.proofs.TakeLemmas.{argument_in, argument_linked, none_taken, takes_found}
 use Rattle.oe_plan.proofs.plan.argument_of.Goals as goal
 

@@ -1,7 +1,7 @@
 use Rattle.std.proofs.Common.{ℕ, List, ap, ◌∙◌, arith}
 use Rattle.oe_order.specs.Graph.{Node}
 use Rattle.oe_order.specs.Live.{live_count}
-use Rattle.oe_shape.specs.Links.{links_of}
+use Rattle.oe_check.specs.Links.{links_of}
 use Rattle.oe_plan.proofs.widths.live_in_run.Goals as goal
 
 pub live_count-requires : goal.live_count-requires

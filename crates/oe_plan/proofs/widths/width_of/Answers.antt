@@ -2,7 +2,7 @@ use Rattle.std.proofs.Common.{◌≡◌, ◌<◌, ◌≤◌, ◌+◌, ℕ, true,
 use Rattle.std.specs.Prelude.{slice_index}
 use Rattle.oe_graph.specs.Printed.{node_count}
 use Rattle.oe_order.specs.Live.{width_of}
-use Rattle.oe_shape.specs.Links.{links_of}
+use Rattle.oe_check.specs.Links.{links_of}
 use Rattle.oe_plan.specs.Figures.{steps_of}
 use Rattle.oe_plan.specs.Turns.{takes_sums}
 use Rattle.oe_plan.proofs.WidthLemmas.{few_steps, most_live, width_begins, width_ends, width_with_sums, width_without_sums}

@@ -1,6 +1,6 @@
 use Rattle.std.proofs.Common.{sym, ◌∙◌, subst}
 use Rattle.oe_dims.specs.Dimensions.{Dimensions}
-use Rattle.oe_shape.specs.PlainRequests.{plain_operation}
+use Rattle.oe_requests.specs.PlainRequests.{plain_operation}
 use Rattle.oe_window.specs.Windows.{IsIn, whole_window}
 use Rattle.oe_plan.specs.Steps.{argument_shapes}
 use Rattle.oe_plan.proofs.NodeLemmas.{argument_shape_is}

@@ -1,7 +1,7 @@
 use Rattle.std.proofs.Common.{◌≡◌, ℕ, ◌<◌, false, length, sym, subst, arith}
 use Rattle.oe_graph.specs.Printed.{node_count}
 use Rattle.oe_order.specs.Graph.{is_load}
-use Rattle.oe_shape.specs.Links.{links_of}
+use Rattle.oe_check.specs.Links.{links_of}
 use Rattle.oe_plan.specs.Schedules.{part_of}
 use Rattle.oe_plan.specs.Steps.{arguments_of_node}
 use Rattle.oe_plan.proofs.SideLemmas.{step_below}

@@ -2,7 +2,7 @@ use Rattle.std.proofs.Common.{◌∙◌, sym, ap, subst}
 use Rattle.oe_engine.specs.Runs.{chunk_total}
 use Rattle.oe_plan.specs.Plans.{IsPlan, PlanOf}
 use Rattle.oe_outside.proofs.Causes.{NeverFalls-trans}
-use Rattle.oe_shape.specs.Checked.{CheckedGraph}
+use Rattle.oe_check.specs.Checked.{CheckedGraph}
 use Rattle.oe_serve.specs.Evaluations.{CanBeNamed}
 use Rattle.oe_serve.proofs.Answered.{can_be_named, with_code, with_text}
 use Rattle.oe_serve.proofs.results.answer_run.Goals as goal

@@ -1,7 +1,7 @@
 use Rattle.std.proofs.Common.{◌≡◌, ◌<◌, ◌∙◌, Err, length, ap, refl, subst, arith}
 use Rattle.oe_jobs.specs.Plain.{plain_job, plain_ran}
 use Rattle.oe_plan.specs.Figures.{bound_of, most_held_cells}
-use Rattle.oe_shape.specs.Checked.{CheckedGraph}
+use Rattle.oe_check.specs.Checked.{CheckedGraph}
 use Rattle.oe_sources.specs.CatalogueDims.{dims_of}
 use Rattle.oe_sources.specs.CatalogueRows.{rows_of}
 use Rattle.oe_graph.specs.Read.{IsFaultless}

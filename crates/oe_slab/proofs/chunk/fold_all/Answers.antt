@@ -2,8 +2,8 @@ use Rattle.std.proofs.Common.{◌≡◌, ◌∙◌, ℕ, List, OnOk, length, tak
 use Rattle.std.proofs.Math.ListN.{drop}
 use Rattle.std.proofs.lemmas.List.{length-take-le}
 use Rattle.oe_fold.specs.declared.pass.Pass.{Pass}
-use Rattle.oe_shape.specs.Graphs.{Collections}
-use Rattle.oe_shape.specs.Laws.{AreCollectionsOf}
+use Rattle.oe_meanings.specs.Graphs.{Collections}
+use Rattle.oe_check.specs.Laws.{AreCollectionsOf}
 use Rattle.oe_sources.specs.CatalogueRows.{rows_of}
 use Rattle.oe_steps.specs.Collections.{Shows}
 use Rattle.oe_steps.proofs.BufferLemmas.{take_front}

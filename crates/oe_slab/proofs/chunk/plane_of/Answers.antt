@@ -3,7 +3,7 @@ use Rattle.std.specs.Prelude.{Contains, slice_index}
 use Rattle.oe_plan.specs.Figures.{shape_of_node, steps_of}
 use Rattle.oe_plan.specs.Schedules.{ScheduleOf, part_of}
 use Rattle.oe_plan.specs.Windows.{AreWindows}
-use Rattle.oe_shape.specs.Checked.{CheckedGraph}
+use Rattle.oe_check.specs.Checked.{CheckedGraph}
 use Rattle.oe_window.specs.Chunks.{FitsSides, tiling_of}
 use Rattle.oe_window.specs.Windows.{Holds, whole_window}
 use Rattle.oe_slab.proofs.BehindLemmas.{cut_few, fold_in_whole, whole_windows}

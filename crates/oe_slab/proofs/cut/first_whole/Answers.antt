@@ -1,7 +1,7 @@
 use Rattle.std.proofs.Common.{◌≡◌, false, Some, get_or, ap, ◌∙◌, subst, inl, inr, arith}
 use Rattle.std.proofs.lemmas.Bool.{cases_lt}
 use Rattle.oe_dims.specs.declared.kind.Kind.TheVariants.{Time}
-use Rattle.oe_shape.specs.Reach.{whole_of_node}
+use Rattle.oe_check.specs.Reach.{whole_of_node}
 use Rattle.oe_slab.proofs.cut.first_whole.Goals as goal
 
 pub loop-node-preserved : goal.loop-node-preserved

@@ -1,7 +1,7 @@
 use Rattle.std.proofs.Common.{◌≡◌, true, Some, get_or, refl, subst, inl, inr, arith}
 use Rattle.std.proofs.lemmas.Bool.{cases_lt, false≢true}
 use Rattle.oe_dims.specs.declared.kind.Kind.TheVariants.{Time}
-use Rattle.oe_shape.specs.Reach.{whole_of_node}
+use Rattle.oe_check.specs.Reach.{whole_of_node}
 use Rattle.oe_slab.proofs.cut.is_alone.Goals as goal
 
 pub returns-then-not-is_same_or_cut : goal.returns-then-not-is_same_or_cut

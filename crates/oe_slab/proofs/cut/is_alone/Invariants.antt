@@ -1,7 +1,7 @@
 use Rattle.std.proofs.Common.{◌≡◌, ◌<◌, ℕ, true, Some}
 use Rattle.std.specs.Prelude.{slice_index}
 use Rattle.oe_dims.specs.declared.kind.Kind.TheVariants.{Time}
-use Rattle.oe_shape.specs.Reach.{whole_of_node}
+use Rattle.oe_check.specs.Reach.{whole_of_node}
 use Rattle.oe_slab.proofs.cut.is_alone.Given as goal
 
 -- none of the nodes so far but this one

@@ -3,7 +3,7 @@ use Rattle.oe_order.specs.Evaluation.{IsEvaluationOrder}
 use Rattle.oe_order.specs.Live.{IsSlotted, width_of}
 use Rattle.oe_order.specs.Order.{IsListing}
 use Rattle.oe_plan.specs.Figures.{steps_of}
-use Rattle.oe_shape.specs.Links.{links_of}
+use Rattle.oe_check.specs.Links.{links_of}
 use Rattle.oe_slab.proofs.FoldLemmas.{before_is, fold_takes, of_taken}
 use Rattle.oe_slab.proofs.cut.order_before.Goals as goal
 

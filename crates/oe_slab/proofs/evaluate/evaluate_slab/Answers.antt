@@ -1,8 +1,8 @@
 use Rattle.std.proofs.Common.{◌≡◌, ◌*◌, ℕ, length, None, OnOk, subst}
 use Rattle.oe_plan.specs.Figures.{scratch_of}
 use Rattle.oe_plan.specs.Schedules.{AreWindowsFor, IsSchedule}
-use Rattle.oe_shape.specs.Graphs.{Collections}
-use Rattle.oe_shape.specs.Laws.{AreCollectionsOf}
+use Rattle.oe_meanings.specs.Graphs.{Collections}
+use Rattle.oe_check.specs.Laws.{AreCollectionsOf}
 use Rattle.oe_sources.specs.CatalogueRows.{rows_of}
 use Rattle.oe_steps.specs.Buffers.{lists_of}
 use Rattle.oe_steps.specs.Collections.{HasCollections, Shows}

@@ -3,7 +3,7 @@ use Rattle.std.proofs.Math.Nat.{mul-le-mul}
 use Rattle.std.proofs.lemmas.Option.{same_Some}
 use Rattle.oe_fold.specs.declared.reducer.Reducer.{Reducer}
 use Rattle.oe_plan.specs.Windows.{window_at}
-use Rattle.oe_shape.specs.Reach.{time_fold_of_node}
+use Rattle.oe_check.specs.Reach.{time_fold_of_node}
 use Rattle.oe_sources.specs.CatalogueRows.{rows_of}
 use Rattle.oe_steps.specs.Loads.{HasRead}
 use Rattle.oe_steps.specs.Steps.{OfLast}

@@ -1,8 +1,8 @@
 use Rattle.std.proofs.Common.{◌≡◌, ◌≤◌, ◌<◌, ◌+◌, ◌-◌, ◌^◌, ◌*◌, min, ℕ, Bool, length, Ok, Some}
 use Rattle.oe_fold.specs.declared.reducer.Reducer.{Reducer}
-use Rattle.oe_shape.specs.Graphs.{Collections}
-use Rattle.oe_shape.specs.Laws.{AreCollectionsOf}
-use Rattle.oe_shape.specs.Reach.{time_fold_of_node}
+use Rattle.oe_meanings.specs.Graphs.{Collections}
+use Rattle.oe_check.specs.Laws.{AreCollectionsOf}
+use Rattle.oe_check.specs.Reach.{time_fold_of_node}
 use Rattle.oe_sources.specs.CatalogueRows.{rows_of}
 use Rattle.oe_steps.specs.Buffers.{lists_of}
 use Rattle.oe_steps.specs.Collections.{Shows}

@@ -3,7 +3,7 @@ use Rattle.std.proofs.lemmas.Option.{get_or_from_slice_get}
 use Rattle.oe_order.specs.Graph.{graph_of}
 use Rattle.oe_plan.specs.Figures.{most_held_cells}
 use Rattle.oe_plan.specs.Steps.{arguments_of_node}
-use Rattle.oe_shape.specs.Links.{links_of}
+use Rattle.oe_check.specs.Links.{links_of}
 use Rattle.oe_slab.specs.Figures.{taken_by}
 use Rattle.oe_slab.proofs.CutLemmas.{width_there}
 use Rattle.oe_slab.proofs.FoldLemmas.{fold_takes}

@@ -2,7 +2,7 @@ use Rattle.std.proofs.Common.{◌≡◌, Some, None, sym, ap, ◌∙◌, Bor}
 use Rattle.std.specs.Option.{option_map}
 use Rattle.oe_dims.specs.declared.text.Text.{Text}
 use Rattle.oe_plan.specs.Schedules.{node_at}
-use Rattle.oe_shape.specs.Checked.{collection_of_node}
+use Rattle.oe_check.specs.Checked.{collection_of_node}
 use Rattle.oe_sources.specs.Catalogue.{row_index}
 use Rattle.oe_sources.specs.CatalogueRows.{rows_of}
 use Rattle.oe_steps.proofs.LoadLemmas.{id_of_load}

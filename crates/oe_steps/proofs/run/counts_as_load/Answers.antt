@@ -2,7 +2,7 @@ use Rattle.std.proofs.Common.{Option, sym, ap, ◌∙◌}
 use Rattle.std.proofs.lemmas.Bool.{eqb-false, true_from_ne_false}
 use Rattle.oe_order.specs.Graph.{is_load}
 use Rattle.oe_plan.specs.Schedules.{links_given}
-use Rattle.oe_shape.specs.Links.{links_of}
+use Rattle.oe_check.specs.Links.{links_of}
 use Rattle.oe_plan.proofs.ScheduleLemmas.{load_elsewhere, load_where_given}
 use Rattle.oe_steps.proofs.RunLemmas.{links_counted}
 use Rattle.oe_steps.proofs.run.counts_as_load.Goals as goal

@@ -2,9 +2,9 @@ use Rattle.std.proofs.Common.{◌≡◌, ◌∙◌, refl, sym, ap, subst, Some}
 use Rattle.oe_ops.specs.Nodes.{HasScratch}
 use Rattle.oe_plan.specs.Schedules.{node_at}
 use Rattle.oe_plan.specs.Windows.{window_at}
-use Rattle.oe_shape.specs.Checked.{operation_of_node}
-use Rattle.oe_shape.specs.Laws.{meaning_of_node}
-use Rattle.oe_shape.specs.PlainRequests.{plain_operation}
+use Rattle.oe_check.specs.Checked.{operation_of_node}
+use Rattle.oe_check.specs.Laws.{meaning_of_node}
+use Rattle.oe_requests.specs.PlainRequests.{plain_operation}
 use Rattle.oe_steps.proofs.EvalLemmas.{cube_at, cube_shape_at, fits_goal, inside_at, kinds_goal, means_goal, need_goal, room_at, second_goal, shape_goal, takes_goal}
 use Rattle.oe_steps.specs.Steps.{cell_kind_at}
 use Rattle.oe_steps.proofs.step.evaluate_from.Goals as goal

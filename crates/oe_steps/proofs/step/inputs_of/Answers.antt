@@ -3,9 +3,9 @@ use Rattle.oe_graph.specs.Printed.{node_count}
 use Rattle.oe_order.specs.Graph.{is_load}
 use Rattle.oe_plan.specs.Schedules.{node_at}
 use Rattle.oe_plan.specs.Steps.{arguments_of_node}
-use Rattle.oe_shape.specs.Checked.{operation_of_node}
-use Rattle.oe_shape.specs.Links.{links_of}
-use Rattle.oe_shape.specs.PlainRequests.{plain_operation}
+use Rattle.oe_check.specs.Checked.{operation_of_node}
+use Rattle.oe_check.specs.Links.{links_of}
+use Rattle.oe_requests.specs.PlainRequests.{plain_operation}
 use Rattle.oe_steps.proofs.NodeLemmas.{works_on}
 use Rattle.oe_steps.proofs.ScheduleLemmas.{loads_none, node_within, single, some_argument, works_at}
 use Rattle.oe_steps.proofs.step.inputs_of.Goals as goal

@@ -1,7 +1,7 @@
 use Rattle.std.proofs.Common.{ap, refl, subst, ◌-◌, ◌∙◌}
 use Rattle.oe_dims.specs.Dimensions.{cell_count}
 use Rattle.oe_plan.specs.Plans.{PlanOf}
-use Rattle.oe_shape.specs.Checked.{CheckedGraph}
+use Rattle.oe_check.specs.Checked.{CheckedGraph}
 use Rattle.oe_sources.specs.CatalogueRows.{rows_of}
 use Rattle.oe_top.proofs.Demos.{has_row, has_spooled, named, refused, stopped_figures, unspooled, written}
 use Rattle.oe_top.specs.Evaluated.{IsFailOfRun}

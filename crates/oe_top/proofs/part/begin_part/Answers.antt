@@ -1,7 +1,7 @@
 use Rattle.std.proofs.Common.{◌≡◌, ap, ◌∙◌, arith}
 use Rattle.oe_engine.specs.Runs.{chunk_total}
 use Rattle.oe_plan.specs.Figures.{chunks_of}
-use Rattle.oe_shape.specs.Checked.{CheckedGraph}
+use Rattle.oe_check.specs.Checked.{CheckedGraph}
 use Rattle.oe_top.proofs.part.begin_part.Goals as goal
 
 pub start-requires-clause-chunks : goal.start-requires-clause-chunks

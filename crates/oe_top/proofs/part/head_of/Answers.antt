@@ -1,6 +1,6 @@
 use Rattle.std.proofs.Common.{ℕ, sym, ap, ◌∙◌, subst}
 use Rattle.oe_dims.specs.Dimensions.{IsShape}
-use Rattle.oe_shape.specs.Checked.{outline_of_node}
+use Rattle.oe_check.specs.Checked.{outline_of_node}
 use Rattle.oe_top.proofs.PartHeads.{head_made}
 use Rattle.oe_top.proofs.part.head_of.Goals as goal
 

@@ -7,7 +7,7 @@ use Rattle.oe_parts.specs.PartFile.{chunks_of, part_bytes}
 use Rattle.oe_parts.specs.Sent.{AppendsRecords}
 use Rattle.oe_parts.specs.Spooled.{ShowsPart, TellsNoRecord}
 use Rattle.oe_plan.specs.Plans.{PlanOf}
-use Rattle.oe_shape.specs.Checked.{CheckedGraph}
+use Rattle.oe_check.specs.Checked.{CheckedGraph}
 use Rattle.oe_spool.specs.Spooled.{IsInSome}
 use Rattle.oe_steps.specs.declared.fail.RunFail.{RunFail}
 use Rattle.oe_top.proofs.Namings.{can_be_named}

@@ -1,6 +1,6 @@
 use Rattle.std.proofs.Common.{refl, sym, subst}
 use Rattle.oe_outside.proofs.Causes.{NeverFalls-refl}
-use Rattle.oe_shape.specs.Checked.{CheckedGraph}
+use Rattle.oe_check.specs.Checked.{CheckedGraph}
 use Rattle.oe_sources.specs.CatalogueDims.{AreDimsOf}
 use Rattle.oe_sources.specs.CatalogueRows.{rows_of}
 use Rattle.oe_top.proofs.Runs.{run_finished, run_stopped, run_too_large}

@@ -1,7 +1,7 @@
 use Rattle.std.proofs.Common.{Result, Err, sym, ap, ◌∙◌, subst}
 use Rattle.oe_steps.specs.declared.fail.RunFail.{RunFail}
 use Rattle.oe_plan.specs.Plans.{PlanOf}
-use Rattle.oe_shape.specs.Checked.{CheckedGraph}
+use Rattle.oe_check.specs.Checked.{CheckedGraph}
 use Rattle.oe_top.proofs.Evaluations.{refused, stopped, written}
 use Rattle.oe_top.proofs.Namings.{can_be_named}
 use Rattle.oe_top.specs.Evaluated.{CanBeNamed, IsFailOfRun}

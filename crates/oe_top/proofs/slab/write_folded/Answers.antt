@@ -1,6 +1,6 @@
 use Rattle.std.proofs.Common.{Result, Err, sym, ap, ◌∙◌, subst}
 use Rattle.oe_steps.specs.declared.fail.RunFail.{RunFail}
-use Rattle.oe_shape.specs.Checked.{CheckedGraph}
+use Rattle.oe_check.specs.Checked.{CheckedGraph}
 use Rattle.oe_slab.specs.Plans.{SlabPlanOf}
 use Rattle.oe_top.proofs.Namings.{can_be_named}
 use Rattle.oe_top.proofs.SlabEvaluations.{refused_slabs, stopped_slabs, written_slabs}

@@ -1,5 +1,5 @@
 use Rattle.std.proofs.Common.{◌∙◌, sym, ap}
-use Rattle.oe_shape.specs.Meaning.{joined}
+use Rattle.oe_meanings.specs.Meaning.{joined}
 use Rattle.oe_ops.specs.Indices.{found_in}
 use Rattle.oe_ops.specs.Slices.{along_x, at_indices}
 use Rattle.oe_ops.proofs.FoundLemmas.{found_on_row, not_on_row, on_row}

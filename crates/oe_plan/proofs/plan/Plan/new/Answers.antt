@@ -5,7 +5,7 @@ use Rattle.oe_window.specs.Chunks.{tiling_of}
 use Rattle.oe_plan.specs.Figures.{shape_of_node}
 use Rattle.oe_plan.specs.Plans.{IsPlan}
 use Rattle.oe_plan.proofs.ScheduleLemmas.{is_bounded, kept_plan, still_plan}
-use Rattle.oe_shape.specs.Links.{links_of}
+use Rattle.oe_check.specs.Links.{links_of}
 use Rattle.oe_plan.proofs.FitLemmas.{parts_fit}
 use Rattle.oe_plan.proofs.RunLemmas.{some_width}
 use Rattle.oe_plan.proofs.WidthLemmas.{wider, width_small}

@@ -5,8 +5,8 @@ use Rattle.oe_fold.specs.declared.pass.Pass.{Pass}
 use Rattle.oe_plan.specs.Laws.{ArePicked}
 use Rattle.oe_plan.specs.Schedules.{AreWindowsFor, ScheduleOf}
 use Rattle.oe_plan.specs.Windows.{window_at}
-use Rattle.oe_shape.specs.Checked.{CheckedGraph}
-use Rattle.oe_shape.specs.Laws.{AreCollectionsOf}
+use Rattle.oe_check.specs.Checked.{CheckedGraph}
+use Rattle.oe_check.specs.Laws.{AreCollectionsOf}
 use Rattle.oe_steps.proofs.BufferLemmas.{with_items_is}
 use Rattle.oe_steps.specs.Buffers.{lists_of}
 use Rattle.oe_steps.specs.Steps.{AreCells, AreOfKind, EachLoad, HaveRoomFor, OfLast, buffer_cells_at}

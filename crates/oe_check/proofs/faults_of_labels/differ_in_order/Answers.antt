@@ -1,0 +1,10 @@
+use Rattle.std.proofs.Common.{◌≡◌, ◌∙◌, rules}
+use Rattle.std.proofs.lemmas.Fn.{always_returns_same}
+use Rattle.oe_check.proofs.DistinctLemmas.{sorted_rise}
+use Rattle.oe_meanings.proofs.SortLemmas.{compares_below, compares_below_ranks}
+use Rattle.oe_check.proofs.faults_of_labels.differ_in_order.Goals as goal
+
+pub returns : goal.returns
+returns c =
+    let order = c.sort_unstable_by.ensures.sorted compares_below compares_below_ranks (always_returns_same _ _ _ (λ a r f h. search rules)) in
+    c.rise.ensures ∙ sorted_rise _ _ c.sort_unstable_by.ensures.permutation order

@@ -1,0 +1,9 @@
+pub mod Laws
+pub mod Reach
+pub mod Checked
+pub mod Links
+pub mod Walked
+pub mod Early
+pub mod Inputs
+pub mod Held
+pub mod Tables

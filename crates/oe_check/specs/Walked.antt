@@ -1,0 +1,177 @@
+-- How far the walk over the nodes of a graph has come.
+use Rattle.std.specs.Prelude.{◌≡◌, ◌≢◌, ℕ, ⊤, Bool, true, false, List, [], ◌∷◌, Option, Some, None, Contains, slice_get, slice_index_or, option_and_then}
+use Rattle.std.specs.Arc.{arc_value}
+use Rattle.oe_dims.specs.declared.dims.DimsRow.{DimsRow}
+use Rattle.oe_graph.specs.Faults.{IsLeast, is_before}
+use Rattle.oe_graph.specs.References.{each_node, references_named, Chain}
+use Rattle.oe_graph.specs.Resolved.{IsResolved}
+use Rattle.oe_graph.specs.Tree.{Nodes, PlainNode}
+use Rattle.oe_graph.specs.declared.fault.Fault.{Fault}
+use Rattle.oe_expr.specs.Nodes.{node_named}
+use Rattle.oe_meanings.specs.Graphs.{outline_at, node_outline, operation_at}
+use Rattle.oe_check.specs.Links.{loaded_collection, index_referred}
+use Rattle.oe_requests.specs.Operations.{Operation, Outline, operation_of}
+use Rattle.oe_requests.specs.PlainRequests.{plain_operation}
+use Rattle.oe_requests.specs.Requests.{CubeRequest, cube_request_at}
+use Rattle.oe_meanings.specs.SoundNodes.{IsSoundOperation, IsSoundNode}
+use Rattle.oe_meanings.specs.Stands.{cubes_of, HasNoFault, StandsHere, IsSound, StandsAt, StandsInGraph}
+use Rattle.oe_check.specs.declared.checked.CheckedNode.{CheckedNode}
+use Rattle.oe_check.specs.declared.checked.State.{State}
+use Rattle.oe_check.specs.declared.checked.State.TheVariants.{Unseen, Faulty, Sound}
+use Rattle.oe_check.specs.declared.walk.Below.{Below}
+use Rattle.oe_check.specs.declared.walk.Below.TheVariants as below
+use Rattle.oe_check.specs.declared.walk.Verdict.{Verdict}
+use Rattle.oe_check.specs.declared.walk.Verdict.TheVariants as verdict
+
+-- the nodes are those of a resolved graph
+pub record AreResolved (nodes : Nodes) : Type 0 where
+  pub result : ℕ
+  pub resolved : IsResolved (record { nodes = nodes; result = result })
+
+-- the node is one of these
+abbrev pub IsNodeOf : Nodes → PlainNode → Type 0
+IsNodeOf nodes n = Contains (each_node nodes) n
+
+-- the node at an index
+abbrev pub IsNodeAt : Nodes → ℕ → PlainNode → Type 0
+IsNodeAt nodes index n = slice_get (each_node nodes) index ≡ Some n
+
+abbrev pub state_at : List State → ℕ → State
+state_at states index = slice_index_or states index Unseen
+
+abbrev pub is_unseen : State → Bool
+is_unseen Unseen = true
+is_unseen Faulty = false
+is_unseen (Sound kept) = false
+
+abbrev pub outline_kept : CheckedNode → Outline
+outline_kept kept = record { shape = arc_value kept.shape; kind = kept.kind }
+
+-- ---- what is known of several nodes
+
+abbrev pub worse_of : Below → Below → Below
+worse_of below.Unseen b = below.Unseen
+worse_of below.Faulty below.Unseen = below.Unseen
+worse_of below.Faulty below.Faulty = below.Faulty
+worse_of below.Faulty below.Sound = below.Faulty
+worse_of below.Sound b = b
+
+abbrev pub below_state : State → Below
+below_state Unseen = below.Unseen
+below_state Faulty = below.Faulty
+below_state (Sound kept) = below.Sound
+
+-- of the nodes at these indices, all together
+abbrev pub below_indices : List State → List ℕ → Below
+below_indices states [] = below.Sound
+below_indices states (index ∷ indices) = worse_of (below_state (state_at states index)) (below_indices states indices)
+
+-- ---- one node, by the outlines of those that it refers to
+
+-- the node of a name has no fault at or below it, and `at` has the outline of its cube
+pub record IsKnown (nodes : Nodes) (states : List State) (at : List ℕ → Outline) (name : List ℕ) : Type 0 where
+  pub index : ℕ
+  pub node : PlainNode
+  pub kept : CheckedNode
+  pub is_node : IsNodeAt nodes index node
+  pub is_named : node.id ≡ name
+  pub state_is : state_at states index ≡ Sound kept
+  pub outline_is : at name ≡ outline_kept kept
+
+-- all nodes that a node refers to are known so
+abbrev pub AreKnown : Nodes → List State → (List ℕ → Outline) → PlainNode → Type 0
+AreKnown nodes states at n =
+    (name : List ℕ) → Contains (references_named n.arguments) name → IsKnown nodes states at name
+
+module _ (rows : List DimsRow) (at : List ℕ → Outline) (n : PlainNode) where
+  -- no fault stands at the node, and this is its operation, with the collection that it loads and the outline of its
+  -- cube
+  pub record IsJudgedSound (kept : CheckedNode) : Type 0 where
+    pub no_fault : HasNoFault rows at n
+    pub operation_is :
+        option_and_then (λ r. operation_of r (cubes_of rows at r)) (cube_request_at n)
+        ≡ Some (plain_operation kept.operation)
+    pub sound_operation :
+        (r : CubeRequest) (operation : Operation) → cube_request_at n ≡ Some r → operation_of r (cubes_of rows at r)
+        ≡ Some operation
+        → IsSoundOperation operation (cubes_of rows at r)
+    pub collection_is : loaded_collection n ≡ kept.collection
+    pub outline_is : node_outline rows at n ≡ outline_kept kept
+
+  -- or this is the least fault that stands at it or in its callback
+  abbrev pub IsVerdict : Verdict → Type 0
+  IsVerdict (verdict.Stands fault) = IsLeast (StandsHere rows at n) fault
+  IsVerdict (verdict.Sound kept) = IsJudgedSound kept
+
+-- ---- all nodes so far
+
+module _ (rows : List DimsRow) (nodes : Nodes) where
+  -- the node of a name has no fault at or below it, and this is kept of it
+  pub record IsSoundOf (name : List ℕ) (kept : CheckedNode) : Type 0 where
+    pub sound : IsSound rows nodes name
+    pub sound_cells : IsSoundNode rows nodes name
+    pub outline_is : outline_at rows nodes name ≡ outline_kept kept
+    pub operation_is : (n : PlainNode) → node_named name nodes ≡ Some n
+        → operation_at rows nodes n ≡ Some (plain_operation kept.operation)
+    pub collection_is : (n : PlainNode) → node_named name nodes ≡ Some n → loaded_collection n ≡ kept.collection
+
+  -- the state of the node of a name is right
+  abbrev pub IsState : List ℕ → State → Type 0
+  IsState name Unseen = ⊤
+  IsState name Faulty = ¬ IsSound rows nodes name
+  IsState name (Sound kept) = IsSoundOf name kept
+
+  -- a fault stands at a node that was judged
+  pub record StandsSeen (states : List State) (fault : Fault) : Type 0 where
+    pub index : ℕ
+    pub node : PlainNode
+    pub is_node : IsNodeAt nodes index node
+    pub seen : state_at states index ≢ Unseen
+    pub stands : StandsAt rows nodes node.id fault.code fault.node
+
+  abbrev pub IsLeastSeen : List State → Option Fault → Type 0
+  IsLeastSeen states None = (fault : Fault) → ¬ StandsSeen states fault
+  IsLeastSeen states (Some fault) =
+      StandsSeen states fault × ((other : Fault) → StandsSeen states other → is_before other fault ≡ false)
+
+  pub record IsWalked (states : List State) (found : Option Fault) : Type 0 where
+    pub each : (index : ℕ) (n : PlainNode) → IsNodeAt nodes index n → IsState n.id (state_at states index)
+    pub least : IsLeastSeen states found
+    -- where no fault was found, no node has one at or below it
+    pub all : found ≡ None → (index : ℕ) → state_at states index ≢ Faulty
+
+  -- ---- all nodes
+
+  -- each node has no fault at or below it, and this is kept of them
+  abbrev pub AreSound : List State → Type 0
+  AreSound states =
+      (index : ℕ) (n : PlainNode) → IsNodeAt nodes index n
+      → (kept : CheckedNode) × (slice_get states index ≡ Some (Sound kept)) × IsSoundOf n.id kept
+
+  -- the least fault where one stands
+  abbrev pub IsChecked : List State → Option Fault → Type 0
+  IsChecked states None = AreSound states
+  IsChecked states (Some fault) = IsLeast (StandsInGraph rows nodes) fault
+
+-- ---- rounds
+
+-- a node waits for one that it refers to
+pub record Waits (nodes : Nodes) (states : List State) (n : PlainNode) : Type 0 where
+  pub name : List ℕ
+  pub refers : Contains (references_named n.arguments) name
+  pub unseen : state_at states (index_referred nodes name) ≡ Unseen
+
+-- no other node's state changes, and that of this one is known unless the node waits
+pub record IsStep (nodes : Nodes) (index : ℕ) (before after : List State) : Type 0 where
+  pub others : (k : ℕ) → k ≢ index → state_at after k ≡ state_at before k
+  pub waits : (n : PlainNode) → IsNodeAt nodes index n → state_at after index ≡ Unseen → Waits nodes before n
+
+-- a node that was not judged leads down so many references
+pub record LeadsDown (nodes : Nodes) (count : ℕ) (name : List ℕ) : Type 0 where
+  pub end : List ℕ
+  pub chain : Chain nodes count name end
+
+-- each node that was not judged leads down so many references
+abbrev pub AreDeep : Nodes → ℕ → List State → Type 0
+AreDeep nodes count states =
+    (index : ℕ) (n : PlainNode) → IsNodeAt nodes index n → state_at states index ≡ Unseen → LeadsDown nodes count n.id

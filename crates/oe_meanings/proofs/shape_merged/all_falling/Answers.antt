@@ -1,0 +1,9 @@
+use Rattle.std.proofs.Common.{◌≡◌, ◌∙◌, ap, true, sym, subst}
+use Rattle.oe_dims.specs.Indices.{same_number}
+use Rattle.oe_meanings.proofs.AmongLemmas.{falling_differ}
+use Rattle.oe_requests.specs.Labels.{are_distinct}
+use Rattle.oe_meanings.proofs.shape_merged.all_falling.Goals as goal
+
+pub sort_falling-requires : goal.sort_falling-requires
+sort_falling-requires c =
+    record { differ = ap (are_distinct same_number) (c.as_mut_slice.ensures.value ∙ c.in_ok-labels.ensures) ∙ falling_differ c.args.one.now c.args.two.now c.count.ensures.valid c.count-else-is_none.ensures.valid }

@@ -1,0 +1,13 @@
+pub mod Meaning
+pub mod Graphs
+pub mod Laws
+pub mod CellKinds
+pub mod ValidShapes
+pub mod Scopes
+pub mod SoundNodes
+pub mod Brings
+pub mod Words
+pub mod Rows
+pub mod Stands
+pub mod Results
+pub mod Callbacks

@@ -1,0 +1,10 @@
+use Rattle.std.proofs.Common.{◌≡◌, map}
+use Rattle.oe_graph.specs.Plain.{plain_args}
+use Rattle.oe_requests.specs.Parameters as spec
+use Rattle.oe_requests.proofs.ReadingLemmas.{each_from}
+use Rattle.oe_requests.proofs.parameter_list.rows_of.Given as goal
+
+abbrev pub invariant-loop-arg : goal.invariant-loop-arg
+invariant-loop-arg l =
+    spec.each_in (spec.list_in spec.number_in) (plain_args l.arg-items)
+    ≡ each_from (spec.list_in spec.number_in) (map (λ row. row.items) l.rows.items) l.arg-items l.arg-index

@@ -1,0 +1,125 @@
+// The callback of `apply_dimension`, whose nodes are running sums of the list that it sees.
+ghost use Rattle.std.specs.Prelude.{◌≡◌, ℕ, true, false, IfOk, IfErr, OnOk, codes, is_none};
+ghost use Rattle.oe_dims.specs.Names.{names_rise, same_name};
+ghost use Rattle.oe_graph.specs.Form.{callback_name, node_name};
+ghost use Rattle.oe_expr.specs.Requests.{passes};
+ghost use Rattle.oe_graph.specs.Plain.{plain_arg, plain_graph, plain_named, plain_node, plain_nodes};
+ghost use Rattle.oe_graph.specs.Printed.{ids_of};
+ghost use Rattle.oe_graph.specs.Read.{IsFault};
+ghost use Rattle.oe_requests.specs.RunningSums as spec;
+
+use crate::parameter::flag_at;
+use oe_dims::Text;
+use oe_graph::{Arg, Code, Fault, Graph, Node, Refusal, argument_named};
+use oe_memory::OutOfMemory;
+use std::alloc::Global;
+
+/// Whether a node of the callback ignores nulls: `cumsum` of the list that it sees, with a flag that is written as
+/// such; `None` of every other node.
+fn running_sum_at(node: &Node) -> Option<bool>
+    ensures { result ≡ spec.running_sum_at (plain_node node.now) }
+{
+    if !is_cumsum(node.process_id.as_str()) {
+        return None;
+    }
+    if !has_data(&node.arguments) {
+        return None;
+    }
+    flag_at(&node.arguments, "ignore_nodata")
+}
+
+/// The process of running sums.
+fn is_cumsum(id: &str) -> bool
+    ensures { result ≡ same_name id.now (codes "cumsum") }
+{
+    id == "cumsum"
+}
+
+/// The name of the list that the callback sees.
+fn is_data_name(name: &str) -> bool
+    ensures { result ≡ same_name name.now (codes "data") }
+{
+    name == "data"
+}
+
+/// Whether it is a reference to the list that the callback sees.
+fn is_data(arg: &Arg) -> bool
+    ensures { result ≡ spec.is_data (plain_arg arg.now) }
+{
+    match arg {
+        Arg::FromParameter(name) => is_data_name(name.as_str()),
+        _ => false,
+    }
+}
+
+/// Whether the argument `data` is one.
+#[tactic(auto, using(crate::proofs::ReadingLemmas::passes_by))]
+fn has_data(arguments: &Vec<(Text, Arg)>) -> bool
+    ensures { result ≡ passes spec.is_data (codes "data") (plain_named arguments.now.items) }
+{
+    match argument_named(arguments, "data") {
+        Some(arg) => is_data(arg),
+        None => false,
+    }
+}
+
+/// Whether the running sum of a callback, in the argument `process` of the node `id`, ignores nulls.
+///
+/// Refuses: the least fault of the callback, exactly where a node of it is no running sum; out of memory.
+pub fn running_sum_in(alloc: Global, process: &Graph, id: &str) -> Result<bool, Refusal>
+    requires { spec.IsWellFormed (plain_graph process.now) }
+    ensures value { IfOk result (λ ignore. ignore ≡ spec.ignores_nulls (plain_graph process.now)) }
+    ensures faultless { OnOk result (spec.AreSums (plain_graph process.now)) }
+    ensures refused { IfErr result (IsFault (spec.StandsInSums (plain_graph process.now) id.now)) }
+{
+    match sums_fault(alloc, &process.nodes, id)? {
+        Some(fault) => Err(Refusal::Fault(fault)),
+        None => Ok(ignores_nulls(process)),
+    }
+}
+
+/// Whether the result node of a callback ignores nulls.
+fn ignores_nulls(process: &Graph) -> bool
+    ensures { result ≡ spec.ignores_nulls (plain_graph process.now) }
+{
+    match process.nodes.get(process.result as usize) {
+        Some(node) => running_sum_at(node).unwrap_or(true),
+        None => true,
+    }
+}
+
+/// Whether a node is no running sum.
+fn is_other(node: &Node) -> bool
+    ensures { result ≡ is_none (spec.running_sum_at (plain_node node.now)) }
+{
+    running_sum_at(node).is_none()
+}
+
+/// The fault of the first node that is no running sum.
+fn sums_fault(alloc: Global, nodes: &Vec<Node>, id: &str) -> Result<Option<Fault>, OutOfMemory>
+    requires { names_rise (ids_of (plain_nodes nodes.now.items)) ≡ true }
+    ensures { (index : ℕ) → IfOk result (spec.IsSumsFault
+        (record { nodes = plain_nodes nodes.now.items; result = index }) id.now) }
+{
+    for node in nodes {
+        if is_other(node) {
+            return Ok(Some(Fault {
+                code: Code::ProcessParameterInvalid,
+                node: sum_name(alloc, id, node.id.as_str())?,
+            }));
+        }
+    }
+    Ok(None)
+}
+
+/// The name of a node in the argument `process` of another.
+#[tactic(auto, using(crate::proofs::RunningSumLemmas::spelled))]
+fn sum_name(alloc: Global, id: &str, inner: &str) -> Result<Text, OutOfMemory>
+    ensures { IfOk result (λ name. name
+        ≡ node_name (callback_name id.now (codes "process")) inner.now) }
+{
+    let mut name = String::from_str(alloc, id)?;
+    name.push_str("/process/")?;
+    name.push_str(inner)?;
+    Text::of(alloc, name.as_str())
+}

@@ -1,7 +1,0 @@
-use Rattle.std.proofs.Common.{sym, ap, ◌∙◌}
-use Rattle.std.specs.Option.{option_and_then}
-use Rattle.oe_shape.specs.Reach.{time_fold}
-use Rattle.oe_shape.proofs.checked.Checked.time_fold.Goals as goal
-
-pub returns : goal.returns
-returns c = c.time_fold.ensures ∙ sym (ap (option_and_then time_fold) c.operation.ensures)

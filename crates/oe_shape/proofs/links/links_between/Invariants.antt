@@ -1,9 +1,0 @@
-use Rattle.std.proofs.Common.{◌≡◌, map, take}
-use Rattle.oe_graph.specs.Plain.{plain_node, plain_nodes}
-use Rattle.oe_order.specs.Graph.{graph_of}
-use Rattle.oe_shape.specs.Links.{link_of}
-use Rattle.oe_shape.proofs.links.links_between.Given as goal
-
-abbrev pub invariant-loop-node : goal.invariant-loop-node
-invariant-loop-node l =
-    graph_of l.links.items ≡ map (link_of (plain_nodes l.nodes.items)) (map plain_node (take l.node-index l.node-items))

@@ -1,6 +1,0 @@
-use Rattle.std.proofs.Common.{◌∙◌}
-use Rattle.oe_shape.proofs.ReadingLemmas.{empty_list}
-use Rattle.oe_shape.proofs.parameter.lacks_arguments.Goals as goal
-
-pub returns : goal.returns
-returns c = c.is_empty.ensures ∙ empty_list c.args.args.now

@@ -1,5 +1,0 @@
-use Rattle.oe_shape.proofs.IntervalLemmas.{uneven}
-use Rattle.oe_shape.proofs.parameter_list.by_labels.Goals as goal
-
-pub returns-then-extents-labels : goal.returns-then-extents-labels
-returns-then-extents-labels c = uneven c.args.extents.now c.args.labels.now c.if-extents-labels.true

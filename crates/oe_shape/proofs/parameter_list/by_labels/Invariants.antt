@@ -1,8 +1,0 @@
-use Rattle.std.proofs.Common.{◌≡◌}
-use Rattle.oe_shape.specs.Parameters as spec
-use Rattle.oe_shape.proofs.IntervalLemmas.{labels_from}
-use Rattle.oe_shape.proofs.parameter_list.by_labels.Given as goal
-
-abbrev pub invariant-loop-index : goal.invariant-loop-index
-invariant-loop-index l =
-    spec.by_labels l.extents l.labels ≡ labels_from l.intervals.items l.extents l.labels l.index

@@ -1,5 +1,0 @@
-use Rattle.oe_shape.proofs.SameLemmas.{alike_bands}
-use Rattle.oe_shape.proofs.rows_labels.have_alike_bands.Goals as goal
-
-pub returns : goal.returns
-returns c = λ same. alike_bands c.args.one.now c.args.two.now (c.has_same_labels.ensures.value.0 same)

@@ -1,6 +1,0 @@
-use Rattle.std.proofs.Common.{◌≡◌, take, filter}
-use Rattle.oe_shape.specs.Extents.{is_in_time}
-use Rattle.oe_shape.proofs.shape_kept.labels_in_time.Given as goal
-
-abbrev pub invariant-loop-index : goal.invariant-loop-index
-invariant-loop-index l = l.kept.items ≡ filter (is_in_time l.extent) (take l.index l.labels)
