@@ -4,6 +4,7 @@ ghost use Rattle.std.specs.Prelude.{◌≤◌, length};
 use crate::fake_file::{FakeFile, refuse};
 use crate::kinds::error_of;
 use crate::script::Script;
+use oe_lines::number_of;
 use std::alloc::{Allocator, Global};
 use std::cell::Cell;
 use std::fs::{Files, Metadata, OpenOptions};
@@ -15,6 +16,11 @@ const CUBE: &[u8] =
 
 /// The file of a mosaic `M` of the files `a` and `b`.
 const MOSAIC: &[u8] = b"M\na\nb\n";
+
+/// The part file of the only chunk of a single null without dimensions.
+const PART: &str =
+    "OEOPART1\0\0\0\x66{\"graph\":\"\",\"chunk\":[1,1,1],\"range\":[0,1],\"chunks\":1,\"cells\":\"number\",\
+\"dimensions\":[],\"again\":[1,1,1]}\0\0\0\0\0\0\0\0\0\0\0\0\0\0\0\0\0";
 
 /// The calls that are expected, and how many there have been.
 #[derive(Drop)]
@@ -63,28 +69,25 @@ fn answer_of<'a>(step: &'a str, call: &str, path: &str) -> IoResult<&'a str> {
     }
 }
 
-/// The file that an answer names.
+/// The file that an answer names, of which a call fails where the answer has its number.
 fn file_of(alloc: Global, answer: &str) -> IoResult<FakeFile> {
-    let bytes: &[u8] = match answer {
-        "cube" | "failing" => CUBE,
-        "cut" => &CUBE[1..],
-        "mosaic" | "unreadable" => MOSAIC,
-        _ => b"",
-    };
+    let (file, call) = answer.split_once('@').unwrap_or((answer, ""));
     let mut failing = Vec::new(alloc);
-    if let Some(call) = failing_call(answer) {
+    if let Ok(call) = number_of(call) {
         failing.push((call, ErrorKind::BrokenPipe))?;
     }
-    let bytes = Vec::from_slice(alloc, bytes)?;
+    let bytes = Vec::from_slice(alloc, bytes_of(file))?;
     Ok(FakeFile::new(bytes, Script::new(failing)))
 }
 
-/// The number of the call that fails, of a file that an answer names.
-fn failing_call(answer: &str) -> Option<u64> {
-    match answer {
-        "failing" => Some(1),
-        "unreadable" => Some(0),
-        _ => None,
+/// The bytes of the file that a word names.
+fn bytes_of(file: &str) -> &'static [u8] {
+    match file {
+        "cube" => CUBE,
+        "cut" => &CUBE[1..],
+        "mosaic" => MOSAIC,
+        "part" => PART.as_bytes(),
+        _ => b"",
     }
 }
 

@@ -14,6 +14,7 @@
 //! | `store BYTES CALLS` | `read AT N`, `write AT BYTES`, `length`, of a file |
 //! | `names SYSTEM` | the cube files and the mosaics of the folder |
 //! | `open NAME SYSTEM` | a cube file or a mosaic as a collection |
+//! | `parts WORD SYSTEM` | the parts that a command needs, which is this word alone |
 //! | `spool SYSTEM` | the file of a run's records |
 //! | `standard SYSTEM` | the files that stand in for closed standard streams |
 //! | `clock ANSWERS; now; ..` | the time of day, by a network whose clock gives seconds |
@@ -29,11 +30,11 @@
 //! `CALL:PATH=ANSWER`; a call that is not the next one expected is refused. CALL is `about` (what the path has), `open`
 //! (to read), `create` (to read and write, where there is no file), `write` (in any other way), `remove` or `list`. An
 //! ANSWER is `!KIND`; of `about` `file`, `folder` or `link`; of `open` and `create` `cube`, which is the file of a
-//! single null under the id `A`, `cut`, which is the same without its first byte, `failing`, which is the same with a
-//! second call that fails, `mosaic`, which is the file of a mosaic `M` of the files `a` and `b`, `unreadable`, which is
-//! the same with a first call that fails, or `empty`; of `list` the names that each read gives, with commas between the
-//! reads and `+` between the names, where `?` stands for the byte 255. NAME is a name, and `?.cube` the byte 255 before
-//! `.cube`.
+//! single null under the id `A`, `cut`, which is the same without its first byte, `mosaic`, which is the file of a
+//! mosaic `M` of the files `a` and `b`, `part`, which is the part file of a run that has a single null, or `empty`, and
+//! behind `@` the number of a call of that file that fails; of `list` the names that each read gives, with commas
+//! between the reads and `+` between the names, where `?` stands for the byte 255. NAME is a name, and `?.cube` the byte
+//! 255 before `.cube`.
 //!
 //! An answer is `ok` or `Failed` with the bytes of the buffer of a read, which is full of `-` before, and behind a bar
 //! what the stream took, and how many calls failed; of a SYSTEM `ok`, what was found and behind a bar how many calls
@@ -76,7 +77,7 @@ use std::io::{Read, Write};
 use std::process::ExitCode;
 use stores::answer_store;
 use streams::{answer_reader, answer_writer};
-use systems::{answer_names, answer_open, answer_spool, answer_standard};
+use systems::{answer_names, answer_open, answer_parts, answer_spool, answer_standard};
 use words::{answer_fault_line, answer_words};
 
 fn main(rt: HostRuntime) -> ExitCode {
@@ -111,6 +112,7 @@ fn answer_line(alloc: Global, line: &str, answers: &mut Answers) -> Result<(), F
         "#" => spell_line(line, answers),
         "names" => answer_names(alloc, rest, answers),
         "open" => answer_open(alloc, rest, answers),
+        "parts" => answer_parts(alloc, rest, answers)?,
         "spool" => answer_spool(alloc, rest, answers),
         "standard" => answer_standard(alloc, rest, answers),
         "words" => answer_words(alloc, rest, answers)?,

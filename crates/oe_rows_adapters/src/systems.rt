@@ -1,10 +1,14 @@
 // What the program sets up, over the files of a system.
+use crate::fake_file::FakeFile;
 use crate::fake_files::FakeFiles;
 use crate::spelling::{end_with, spell_bytes, spell_fault};
 use oe_adapters::{
-    Fault as ProgramFault, collection_files, hold_standard, open_collection, open_spool,
+    Fault as ProgramFault, FileStore, collection_files, hold_standard, open_collection, open_parts,
+    open_spool,
 };
-use oe_lines::{Answers, push};
+use oe_dims::Text;
+use oe_lines::{Answers, Fault, first_word, push};
+use oe_parts::RunParts;
 use oe_sources::Catalogue;
 use std::alloc::Global;
 
@@ -42,6 +46,25 @@ fn name_of(word: &str) -> &[u8] {
     } else {
         word.as_bytes()
     }
+}
+
+pub(crate) fn answer_parts(alloc: Global, rest: &str, answers: &mut Answers) -> Result<(), Fault> {
+    let (verb, system) = first_word(rest);
+    let files = FakeFiles::new(alloc, system);
+    let words = [Text::of(alloc, verb)?];
+    match open_parts(alloc, &files, &words) {
+        Ok(parts) => spell_parts(&parts, files.calls(), answers),
+        Err(fault) => spell_fault(&fault, files.calls(), answers),
+    }
+    Ok(())
+}
+
+fn spell_parts(parts: &RunParts<FileStore<FakeFile>>, calls: u64, answers: &mut Answers) {
+    push("ok", answers);
+    for index in 0..parts.count() {
+        spell_bytes(parts.name(index).as_str().as_bytes(), answers);
+    }
+    end_with(calls, answers);
 }
 
 pub(crate) fn answer_spool(alloc: Global, system: &str, answers: &mut Answers) {
