@@ -1,0 +1,12 @@
+pub mod GraphLemmas
+pub mod InstantLemmas
+pub mod IntervalLemmas
+pub mod OperationLemmas
+pub mod PartLemmas
+pub mod PutLemmas
+pub mod ReadLemmas
+pub mod TranslationLemmas
+pub mod ValueLemmas
+pub mod RoomLemmas
+pub mod SumLemmas
+pub mod MeaningLemmas

@@ -1,0 +1,103 @@
+// A graph whose calendar periods and running sums are written by other processes.
+ghost use Rattle.std.specs.Prelude.{◌≡◌, ◌<◌, ◌+◌, false, drop, IfOk, OnOk};
+ghost use Rattle.oe_dims.specs.Plain.{plain_rows};
+ghost use Rattle.oe_graph.specs.Plain.{plain_graph, plain_nodes};
+ghost use Rattle.oe_graph.specs.Printed.{node_count};
+ghost use Rattle.oe_graph.specs.Read.{IsFaultless};
+ghost use Rattle.oe_graph.specs.References.{each_node};
+ghost use Rattle.oe_graph.specs.Resolved.{IsResolved};
+ghost use Rattle.oe_check.specs.Checked.{AreFaultless};
+ghost use Rattle.oe_meanings.specs.Stands.{StandsInGraph};
+ghost use Rattle.oe_translate.specs.Translated as spec;
+
+use crate::order::index_of;
+use crate::rewrite::put_translated;
+use oe_check::{Checked, check};
+use oe_dims::Dims;
+use oe_graph::{Graph, Node, Refusal};
+use oe_memory::OutOfMemory;
+use std::alloc::Global;
+
+/// The graph over the collections of these rows in which each `aggregate_temporal_period` is an `aggregate_temporal`
+/// over its periods, and each `apply_dimension` of running sums, n, the merge of an `aggregate_temporal`, `n/sum`, with
+/// its data (openEO Processes). All other nodes stay as they are. Looks at no cell.
+///
+/// Refuses: out of memory.
+pub fn translate(alloc: Global, graph: &Graph, dims: &Dims) -> Result<Graph, OutOfMemory>
+    requires resolved { IsResolved (plain_graph graph.now) }
+    requires faultless { IsFaultless
+        (StandsInGraph (plain_rows dims.now) (plain_graph graph.now).nodes) }
+    ensures value { IfOk result
+        (λ g. plain_graph g ≡ spec.translated (plain_rows dims.now) (plain_graph graph.now)) }
+    ensures neither { IfOk result (λ g. spec.has_either (plain_graph g) ≡ false) }
+{
+    match check(alloc, graph, dims) {
+        Ok(checked) => translate_checked(alloc, graph, &checked),
+        Err(Refusal::OutOfMemory) => Err(OutOfMemory),
+        Err(Refusal::Fault(_)) => unreachable!(),
+    }
+}
+
+fn translate_checked(alloc: Global, graph: &Graph, checked: &Checked) -> Result<Graph, OutOfMemory>
+    requires nodes { checked.now.nodes ≡ (plain_graph graph.now).nodes }
+    requires result_node { checked.now.result ≡ (plain_graph graph.now).result }
+    ensures { IfOk result
+        (λ g. plain_graph g ≡ spec.translated checked.now.rows (plain_graph graph.now)) }
+{
+    let nodes = translated_nodes(alloc, &graph.nodes, checked)?;
+    let result = index_of(&nodes, checked.id(checked.result()));
+    // As many nodes as do not fit this type do not fit the memory either.
+    match u32::try_from(result) {
+        Ok(result) => Ok(graph_of(nodes, result)),
+        Err(_) => Err(OutOfMemory),
+    }
+}
+
+fn graph_of(nodes: Vec<Node>, result_index: u32) -> Graph
+    ensures { plain_graph result
+        ≡ record { nodes = plain_nodes nodes.items; result = result_index } }
+{
+    Graph {
+        nodes,
+        result: result_index,
+    }
+}
+
+fn translated_nodes(
+    alloc: Global,
+    nodes: &Vec<Node>,
+    checked: &Checked,
+) -> Result<Vec<Node>, OutOfMemory>
+    requires { checked.now.nodes ≡ plain_nodes nodes.now.items }
+    ensures { IfOk result
+        (λ v. plain_nodes v.items ≡ spec.translated_nodes checked.now.rows checked.now.nodes) }
+{
+    let mut found = Vec::with_capacity(alloc, nodes.len())?;
+    let mut index = checked.nodes();
+    while index > 0 {
+        index -= 1;
+        put_at(alloc, checked, index, nodes, &mut found)?;
+    }
+    Ok(found)
+}
+
+/// Puts what the node at an index becomes, where what those behind it become is put.
+fn put_at(
+    alloc: Global,
+    checked: &Checked,
+    index: u32,
+    nodes: &Vec<Node>,
+    found: &mut Vec<Node>,
+) -> Result<(), OutOfMemory>
+    requires faultless { AreFaultless checked.now }
+    requires same { checked.now.nodes ≡ plain_nodes nodes.now.items }
+    requires below { index < node_count checked.now.nodes }
+    ensures { OnOk result (plain_nodes found.old.items
+        ≡ spec.translations checked.now.rows checked.now.nodes
+        (drop (index + 1) (each_node checked.now.nodes))
+        → plain_nodes found.new.items ≡ spec.translations checked.now.rows checked.now.nodes
+        (drop index (each_node checked.now.nodes))) }
+{
+    put_translated(alloc, checked, index, &nodes[index as usize], found)?;
+    Ok(())
+}
