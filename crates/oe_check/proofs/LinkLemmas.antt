@@ -1,9 +1,9 @@
 -- The nodes of a graph by the indices of their names, and the links between them as the graph of a run.
-use Rattle.std.proofs.Common.{◌≡◌, ◌≢◌, inl, inr, ℕ, zero, suc, ◌+◌, ◌<◌, ◌^◌, Bool, true, false, cond, if◌then◌else◌, List, [], ◌∷◌, ◌++◌, append_assoc, take, map, length, get_or, slice_get, slice_index_or, Contains, Option, Some, None, option_map, Ok, Err, refl, sym, ap, ◌∙◌, subst, arith, add-one, codes}
+use Rattle.std.proofs.Common.{◌≡◌, ◌≢◌, inl, inr, ℕ, zero, suc, ◌+◌, ◌<◌, ◌^◌, Bool, true, false, cond, if◌then◌else◌, List, [], ◌∷◌, ◌++◌, take, map, length, get_or, slice_get, slice_index_or, Contains, Option, Some, None, option_map, Ok, Err, refl, sym, ap, ◌∙◌, subst, arith, add-one, codes}
 use Rattle.std.specs.Cmp.Lexicographic.{slice_cmp}
 use Rattle.std.specs.FinMap.{slice_cmp-IsAntisymmetric, nat_cmp-IsAntisymmetric}
 use Rattle.std.specs.List.Sorted.{IsSortedBy, IsBinarySearchResult}
-use Rattle.std.specs.Option.{option_and_then}
+use Rattle.std.specs.Option.{option_and_then, option_to_list}
 use Rattle.std.specs.Ordering.{nat_cmp}
 use Rattle.std.specs.Prelude.{unwrap_or}
 use Rattle.std.specs.declared.cmp.Ordering.{Ordering}
@@ -13,22 +13,22 @@ use Rattle.std.proofs.lemmas.Cmp.{nat_list_cmp_total, tied_itself}
 use Rattle.std.proofs.lemmas.List.{length-map, get_or-map, map-append, get_or_default}
 use Rattle.std.proofs.lemmas.List.Sorted.{searchable_from_sorted}
 use Rattle.std.proofs.lemmas.Option.{slice_get-get_or, slice_get-map}
-use Rattle.oe_dims.proofs.DistinctLemmas.{names_rise-sorted}
 use Rattle.oe_dims.proofs.IndexLemmas.{index_where_none}
-use Rattle.oe_dims.proofs.OrderLemmas.{same_name_is, same_name_refl}
-use Rattle.oe_dims.proofs.ReaderLemmas.{IsUnrepeated-names, found_there}
+use Rattle.oe_dims.proofs.OrderLemmas.{same_name_is}
 use Rattle.oe_dims.specs.Indices.{index_where}
 use Rattle.oe_dims.specs.Names.{same_name, is_name_before, names_rise}
 use Rattle.oe_dims.proofs.NameOrderLemmas.{names_sorted}
+use Rattle.oe_graph.proofs.ReferenceGraphLemmas.{arguments_of, reference_count, referring}
 use Rattle.oe_graph.proofs.ResolvedLemmas.{NodeAt, node_of_id, node_referred, resolved_object}
-use Rattle.oe_graph.specs.Plain.{plain_named, plain_node, plain_nodes}
+use Rattle.oe_graph.proofs.SearchLemmas.{each_count, found_at, id_there}
+use Rattle.oe_graph.specs.Indices.{indices_named, reference_graph, reference_node}
+use Rattle.oe_graph.specs.Plain.{plain_node, plain_nodes}
 use Rattle.oe_graph.specs.Printed.{ids_of, node_count}
 use Rattle.oe_graph.specs.References.{each_node, references_named, Refers, Leads}
 use Rattle.oe_graph.specs.References as graph
 use Rattle.oe_graph.specs.Resolved.{IsResolvedObject}
 use Rattle.oe_graph.specs.Tree.{Nodes, no_nodes, node, PlainNode}
 use Rattle.oe_graph.specs.declared.tree.Node.{Node}
-use Rattle.oe_graph.proofs.PartLemmas.{node_parts}
 use Rattle.oe_expr.specs.Nodes.{node_named}
 use Rattle.oe_expr.proofs.NodeLemmas.{contains_node}
 use Rattle.oe_expr.proofs.StateLemmas.{plain_id, each_plain, count_plain, node_at_index}
@@ -39,15 +39,7 @@ use Rattle.oe_order.proofs.Graphs.{length-graph_of, arguments-graph_of}
 use Rattle.oe_check.specs.Links.{index_named, index_referred, link_of, links_of, AreNamed}
 use Rattle.oe_check.specs.Walked.{AreResolved, IsNodeAt, IsNodeOf}
 use Rattle.oe_memory.proofs.Lists.{first_of, later_of, take_next}
-
--- ---- names that rise
-
--- among names that rise, the index at which a name stands is the one that is found
-index_at : (names : List (List ℕ)) (k : ℕ) (name : List ℕ) → names_rise names ≡ true → slice_get names k ≡ Some name
-    → index_where (λ (id : List ℕ). same_name id name) names ≡ Some k
-index_at names k name rise at =
-    found_there (λ (a b : List ℕ). same_name b a) same_name_refl (λ a b is. sym (same_name_is b a is)) names
-    (IsUnrepeated-names names (sym (names_rise-sorted names (names_sorted names rise)) ∙ rise)) name k _ refl at
+use Rattle.oe_graph.proofs.ElementLemmas.{index_there}
 
 -- ---- ids of nodes
 
@@ -57,26 +49,15 @@ ids_plain (n ∷ nodes) =
     ap (λ (id : List ℕ). id ∷ ids_of (plain_nodes nodes)) (plain_id n)
     ∙ ap (λ (ids : List (List ℕ)). n.id ∷ ids) (ids_plain nodes)
 
-id_at : (nodes : Nodes) (k : ℕ) (n : PlainNode) → IsNodeAt nodes k n → slice_get (ids_of nodes) k ≡ Some n.id
-id_at no_nodes k n at = absurd cc
-id_at (node id p s args rest) zero n at =
-    let same : record { id = id; process_id = p; namespace = s; arguments = args } ≡ n = cc in
-    ap (λ (m : PlainNode). Some m.id) same
-id_at (node id p s args rest) (suc k) n at = id_at rest k n at
-
 pub within_nodes : (ns : Nodes) (k : ℕ) (n : PlainNode) → IsNodeAt ns k n → k < node_count ns
 within_nodes no_nodes k n is = absurd cc
 within_nodes (node id p s args rest) zero n is = omega arith
 within_nodes (node id p s args rest) (suc k) n is = let below = within_nodes rest k n is in omega arith
 
-pub each_count : (nodes : Nodes) → length (each_node nodes) ≡ node_count nodes
-each_count no_nodes = refl
-each_count (node id p s args rest) = ap suc (each_count rest)
-
 -- the index of a node among nodes whose ids rise
 pub index_of_node : (nodes : Nodes) (k : ℕ) (n : PlainNode) → names_rise (ids_of nodes) ≡ true → IsNodeAt nodes k n
     → index_named nodes n.id ≡ Some k
-index_of_node nodes k n rise at = index_at (ids_of nodes) k n.id rise (id_at nodes k n at)
+index_of_node nodes k n rise at = found_at (ids_of nodes) k n.id rise (id_there nodes k n at)
 
 -- ---- a search by halves
 
@@ -91,8 +72,8 @@ module _ (nodes : List Node) (name : List ℕ) (rise : names_rise (ids_of (plain
       let here : is_name_before (get_or ids (k + 1) d.id) (get_or ids k d.id) ≡ false = sorted_ids k d.id low (omega arith) in
       rw (one, two) at here
 
-  id_there : (k : ℕ) (d : Node) → k < length nodes → slice_get (ids_of (plain_nodes nodes)) k ≡ Some (get_or nodes k d).id
-  id_there k d within =
+  id_read : (k : ℕ) (d : Node) → k < length nodes → slice_get (ids_of (plain_nodes nodes)) k ≡ Some (get_or nodes k d).id
+  id_read k d within =
       let at : slice_get nodes k ≡ Some (get_or nodes k d) = slice_get-get_or nodes k d within in
       ap (λ ids. slice_get ids k) (ids_plain nodes)
       ∙ (slice_get-map (λ (n : Node). n.id) nodes k ∙ ap (option_map (λ (n : Node). n.id)) at)
@@ -109,7 +90,7 @@ module _ (nodes : List Node) (name : List ℕ) (rise : names_rise (ids_of (plain
   search_found k within found =
       let d = some_node k within in
       let is : (get_or nodes k d).id ≡ name = slice_cmp-IsAntisymmetric nat_cmp-IsAntisymmetric _ _ (found d) in
-      sym (ap (λ o. unwrap_or o 0) (index_at (ids_of (plain_nodes nodes)) k name rise (id_there k d within ∙ ap Some is)))
+      sym (ap (λ o. unwrap_or o 0) (found_at (ids_of (plain_nodes nodes)) k name rise (id_read k d within ∙ ap Some is)))
 
   -- no order is both that of a name and itself and another
   not_tied : (other : List ℕ) (o : Ordering) → slice_cmp nat_cmp other name ≡ o → o ≢ Equal → other ≢ name
@@ -216,17 +197,6 @@ module _ (nodes : Nodes) (is : AreResolved nodes) where
   pub one_node : (n : PlainNode) (k : ℕ) (m : PlainNode) → IsNodeAt nodes k n → node_named n.id nodes ≡ Some m → n ≡ m
   one_node n k m at is_named = let named = named_at k n at in cc
 
--- ---- references along arguments
-
--- the indices of more references, behind those of the first ones
-pub pushed_more : (nodes : Nodes) (r s : List (List ℕ)) (old mid new : List ℕ) → mid ≡ old ++ map (index_referred nodes) r
-    → new ≡ mid ++ map (index_referred nodes) s → new ≡ old ++ map (index_referred nodes) (r ++ s)
-pushed_more nodes r s old mid new first second =
-    second
-    ∙ (ap (λ xs. xs ++ map (index_referred nodes) s) first
-    ∙ (append_assoc old (map (index_referred nodes) r) (map (index_referred nodes) s)
-    ∙ ap (λ xs. old ++ xs) (sym (map-append (index_referred nodes) r s))))
-
 -- ---- links along the nodes
 
 -- a node that is read at an index stands there
@@ -262,16 +232,40 @@ links_next all nodes i n links new link within is before pushed one =
     ∙ (sym (map-append (link_of all) (map plain_node (take i nodes)) (plain_node n ∷ []))
     ∙ ap (map (link_of all)) (sym more)))))
 
+-- where each of these names is that of a node, its index is the one that is meant
+indices_referred : (nodes : Nodes) (names : List (List ℕ)) → names_rise (ids_of nodes) ≡ true → AreNamed nodes names
+    → indices_named nodes names ≡ map (index_referred nodes) names
+indices_referred nodes [] rise named = refl
+indices_referred nodes (name ∷ names) rise named =
+    let there = index_there (ids_of nodes) name (named name (first_of name names)) in
+    let is : index_named nodes name ≡ Some there.index = found_at (ids_of nodes) there.index name rise there.is_there in
+    ap (λ o. option_to_list o ++ indices_named nodes names) is
+    ∙ (ap (λ xs. there.index ∷ xs) (indices_referred nodes names rise (λ other has. named other (later_of name names other has)))
+    ∙ ap (λ k. k ∷ map (index_referred nodes) names) (sym (ap (λ o. unwrap_or o 0) is)))
+
 -- one node by its parts
-pub link_parts : (all : Nodes) (n : Node) (load : Bool) (indices : List ℕ)
+pub link_parts : (all : Nodes) (is : AreResolved all) (n : PlainNode) → IsNodeOf all n → (load : Bool) (arguments : List ℕ)
     → load ≡ same_name n.process_id (codes "load_collection")
-    → indices ≡ map (index_referred all) (references_named (plain_named n.arguments.items))
-    → record { load = load; arguments = indices } ≡ link_of all (plain_node n)
-link_parts all n load indices loads refers =
-    let parts : link_of all (record { id = n.id; process_id = n.process_id; namespace = n.namespace; arguments = plain_named n.arguments.items })
-    ≡ link_of all (plain_node n) = ap (link_of all) (sym (node_parts n)) in
-    ap (λ (b : Bool). record { load = b; arguments = indices }) loads
-    ∙ (ap (λ (xs : List ℕ). record { load = same_name n.process_id (codes "load_collection"); arguments = xs }) refers ∙ parts)
+    → arguments ≡ indices_named all (references_named n.arguments)
+    → record { load = load; arguments = arguments } ≡ link_of all n
+link_parts all is n has load arguments loads refers =
+    let object = resolved_object false [] (record { nodes = all; result = is.result }) is.resolved in
+    ap (λ (b : Bool). record { load = b; arguments = arguments }) loads
+    ∙ ap (λ (xs : List ℕ). record { load = same_name n.process_id (codes "load_collection"); arguments = xs })
+    (refers ∙ indices_referred all (references_named n.arguments) object.ids_rise (λ name refers_to. (object.each n has).names_nodes name refers_to))
+
+-- the references of the node at an index, as they were read
+pub read_at : (all : Nodes) (links : List Links) (k : ℕ) (n : PlainNode) (link : Links) → graph_of links ≡ reference_graph all
+    → k < length links → link ≡ get_or links k link → IsNodeAt all k n
+    → link.arguments.items ≡ indices_named all (references_named n.arguments)
+read_at all links k n link is within read at =
+    sym (arguments-graph_of links k link within read)
+    ∙ (ap (λ xs. arguments xs k) is ∙ arguments_of (reference_node all) (each_node all) k n at)
+
+pub references_length : (nodes : List Node) (links : List Links) → graph_of links ≡ reference_graph (plain_nodes nodes)
+    → length links ≡ length nodes
+references_length nodes links is =
+    sym (length-graph_of links) ∙ (ap length is ∙ (reference_count (plain_nodes nodes) ∙ count_plain nodes))
 
 pub links_all : (nodes : List Node) → map (link_of (plain_nodes nodes)) (map plain_node nodes) ≡ links_of (plain_nodes nodes)
 links_all nodes = ap (map (link_of (plain_nodes nodes))) (sym (each_plain nodes))
@@ -281,12 +275,6 @@ links_all nodes = ap (map (link_of (plain_nodes nodes))) (sym (each_plain nodes)
 pub links_length : (nodes : Nodes) (links : List Links) → graph_of links ≡ links_of nodes → length links ≡ node_count nodes
 links_length nodes links is =
     sym (length-graph_of links) ∙ (ap length is ∙ (length-map (each_node nodes) (link_of nodes) ∙ each_count nodes))
-
-arguments_of : (f : PlainNode → order.Node) (ns : List PlainNode) (k : ℕ) (n : PlainNode) → slice_get ns k ≡ Some n
-    → arguments (map f ns) k ≡ (f n).arguments
-arguments_of f [] k n at = absurd cc
-arguments_of f (m ∷ ns) zero n at = let same : m ≡ n = cc in ap (λ (x : PlainNode). (f x).arguments) same
-arguments_of f (m ∷ ns) (suc k) n at = arguments_of f ns k n at
 
 pub links_arguments : (nodes : Nodes) (k : ℕ) (n : PlainNode) → IsNodeAt nodes k n
     → arguments (links_of nodes) k ≡ map (index_referred nodes) (references_named n.arguments)
@@ -312,13 +300,6 @@ one_index f (name ∷ names) b has = by has.0 has.1 has.2 (λ later. one_index f
     by zero below is later = (name, first_of name names, is)
     by (suc k) below is later =
         let one = later (k, omega arith, is) in (one.0, later_of name names one.0 one.1, one.2)
-
--- where an index has references, it is that of a node
-referring : (f : PlainNode → order.Node) (ns : List PlainNode) (a b : ℕ) → Contains (arguments (map f ns) a) b
-    → (n : PlainNode) × (slice_get ns a ≡ Some n) × Contains (f n).arguments b
-referring f [] a b has = let below : has.0 < 0 = has.1 in absurd (omega arith)
-referring f (m ∷ ns) zero b has = (m, refl, has)
-referring f (m ∷ ns) (suc a) b has = referring f ns a b has
 
 module _ (nodes : Nodes) (is : AreResolved nodes) where
   -- a link leads from a node to one that it refers to

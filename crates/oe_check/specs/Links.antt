@@ -1,7 +1,7 @@
 -- The nodes of a graph by their indices, as the order of a run names them.
 use Rattle.std.specs.Prelude.{ℕ, List, map, Option, Some, None, codes, option_and_then, unwrap_or, Contains}
-use Rattle.oe_dims.specs.Indices.{index_where}
 use Rattle.oe_dims.specs.Names.{same_name}
+use Rattle.oe_graph.specs.Indices as indices
 use Rattle.oe_graph.specs.Printed.{ids_of}
 use Rattle.oe_graph.specs.References.{each_node, references_named}
 use Rattle.oe_graph.specs.Tree.{Nodes, PlainNode}
@@ -10,7 +10,7 @@ use Rattle.oe_requests.specs.Requests.{CubeRequest, load_collection, cube_reques
 
 -- the index of the node of a name
 abbrev pub index_named : Nodes → List ℕ → Option ℕ
-index_named nodes name = index_where (λ (id : List ℕ). same_name id name) (ids_of nodes)
+index_named nodes name = indices.index_named nodes name
 
 -- the same where there is such a node, as a reference of a resolved graph has one
 abbrev pub index_referred : Nodes → List ℕ → ℕ

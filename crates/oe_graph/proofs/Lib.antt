@@ -1,6 +1,9 @@
 pub mod ArgumentLemmas
+pub mod ElementLemmas
 pub mod PartLemmas
 pub mod ReferenceLemmas
+pub mod SearchLemmas
+pub mod ReferenceGraphLemmas
 mod Views
 mod Depths
 mod Finds

@@ -13,3 +13,4 @@ pub mod References
 pub mod Resolved
 pub mod AsRead
 pub mod Valid
+pub mod Indices

@@ -6,7 +6,9 @@
 //! reported. [`PROCESSES`] is the catalogue: the one table that code, texts and definitions read. The layers above use
 //! that the readers refuse exactly where a fault stands, that what they read from bytes has the form that resolving
 //! rests on (`IsValidGraph`, `IsValidStored`), that [`process`] is none exactly for an id without a row, and the word
-//! `IsResolved` for a graph whose names all lead somewhere.
+//! `IsResolved` for a graph whose names all lead somewhere. [`read_references`] is the one reader of what nodes refer to
+//! by index, [`sort_nodes`] puts each behind those that it refers to, and [`find_index`] is the one search of a node by
+//! its id.
 #![tactic(auto)]
 
 mod build;
@@ -18,6 +20,8 @@ mod form;
 mod named;
 mod print;
 mod read;
+mod references;
+mod search;
 mod stored;
 mod table;
 mod tree;
@@ -30,6 +34,8 @@ pub use fault::{Fault, Refusal, is_before, least, note_fault};
 pub use named::argument_named;
 pub use print::print_graph;
 pub use read::{read_graph, read_stored, read_value};
+pub use references::{References, SortedNodes, read_references, sort_nodes};
+pub use search::{Beside, Guesses, find_index, guesses_of, index_in, is_name_before};
 pub use stored::StoredProcess;
 pub use table::{ArgumentKind, Literal, PROCESS_COUNT, PROCESSES, ParameterEntry, ProcessEntry};
 pub use tree::{Arg, Graph, Node};

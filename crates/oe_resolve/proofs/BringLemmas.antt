@@ -15,7 +15,7 @@ use Rattle.oe_resolve.specs.Calls.{callee, Brings}
 use Rattle.oe_resolve.specs.Reached.{held_nodes, held_named, held_in, held_each, held_by, index_at, IsIndexOf, IsCalled, HasIndexOf, IsCalledBehind, IsCallGraph, IsReached, AreReached}
 use Rattle.oe_graph.specs.Valid.{AreValidStored}
 use Rattle.oe_resolve.proofs.Along.{first_there, later_there, none_there, there_cases}
-use Rattle.oe_resolve.proofs.CycleLemmas.{get_below}
+use Rattle.oe_graph.proofs.ElementLemmas.{get_below}
 
 -- ---- what the nodes of callbacks hold is held
 

@@ -12,7 +12,7 @@ use Rattle.oe_resolve.specs.Calls.{callee, means_stored, may_stand, Brings, Call
 use Rattle.oe_resolve.specs.Reached.{held_nodes, held_named, held_in, held_each, held_by, support_nodes, support_named, supports, support_each, supports_node, index_at, back_from, IsIndexOf, IsCalledBehind, IsCallGraph, IsReached, AreReached, AnyRecurs, IsUnsupported, IsRecursive}
 use Rattle.oe_graph.specs.Valid.{AreValidStored}
 use Rattle.oe_resolve.proofs.Along.{first_there, later_there, none_there, there_cases}
-use Rattle.oe_resolve.proofs.CycleLemmas.{get_below}
+use Rattle.oe_graph.proofs.ElementLemmas.{get_below}
 use Rattle.oe_resolve.proofs.BringLemmas.{nodes_have, named_has, nodes_at, held_brought, brings_more, one_place}
 
 -- ---- tests of all

@@ -23,7 +23,7 @@ use Rattle.oe_resolve.specs.Faults.{each_argument}
 use Rattle.oe_resolve.specs.Judged.{AreMarks, IsMark, IdsRise, IdsRiseIn, itself, deeper, OfArgument, OfArguments, OfItself, OfNode, OfObject, by_itself, inside, know_named, node_code}
 use Rattle.oe_resolve.proofs.Along.{first_there, later_there, none_there, there_cases, map_there, one_back}
 use Rattle.oe_resolve.proofs.CodeLemmas.{own_least}
-use Rattle.oe_resolve.proofs.CycleLemmas.{each_nodes}
+use Rattle.oe_graph.proofs.ReferenceGraphLemmas.{each_nodes}
 
 -- ---- the plain values of lists, objects and callbacks
 

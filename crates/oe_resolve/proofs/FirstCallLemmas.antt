@@ -21,7 +21,8 @@ use Rattle.oe_resolve.specs.Faults.{StandsWithStored}
 use Rattle.oe_resolve.specs.Judged.{IsLeastFault}
 use Rattle.oe_resolve.specs.Reached.{IsCallFault, IsCodeOf, unsupported, recursive, faultless, IsUnsupported, IsRecursive}
 use Rattle.oe_resolve.proofs.Along.{first_there, later_there, none_there, there_cases, map_there}
-use Rattle.oe_resolve.proofs.CycleLemmas.{each_nodes, rises_before}
+use Rattle.oe_graph.proofs.ReferenceGraphLemmas.{each_nodes}
+use Rattle.oe_graph.proofs.SearchLemmas.{rises_before}
 
 -- ---- the order of these faults
 

@@ -1,46 +1,52 @@
--- Whether each reference is among ids, one argument more.
-use Rattle.std.proofs.Common.{◌≡◌, inl, inr, ℕ, ◌+◌, ◌<◌, ◌&&◌, Bool, true, false, List, Some, Contains, length, take, get_or, slice_get, refl, sym, ap, ◌∙◌}
+-- The index of an id as resolving names it: whether there is one, and how many nodes there are where there is none.
+use Rattle.std.proofs.Common.{◌≡◌, ℕ, suc, ◌+◌, ◌&&◌, ◌||◌, Bool, true, false, cond, if◌then◌else◌, List, [], ◌∷◌, Option, Some, None, option_map, refl, sym, ap, ◌∙◌, add-one}
 use Rattle.std.specs.List.{list_any}
+use Rattle.std.specs.Prelude.{is_some, unwrap_or}
+use Rattle.oe_dims.specs.Indices.{index_where}
 use Rattle.oe_dims.specs.Names.{same_name}
-use Rattle.oe_graph.specs.Plain.{plain_arg, plain_args, plain_named}
-use Rattle.oe_graph.specs.References.{references_in, references_each, references_named}
-use Rattle.oe_graph.specs.declared.tree.Arg.{Arg}
-use Rattle.oe_graph.proofs.ReferenceLemmas.{each_next, named_next}
-use Rattle.oe_resolve.specs.Judged.{knows, know_each, know_named}
-use Rattle.oe_resolve.proofs.CodeLemmas.{all_in, joined, among, in_among, by_bool, knows_all, knows_all_each, knows_all_named}
-use Rattle.oe_resolve.proofs.CycleLemmas.{there_at}
+use Rattle.oe_graph.specs.Indices.{are_known, index_named}
+use Rattle.oe_graph.specs.Printed.{ids_of, node_count}
+use Rattle.oe_graph.specs.References.{references_named}
+use Rattle.oe_graph.specs.Tree.{Named, Nodes, no_nodes, node}
+use Rattle.oe_resolve.specs.Judged.{know_named}
+use Rattle.oe_resolve.specs.Rounds.{index_of}
+use Rattle.oe_resolve.proofs.CodeLemmas.{all_in, knows_all_named}
+use Rattle.oe_resolve.proofs.NodeLemmas.{same_name-turned}
 
-pub joined_true : (a b : Bool) → b ≡ true → a ≡ (a && b)
-joined_true true b is = sym is
-joined_true false b is = refl
+some_where : (ids : List (List ℕ)) (id : List ℕ)
+    → is_some (index_where (λ (other : List ℕ). same_name other id) ids) ≡ list_any (same_name id) ids
+some_where [] id = refl
+some_where (x ∷ ids) id =
+    by (same_name x id) (index_where (λ (other : List ℕ). same_name other id) ids) _ (some_where ids id)
+    ∙ ap (λ b. b || list_any (same_name id) ids) (same_name-turned x id)
+  where
+    by : (b : Bool) (o : Option ℕ) (rest : Bool) → is_some o ≡ rest
+        → is_some (cond b (Some 0) (option_map (λ n. n + 1) o)) ≡ (b || rest)
+    by true o rest is = refl
+    by false None rest is = is
+    by false (Some k) rest is = is
 
-pub joined_false : (a b : Bool) → b ≡ false → false ≡ (a && b)
-joined_false true b is = sym is
-joined_false false b is = refl
+-- an id is found exactly where it is one of the ids
+pub some_named : (nodes : Nodes) (id : List ℕ) → is_some (index_named nodes id) ≡ list_any (same_name id) (ids_of nodes)
+some_named nodes id = some_where (ids_of nodes) id
 
-module _ (ids : List (List ℕ)) where
-  pub know_named-next : (ms : List (List ℕ × Arg)) (i : ℕ) (m : List ℕ × Arg) → i < length ms → m ≡ get_or ms i m
-      → know_named ids (plain_named (take (i + 1) ms)) ≡ (know_named ids (plain_named (take i ms)) && knows ids (plain_arg m.1))
-  know_named-next ms i m below is =
-      knows_all_named ids (plain_named (take (i + 1) ms)) ∙ ap (all_in ids) (named_next ms i m below is)
-      ∙ sym (joined ids (know_named ids (plain_named (take i ms))) (knows ids (plain_arg m.1))
-      (references_named (plain_named (take i ms))) (references_in (plain_arg m.1))
-      (knows_all_named ids (plain_named (take i ms))) (knows_all ids (plain_arg m.1)))
+each_in : (nodes : Nodes) (r : List (List ℕ)) → are_known nodes r ≡ all_in (ids_of nodes) r
+each_in nodes [] = refl
+each_in nodes (id ∷ r) =
+    ap (λ b. b && are_known nodes r) (some_named nodes id)
+    ∙ ap (λ b. list_any (same_name id) (ids_of nodes) && b) (each_in nodes r)
 
-  pub know_each-next : (xs : List Arg) (i : ℕ) (x : Arg) → i < length xs → x ≡ get_or xs i x
-      → know_each ids (plain_args (take (i + 1) xs)) ≡ (know_each ids (plain_args (take i xs)) && knows ids (plain_arg x))
-  know_each-next xs i x below is =
-      knows_all_each ids (plain_args (take (i + 1) xs)) ∙ ap (all_in ids) (each_next xs i x below is)
-      ∙ sym (joined ids (know_each ids (plain_args (take i xs))) (knows ids (plain_arg x))
-      (references_each (plain_args (take i xs))) (references_in (plain_arg x))
-      (knows_all_each ids (plain_args (take i xs))) (knows_all ids (plain_arg x)))
+-- each reference of arguments names a node
+pub known-is : (nodes : Nodes) (a : Named) → are_known nodes (references_named a) ≡ know_named (ids_of nodes) a
+known-is nodes a = each_in nodes (references_named a) ∙ sym (knows_all_named (ids_of nodes) a)
 
-  -- an id that has an index, and one that has none
-  pub known_at : (id : List ℕ) (i : ℕ) → slice_get ids i ≡ Some id → true ≡ list_any (same_name id) ids
-  known_at id i is = sym (among ids id (there_at ids i id is))
-
-  pub unknown : (id : List ℕ) → ¬ Contains ids id → false ≡ list_any (same_name id) ids
-  unknown id absent = elim (by_bool (list_any (same_name id) ids)) [
-    | inl is ↦ absurd (absent (in_among ids id is))
-    | inr is ↦ sym is
-  ]
+-- the index of an id, or how many nodes there are where none has it
+pub index_of-is : (nodes : Nodes) (id : List ℕ) → unwrap_or (index_named nodes id) (node_count nodes) ≡ index_of id nodes
+index_of-is no_nodes id = refl
+index_of-is (node other p s args rest) id = by (same_name other id) (index_named rest id) (index_of-is rest id)
+  where
+    by : (b : Bool) (o : Option ℕ) → unwrap_or o (node_count rest) ≡ index_of id rest
+        → unwrap_or (cond b (Some 0) (option_map (λ n. n + 1) o)) (suc (node_count rest)) ≡ (if b then 0 else suc (index_of id rest))
+    by true o is = refl
+    by false None is = ap suc is
+    by false (Some k) is = add-one k ∙ ap suc is

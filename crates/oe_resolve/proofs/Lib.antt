@@ -20,7 +20,6 @@ pub mod CodeLemmas
 pub mod KnownLemmas
 pub mod KnowsLemmas
 pub mod FaultLemmas
-pub mod FindLemmas
 pub mod CountLemmas
 pub mod StandingLemmas
 pub mod SettledLemmas

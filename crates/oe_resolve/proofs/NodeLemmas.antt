@@ -1,7 +1,6 @@
 -- Nodes of the code beside the plain ones: their parts, and what stands at an index.
-use Rattle.std.proofs.Common.{◌≡◌, ℕ, zero, suc, ◌<◌, ◌≤◌, ◌||◌, Bool, true, false, if◌then◌else◌, nat_lt, List, [], ◌∷◌, length, get_or, refl, sym, ap, ◌∙◌, subst, true≢false, arith}
+use Rattle.std.proofs.Common.{◌≡◌, ℕ, zero, suc, ◌<◌, ◌≤◌, ◌||◌, Bool, true, false, List, [], ◌∷◌, length, get_or, refl, sym, ap, ◌∙◌, subst, arith}
 use Rattle.std.specs.List.{list_any}
-use Rattle.std.proofs.lemmas.Bool.Decides.{nat_tests}
 use Rattle.oe_dims.specs.Names.{same_name}
 use Rattle.oe_dims.proofs.OrderLemmas.{same_name_is, same_name_refl}
 use Rattle.oe_graph.specs.Plain.{plain_arg, plain_node, plain_nodes, arg_step, graph_step, node_step}
@@ -12,7 +11,7 @@ use Rattle.oe_graph.specs.declared.tree.Arg.TheOpen.{Arg-F}
 use Rattle.oe_graph.specs.declared.tree.Arg.TheVariants.{FromParameter, rolls-FromParameter}
 use Rattle.oe_graph.specs.declared.tree.Node.{Node}
 use Rattle.oe_graph.proofs.PartLemmas.{node_parts}
-use Rattle.oe_resolve.specs.Rounds.{id_at, index_of}
+use Rattle.oe_resolve.specs.Rounds.{id_at}
 
 pub plain_from_parameter : (name : List ℕ) → plain_arg (FromParameter name) ≡ from_parameter name
 plain_from_parameter name =
@@ -63,16 +62,3 @@ id-among id (m ∷ ns) zero n more is same =
 id-among id (m ∷ ns) (suc k) n more is same =
     ap (λ b. same_name id (plain_node m).id || b) (id-among id ns k n (omega arith) is same)
     ∙ or_true (same_name id (plain_node m).id)
-
-before_count : (b : Bool) (i n : ℕ) (rest : Bool) → nat_lt i n ≡ rest
-    → nat_lt (if b then 0 else suc i) (suc n) ≡ (b || rest)
-before_count true i n rest is = grind (arith, nat_tests)
-before_count false i n rest is = grind (arith, nat_tests)
-
--- an index was found exactly where one of the ids is the one looked for
-pub index_of-below : (id : List ℕ) (ns : List Node)
-    → nat_lt (index_of id (plain_nodes ns)) (length ns) ≡ list_any (same_name id) (ids_of (plain_nodes ns))
-index_of-below id [] = refl
-index_of-below id (m ∷ ns) =
-    before_count (same_name (plain_node m).id id) (index_of id (plain_nodes ns)) (length ns) _ (index_of-below id ns)
-    ∙ ap (λ b. b || list_any (same_name id) (ids_of (plain_nodes ns))) (same_name-turned (plain_node m).id id)

@@ -10,7 +10,7 @@ use Rattle.oe_graph.specs.declared.tree.Node.{Node}
 use Rattle.oe_resolve.specs.Calls.{callee}
 use Rattle.oe_resolve.specs.Reached.{held_nodes, held_named, held_in, held_each, held_by, index_at, IsCalled, HasIndexOf, IsCalledBehind}
 use Rattle.oe_resolve.proofs.Along.{first_there, none_there, there_cases, take_pushed}
-use Rattle.oe_resolve.proofs.CycleLemmas.{nodes_next}
+use Rattle.oe_graph.proofs.ReferenceGraphLemmas.{nodes_next}
 use Rattle.oe_resolve.proofs.Tests.{at_next}
 use Rattle.oe_memory.proofs.Lists.{append_none}
 

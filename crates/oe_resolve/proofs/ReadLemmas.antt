@@ -8,7 +8,7 @@ use Rattle.oe_graph.specs.declared.stored.StoredProcess.{StoredProcess}
 use Rattle.oe_order.specs.Graph as order
 use Rattle.oe_order.specs.Graph.{arguments}
 use Rattle.oe_resolve.specs.Reached.{held_nodes, support_nodes, index_at, IsCalledBehind, IsCallGraph}
-use Rattle.oe_resolve.proofs.CycleLemmas.{get_below}
+use Rattle.oe_graph.proofs.ElementLemmas.{get_below}
 
 arguments_old : (xs : List order.Node) (x : order.Node) (k : ℕ) → k < length xs → arguments (xs ++ x ∷ []) k ≡ arguments xs k
 arguments_old [] x k below = absurd (omega arith)

@@ -10,7 +10,7 @@ use Rattle.oe_resolve.specs.Calls.{callee, Brings, Calls, CallsReach, HoldsNode,
 use Rattle.oe_resolve.specs.Reached.{held_nodes, held_named, held_by, index_at, back_from, IsIndexOf, IsCalledBehind, IsCallGraph, IsReached, AreReached, AnyRecurs, IsRecursive}
 use Rattle.oe_graph.specs.Valid.{AreValidStored}
 use Rattle.oe_resolve.proofs.Along.{first_there, later_there, none_there}
-use Rattle.oe_resolve.proofs.CycleLemmas.{get_below}
+use Rattle.oe_graph.proofs.ElementLemmas.{get_below}
 use Rattle.oe_resolve.proofs.BringLemmas.{nodes_have, named_has, nodes_at, brings_more, one_index}
 use Rattle.oe_resolve.proofs.CallFaultLemmas.{callee_at}
 

@@ -11,7 +11,7 @@ use Rattle.oe_resolve.specs.Called.{nodes_call, named_call, calls, each_call}
 use Rattle.oe_resolve.specs.Calls.{callee}
 use Rattle.oe_resolve.specs.Rounds.{put_node, put_nodes, opened, round_nodes, round_named, round_argument, round_each, round, landed, landing, id_at, index_of, callback_with_result, graph_with_result}
 use Rattle.oe_resolve.proofs.Along.{first_there, later_there, none_there, there_cases}
-use Rattle.oe_resolve.proofs.CycleLemmas.{rises_before}
+use Rattle.oe_graph.proofs.SearchLemmas.{rises_before}
 use Rattle.oe_resolve.proofs.PlaceLemmas.{Place}
 use Rattle.oe_resolve.proofs.OrderLemmas.{Ordered, OrderedEach, OrderedNamed, OrderedNodes, IsInOrder}
 

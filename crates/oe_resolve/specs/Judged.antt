@@ -1,6 +1,6 @@
 -- For private functions. What judging finds at a node of a graph object, and the faults of a graph object and of the
 -- callbacks in it.
-use Rattle.std.specs.Prelude.{◌≡◌, ◌↔◌, ℕ, Bool, true, false, not, ◌&&◌, ◌||◌, ◌⊎◌, List, [], ◌∷◌, map, length, slice_get, slice_index_or, Option, Some, None, is_none, if◌then◌else◌, Contains}
+use Rattle.std.specs.Prelude.{◌≡◌, ◌↔◌, ℕ, Bool, true, false, not, ◌&&◌, ◌||◌, ◌⊎◌, List, length, slice_get, slice_index_or, Option, Some, None, is_none, if◌then◌else◌, Contains}
 use Rattle.std.specs.List.{list_any}
 use Rattle.std.specs.Option.{option_map_or}
 use Rattle.oe_dims.specs.Names.{same_name, names_rise}
@@ -13,7 +13,6 @@ use Rattle.oe_graph.specs.Tree.{Argument, null, flag, whole, inexact, text, list
 use Rattle.oe_graph.specs.declared.code.Code.{Code}
 use Rattle.oe_graph.specs.declared.code.Code.TheVariants.{ArgumentUnknown, ProcessParameterMissing, ParameterUnknown, NodeUnknown, GraphCycle}
 use Rattle.oe_graph.specs.declared.fault.Fault.{Fault}
-use Rattle.oe_order.specs.Graph as order
 use Rattle.oe_resolve.specs.Calls.{callee, parameters_of}
 use Rattle.oe_resolve.specs.Faults.{each_argument, names_among}
 
@@ -188,28 +187,3 @@ pub record AreMarks (last : Bool) (nodes : Nodes) (marks : List Bool) : Type 0 w
   pub each : length marks ≡ length (each_node nodes)
   pub exact : (index : ℕ) (n : PlainNode) → slice_get (each_node nodes) index ≡ Some n
       → IsMark last nodes n (slice_index_or marks index false)
-
--- among ids, one of these references has this index
-pub record IsReferred (ids references : List (List ℕ)) (index : ℕ) : Type 0 where
-  pub id : List ℕ
-  pub refers : Contains references id
-  pub is_there : slice_get ids index ≡ Some id
-
--- the index of a reference is in a list
-pub record HasIndex (ids : List (List ℕ)) (id : List ℕ) (indices : List ℕ) : Type 0 where
-  pub index : ℕ
-  pub has : Contains indices index
-  pub is_there : slice_get ids index ≡ Some id
-
--- the indices of these references that are among ids, behind others
-pub record IsFoundBehind (ids references : List (List ℕ)) (old new : List ℕ) : Type 0 where
-  pub kept : (index : ℕ) → Contains old index → Contains new index
-  pub sound : (index : ℕ) → Contains new index → Contains old index ⊎ IsReferred ids references index
-  pub found : (id : List ℕ) → Contains references id → Contains ids id → HasIndex ids id new
-
--- a graph by index has the references of each of these nodes
-pub data IsIndexed (ids : List (List ℕ)) : List PlainNode → List order.Node → Type 0 where
-  no_node : IsIndexed ids [] []
-  next_node : {n : PlainNode} {ns : List PlainNode} {x : order.Node} {xs : List order.Node}
-      → IsFoundBehind ids (references_named n.arguments) [] x.arguments → IsIndexed ids ns xs
-      → IsIndexed ids (n ∷ ns) (x ∷ xs)

@@ -1,14 +1,10 @@
--- What the code keeps of the values of parameters: those of the call, and in a callback which of them are hidden; their
--- sizes; and
--- what it keeps to find the nodes of a graph object.
-use Rattle.std.specs.Prelude.{◌≡◌, ℕ, List, Option, map, if◌then◌else◌}
+-- What the code keeps of the values of parameters: those of the call, and in a callback which of them are hidden; and
+-- their sizes.
+use Rattle.std.specs.Prelude.{ℕ, List, Option, map, if◌then◌else◌}
 use denote.Bor.{Bor}
-use Rattle.oe_dims.specs.Names.{names_rise}
-use Rattle.oe_graph.specs.Plain.{plain_named, plain_nodes}
-use Rattle.oe_graph.specs.Printed.{ids_of}
+use Rattle.oe_graph.specs.Plain.{plain_named}
 use Rattle.oe_graph.specs.Tree.{Named}
 use Rattle.oe_resolve.specs.Replaced.{inside}
-use Rattle.oe_resolve.specs.declared.find.Beside.{Beside}
 use Rattle.oe_resolve.specs.declared.values.Values.{Values}
 use Rattle.oe_resolve.specs.declared.weigh.ParameterSize.{ParameterSize}
 
@@ -25,7 +21,3 @@ seen values =
 -- the sizes of the values of parameters
 abbrev pub plain_sizes : List ParameterSize → List (List ℕ × Option ℕ)
 plain_sizes sizes = map (λ (s : ParameterSize). (s.name, s.size)) sizes
-
--- it is noted whether the ids of the nodes rise
-abbrev pub NotesRise : Beside → Type 0
-NotesRise beside = beside.guesses.now.rising ≡ names_rise (ids_of (plain_nodes beside.nodes.now.items))

@@ -7,10 +7,9 @@ ghost use Rattle.oe_resolve.specs.Filled as spec;
 ghost use Rattle.oe_resolve.specs.Replaced.{default_of};
 ghost use Rattle.oe_resolve.specs.Rounds.{index_among};
 
-use crate::names::is_before;
 use crate::values::default_of;
 use oe_dims::{Text, copy_text};
-use oe_graph::{Arg, Graph, Node, ParameterRow, argument_named, process};
+use oe_graph::{Arg, Graph, Node, ParameterRow, argument_named, is_name_before, process};
 use oe_memory::OutOfMemory;
 use std::alloc::Global;
 
@@ -162,7 +161,7 @@ fn index_among(arguments: &Vec<(Text, Arg)>, name: &str) -> usize
     ensures is { result ≡ index_among name.now (names_of (plain_named arguments.now.items)) }
 {
     for index in 0..arguments.len() {
-        if !is_before(arguments[index].0.as_str(), name) {
+        if !is_name_before(arguments[index].0.as_str(), name) {
             return index;
         }
     }

@@ -4,26 +4,26 @@ ghost use Rattle.std.specs.List.{list_any};
 ghost use Rattle.oe_dims.specs.Names.{same_name, names_rise};
 ghost use Rattle.oe_graph.specs.Catalogue.{parameter_of, plain_parameter as plain_of};
 ghost use Rattle.oe_graph.specs.Form as form;
+ghost use Rattle.oe_graph.specs.Indices.{reference_graph};
 ghost use Rattle.oe_graph.specs.Plain.{plain_arg, plain_args, plain_graph, plain_named, plain_node, plain_nodes, plain_parameter, plain_stored};
 ghost use Rattle.oe_graph.specs.Printed.{ids_of};
-ghost use Rattle.oe_graph.specs.References.{callbacks_in, callbacks_named, each_node};
+ghost use Rattle.oe_graph.specs.References.{callbacks_in, callbacks_named};
 ghost use Rattle.oe_graph.specs.Resolved as resolved;
 ghost use Rattle.oe_graph.specs.Tree as tree;
 ghost use Rattle.oe_order.specs.Graph.{graph_of};
-ghost use Rattle.oe_order.specs.Sorted.{AreNoLoads};
 ghost use Rattle.oe_resolve.specs.Calls.{parameters_of, row_meant};
 ghost use Rattle.oe_resolve.specs.Faults.{names_among};
 ghost use Rattle.oe_resolve.specs.Judged as spec;
-ghost use Rattle.oe_resolve.specs.Judged.{AreMarks, IsIndexed, IsMark, IdsRise, IdsRiseIn, IsLeastFault, OfArgument, OfArguments, OfNode, OfObject};
+ghost use Rattle.oe_resolve.specs.Judged.{AreMarks, IsMark, IdsRise, IdsRiseIn, IsLeastFault, OfArgument, OfArguments, OfNode, OfObject};
 ghost use Rattle.oe_resolve.specs.Seen.{names_behind};
 
 use crate::calls::{callee, is_call, means_catalogue};
-use crate::cycle::{cyclic_marks, read_references};
+use crate::cycle::cyclic_marks;
 use crate::names::{is_among, names_of_both};
 use oe_dims::Text;
 use oe_graph::{
     Arg, Code, Fault, Graph, Node, ParameterEntry, ParameterRow, StoredProcess, argument_named,
-    least, process_entry,
+    least, process_entry, read_references,
 };
 use oe_memory::OutOfMemory;
 use oe_order::Links;
@@ -90,9 +90,7 @@ fn marks_of(
     links: &[Links],
 ) -> Result<Vec<bool>, OutOfMemory>
     requires few { length nodes.now.items < 2 ^ 32 }
-    requires indexed { IsIndexed (ids_of (plain_nodes nodes.now.items))
-        (each_node (plain_nodes nodes.now.items)) (graph_of links.now) }
-    requires no_loads { AreNoLoads (graph_of links.now) }
+    requires graph { graph_of links.now ≡ reference_graph (plain_nodes nodes.now.items) }
     ensures len { IfOk result (λ marks. length marks.items ≡ length nodes.now.items) }
     ensures exact { IfOk result (λ marks. names_rise (ids_of (plain_nodes nodes.now.items)) ≡ true
         → AreMarks last (plain_nodes nodes.now.items) marks.items) }

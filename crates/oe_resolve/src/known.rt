@@ -1,13 +1,13 @@
 // References as they were written: what names no node beside it refers to no node for good.
 ghost use Rattle.std.specs.Prelude.{◌≡◌, IfOk, map};
+ghost use Rattle.oe_graph.specs.Indices.{NotesRise};
 ghost use Rattle.oe_graph.specs.Plain.{plain_arg, plain_args, plain_named, plain_nodes, plain_node, plain_graph};
 ghost use Rattle.oe_graph.specs.Printed.{ids_of};
 ghost use Rattle.oe_resolve.specs.Rounds as spec;
-ghost use Rattle.oe_resolve.specs.Seen.{NotesRise};
 
-use crate::find::{Beside, guesses_of, has_id};
+use crate::find::has_id;
 use oe_dims::{Text, copy_text};
-use oe_graph::{Arg, Graph, Node, StoredProcess};
+use oe_graph::{Arg, Beside, Graph, Node, guesses_of};
 use oe_memory::OutOfMemory;
 use std::alloc::Global;
 

@@ -1,19 +1,12 @@
 // Names and lists of them.
 ghost use Rattle.std.specs.Prelude.{◌≡◌, ◌++◌, IfOk};
 ghost use Rattle.std.specs.List.{list_any};
-ghost use Rattle.oe_dims.specs.Names.{same_name, is_name_before};
+ghost use Rattle.oe_dims.specs.Names.{same_name};
 ghost use Rattle.oe_resolve.specs.Seen.{names_behind};
 
 use oe_dims::same_text;
 use oe_memory::OutOfMemory;
 use std::alloc::Global;
-
-/// Whether a text stands before another in the order of bytes.
-pub fn is_before(text: &str, other: &str) -> bool
-    ensures { result ≡ is_name_before text.now other.now }
-{
-    text < other
-}
 
 /// Whether one of these is the name.
 pub fn is_among(names: &[&'static str], name: &str) -> bool

@@ -1,19 +1,18 @@
 // One round: each call of a stored process is replaced by the graph of that process.
 ghost use Rattle.std.specs.Prelude.{◌≡◌, ◌≤◌, IfOk, OnOk, Some, length, map};
+ghost use Rattle.oe_graph.specs.Indices.{NotesRise};
 ghost use Rattle.oe_graph.specs.Plain.{plain_arg, plain_args, plain_named, plain_nodes, plain_node, plain_graph, plain_stored};
 ghost use Rattle.oe_graph.specs.Printed.{ids_of};
 ghost use Rattle.oe_graph.specs.Tree.{PlainNode, no_nodes};
 ghost use Rattle.oe_resolve.specs.Calls.{callee};
 ghost use Rattle.oe_resolve.specs.Rounds as spec;
-ghost use Rattle.oe_resolve.specs.Seen.{NotesRise};
 
 use crate::calls::{callee, is_call};
-use crate::find::{Beside, guesses_of, id_at, index_beside, index_of};
-use crate::names::is_before;
+use crate::find::{id_at, index_beside, index_of};
 use crate::under::{under_id, under_nodes};
 use crate::values::{Values, replaced_nodes, values_given};
 use oe_dims::{Text, copy_text};
-use oe_graph::{Arg, Graph, Node, StoredProcess, copy_arg};
+use oe_graph::{Arg, Beside, Graph, Node, StoredProcess, copy_arg, guesses_of, is_name_before};
 use oe_memory::OutOfMemory;
 use std::alloc::Global;
 
@@ -143,7 +142,7 @@ fn index_among(nodes: &Vec<Node>, id: &str) -> usize
     ensures is { result ≡ spec.index_among id.now (ids_of (plain_nodes nodes.now.items)) }
 {
     for index in 0..nodes.len() {
-        if !is_before(nodes[index].id.as_str(), id) {
+        if !is_name_before(nodes[index].id.as_str(), id) {
             return index;
         }
     }

@@ -5,6 +5,7 @@ use Rattle.oe_engine.specs.Runs.{RunOf}
 use Rattle.oe_graph.specs.Printed.{node_count}
 use Rattle.oe_graph.specs.References.{each_node}
 use Rattle.oe_graph.specs.Tree.{PlainNode}
+use Rattle.oe_graph.proofs.SearchLemmas.{each_count}
 use Rattle.oe_jobs.specs.Kept.{Kept}
 use Rattle.oe_outside.specs.Faults.{Rose}
 use Rattle.oe_outside.specs.Visible.{Appends, AppendsPrefix}
@@ -14,7 +15,6 @@ use Rattle.oe_render.specs.Text.{cube_text}
 use Rattle.oe_service.specs.Causes.{Outside, outside, result_of}
 use Rattle.oe_check.specs.Checked.{CheckedGraph, collection_of_node}
 use Rattle.oe_check.specs.Links.{loaded_collection}
-use Rattle.oe_check.proofs.LinkLemmas.{each_count}
 use Rattle.oe_sources.specs.Catalogue.{Row}
 use Rattle.std.proofs.lemmas.Option.{slice_get_within}
 use Rattle.std.specs.List.{slice_get}

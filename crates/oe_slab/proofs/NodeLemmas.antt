@@ -17,6 +17,7 @@ use Rattle.oe_graph.specs.Resolved.{IsResolvedUnder}
 use Rattle.oe_graph.specs.Tree.{PlainNode}
 use Rattle.oe_graph.specs.declared.code.Code.{Code}
 use Rattle.oe_graph.specs.declared.code.Code.TheVariants.{ProcessParameterInvalid}
+use Rattle.oe_graph.proofs.SearchLemmas.{each_count}
 use Rattle.oe_order.specs.Graph.{Reaches, arguments, is_load}
 use Rattle.oe_order.proofs.Reach.{IsInRun-within}
 use Rattle.oe_meanings.specs.Callbacks.{IsResolvedCallback}
@@ -31,7 +32,7 @@ use Rattle.oe_meanings.specs.Stands.{HasNoFault, IsSound, asks_for_nothing, call
 use Rattle.oe_expr.specs.Rows.{first_row}
 use Rattle.oe_check.proofs.BuildableLemmas.{buildable, none_holds}
 use Rattle.oe_check.proofs.CheckedLemmas.{refer}
-use Rattle.oe_check.proofs.LinkLemmas.{index_is, links_arguments, named_at, referred, within_nodes, refers_within, each_count}
+use Rattle.oe_check.proofs.LinkLemmas.{index_is, links_arguments, named_at, referred, within_nodes, refers_within}
 use Rattle.oe_check.proofs.LoadLemmas.{loads_where}
 use Rattle.oe_meanings.proofs.RequestLemmas.{found}
 use Rattle.oe_slab.proofs.ApartLemmas.{ComesFrom, onwards_from}

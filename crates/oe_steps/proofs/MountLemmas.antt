@@ -11,6 +11,7 @@ use Rattle.oe_graph.specs.Printed.{node_count}
 use Rattle.oe_graph.specs.References.{each_node}
 use Rattle.oe_graph.specs.declared.code.Code.TheVariants.{CollectionNotFound}
 use Rattle.oe_graph.proofs.ResolvedLemmas.{SomeNode, node_below}
+use Rattle.oe_graph.proofs.SearchLemmas.{each_count}
 use Rattle.oe_expr.specs.Rows.{first_row}
 use Rattle.oe_expr.proofs.NodeLemmas.{contains_node}
 use Rattle.oe_check.specs.Checked.{AreFaultless, CheckedGraph, collection_of_node}
@@ -20,7 +21,7 @@ use Rattle.oe_requests.specs.Operations.{Outline, no_outline}
 use Rattle.oe_requests.specs.Requests as request
 use Rattle.oe_requests.specs.Requests.{CubeRequest, cube_request_at}
 use Rattle.oe_meanings.specs.Stands.{IsSound, cubes_of, early, early_rows, sound}
-use Rattle.oe_check.proofs.LinkLemmas.{each_count, one_node}
+use Rattle.oe_check.proofs.LinkLemmas.{one_node}
 use Rattle.oe_meanings.proofs.RequestLemmas.{found}
 use Rattle.oe_sources.specs.Catalogue.{Row, row_index, row_of, source_at}
 use Rattle.oe_sources.specs.CatalogueDims.{AreDimsOf, dims_row}

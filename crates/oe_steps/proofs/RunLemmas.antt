@@ -8,7 +8,7 @@ use Rattle.std.proofs.lemmas.List.{length-map}
 use Rattle.oe_order.proofs.Graphs.{is_load-graph_of}
 use Rattle.oe_graph.specs.Printed.{node_count}
 use Rattle.oe_graph.specs.References.{each_node}
-use Rattle.oe_check.proofs.LinkLemmas.{each_count}
+use Rattle.oe_graph.proofs.SearchLemmas.{each_count}
 use Rattle.oe_order.specs.Graph.{Node, graph_of, is_load}
 use Rattle.oe_order.specs.declared.Links.{Links}
 use Rattle.oe_plan.specs.Schedules.{is_load_at, links_along, ScheduleOf, IsSchedule, TakesAt}

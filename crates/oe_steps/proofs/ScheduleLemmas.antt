@@ -8,6 +8,7 @@ use Rattle.oe_cell.specs.declared.cell.Cell.{Cell}
 use Rattle.oe_cube.specs.Kinds.{IsOfKind}
 use Rattle.oe_graph.specs.Printed.{node_count}
 use Rattle.oe_graph.specs.References.{each_node}
+use Rattle.oe_graph.proofs.SearchLemmas.{each_count}
 use Rattle.oe_order.proofs.Lists.{Apart, contains-to, length-apart}
 use Rattle.oe_order.specs.Graph.{arguments, is_load}
 use Rattle.oe_order.specs.Live.{is_live}
@@ -18,7 +19,7 @@ use Rattle.oe_plan.specs.Figures.{most_held_cells}
 use Rattle.oe_plan.specs.Schedules.{is_load_at, node_at, links_along, ScheduleOf, IsSchedule, AreWindowsFor, TakesAt}
 use Rattle.oe_plan.specs.Steps.{arguments_of_node}
 use Rattle.oe_plan.specs.Windows.{window_at}
-use Rattle.oe_check.proofs.LinkLemmas.{each_count, few as few_nodes}
+use Rattle.oe_check.proofs.LinkLemmas.{few as few_nodes}
 use Rattle.oe_check.proofs.LoadLemmas.{loads_where}
 use Rattle.oe_check.specs.Checked.{collection_of_node, CheckedGraph}
 use Rattle.oe_check.specs.Links.{link_of, links_of}

@@ -11,9 +11,9 @@ use Rattle.oe_steps.specs.declared.fail.RunFail.TheVariants as run
 use Rattle.oe_graph.specs.Printed.{node_count}
 use Rattle.oe_graph.specs.References.{each_node}
 use Rattle.oe_graph.specs.Tree.{PlainNode}
+use Rattle.oe_graph.proofs.SearchLemmas.{each_count}
 use Rattle.oe_check.specs.Checked.{CheckedGraph, collection_of_node}
 use Rattle.oe_check.specs.Links.{loaded_collection}
-use Rattle.oe_check.proofs.LinkLemmas.{each_count}
 use Rattle.oe_sources.specs.Catalogue.{Row}
 use Rattle.oe_sources.specs.CatalogueLaws.{HaveValidIds}
 use Rattle.oe_top.specs.Evaluated.{CanBeNamed, IsFailOfRun}

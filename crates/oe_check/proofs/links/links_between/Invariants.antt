@@ -4,6 +4,6 @@ use Rattle.oe_order.specs.Graph.{graph_of}
 use Rattle.oe_check.specs.Links.{link_of}
 use Rattle.oe_check.proofs.links.links_between.Given as goal
 
-abbrev pub invariant-loop-node : goal.invariant-loop-node
-invariant-loop-node l =
-    graph_of l.links.items ≡ map (link_of (plain_nodes l.nodes.items)) (map plain_node (take l.node-index l.node-items))
+abbrev pub invariant-loop-index : goal.invariant-loop-index
+invariant-loop-index l =
+    graph_of l.links.items ≡ map (link_of (plain_nodes l.nodes.items)) (map plain_node (take l.index l.nodes.items))

@@ -11,7 +11,8 @@ use Rattle.oe_order.proofs.Lists.{contains-at, contains-to}
 use Rattle.oe_resolve.specs.Counted.{total, size_by, fit_nodes}
 use Rattle.oe_resolve.specs.Reached.{index_at, IsReached}
 use Rattle.oe_resolve.proofs.Along.{take_pushed}
-use Rattle.oe_resolve.proofs.CycleLemmas.{each_nodes, get_below, nodes_next}
+use Rattle.oe_graph.proofs.ReferenceGraphLemmas.{each_nodes, nodes_next}
+use Rattle.oe_graph.proofs.ElementLemmas.{get_below}
 use Rattle.oe_resolve.proofs.FaultLemmas.{there_node}
 use Rattle.oe_resolve.proofs.ReadLemmas.{stored_at}
 use Rattle.oe_resolve.proofs.LargeLemmas.{size, main_large, written_large, reached_large, none_large}

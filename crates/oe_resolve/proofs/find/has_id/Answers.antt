@@ -1,9 +1,10 @@
-use Rattle.std.proofs.Common.{◌≡◌, length, arith}
-use Rattle.oe_resolve.proofs.NodeLemmas.{index_of-below}
+use Rattle.std.proofs.Common.{ap, ◌∙◌}
+use Rattle.std.specs.Prelude.{is_some}
+use Rattle.oe_graph.specs.Plain.{plain_nodes}
+use Rattle.oe_resolve.proofs.KnowsLemmas.{some_named}
 use Rattle.oe_resolve.proofs.find.has_id.Goals as goal
 
 pub returns : goal.returns
 returns c =
-    let nodes = c.args.beside.now.nodes.now in
-    let count : c.len.result ≡ length nodes.items = omega (arith, nodes.ok.0) in
-    rw (c.index_beside.ensures, count) (index_of-below c.args.id.now nodes.items)
+    c.is_some.ensures ∙ ap is_some c.find_index.ensures
+    ∙ some_named (plain_nodes c.args.beside.now.nodes.now.items) c.args.id.now

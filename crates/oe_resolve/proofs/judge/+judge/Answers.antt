@@ -4,20 +4,19 @@ use Rattle.std.proofs.lemmas.Result.{IfOk-weaker}
 use Rattle.std.specs.Result.{IfOk}
 use Rattle.oe_graph.proofs.LeastLemmas.{IsLeastOf, OneOf}
 use Rattle.oe_graph.specs.Plain.{plain_arg, plain_args, plain_named, plain_node, plain_nodes, plain_stored}
-use Rattle.oe_graph.specs.References.{callbacks_in, callbacks_each, callbacks_named}
+use Rattle.oe_graph.specs.Indices.{are_known}
+use Rattle.oe_graph.specs.References.{callbacks_in, callbacks_each, callbacks_named, references_named}
 use Rattle.oe_graph.specs.Form.{node_name}
 use Rattle.oe_graph.specs.Printed.{ids_of}
 use Rattle.oe_graph.specs.Tree.{Argument, PlainNode}
 use Rattle.oe_graph.specs.declared.tree.Arg.{Arg}
 use Rattle.oe_graph.specs.declared.tree.Node.{Node}
 use Rattle.oe_graph.proofs.PartLemmas.{node_parts}
-use Rattle.oe_order.specs.Graph.{graph_of}
-use Rattle.oe_order.specs.Sorted.{AreNoLoads}
-use Rattle.oe_order.specs.declared.Links.{Links}
 use Rattle.oe_resolve.specs.Judged.{IdsRiseIn, OfArgument, OfArguments, OfNode, know_named, node_code}
 use Rattle.oe_resolve.specs.Seen.{names_behind}
 use Rattle.oe_resolve.proofs.Along.{least_more}
 use Rattle.oe_resolve.proofs.FaultLemmas.{there_by, least-none, none_least, rise_of_item, rise_of_member, rise_of_node, rise_of_object, arguments_least, items_least, members_least, object_least, call_least, node_least, mapped_at, mark_there, there_node, list_is, object_is, callback_argument}
+use Rattle.oe_resolve.proofs.KnowsLemmas.{known-is}
 use Rattle.oe_resolve.proofs.judge.+judge.Goals as goal
 use Rattle.oe_resolve.proofs.judge.+judge.Goals.{items_fault-then-may_hold_callback+in_ok-found, items_fault-else-may_hold_callback, members_fault-then-may_hold_callback+in_ok-found, members_fault-else-may_hold_callback}
 
@@ -159,14 +158,10 @@ node_faults-returns t c nodes rise known marked =
     (c.in_ok-own.ensures ∙ ap (λ at. option_map (λ k. record { code = k; node = at }) code) c.as_str-2.ensures)
     known marked found)
 
-pub object_fault-marks_of-requires-clause-no_loads : goal.object_fault-marks_of-requires-clause-no_loads
-object_fault-marks_of-requires-clause-no_loads t c =
-    subst (λ (ls : List Links). AreNoLoads (graph_of ls)) (sym c.as_slice.ensures.value) c.in_ok-references.ensures.no_loads
-
 pub object_fault-index-requires-in-loop-index : goal.object_fault-index-requires-in-loop-index
 object_fault-index-requires-in-loop-index t c =
     let ns = c.args.nodes.now.items in
-    let knows : Node → Bool = (λ (m : Node). know_named (ids_of (plain_nodes ns)) (plain_node m).arguments) in
+    let knows : Node → Bool = (λ (m : Node). are_known (plain_nodes ns) (references_named (plain_node m).arguments)) in
     omega (
       arith,
       ap (λ (ks : List Bool). length ks) c.in_ok-references.ensures.known,
@@ -191,13 +186,14 @@ object_fault-loop-index-preserved t c rise =
     let i = c.loop-index.index in
     let n = c.index.result.now in
     let marks = c.in_ok-cyclic.cyclic.items in
-    let knows : Node → Bool = (λ (m : Node). know_named (ids_of nodes) (plain_node m).arguments) in
+    let knows : Node → Bool = (λ (m : Node). are_known nodes (references_named (plain_node m).arguments)) in
     let Of = (λ (m : Node). OfNode stored last c.args.name.now scope nodes (plain_node m)) in
     let below : i < length ns = omega (arith, c.loop-index-test.true, c.len-index-end.ensures, c.args.nodes.now.ok.0) in
     let marked_below : i < length marks = omega (arith, c.in_ok-cyclic.ensures.len) in
-    let known : c.index-in-loop-index.result.now ≡ knows n =
+    let known : c.index-in-loop-index.result.now ≡ know_named (ids_of nodes) (plain_node n).arguments =
     mapped_at knows ns i n c.index-in-loop-index.result.now below c.index.ensures
-    (c.index-in-loop-index.ensures ∙ ap (λ (ks : List Bool). get_or ks i c.index-in-loop-index.result.now) c.in_ok-references.ensures.known) in
+    (c.index-in-loop-index.ensures ∙ ap (λ (ks : List Bool). get_or ks i c.index-in-loop-index.result.now) c.in_ok-references.ensures.known)
+    ∙ known-is nodes (plain_node n).arguments in
     let mark : c.index-in-loop-index-2.result.now ≡ get_or marks i false =
     get_or_read marks i c.index-in-loop-index-2.result.now marked_below c.index-in-loop-index-2.ensures false in
     subst (IsLeastOf (OneOf Of (take (i + 1) ns))) (sym c.least-fault.ensures)

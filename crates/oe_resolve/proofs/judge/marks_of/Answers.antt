@@ -2,7 +2,8 @@ use Rattle.std.proofs.Common.{◌≡◌, Bool, false, length, replicate, sym, su
 use Rattle.oe_graph.specs.Plain.{plain_nodes}
 use Rattle.oe_graph.specs.References.{each_node}
 use Rattle.oe_resolve.specs.Judged.{AreMarks}
-use Rattle.oe_resolve.proofs.CycleLemmas.{marks_unasked, ids_length, ids_count}
+use Rattle.oe_graph.proofs.SearchLemmas.{ids_count, ids_length}
+use Rattle.oe_resolve.proofs.CycleLemmas.{marks_unasked}
 use Rattle.oe_resolve.proofs.judge.marks_of.Goals as goal
 
 pub returns-clause-exact : goal.returns-clause-exact

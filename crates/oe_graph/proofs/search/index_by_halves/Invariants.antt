@@ -2,7 +2,7 @@ use Rattle.std.proofs.Common.{◌≡◌, ◌-◌, ◌≤◌, ℕ, Some, true, le
 use Rattle.oe_dims.specs.Names.{names_rise}
 use Rattle.oe_graph.specs.Plain.{plain_nodes}
 use Rattle.oe_graph.specs.Printed.{ids_of}
-use Rattle.oe_resolve.proofs.find.index_by_halves.Given as goal
+use Rattle.oe_graph.proofs.search.index_by_halves.Given as goal
 
 abbrev pub invariant-loop-low : goal.invariant-loop-low
 invariant-loop-low l =

@@ -2,9 +2,9 @@ use Rattle.std.proofs.Common.{◌≡◌, ◌<◌, ◌+◌, ◌-◌, ◌/◌, tru
 use Rattle.oe_dims.specs.Names.{is_name_before}
 use Rattle.oe_graph.specs.Plain.{plain_nodes}
 use Rattle.oe_graph.specs.Printed.{ids_of}
-use Rattle.oe_resolve.proofs.CycleLemmas.{get_below, ids_count}
-use Rattle.oe_resolve.proofs.FindLemmas.{id_at_index, stands_above, stands_within}
-use Rattle.oe_resolve.proofs.find.index_by_halves.Goals as goal
+use Rattle.oe_graph.proofs.ElementLemmas.{get_below}
+use Rattle.oe_graph.proofs.SearchLemmas.{ids_count, id_at_index, stands_above, stands_within}
+use Rattle.oe_graph.proofs.search.index_by_halves.Goals as goal
 
 pub loop-low-init : goal.loop-low-init
 loop-low-init c =
@@ -16,13 +16,13 @@ loop-low-init c =
           (omega arith, omega (arith, below, count, c.len-high.ensures)),
     )
 
-pub loop-low-preserved-then-is_before : goal.loop-low-preserved-then-is_before
-loop-low-preserved-then-is_before c =
+pub loop-low-preserved-then-is_name_before : goal.loop-low-preserved-then-is_name_before
+loop-low-preserved-then-is_name_before c =
     let ns = c.args.nodes.now.items in
     let middle = c.loop-low.low + (c.loop-low.high - c.loop-low.low) / 2 in
     let below : middle < length ns = omega (arith, c.loop-low.invariant.0, c.loop-low-test.true) in
     let before : is_name_before c.index.result.now.id c.args.id.now ≡ true =
-    ap (λ name. is_name_before name c.args.id.now) (sym c.as_str.ensures) ∙ sym c.is_before.ensures ∙ c.if-is_before.true in (
+    ap (λ name. is_name_before name c.args.id.now) (sym c.as_str.ensures) ∙ sym c.is_name_before.ensures ∙ c.if-is_name_before.true in (
       c.loop-low.invariant.0,
       λ rise k is. (
         stands_above (ids_of (plain_nodes ns)) rise middle k c.index.result.now.id c.args.id.now
@@ -37,7 +37,7 @@ loop-low-preserved c =
     let middle = c.loop-low.low + (c.loop-low.high - c.loop-low.low) / 2 in
     let below : middle < length ns = omega (arith, c.loop-low.invariant.0, c.loop-low-test.true) in
     let before : is_name_before c.index.result.now.id c.args.id.now ≡ false =
-    ap (λ name. is_name_before name c.args.id.now) (sym c.as_str.ensures) ∙ sym c.is_before.ensures ∙ c.if-is_before.false in (
+    ap (λ name. is_name_before name c.args.id.now) (sym c.as_str.ensures) ∙ sym c.is_name_before.ensures ∙ c.if-is_name_before.false in (
       omega (arith, below),
       λ rise k is. (
         (c.loop-low.invariant.1 rise k is).0,

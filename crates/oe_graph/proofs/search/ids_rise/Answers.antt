@@ -1,6 +1,6 @@
 use Rattle.std.proofs.Common.{sym, ◌∙◌, ◌-◌, arith}
-use Rattle.oe_resolve.proofs.FindLemmas.{rise_end}
-use Rattle.oe_resolve.proofs.find.ids_rise.Goals as goal
+use Rattle.oe_graph.proofs.SearchLemmas.{rise_end}
+use Rattle.oe_graph.proofs.search.ids_rise.Goals as goal
 
 pub returns : goal.returns
 returns c =

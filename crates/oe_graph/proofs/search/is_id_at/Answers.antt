@@ -3,9 +3,9 @@ use Rattle.oe_dims.specs.Names.{same_name}
 use Rattle.oe_dims.proofs.OrderLemmas.{same_name_refl}
 use Rattle.oe_graph.specs.Plain.{plain_nodes}
 use Rattle.oe_graph.specs.Printed.{ids_of}
-use Rattle.oe_resolve.proofs.CycleLemmas.{get_below, ids_count}
-use Rattle.oe_resolve.proofs.FindLemmas.{id_by, id_at_index}
-use Rattle.oe_resolve.proofs.find.is_id_at.Goals as goal
+use Rattle.oe_graph.proofs.ElementLemmas.{get_below}
+use Rattle.oe_graph.proofs.SearchLemmas.{ids_count, id_by, id_at_index}
+use Rattle.oe_graph.proofs.search.is_id_at.Goals as goal
 
 pub returns-then-index-len-clause-found : goal.returns-then-index-len-clause-found
 returns-then-index-len-clause-found c is =

@@ -1,8 +1,0 @@
-use Rattle.std.proofs.Common.{◌≡◌, ◌+◌, drop}
-use Rattle.oe_graph.specs.Plain.{plain_nodes}
-use Rattle.oe_resolve.specs.Rounds.{index_of}
-use Rattle.oe_resolve.proofs.find.index_of.Given as goal
-
-abbrev pub invariant-loop-index : goal.invariant-loop-index
-invariant-loop-index l =
-    index_of l.id (plain_nodes l.nodes.items) ≡ l.index + index_of l.id (plain_nodes (drop l.index l.nodes.items))
