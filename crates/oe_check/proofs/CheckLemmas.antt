@@ -4,6 +4,7 @@ use Rattle.oe_dims.specs.declared.dims.DimsRow.{DimsRow}
 use Rattle.oe_graph.specs.Plain.{plain_graph, plain_nodes}
 use Rattle.oe_graph.specs.Printed.{ids_of, node_count}
 use Rattle.oe_graph.specs.Read.{IsFaultless}
+use Rattle.oe_graph.specs.References.{Leads}
 use Rattle.oe_graph.specs.Resolved.{IsResolved}
 use Rattle.oe_graph.specs.Tree.{Nodes, PlainGraph}
 use Rattle.oe_graph.specs.declared.tree.Graph.{Graph, out-Graph}
@@ -40,6 +41,9 @@ module _ (g : Graph) (is : IsResolved (plain_graph g)) where
 
   pub nodes_resolved : AreResolved nodes
   nodes_resolved = subst AreResolved nodes_are graph_resolved
+
+  pub nodes_acyclic : (id : List ℕ) → ¬ Leads nodes id id
+  nodes_acyclic = subst (λ (ns : Nodes). (id : List ℕ) → ¬ Leads ns id id) nodes_are (resolved_object false [] (plain_graph g) is).acyclic
 
   abbrev pub checked_graph : List DimsRow → CheckedGraph
   checked_graph rows = record { nodes = (plain_graph g).nodes; result = (plain_graph g).result; rows = rows }

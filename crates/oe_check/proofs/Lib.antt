@@ -12,7 +12,7 @@ pub mod StandsLemmas
 pub mod BelowLemmas
 pub mod LinkLemmas
 pub mod WalkLemmas
-pub mod RoundLemmas
+pub mod StepLemmas
 pub mod ReadLemmas
 pub mod DistinctLemmas
 pub mod KindLemmas

@@ -18,7 +18,7 @@ use Rattle.oe_dims.proofs.OrderLemmas.{same_name_is}
 use Rattle.oe_dims.specs.Indices.{index_where}
 use Rattle.oe_dims.specs.Names.{same_name, is_name_before, names_rise}
 use Rattle.oe_dims.proofs.NameOrderLemmas.{names_sorted}
-use Rattle.oe_graph.proofs.ReferenceGraphLemmas.{arguments_of, reference_count, referring}
+use Rattle.oe_graph.proofs.ReferenceGraphLemmas.{arguments_of, reference_count, reference_within, referring}
 use Rattle.oe_graph.proofs.ResolvedLemmas.{NodeAt, node_of_id, node_referred, resolved_object}
 use Rattle.oe_graph.proofs.SearchLemmas.{each_count, found_at, id_there}
 use Rattle.oe_graph.specs.Indices.{indices_named, reference_graph, reference_node}
@@ -37,7 +37,9 @@ use Rattle.oe_order.specs.Graph.{graph_of, arguments, RefersWithin, Reaches, IsA
 use Rattle.oe_order.specs.declared.Links.{Links}
 use Rattle.oe_order.proofs.Graphs.{length-graph_of, arguments-graph_of}
 use Rattle.oe_check.specs.Links.{index_named, index_referred, link_of, links_of, AreNamed}
-use Rattle.oe_check.specs.Walked.{AreResolved, IsNodeAt, IsNodeOf}
+use Rattle.oe_check.specs.Walked.{AreResolved, AreSeenBelow, IsNodeAt, IsNodeOf, state_at}
+use Rattle.oe_check.specs.declared.checked.State.{State}
+use Rattle.oe_check.specs.declared.checked.State.TheVariants.{Unseen}
 use Rattle.oe_memory.proofs.Lists.{first_of, later_of, take_next}
 use Rattle.oe_graph.proofs.ElementLemmas.{index_there}
 
@@ -280,12 +282,6 @@ pub links_arguments : (nodes : Nodes) (k : ℕ) (n : PlainNode) → IsNodeAt nod
     → arguments (links_of nodes) k ≡ map (index_referred nodes) (references_named n.arguments)
 links_arguments nodes k n at = arguments_of (link_of nodes) (each_node nodes) k n at
 
-pub link_arguments : (nodes : Nodes) (links : List Links) (k : ℕ) (n : PlainNode) (link : Links) → graph_of links ≡ links_of nodes
-    → k < length links → link ≡ get_or links k link → IsNodeAt nodes k n
-    → link.arguments.items ≡ map (index_referred nodes) (references_named n.arguments)
-link_arguments nodes links k n link is within read at =
-    sym (arguments-graph_of links k link within read) ∙ (ap (λ xs. arguments xs k) is ∙ links_arguments nodes k n at)
-
 -- ---- the graph of the links
 
 -- an index among those of names is that of one of them
@@ -366,15 +362,34 @@ module _ (nodes : Nodes) (is : AreResolved nodes) where
       let same : way.to ≡ way.from = let one = way.is_from in let two = way.is_to in cc in
       (object nodes is).acyclic way.from.id (subst (λ (n : PlainNode). Leads nodes way.from.id n.id) same way.leads)
 
-  -- each index of a link is that of a node
-  pub link_within : (links : List Links) (k : ℕ) (link : Links) → graph_of links ≡ links_of nodes
+  -- ---- what the references of a node say, by index
+
+  references_are : (k : ℕ) (n : PlainNode) → IsNodeAt nodes k n
+      → arguments (reference_graph nodes) k ≡ map (index_referred nodes) (references_named n.arguments)
+  references_are k n at =
+      arguments_of (reference_node nodes) (each_node nodes) k n at
+      ∙ indices_referred nodes (references_named n.arguments) (object nodes is).ids_rise
+      (λ name refers. ((object nodes is).each n (contains_node nodes k n at)).names_nodes name refers)
+
+  pub references_at : (links : List Links) (k : ℕ) (n : PlainNode) (link : Links) → graph_of links ≡ reference_graph nodes
+      → k < length links → link ≡ get_or links k link → IsNodeAt nodes k n
+      → link.arguments.items ≡ map (index_referred nodes) (references_named n.arguments)
+  references_at links k n link all within read at =
+      sym (arguments-graph_of links k link within read) ∙ (ap (λ xs. arguments xs k) all ∙ references_are k n at)
+
+  -- those that it refers to were judged
+  pub seen_below : (states : List State) (k : ℕ) (n : PlainNode) → IsNodeAt nodes k n → AreSeenBelow nodes states k
+      → (j : ℕ) → Contains (map (index_referred nodes) (references_named n.arguments)) j → state_at states j ≢ Unseen
+  seen_below states k n at seen j has = seen j (subst (λ xs. Contains xs j) (sym (references_are k n at)) has)
+
+  -- each of them is a node
+  pub link_within : (links : List Links) (k : ℕ) (link : Links) → graph_of links ≡ reference_graph nodes
       → k < length links → link ≡ get_or links k link
       → (j : ℕ) → j < length link.arguments.items → get_or link.arguments.items j 0 < node_count nodes
   link_within links k link all within read j below =
       let indices = link.arguments.items in
       let b = get_or indices j 0 in
-      let same : arguments (links_of nodes) k ≡ indices =
+      let same : arguments (reference_graph nodes) k ≡ indices =
       ap (λ xs. arguments xs k) (sym all) ∙ arguments-graph_of links k link within read in
       let has : Contains indices b = (j, below, get_or_default indices j b 0 below) in
-      let long : length (links_of nodes) ≡ node_count nodes = length-map (each_node nodes) (link_of nodes) ∙ each_count nodes in
-      subst (λ c. b < c) long (refers_within k b (subst (λ xs. Contains xs b) (sym same) has))
+      subst (λ c. b < c) (reference_count nodes) (reference_within nodes k b (subst (λ xs. Contains xs b) (sym same) has))

@@ -1,5 +1,5 @@
--- The walk over the nodes of a graph: what one more node that is judged makes of what was found so far, how far a round over
--- all nodes comes, and what stands at the end.
+-- The walk over the nodes of a graph: what one more node that is judged makes of what was found so far, and what stands at
+-- the end.
 use Rattle.std.proofs.Common.{◌≡◌, ◌≢◌, ◌⊎◌, inl, inr, ℕ, zero, suc, ◌<◌, Bool, true, false, if◌then◌else◌, List, map, length, replicate, set, get_or, Contains, Option, Some, None, refl, sym, ap, ◌∙◌, subst, arith, get_or-set_same, get_or-set_other}
 use Rattle.std.proofs.lemmas.Bool.{cases_eq}
 use Rattle.std.proofs.lemmas.Option.{slice_get-get_or}
@@ -7,7 +7,8 @@ use Rattle.oe_dims.specs.declared.dims.DimsRow.{DimsRow}
 use Rattle.oe_graph.specs.Faults.{IsLeast, is_before, least}
 use Rattle.oe_graph.specs.Plain.{plain_nodes}
 use Rattle.oe_graph.specs.Printed.{node_count}
-use Rattle.oe_graph.specs.References.{references_named, Refers, Chain, none, more}
+use Rattle.oe_graph.specs.Indices.{reference_graph}
+use Rattle.oe_graph.specs.References.{references_named}
 use Rattle.oe_graph.specs.Tree.{Nodes, PlainNode}
 use Rattle.oe_graph.specs.declared.code.Code.{Code}
 use Rattle.oe_graph.specs.declared.fault.Fault.{Fault}
@@ -15,24 +16,21 @@ use Rattle.oe_graph.specs.declared.tree.Node.{Node}
 use Rattle.oe_order.specs.Graph.{graph_of}
 use Rattle.oe_order.specs.declared.Links.{Links}
 use Rattle.oe_graph.proofs.LeastLemmas.{IsLeastOf, IsLeastOf-iff, IsLeastOf-least, Either}
-use Rattle.oe_graph.proofs.ResolvedLemmas.{references_end}
-use Rattle.oe_expr.proofs.NodeLemmas.{node_is, contains_node, index_of_node, id_within}
+use Rattle.oe_expr.proofs.NodeLemmas.{node_is, index_of_node}
 use Rattle.oe_meanings.specs.Graphs.{outline_at, operation_at}
-use Rattle.oe_check.specs.Links.{index_referred, links_of, loaded_collection}
+use Rattle.oe_check.specs.Links.{index_referred, loaded_collection}
 use Rattle.oe_requests.specs.Operations.{Outline}
 use Rattle.oe_requests.specs.PlainRequests.{plain_operation}
 use Rattle.oe_meanings.specs.SoundNodes.{sound_node}
 use Rattle.oe_meanings.specs.Stands.{StandsHere, IsSound, sound, StandsAt, StandsInGraph}
-use Rattle.oe_check.specs.Walked.{AreResolved, IsNodeAt, state_at, below_indices, AreKnown, IsVerdict, IsJudgedSound, IsSoundOf, IsState, StandsSeen, IsLeastSeen, IsWalked, IsChecked, Waits, IsStep, LeadsDown, AreDeep}
+use Rattle.oe_check.specs.Walked.{AreResolved, IsNodeAt, state_at, are_sound, AreKnown, IsVerdict, IsJudgedSound, IsSoundOf, IsState, StandsSeen, IsLeastSeen, IsWalked, IsChecked, IsStep}
 use Rattle.oe_check.specs.declared.checked.CheckedNode.{CheckedNode}
 use Rattle.oe_check.specs.declared.checked.State.{State}
 use Rattle.oe_check.specs.declared.checked.State.TheVariants.{Unseen, Faulty, Sound}
-use Rattle.oe_check.specs.declared.walk.Below.{Below}
-use Rattle.oe_check.specs.declared.walk.Below.TheVariants as below
 use Rattle.oe_check.specs.declared.walk.Verdict.{Verdict}
-use Rattle.oe_check.proofs.BelowLemmas.{unseen_below, faulty_below, sound_below}
+use Rattle.oe_check.proofs.BelowLemmas.{OneFaulty, sound_below}
 use Rattle.oe_meanings.proofs.GraphLemmas.{unfold_at_nodes}
-use Rattle.oe_check.proofs.LinkLemmas.{object, referred, named_at, index_is, one_node, within_nodes, link_arguments}
+use Rattle.oe_check.proofs.LinkLemmas.{object, referred, named_at, index_is, one_node, within_nodes, references_at}
 
 -- ---- states
 
@@ -50,33 +48,23 @@ seen_stays states index s k within known seen = split (cases_eq k index)
     split (inl e) is = known (sym (set_here states index s within) ∙ (ap (state_at (set states index s)) (sym e) ∙ is))
     split (inr other) is = seen (sym (set_other states index s k other) ∙ is)
 
-pub one_changes : (nodes : Nodes) (states : List State) (index : ℕ) (s : State) → index < length states → s ≢ Unseen
-    → IsStep nodes index states (set states index s)
-one_changes nodes states index s within known = record {
+pub one_changes : (states : List State) (index : ℕ) (s : State) → index < length states → s ≢ Unseen
+    → IsStep index states (set states index s)
+one_changes states index s within known = record {
   others = λ k other. set_other states index s k other;
-  waits = λ n at is. absurd (known (sym (set_here states index s within) ∙ is));
+  seen = λ is. known (sym (set_here states index s within) ∙ is);
 }
 
-pub none_changes : (nodes : Nodes) (states : List State) (index : ℕ) (n : PlainNode) → IsNodeAt nodes index n
-    → below_indices states (map (index_referred nodes) (references_named n.arguments)) ≡ below.Unseen → IsStep nodes index states states
-none_changes nodes states index n at waits = record {
-  others = λ k other. refl;
-  waits = λ m m_at is.
-      let same : n ≡ m = cc in
-      let one = unseen_below states (index_referred nodes) (references_named n.arguments) waits in
-      subst (λ (x : PlainNode). Waits nodes states x) same (record { name = one.0; refers = one.1; unseen = one.2 });
-}
-
--- what is known of the nodes below one, as it is read at the indices of its link
-pub read_below : (nodes : Nodes) (links : List Links) (index : ℕ) (n : PlainNode) (link : Links) (states read : List State)
-    (indices : List ℕ) (b : Below) → graph_of links ≡ links_of nodes → index < length links → link ≡ get_or links index link
-    → IsNodeAt nodes index n → indices ≡ link.arguments.items → read ≡ states → b ≡ below_indices read indices
-    → below_indices states (map (index_referred nodes) (references_named n.arguments)) ≡ b
-read_below nodes links index n link states read indices b all within is at of_link same known =
-    let arguments = link_arguments nodes links index n link all within is at in
-    ap (below_indices states) (sym arguments)
-    ∙ (ap (below_indices states) (sym of_link)
-    ∙ (ap (λ (ss : List State). below_indices ss indices) (sym same) ∙ sym known))
+-- whether the nodes below one are sound, as it is read at the indices of its link
+pub read_sound : (nodes : Nodes) (is : AreResolved nodes) (links : List Links) (index : ℕ) (n : PlainNode) (link : Links)
+    (states read : List State) (indices : List ℕ) (b : Bool) → graph_of links ≡ reference_graph nodes → index < length links
+    → link ≡ get_or links index link → IsNodeAt nodes index n → indices ≡ link.arguments.items → read ≡ states
+    → b ≡ are_sound read indices → are_sound states (map (index_referred nodes) (references_named n.arguments)) ≡ b
+read_sound nodes is links index n link states read indices b all within is_link at of_link same known =
+    let arguments = references_at nodes is links index n link all within is_link at in
+    ap (are_sound states) (sym arguments)
+    ∙ (ap (are_sound states) (sym of_link)
+    ∙ (ap (λ (ss : List State). are_sound ss indices) (sym same) ∙ sym known))
 
 -- a verdict on nodes and states as they are read is one on these
 pub read_verdict : (rows : List DimsRow) (nodes ns : List Node) (states ss : List State) (n : PlainNode) (v w : Verdict)
@@ -121,7 +109,7 @@ module _ (rows : List DimsRow) (nodes : Nodes) (is : AreResolved nodes) where
         subst (λ m. IsState rows nodes m s) there.is_named
         (subst (IsState rows nodes there.node.id) here (w.each there.index there.node there.is_there))
 
-    module _ (sound_so : below_indices states (map (index_referred nodes) names) ≡ below.Sound) where
+    module _ (sound_so : are_sound states (map (index_referred nodes) names) ≡ true) where
       sound_reference : (name : List ℕ) → Contains names name
           → (kept : CheckedNode) × (state_at states (index_referred nodes name) ≡ Sound kept) × IsSoundOf rows nodes name kept
       sound_reference name refers =
@@ -222,11 +210,9 @@ module _ (rows : List DimsRow) (nodes : Nodes) (is : AreResolved nodes) where
 
       -- ---- the three ends
 
-      module _ (faulty : below_indices states (map (index_referred nodes) names) ≡ below.Faulty) where
+      module _ (faulty : OneFaulty states (index_referred nodes) names) where
         faulty_reference : (name : List ℕ) × Contains names name × (IsSound rows nodes name → ⊥)
-        faulty_reference =
-            let one = faulty_below states (index_referred nodes) names faulty in
-            (one.0, one.1, known one.0 Faulty one.1 one.2)
+        faulty_reference = (faulty.0, faulty.1, known faulty.0 Faulty faulty.1 faulty.2)
 
         not_sound_here : IsSound rows nodes n.id → ⊥
         not_sound_here (sound {n = m} is_named below_it clean) =
@@ -244,11 +230,10 @@ module _ (rows : List DimsRow) (nodes : Nodes) (is : AreResolved nodes) where
         walked_below = record {
           each = spread Faulty not_sound_here;
           least = same_least Faulty found faulty_known none_stands_here w.least;
-          all = λ nothing.
-              let one = faulty_below states (index_referred nodes) names faulty in absurd (w.all nothing (index_referred nodes one.0) one.2);
+          all = λ nothing. absurd (w.all nothing (index_referred nodes faulty.0) faulty.2);
         }
 
-      module _ (sound_so : below_indices states (map (index_referred nodes) names) ≡ below.Sound) where
+      module _ (sound_so : are_sound states (map (index_referred nodes) names) ≡ true) where
         stands_not_sound : (fault : Fault) → StandsHere rows (outline_at rows nodes) n fault.code fault.node → IsSound rows nodes n.id → ⊥
         stands_not_sound fault s (sound {n = m} is_named below_it clean) =
             let same : n ≡ m = one_node nodes is n index m at is_named in
@@ -326,33 +311,7 @@ module _ (rows : List DimsRow) (nodes : Nodes) (is : AreResolved nodes) where
     all = λ nothing k f. let s : Unseen ≡ Faulty = sym (unseen k) ∙ f in absurd cc;
   }
 
-  pub deep_none : (states : List State) → AreDeep nodes 0 states
-  deep_none states = λ k n at u. record { end = n.id; chain = none }
-
-  -- ---- after a round
-
-  waits_deeper : (count : ℕ) (states : List State) → AreDeep nodes count states → (k : ℕ) (n : PlainNode) → IsNodeAt nodes k n
-      → Waits nodes states n → LeadsDown nodes (suc count) n.id
-  waits_deeper count states deep k n at waits =
-      let there = referred nodes is k n waits.name at waits.refers in
-      let u : state_at states there.index ≡ Unseen = ap (state_at states) (sym (index_is nodes is waits.name there)) ∙ waits.unseen in
-      let down = deep there.index there.node there.is_there u in
-      let one : Refers nodes n.id waits.name =
-      record { from = n; is_node = contains_node nodes k n at; is_named = refl; refers = waits.refers } in
-      record { end = down.end; chain = more one (subst (λ name. Chain nodes count name down.end) there.is_named down.chain) }
-
-  pub deeper : (before after : List State) → ((k : ℕ) (n : PlainNode) → IsNodeAt nodes k n → state_at after k ≡ Unseen → Waits nodes before n)
-      → (count : ℕ) → AreDeep nodes count before → AreDeep nodes (suc count) after
-  deeper before after waits count deep = λ k n at u. waits_deeper count before deep k n at (waits k n at u)
-
-  -- ---- after the last round
-
-  all_seen : (states : List State) → AreDeep nodes (node_count nodes) states → (k : ℕ) (n : PlainNode) → IsNodeAt nodes k n
-      → state_at states k ≢ Unseen
-  all_seen states deep k n at u =
-      let down = deep k n at u in
-      let ends = references_end nodes is.result (node_count nodes) n.id down.end (object nodes is) down.chain (id_within nodes k n at) in
-      absurd (omega arith)
+  -- ---- after the last step
 
   sound_state : (s : State) → s ≢ Unseen → s ≢ Faulty → (kept : CheckedNode) × (s ≡ Sound kept)
   sound_state Unseen seen clean = absurd (seen refl)
@@ -386,7 +345,3 @@ module _ (rows : List DimsRow) (nodes : Nodes) (is : AreResolved nodes) where
             seen = seen found_at.0 stands.at.node found_at.1;
             stands = subst (λ name. StandsAt rows nodes name other.code other.node) (sym there.1) stands.at;
           }
-
-  pub checked : (states : List State) (found : Option Fault) → length states ≡ node_count nodes
-      → AreDeep nodes (node_count nodes) states → IsWalked rows nodes states found → IsChecked rows nodes states found
-  checked states found long deep w = checked_seen states found long (all_seen states deep) w

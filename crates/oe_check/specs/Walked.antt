@@ -1,15 +1,17 @@
 -- How far the walk over the nodes of a graph has come.
-use Rattle.std.specs.Prelude.{◌≡◌, ◌≢◌, ℕ, ⊤, Bool, true, false, List, [], ◌∷◌, Option, Some, None, Contains, slice_get, slice_index_or, option_and_then}
+use Rattle.std.specs.Prelude.{◌≡◌, ◌≢◌, ℕ, ⊤, Bool, true, false, ◌&&◌, List, [], ◌∷◌, Option, Some, None, Contains, slice_get, slice_index_or, option_and_then}
 use Rattle.std.specs.Arc.{arc_value}
 use Rattle.oe_dims.specs.declared.dims.DimsRow.{DimsRow}
 use Rattle.oe_graph.specs.Faults.{IsLeast, is_before}
-use Rattle.oe_graph.specs.References.{each_node, references_named, Chain}
+use Rattle.oe_graph.specs.Indices.{reference_graph}
+use Rattle.oe_graph.specs.References.{each_node, references_named}
 use Rattle.oe_graph.specs.Resolved.{IsResolved}
 use Rattle.oe_graph.specs.Tree.{Nodes, PlainNode}
 use Rattle.oe_graph.specs.declared.fault.Fault.{Fault}
+use Rattle.oe_order.specs.Graph.{arguments}
 use Rattle.oe_expr.specs.Nodes.{node_named}
 use Rattle.oe_meanings.specs.Graphs.{outline_at, node_outline, operation_at}
-use Rattle.oe_check.specs.Links.{loaded_collection, index_referred}
+use Rattle.oe_check.specs.Links.{loaded_collection}
 use Rattle.oe_requests.specs.Operations.{Operation, Outline, operation_of}
 use Rattle.oe_requests.specs.PlainRequests.{plain_operation}
 use Rattle.oe_requests.specs.Requests.{CubeRequest, cube_request_at}
@@ -18,8 +20,6 @@ use Rattle.oe_meanings.specs.Stands.{cubes_of, HasNoFault, StandsHere, IsSound, 
 use Rattle.oe_check.specs.declared.checked.CheckedNode.{CheckedNode}
 use Rattle.oe_check.specs.declared.checked.State.{State}
 use Rattle.oe_check.specs.declared.checked.State.TheVariants.{Unseen, Faulty, Sound}
-use Rattle.oe_check.specs.declared.walk.Below.{Below}
-use Rattle.oe_check.specs.declared.walk.Below.TheVariants as below
 use Rattle.oe_check.specs.declared.walk.Verdict.{Verdict}
 use Rattle.oe_check.specs.declared.walk.Verdict.TheVariants as verdict
 
@@ -39,32 +39,18 @@ IsNodeAt nodes index n = slice_get (each_node nodes) index ≡ Some n
 abbrev pub state_at : List State → ℕ → State
 state_at states index = slice_index_or states index Unseen
 
-abbrev pub is_unseen : State → Bool
-is_unseen Unseen = true
-is_unseen Faulty = false
-is_unseen (Sound kept) = false
+abbrev pub is_sound : State → Bool
+is_sound Unseen = false
+is_sound Faulty = false
+is_sound (Sound kept) = true
+
+-- the nodes at these indices are sound
+abbrev pub are_sound : List State → List ℕ → Bool
+are_sound states [] = true
+are_sound states (index ∷ indices) = is_sound (state_at states index) && are_sound states indices
 
 abbrev pub outline_kept : CheckedNode → Outline
 outline_kept kept = record { shape = arc_value kept.shape; kind = kept.kind }
-
--- ---- what is known of several nodes
-
-abbrev pub worse_of : Below → Below → Below
-worse_of below.Unseen b = below.Unseen
-worse_of below.Faulty below.Unseen = below.Unseen
-worse_of below.Faulty below.Faulty = below.Faulty
-worse_of below.Faulty below.Sound = below.Faulty
-worse_of below.Sound b = b
-
-abbrev pub below_state : State → Below
-below_state Unseen = below.Unseen
-below_state Faulty = below.Faulty
-below_state (Sound kept) = below.Sound
-
--- of the nodes at these indices, all together
-abbrev pub below_indices : List State → List ℕ → Below
-below_indices states [] = below.Sound
-below_indices states (index ∷ indices) = worse_of (below_state (state_at states index)) (below_indices states indices)
 
 -- ---- one node, by the outlines of those that it refers to
 
@@ -153,25 +139,14 @@ module _ (rows : List DimsRow) (nodes : Nodes) where
   IsChecked states None = AreSound states
   IsChecked states (Some fault) = IsLeast (StandsInGraph rows nodes) fault
 
--- ---- rounds
+-- ---- one step
 
--- a node waits for one that it refers to
-pub record Waits (nodes : Nodes) (states : List State) (n : PlainNode) : Type 0 where
-  pub name : List ℕ
-  pub refers : Contains (references_named n.arguments) name
-  pub unseen : state_at states (index_referred nodes name) ≡ Unseen
+-- each node that the node at an index refers to was judged
+abbrev pub AreSeenBelow : Nodes → List State → ℕ → Type 0
+AreSeenBelow nodes states index =
+    (k : ℕ) → Contains (arguments (reference_graph nodes) index) k → state_at states k ≢ Unseen
 
--- no other node's state changes, and that of this one is known unless the node waits
-pub record IsStep (nodes : Nodes) (index : ℕ) (before after : List State) : Type 0 where
+-- no other node's state changes, and that of this one is known then
+pub record IsStep (index : ℕ) (before after : List State) : Type 0 where
   pub others : (k : ℕ) → k ≢ index → state_at after k ≡ state_at before k
-  pub waits : (n : PlainNode) → IsNodeAt nodes index n → state_at after index ≡ Unseen → Waits nodes before n
-
--- a node that was not judged leads down so many references
-pub record LeadsDown (nodes : Nodes) (count : ℕ) (name : List ℕ) : Type 0 where
-  pub end : List ℕ
-  pub chain : Chain nodes count name end
-
--- each node that was not judged leads down so many references
-abbrev pub AreDeep : Nodes → ℕ → List State → Type 0
-AreDeep nodes count states =
-    (index : ℕ) (n : PlainNode) → IsNodeAt nodes index n → state_at states index ≡ Unseen → LeadsDown nodes count n.id
+  pub seen : state_at after index ≢ Unseen

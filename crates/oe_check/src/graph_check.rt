@@ -12,7 +12,7 @@ use crate::checked::Checked;
 use crate::links::links_between;
 use crate::walk::{Walk, walk_nodes};
 use oe_dims::{Dims, Text};
-use oe_graph::{Graph, Node, Refusal};
+use oe_graph::{Graph, Node, Refusal, sort_nodes};
 use oe_memory::OutOfMemory;
 use std::alloc::Global;
 
@@ -33,12 +33,14 @@ pub fn check(alloc: Global, graph: &Graph, dims: &Dims) -> Result<Checked, Refus
     ensures refused { IfErr result
         (IsFault (StandsInGraph (plain_rows dims.now) (plain_graph graph.now).nodes)) }
 {
-    let links = links_between(alloc, &graph.nodes)?;
-    let Walk { states, found } = walk_nodes(alloc, &graph.nodes, &links, dims)?;
+    let sorted = sort_nodes(alloc, &graph.nodes)?;
+    let indices = sorted.indices.as_slice();
+    let Walk { states, found } = walk_nodes(alloc, &graph.nodes, &sorted.links, indices, dims)?;
     match found {
         Some(fault) => Err(Refusal::Fault(fault)),
         None => {
             let ids = copy_ids(alloc, &graph.nodes)?;
+            let links = links_between(alloc, &graph.nodes, &sorted.links)?;
             Ok(Checked::of(graph, dims, ids, states, links))
         }
     }

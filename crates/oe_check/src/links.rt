@@ -1,26 +1,32 @@
 // The nodes that each node refers to, by their indices.
 ghost use Rattle.std.specs.Prelude.{◌≡◌, ◌<◌, ◌≤◌, true, codes, length, Contains, IfOk};
 ghost use Rattle.oe_dims.specs.Names.{names_rise, same_name};
+ghost use Rattle.oe_graph.specs.Indices.{reference_graph};
 ghost use Rattle.oe_graph.specs.Plain.{plain_node, plain_nodes};
 ghost use Rattle.oe_graph.specs.Printed.{ids_of};
 ghost use Rattle.oe_order.specs.Graph.{graph_of};
 ghost use Rattle.oe_check.specs.Links.{index_referred, links_of};
 ghost use Rattle.oe_check.specs.Walked.{AreResolved};
 
-use oe_graph::{Node, read_references};
+use oe_graph::Node;
 use oe_memory::OutOfMemory;
 use oe_order::Links;
 use std::alloc::Global;
 
 /// For each node whether it loads a collection, and the nodes that it refers to.
-pub(crate) fn links_between(alloc: Global, nodes: &Vec<Node>) -> Result<Vec<Links>, OutOfMemory>
+pub(crate) fn links_between(
+    alloc: Global,
+    nodes: &Vec<Node>,
+    references: &Vec<Links>,
+) -> Result<Vec<Links>, OutOfMemory>
     requires resolved { AreResolved (plain_nodes nodes.now.items) }
+    requires graph { graph_of references.now.items
+        ≡ reference_graph (plain_nodes nodes.now.items) }
     ensures { IfOk result (λ links. graph_of links.items ≡ links_of (plain_nodes nodes.now.items)) }
 {
-    let references = read_references(alloc, nodes)?;
     let mut links = Vec::with_capacity(alloc, nodes.len())?;
     for index in 0..nodes.len() {
-        let link = link_at(alloc, &references.links[index], &nodes[index])?;
+        let link = link_at(alloc, &references[index], &nodes[index])?;
         links.push(link)?;
     }
     Ok(links)

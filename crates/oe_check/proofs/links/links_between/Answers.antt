@@ -9,25 +9,25 @@ use Rattle.oe_check.proofs.links.links_between.Goals as goal
 pub index-requires : goal.index-requires
 index-requires c =
     let ns = c.args.nodes.now.items in
-    let long = references_length ns c.in_ok-references.references.links.items c.in_ok-references.ensures.graph in
-    omega (arith, long, c.loop-index-test.true, c.len-index-end.ensures, c.in_ok-references.references.links.ok.0, c.args.nodes.now.ok.0)
+    let long = references_length ns c.args.references.now.items c.requires.graph in
+    omega (arith, long, c.loop-index-test.true, c.len-index-end.ensures, c.args.references.now.ok.0, c.args.nodes.now.ok.0)
 
 pub loop-index-preserved : goal.loop-index-preserved
 loop-index-preserved c =
     let ns = c.args.nodes.now.items in
     let all = plain_nodes ns in
     let i = c.loop-index.index in
-    let read = c.in_ok-references.references.links.items in
+    let read = c.args.references.now.items in
     let n : Node = c.index-in-loop-index.result.now in
     let link = c.in_ok-link.link in
     let below : i < length ns = omega (arith, c.loop-index-test.true, c.len-index-end.ensures, c.args.nodes.now.ok.0) in
-    let long = references_length ns read c.in_ok-references.ensures.graph in
+    let long = references_length ns read c.requires.graph in
     links_next all ns i n c.loop-index.links.items c.push.new.self.items link below c.index-in-loop-index.ensures c.loop-index.invariant
     c.in_ok-push.ensures.items
     (link_parts all c.requires.resolved (plain_node n) (node_item ns ns i n refl below c.index-in-loop-index.ensures) link.load link.arguments.items
     c.in_ok-link.ensures.load
     (c.in_ok-link.ensures.arguments
-    ∙ read_at all read i (plain_node n) c.index.result.now c.in_ok-references.ensures.graph (omega (arith, below, long)) c.index.ensures
+    ∙ read_at all read i (plain_node n) c.index.result.now c.requires.graph (omega (arith, below, long)) c.index.ensures
     (node_read ns i n below c.index-in-loop-index.ensures)))
 
 pub returns : goal.returns

@@ -1,28 +1,29 @@
-use Rattle.std.proofs.Common.{◌≡◌, ◌<◌, ℕ, List, Some, length, get_or, sym, ap, subst, arith}
+use Rattle.std.proofs.Common.{◌≡◌, ◌<◌, ℕ, true, false, List, Some, length, get_or, sym, ap, ◌∙◌, subst, arith, rules}
 use Rattle.oe_dims.specs.Plain.{plain_rows}
 use Rattle.oe_expr.proofs.StateLemmas.{count_plain}
 use Rattle.oe_graph.proofs.ResolvedLemmas.{SomeNode, node_below}
 use Rattle.oe_graph.specs.Faults.{least}
+use Rattle.oe_graph.specs.Indices.{reference_graph}
 use Rattle.oe_graph.specs.Plain.{plain_node, plain_nodes}
+use Rattle.oe_graph.specs.References.{references_named}
 use Rattle.oe_graph.specs.declared.tree.Node.{Node}
 use Rattle.oe_order.specs.Graph.{graph_of}
 use Rattle.oe_order.specs.declared.Links.{Links}
-use Rattle.oe_check.specs.Links.{links_of}
+use Rattle.oe_check.specs.Links.{index_referred}
 use Rattle.oe_meanings.specs.Graphs.{outline_at}
 use Rattle.oe_check.specs.Walked.{IsStep, IsWalked}
 use Rattle.oe_check.specs.declared.checked.State.{State}
 use Rattle.oe_check.specs.declared.checked.State.TheVariants.{Faulty, Sound}
-use Rattle.oe_check.specs.declared.walk.Below.TheVariants as below
 use Rattle.oe_check.specs.declared.walk.Verdict.TheVariants as verdict
-use Rattle.oe_check.proofs.LinkLemmas.{link_within, links_length, node_item, node_read}
-use Rattle.oe_check.proofs.WalkLemmas.{all_known, faulty_known, none_changes, one_changes, read_below, read_verdict, sound_known, walked_below, walked_faulty, walked_sound}
+use Rattle.oe_check.proofs.BelowLemmas.{faulty_below}
+use Rattle.oe_check.proofs.LinkLemmas.{link_within, node_item, node_read, references_length, seen_below}
+use Rattle.oe_check.proofs.WalkLemmas.{all_known, faulty_known, one_changes, read_sound, read_verdict, sound_known, walked_below, walked_faulty, walked_sound}
 use Rattle.oe_check.proofs.walk.visit.Goals as goal
 
-within_links : (nodes : List Node) (links : List Links) (index : ℕ) → graph_of links ≡ links_of (plain_nodes nodes)
+within_links : (nodes : List Node) (links : List Links) (index : ℕ) → graph_of links ≡ reference_graph (plain_nodes nodes)
     → index < length nodes → index < length links
 within_links nodes links index is within =
-    let long = links_length (plain_nodes nodes) links is in
-    let count = count_plain nodes in
+    let long = references_length nodes links is in
     omega arith
 
 node_here : (nodes : List Node) (index : ℕ) → index < length nodes → SomeNode (plain_nodes nodes) index
@@ -33,8 +34,8 @@ index-requires c =
     let within = within_links c.args.nodes.now.items c.args.links.now.items c.args.index c.requires.links c.requires.within in
     omega arith
 
-pub below_all-requires : goal.below_all-requires
-below_all-requires c =
+pub are_sound-requires : goal.are_sound-requires
+are_sound-requires c =
     let nodes = c.args.nodes.now.items in
     let links = c.args.links.now.items in
     let link = c.index.result.now in
@@ -46,19 +47,8 @@ below_all-requires c =
     let here = link_within (plain_nodes nodes) c.requires.resolved links c.args.index link c.requires.links within c.index.ensures k below in
     omega (arith, c.requires.states))
 
-pub returns-in-Unseen-clause-step : goal.returns-in-Unseen-clause-step
-returns-in-Unseen-clause-step c =
-    let nodes = c.args.nodes.now.items in
-    let links = c.args.links.now.items in
-    let states = c.args.walk.now.states.items in
-    let node = node_here nodes c.args.index c.requires.within in
-    let within = within_links nodes links c.args.index c.requires.links c.requires.within in
-    none_changes (plain_nodes nodes) states c.args.index node.node node.is_there
-    (read_below (plain_nodes nodes) links c.args.index node.node c.index.result.now states c.deref-2.result.now c.deref.result.now below.Unseen
-    c.requires.links within c.index.ensures node.is_there c.deref.ensures.value c.deref-2.ensures.value c.in-Unseen.ensures)
-
-pub returns-in-Faulty-clause-walked : goal.returns-in-Faulty-clause-walked
-returns-in-Faulty-clause-walked c =
+pub returns-then-not-are_sound-clause-walked : goal.returns-then-not-are_sound-clause-walked
+returns-then-not-are_sound-clause-walked c =
     let rows = plain_rows c.args.dims.now in
     let nodes = c.args.nodes.now.items in
     let links = c.args.links.now.items in
@@ -67,18 +57,23 @@ returns-in-Faulty-clause-walked c =
     let node = node_here nodes c.args.index c.requires.within in
     let within = within_links nodes links c.args.index c.requires.links c.requires.within in
     let inside : c.args.index < length states = omega (arith, c.requires.states, c.requires.within) in
-    let known = read_below (plain_nodes nodes) links c.args.index node.node c.index.result.now states c.deref-2.result.now c.deref.result.now below.Faulty
-    c.requires.links within c.index.ensures node.is_there c.deref.ensures.value c.deref-2.ensures.value c.in-Faulty.ensures in
+    let not : c.are_sound.result ≡ false = search rules in
+    let known = read_sound (plain_nodes nodes) c.requires.resolved links c.args.index node.node c.index.result.now states c.deref-2.result.now
+    c.deref.result.now c.are_sound.result c.requires.links within c.index.ensures node.is_there c.deref.ensures.value c.deref-2.ensures.value
+    c.are_sound.ensures in
+    let names = references_named node.node.arguments in
+    let faulty = faulty_below states (index_referred (plain_nodes nodes)) names (known ∙ not)
+    (seen_below (plain_nodes nodes) c.requires.resolved states c.args.index node.node node.is_there c.requires.below) in
     subst (λ (ss : List State). IsWalked rows (plain_nodes nodes) ss found) (sym c.set_state.ensures)
-    (walked_below rows (plain_nodes nodes) c.requires.resolved states found c.requires.walked c.args.index node.node node.is_there inside c.requires.unseen known)
+    (walked_below rows (plain_nodes nodes) c.requires.resolved states found c.requires.walked c.args.index node.node node.is_there inside c.requires.unseen faulty)
 
-pub returns-in-Faulty-clause-step : goal.returns-in-Faulty-clause-step
-returns-in-Faulty-clause-step c =
+pub returns-then-not-are_sound-clause-step : goal.returns-then-not-are_sound-clause-step
+returns-then-not-are_sound-clause-step c =
     let nodes = plain_nodes c.args.nodes.now.items in
     let states = c.args.walk.now.states.items in
     let inside : c.args.index < length states = omega (arith, c.requires.states, c.requires.within) in
-    subst (λ (ss : List State). IsStep nodes c.args.index states ss) (sym c.set_state.ensures)
-    (one_changes nodes states c.args.index Faulty inside faulty_known)
+    subst (λ (ss : List State). IsStep c.args.index states ss) (sym c.set_state.ensures)
+    (one_changes states c.args.index Faulty inside faulty_known)
 
 pub judge_node-requires-clause-node : goal.judge_node-requires-clause-node
 judge_node-requires-clause-node c =
@@ -97,8 +92,10 @@ returns-in-Stands-clause-walked c =
     let at = node_read ns c.args.index c.index-2.result.now c.requires.within c.index-2.ensures in
     let within = within_links ns links c.args.index c.requires.links c.requires.within in
     let inside : c.args.index < length states = omega (arith, c.requires.states, c.requires.within) in
-    let known = read_below nodes links c.args.index n c.index.result.now states c.deref-2.result.now c.deref.result.now below.Sound
-    c.requires.links within c.index.ensures at c.deref.ensures.value c.deref-2.ensures.value c.in-Sound.ensures in
+    let yes : c.are_sound.result ≡ true = search rules in
+    let known = read_sound nodes c.requires.resolved links c.args.index n c.index.result.now states c.deref-2.result.now c.deref.result.now
+    c.are_sound.result c.requires.links within c.index.ensures at c.deref.ensures.value c.deref-2.ensures.value c.are_sound.ensures
+    ∙ yes in
     let fault = c.in-Stands.fault in
     let judged = read_verdict rows ns c.deref-3.result.now states c.deref-4.result.now n c.in_ok-verdict.verdict (verdict.Stands fault)
     c.deref-3.ensures.value c.deref-4.ensures.value c.in-Stands.is c.in_ok-verdict.ensures
@@ -112,11 +109,11 @@ returns-in-Stands-clause-step c =
     let nodes = plain_nodes c.args.nodes.now.items in
     let states = c.args.walk.now.states.items in
     let inside : c.args.index < length states = omega (arith, c.requires.states, c.requires.within) in
-    subst (λ (ss : List State). IsStep nodes c.args.index states ss) (sym c.set_state-in-Stands.ensures)
-    (one_changes nodes states c.args.index Faulty inside faulty_known)
+    subst (λ (ss : List State). IsStep c.args.index states ss) (sym c.set_state-in-Stands.ensures)
+    (one_changes states c.args.index Faulty inside faulty_known)
 
-pub returns-in-Sound-verdict-clause-walked : goal.returns-in-Sound-verdict-clause-walked
-returns-in-Sound-verdict-clause-walked c =
+pub returns-in-Sound-clause-walked : goal.returns-in-Sound-clause-walked
+returns-in-Sound-clause-walked c =
     let rows = plain_rows c.args.dims.now in
     let ns = c.args.nodes.now.items in
     let nodes = plain_nodes ns in
@@ -127,19 +124,21 @@ returns-in-Sound-verdict-clause-walked c =
     let at = node_read ns c.args.index c.index-2.result.now c.requires.within c.index-2.ensures in
     let within = within_links ns links c.args.index c.requires.links c.requires.within in
     let inside : c.args.index < length states = omega (arith, c.requires.states, c.requires.within) in
-    let known = read_below nodes links c.args.index n c.index.result.now states c.deref-2.result.now c.deref.result.now below.Sound
-    c.requires.links within c.index.ensures at c.deref.ensures.value c.deref-2.ensures.value c.in-Sound.ensures in
-    let kept = c.in-Sound-verdict.node in
+    let yes : c.are_sound.result ≡ true = search rules in
+    let known = read_sound nodes c.requires.resolved links c.args.index n c.index.result.now states c.deref-2.result.now c.deref.result.now
+    c.are_sound.result c.requires.links within c.index.ensures at c.deref.ensures.value c.deref-2.ensures.value c.are_sound.ensures
+    ∙ yes in
+    let kept = c.in-Sound.node in
     let judged = read_verdict rows ns c.deref-3.result.now states c.deref-4.result.now n c.in_ok-verdict.verdict (verdict.Sound kept)
-    c.deref-3.ensures.value c.deref-4.ensures.value c.in-Sound-verdict.is c.in_ok-verdict.ensures
+    c.deref-3.ensures.value c.deref-4.ensures.value c.in-Sound.is c.in_ok-verdict.ensures
     (outline_at rows nodes) (all_known rows nodes c.requires.resolved states found c.requires.walked c.args.index n at known) in
-    subst (λ (ss : List State). IsWalked rows nodes ss found) (sym c.set_state-in-Sound-verdict.ensures)
+    subst (λ (ss : List State). IsWalked rows nodes ss found) (sym c.set_state-in-Sound.ensures)
     (walked_sound rows nodes c.requires.resolved states found c.requires.walked c.args.index n at inside c.requires.unseen known kept judged)
 
-pub returns-in-Sound-verdict-clause-step : goal.returns-in-Sound-verdict-clause-step
-returns-in-Sound-verdict-clause-step c =
+pub returns-in-Sound-clause-step : goal.returns-in-Sound-clause-step
+returns-in-Sound-clause-step c =
     let nodes = plain_nodes c.args.nodes.now.items in
     let states = c.args.walk.now.states.items in
     let inside : c.args.index < length states = omega (arith, c.requires.states, c.requires.within) in
-    subst (λ (ss : List State). IsStep nodes c.args.index states ss) (sym c.set_state-in-Sound-verdict.ensures)
-    (one_changes nodes states c.args.index (Sound c.in-Sound-verdict.node) inside (sound_known c.in-Sound-verdict.node))
+    subst (λ (ss : List State). IsStep c.args.index states ss) (sym c.set_state-in-Sound.ensures)
+    (one_changes states c.args.index (Sound c.in-Sound.node) inside (sound_known c.in-Sound.node))
