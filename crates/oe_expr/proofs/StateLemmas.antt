@@ -1,29 +1,34 @@
--- The nodes of a callback by their names and their indices, and what is known of those that one refers to.
-use Rattle.std.proofs.Common.{◌≡◌, ◌⊎◌, inl, inr, ℕ, zero, suc, ◌+◌, ◌<◌, Bool, true, false, cond, List, [], ◌∷◌, ◌++◌, append_assoc, take, map, length, slice_get, get_or, Contains, Option, Some, None, option_map, refl, sym, ap, ◌∙◌, subst, true≢false, arith, add-one}
+-- The nodes of a callback by their names and their indices, and whether those that one refers to are sound.
+use Rattle.std.proofs.Common.{◌≡◌, ◌≢◌, inl, inr, ℕ, zero, suc, ◌+◌, ◌<◌, ◌&&◌, Bool, true, false, cond, List, [], ◌∷◌, drop, map, length, slice_get, get_or, Contains, Option, Some, None, option_map, refl, sym, ap, ◌∙◌, subst, true≢false, arith, add-one}
 use Rattle.std.specs.Option.{option_and_then, option_map_or}
+use Rattle.std.proofs.lemmas.Bool.{and_parts}
+use Rattle.std.proofs.lemmas.List.{at_drop_more, get_or_default}
 use Rattle.std.proofs.lemmas.Option.{slice_get-map}
 use Rattle.oe_dims.specs.Names.{same_name}
 use Rattle.oe_dims.proofs.IndexLemmas.{index_where_none}
 use Rattle.oe_dims.proofs.OrderLemmas.{same_name_is, same_name_refl}
-use Rattle.std.proofs.lemmas.Grind.{take_at_read}
-use Rattle.oe_graph.specs.Plain.{plain_arg, plain_args, plain_node, plain_nodes, plain_named}
-use Rattle.oe_graph.specs.Printed.{node_count}
-use Rattle.oe_graph.specs.References.{each_node, references_in, references_each, references_named}
+use Rattle.oe_graph.specs.Indices as graph
+use Rattle.oe_graph.specs.Indices.{indices_named, reference_graph, reference_node}
+use Rattle.oe_graph.specs.Plain.{plain_node, plain_nodes}
+use Rattle.oe_graph.specs.Printed.{ids_of, node_count}
+use Rattle.oe_graph.specs.References.{each_node, references_named}
 use Rattle.oe_graph.specs.Tree.{PlainNode, Nodes, no_nodes, node}
-use Rattle.oe_graph.specs.declared.tree.Arg.{Arg}
 use Rattle.oe_graph.specs.declared.tree.Node.{Node}
 use Rattle.oe_graph.proofs.ResolvedLemmas.{NodeAt, node_unique}
 use Rattle.oe_graph.proofs.PartLemmas.{node_parts}
-use Rattle.oe_expr.specs.Below.{worse_of, below_state, below_names}
+use Rattle.oe_graph.proofs.ReferenceGraphLemmas.{arguments_of, indices_to, reference_count, reference_within}
+use Rattle.oe_graph.proofs.SearchLemmas.{found_at, id_there}
+use Rattle.oe_order.specs.Graph.{arguments, graph_of}
+use Rattle.oe_order.specs.declared.Links.{Links}
+use Rattle.oe_order.proofs.Graphs.{arguments-graph_of}
 use Rattle.oe_expr.specs.Nodes.{node_named}
 use Rattle.oe_expr.specs.States.{index_named, state_named}
-use Rattle.oe_expr.specs.Walked.{AreResolved, IsNodeAt, state_at}
+use Rattle.oe_expr.specs.Walked.{AreResolved, AreSeenBelow, IsNodeAt, are_sound, is_sound, state_at}
 use Rattle.oe_expr.specs.Scope.{PlainScope}
-use Rattle.oe_expr.specs.declared.references.Below.{Below}
-use Rattle.oe_expr.specs.declared.references.Below.TheVariants as below
 use Rattle.oe_expr.specs.declared.state.State.{State}
 use Rattle.oe_expr.specs.declared.state.State.TheVariants.{Unseen, Faulty, Sound}
 use Rattle.oe_memory.proofs.Lists.{first_of, first_or_later, later_of}
+use Rattle.oe_graph.proofs.ElementLemmas.{same_some}
 
 -- ---- nodes by their parts
 
@@ -155,110 +160,106 @@ module _ (scope : PlainScope) (nodes : List Node) (is : AreResolved scope nodes)
       → state_named nodes states n.id ≡ state_at states k
   state_of_id states k n at = ap (λ o. option_map_or (state_at states) o Unseen) (index_of k n at)
 
--- ---- what is known of several nodes
+-- ---- whether several nodes are sound
 
-unseen_one : (s : State) (b : Below) → worse_of (below_state s) b ≡ below.Unseen → (s ≡ Unseen) ⊎ (b ≡ below.Unseen)
-unseen_one Unseen b e = inl refl
-unseen_one Faulty below.Unseen e = inr refl
-unseen_one Faulty below.Faulty e = absurd cc
-unseen_one Faulty below.Sound e = absurd cc
-unseen_one (Sound kind) b e = inr e
+sound_so : (s : State) → is_sound s ≡ true → (kind : _) × (s ≡ Sound kind)
+sound_so Unseen e = absurd cc
+sound_so Faulty e = absurd cc
+sound_so (Sound kind) e = (kind, refl)
 
-faulty_one : (s : State) (b : Below) → worse_of (below_state s) b ≡ below.Faulty → (s ≡ Faulty) ⊎ (b ≡ below.Faulty)
-faulty_one Unseen b e = absurd cc
-faulty_one Faulty b e = inl refl
-faulty_one (Sound kind) b e = inr e
+faulty_so : (s : State) → is_sound s ≡ false → s ≢ Unseen → s ≡ Faulty
+faulty_so Unseen e seen = absurd (seen refl)
+faulty_so Faulty e seen = refl
+faulty_so (Sound kind) e seen = absurd cc
 
-sound_one : (s : State) (b : Below) → worse_of (below_state s) b ≡ below.Sound → (kind : _) × (s ≡ Sound kind) × (b ≡ below.Sound)
-sound_one Unseen b e = absurd cc
-sound_one Faulty below.Unseen e = absurd cc
-sound_one Faulty below.Faulty e = absurd cc
-sound_one Faulty below.Sound e = absurd cc
-sound_one (Sound kind) b e = (kind, refl, e)
+module _ (states : List State) where
+  -- one of the indices is that of a node with a fault at or below it
+  abbrev pub OneFaulty : List ℕ → Type 0
+  OneFaulty indices = (index : ℕ) × Contains indices index × (state_at states index ≡ Faulty)
 
-module _ (nodes : List Node) (states : List State) where
-  -- one of the names has this state
-  abbrev pub OneIs : State → List (List ℕ) → Type 0
-  OneIs s names = (name : List ℕ) × Contains names name × (state_named nodes states name ≡ s)
+  -- the nodes at these indices were judged
+  abbrev pub AreSeen : List ℕ → Type 0
+  AreSeen indices = (k : ℕ) → Contains indices k → state_at states k ≢ Unseen
 
-  one_later : (s : State) (name : List ℕ) (names : List (List ℕ)) → OneIs s names → OneIs s (name ∷ names)
-  one_later s name names o = (o.0, later_of name names o.0 o.1, o.2)
+  faulty_first : (index : ℕ) (indices : List ℕ) (b : Bool) → is_sound (state_at states index) ≡ b
+      → (b && are_sound states indices) ≡ false → AreSeen (index ∷ indices)
+      → (are_sound states indices ≡ false → OneFaulty indices) → OneFaulty (index ∷ indices)
+  faulty_first index indices false is e seen rest =
+      (index, first_of index indices, faulty_so (state_at states index) is (seen index (first_of index indices)))
+  faulty_first index indices true is e seen rest = let one = rest e in (one.0, later_of index indices one.0 one.1, one.2)
 
-  pub unseen_below : (names : List (List ℕ)) → below_names nodes states names ≡ below.Unseen → OneIs Unseen names
-  unseen_below [] e = absurd cc
-  unseen_below (name ∷ names) e =
-      elim (unseen_one (state_named nodes states name) (below_names nodes states names) e) [
-        | inl here ↦ (name, first_of name names, here)
-        | inr rest ↦ one_later Unseen name names (unseen_below names rest)
+  pub faulty_among : (indices : List ℕ) → are_sound states indices ≡ false → AreSeen indices → OneFaulty indices
+  faulty_among [] e seen = absurd cc
+  faulty_among (index ∷ indices) e seen =
+      faulty_first index indices (is_sound (state_at states index)) refl e seen
+      (λ rest. faulty_among indices rest (λ k has. seen k (later_of index indices k has)))
+
+  pub sound_among : (indices : List ℕ) → are_sound states indices ≡ true → (index : ℕ) → Contains indices index
+      → (kind : _) × (state_at states index ≡ Sound kind)
+  sound_among [] e index has = let below : has.0 < 0 = has.1 in absurd (omega arith)
+  sound_among (first ∷ indices) e index has =
+      let parts = and_parts (is_sound (state_at states first)) (are_sound states indices) e in
+      let one = sound_so (state_at states first) parts.0 in
+      elim (first_or_later first indices index has.0 has.1 has.2) [
+        | inl is ↦ (one.0, subst (λ k. state_at states k ≡ Sound one.0) is one.1)
+        | inr later ↦ sound_among indices parts.1 index later
       ]
 
-  pub faulty_below : (names : List (List ℕ)) → below_names nodes states names ≡ below.Faulty → OneIs Faulty names
-  faulty_below [] e = absurd cc
-  faulty_below (name ∷ names) e =
-      elim (faulty_one (state_named nodes states name) (below_names nodes states names) e) [
-        | inl here ↦ (name, first_of name names, here)
-        | inr rest ↦ one_later Faulty name names (faulty_below names rest)
-      ]
+-- along a list
+pub sound_next : (states : List State) (xs : List ℕ) (i : ℕ) → i < length xs
+    → are_sound states (drop i xs) ≡ (is_sound (state_at states (get_or xs i 0)) && are_sound states (drop (i + 1) xs))
+sound_next states xs i within = at_drop_more (are_sound states) xs i 0 within
 
-  pub sound_below : (names : List (List ℕ)) → below_names nodes states names ≡ below.Sound → (name : List ℕ) → Contains names name
-      → (kind : _) × (state_named nodes states name ≡ Sound kind)
-  sound_below [] e name has = let below : has.0 < 0 = has.1 in absurd (omega arith)
-  sound_below (first ∷ names) e name has =
-      let parts = sound_one (state_named nodes states first) (below_names nodes states names) e in
-      elim (first_or_later first names name has.0 has.1 has.2) [
-        | inl is ↦ (parts.0, subst (λ n. state_named nodes states n ≡ Sound parts.0) is parts.1)
-        | inr later ↦ sound_below names parts.2 name later
-      ]
+-- ---- the indices that the references of a node lead to
 
--- ---- several lists of names
+module _ (scope : PlainScope) (nodes : List Node) (is : AreResolved scope nodes) where
+  pub references_at : (links : List Links) (k : ℕ) (n : PlainNode) (link : Links) → graph_of links ≡ reference_graph (plain_nodes nodes)
+      → k < length links → link ≡ get_or links k link → IsNodeAt nodes k n
+      → link.arguments.items ≡ indices_named (plain_nodes nodes) (references_named n.arguments)
+  references_at links k n link all within read at =
+      sym (arguments-graph_of links k link within read)
+      ∙ (ap (λ xs. arguments xs k) all ∙ arguments_of (reference_node (plain_nodes nodes)) (each_node (plain_nodes nodes)) k n at)
 
-append_nil : (xs : List (List ℕ)) → xs ≡ xs ++ []
-append_nil [] = refl
-append_nil (x ∷ xs) = ap (λ (rest : List (List ℕ)). x ∷ rest) (append_nil xs)
+  -- whether they are sound, as it is read at the indices of its link
+  pub read_sound : (links : List Links) (k : ℕ) (n : PlainNode) (link : Links) (states read : List State) (indices : List ℕ) (b : Bool)
+      → graph_of links ≡ reference_graph (plain_nodes nodes) → k < length links → link ≡ get_or links k link → IsNodeAt nodes k n
+      → indices ≡ link.arguments.items → read ≡ states → b ≡ are_sound read indices
+      → are_sound states (indices_named (plain_nodes nodes) (references_named n.arguments)) ≡ b
+  read_sound links k n link states read indices b all within is_link at of_link same known =
+      ap (are_sound states) (sym (references_at links k n link all within is_link at))
+      ∙ (ap (are_sound states) (sym of_link)
+      ∙ (ap (λ (ss : List State). are_sound ss indices) (sym same) ∙ sym known))
 
-worse_twice : (a b c : Below) → worse_of (worse_of a b) c ≡ worse_of a (worse_of b c)
-worse_twice below.Unseen b c = refl
-worse_twice below.Faulty below.Unseen c = refl
-worse_twice below.Faulty below.Faulty below.Unseen = refl
-worse_twice below.Faulty below.Faulty below.Faulty = refl
-worse_twice below.Faulty below.Faulty below.Sound = refl
-worse_twice below.Faulty below.Sound c = refl
-worse_twice below.Sound b c = refl
+  -- those that it refers to were judged
+  pub seen_below : (states : List State) (k : ℕ) (n : PlainNode) → IsNodeAt nodes k n → AreSeenBelow nodes states k
+      → AreSeen states (indices_named (plain_nodes nodes) (references_named n.arguments))
+  seen_below states k n at seen j has =
+      seen j (subst (λ xs. Contains xs j) (sym (arguments_of (reference_node (plain_nodes nodes)) (each_node (plain_nodes nodes)) k n at)) has)
 
-module _ (nodes : List Node) (states : List State) where
-  below_both : (xs ys : List (List ℕ)) → below_names nodes states (xs ++ ys) ≡ worse_of (below_names nodes states xs) (below_names nodes states ys)
-  below_both [] ys = refl
-  below_both (x ∷ xs) ys =
-      ap (worse_of (below_state (state_named nodes states x))) (below_both xs ys)
-      ∙ sym (worse_twice (below_state (state_named nodes states x)) (below_names nodes states xs) (below_names nodes states ys))
+  -- each of them is a node
+  pub link_within : (links : List Links) (k : ℕ) (link : Links) → graph_of links ≡ reference_graph (plain_nodes nodes)
+      → k < length links → link ≡ get_or links k link
+      → (j : ℕ) → j < length link.arguments.items → get_or link.arguments.items j 0 < length nodes
+  link_within links k link all within read j below =
+      let indices = link.arguments.items in
+      let b = get_or indices j 0 in
+      let same : arguments (reference_graph (plain_nodes nodes)) k ≡ indices =
+      ap (λ xs. arguments xs k) (sym all) ∙ arguments-graph_of links k link within read in
+      let has : Contains indices b = (j, below, get_or_default indices j b 0 below) in
+      subst (λ c. b < c) (reference_count (plain_nodes nodes) ∙ count_plain nodes)
+      (reference_within (plain_nodes nodes) k b (subst (λ xs. Contains xs b) (sym same) has))
 
-  each_last : (xs : List Arg) (x : Arg) → references_each (plain_args (xs ++ x ∷ [])) ≡ references_each (plain_args xs) ++ references_in (plain_arg x)
-  each_last [] x = sym (append_nil (references_in (plain_arg x)))
-  each_last (y ∷ xs) x =
-      ap (λ names. references_in (plain_arg y) ++ names) (each_last xs x)
-      ∙ sym (append_assoc (references_in (plain_arg y)) (references_each (plain_args xs)) (references_in (plain_arg x)))
+  -- the index of a name that leads to a node is the node's
+  named_index : (name : List ℕ) (there : NodeAt (plain_nodes nodes) name) → graph.index_named (plain_nodes nodes) name ≡ Some there.index
+  named_index name there =
+      found_at (ids_of (plain_nodes nodes)) there.index name is.resolved.ids_rise
+      (id_there (plain_nodes nodes) there.index there.node there.is_there ∙ ap Some there.is_named)
 
-  named_last : (xs : List (List ℕ × Arg)) (x : List ℕ × Arg)
-      → references_named (plain_named (xs ++ x ∷ [])) ≡ references_named (plain_named xs) ++ references_in (plain_arg x.1)
-  named_last [] x = sym (append_nil (references_in (plain_arg x.1)))
-  named_last (y ∷ xs) x =
-      ap (λ names. references_in (plain_arg y.1) ++ names) (named_last xs x)
-      ∙ sym (append_assoc (references_in (plain_arg y.1)) (references_named (plain_named xs)) (references_in (plain_arg x.1)))
+  pub index_among : (names : List (List ℕ)) (name : List ℕ) → Contains names name → (there : NodeAt (plain_nodes nodes) name)
+      → Contains (indices_named (plain_nodes nodes) names) there.index
+  index_among names name has there = indices_to (plain_nodes nodes) names name there.index has (named_index name there)
 
-  pub below_each_more : (xs : List Arg) (i : ℕ) (x : Arg) → i < length xs → x ≡ get_or xs i x
-      → below_names nodes states (references_each (plain_args (take (i + 1) xs)))
-      ≡ worse_of (below_names nodes states (references_each (plain_args (take i xs)))) (below_names nodes states (references_in (plain_arg x)))
-  below_each_more xs i x within is =
-      let more : take (i + 1) xs ≡ take i xs ++ x ∷ [] = (take_at_read xs i x within).1 ∙ ap (λ y. take i xs ++ y ∷ []) (sym is) in
-      ap (λ ys. below_names nodes states (references_each (plain_args ys))) more
-      ∙ (ap (below_names nodes states) (each_last (take i xs) x)
-      ∙ below_both (references_each (plain_args (take i xs))) (references_in (plain_arg x)))
-
-  pub below_named_more : (xs : List (List ℕ × Arg)) (i : ℕ) (x : List ℕ × Arg) → i < length xs → x ≡ get_or xs i x
-      → below_names nodes states (references_named (plain_named (take (i + 1) xs)))
-      ≡ worse_of (below_names nodes states (references_named (plain_named (take i xs)))) (below_names nodes states (references_in (plain_arg x.1)))
-  below_named_more xs i x within is =
-      let more : take (i + 1) xs ≡ take i xs ++ x ∷ [] = (take_at_read xs i x within).1 ∙ ap (λ y. take i xs ++ y ∷ []) (sym is) in
-      ap (λ ys. below_names nodes states (references_named (plain_named ys))) more
-      ∙ (ap (below_names nodes states) (named_last (take i xs) x)
-      ∙ below_both (references_named (plain_named (take i xs))) (references_in (plain_arg x.1)))
+  -- and an index is that of the node that a name leads to
+  pub index_same : (name : List ℕ) (k : ℕ) → graph.index_named (plain_nodes nodes) name ≡ Some k → (there : NodeAt (plain_nodes nodes) name)
+      → there.index ≡ k
+  index_same name k at there = same_some there.index k (graph.index_named (plain_nodes nodes) name) (named_index name there) at

@@ -3,23 +3,18 @@ use Rattle.std.proofs.Common.{◌≡◌, List, Option, Some, None, Result, Ok, E
 use Rattle.std.specs.Option.{option_and_then, option_map_or}
 use Rattle.oe_cell.specs.declared.cell.Cell.{Cell}
 use Rattle.oe_dims.specs.declared.kind.CellKind.{CellKind}
-use Rattle.oe_graph.specs.Plain.{plain_node, plain_named}
-use Rattle.oe_graph.specs.References.{references_named}
+use Rattle.oe_graph.specs.Plain.{plain_node}
 use Rattle.oe_graph.specs.Tree.{PlainNode}
 use Rattle.oe_graph.specs.declared.code.Code.{Code}
 use Rattle.oe_graph.specs.declared.code.Code.TheVariants.{ProcessParameterInvalid}
 use Rattle.oe_graph.specs.declared.tree.Node.{Node}
-use Rattle.oe_graph.proofs.PartLemmas.{node_parts}
-use Rattle.oe_expr.specs.Below.{below_names}
 use Rattle.oe_expr.specs.NodeKinds.{request_kind}
 use Rattle.oe_expr.specs.PlainRequests.{plain_cell_request}
 use Rattle.oe_expr.specs.Requests.{cell_request_at}
-use Rattle.oe_expr.specs.Rows.{request_fault}
+use Rattle.oe_expr.specs.Rows.{node_fault, request_fault}
 use Rattle.oe_expr.specs.Scope.{PlainScope}
 use Rattle.oe_expr.specs.States.{kind_named, fault_or_kind, judged_request}
-use Rattle.oe_expr.specs.Walked.{IsJudged, IsJudgedSound, IsVerdict}
-use Rattle.oe_expr.specs.declared.references.Below.{Below}
-use Rattle.oe_expr.specs.declared.references.Below.TheVariants as below
+use Rattle.oe_expr.specs.Walked.{IsJudgedSound, IsVerdict}
 use Rattle.oe_expr.specs.declared.request.Request.{Request}
 use Rattle.oe_expr.specs.declared.state.State.{State}
 use Rattle.oe_expr.specs.declared.walk.Verdict.{Verdict}
@@ -33,14 +28,9 @@ err_part None given code e = absurd cc
 err_part (Some own) given code e = let same : own ≡ code = cc in ap Some same
 
 module _ (scope : PlainScope) (context : Cell) (nodes : List Node) (states : List State) (node : Node) where
-  below_of : (b c : Below) → b ≡ below_names nodes states (references_named (plain_named node.arguments.items)) → b ≡ c
-      → below_names nodes states (references_named (plain_node node).arguments) ≡ c
-  below_of b c is same =
-      ap (λ (n : PlainNode). below_names nodes states (references_named n.arguments)) (node_parts node) ∙ (sym is ∙ same)
-
-  module _ (b : Below) (is_below : b ≡ below_names nodes states (references_named (plain_named node.arguments.items))) (is_sound : b ≡ below.Sound)
-      (asked : Option Request) (request : Request) (read : option_map plain_cell_request asked ≡ cell_request_at (plain_node node)) (some : asked ≡ Some request)
-      (answer : Result (Option CellKind) Code) (judged : answer ≡ judged_request scope context (kind_named nodes states) (plain_cell_request request)) where
+  module _ (asked : Option Request) (request : Request) (read : option_map plain_cell_request asked ≡ cell_request_at (plain_node node))
+      (some : asked ≡ Some request) (answer : Result (Option CellKind) Code)
+      (judged : answer ≡ judged_request scope context (kind_named nodes states) (plain_cell_request request)) where
     asks : cell_request_at (plain_node node) ≡ Some (plain_cell_request request)
     asks = sym read ∙ ap (option_map plain_cell_request) some
 
@@ -48,21 +38,15 @@ module _ (scope : PlainScope) (context : Cell) (nodes : List Node) (states : Lis
     judged_sound kind ok =
         let parts = ok_parts _ _ kind (sym judged ∙ ok) in
         record {
-          judged = record {
-            below_it = below_of b below.Sound is_below is_sound;
-            fault_is = ap (λ o. option_map_or (request_fault scope context (kind_named nodes states)) o (Some ProcessParameterInvalid)) asks ∙ parts.0;
-          };
+          no_fault = ap (λ o. option_map_or (request_fault scope context (kind_named nodes states)) o (Some ProcessParameterInvalid)) asks ∙ parts.0;
           asks = asks;
           kind_is = ap (option_and_then (request_kind scope context (kind_named nodes states))) asks ∙ parts.1;
         }
 
-    pub judged_fault : (code : Code) → answer ≡ Err code → IsJudged scope context nodes states (plain_node node) (Some code)
-    judged_fault code err = record {
-      below_it = below_of b below.Sound is_below is_sound;
-      fault_is =
-          ap (λ o. option_map_or (request_fault scope context (kind_named nodes states)) o (Some ProcessParameterInvalid)) asks
-          ∙ err_part _ _ code (sym judged ∙ err);
-    }
+    pub judged_fault : (code : Code) → answer ≡ Err code → node_fault scope context (kind_named nodes states) (plain_node node) ≡ Some code
+    judged_fault code err =
+        ap (λ o. option_map_or (request_fault scope context (kind_named nodes states)) o (Some ProcessParameterInvalid)) asks
+        ∙ err_part _ _ code (sym judged ∙ err)
 
 -- the verdict by the names that the code has for what it is on
 pub moved_verdict : (scope : PlainScope) (context : Cell) (n : PlainNode) (ns nodes : List Node) (ss states : List State) (v w : Verdict)

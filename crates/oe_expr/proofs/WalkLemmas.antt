@@ -1,5 +1,5 @@
--- The walk over the nodes of a callback: what one more node that is judged makes of what was found so far, how far a round
--- over all nodes comes, and what stands at the end.
+-- The walk over the nodes of a callback: what one more node that is judged makes of what was found so far, and what stands
+-- at the end.
 use Rattle.std.proofs.Common.{◌≡◌, ◌≢◌, ◌⊎◌, inl, inr, ℕ, zero, suc, ◌<◌, Bool, true, false, if◌then◌else◌, List, [], ◌∷◌, ◌++◌, length, set, get_or, slice_get, Contains, AllPairs, Option, Some, None, refl, sym, ap, ◌∙◌, subst, arith, get_or-set_same, get_or-set_other}
 use Rattle.std.proofs.lemmas.Bool.{cases_eq}
 use Rattle.std.proofs.lemmas.List.Quantifiers.{all_pairs_push}
@@ -10,14 +10,15 @@ use Rattle.oe_dims.specs.declared.kind.CellKind.{CellKind}
 use Rattle.oe_graph.specs.Faults.{is_before, least}
 use Rattle.oe_graph.specs.Form as form
 use Rattle.oe_graph.specs.Plain.{plain_nodes}
-use Rattle.oe_graph.specs.References.{each_node, references_named, Refers, Chain, none, more}
+use Rattle.oe_graph.specs.Indices.{indices_named}
+use Rattle.oe_graph.specs.References.{each_node, references_named}
 use Rattle.oe_graph.specs.Tree.{Nodes, PlainNode}
 use Rattle.oe_graph.specs.declared.code.Code.{Code}
 use Rattle.oe_graph.specs.declared.fault.Fault.{Fault}
 use Rattle.oe_graph.specs.declared.tree.Node.{Node}
 use Rattle.oe_graph.proofs.LeastLemmas.{IsLeastOf, IsLeastOf-iff, IsLeastOf-least, IsLeastOf-one, Either}
-use Rattle.oe_graph.proofs.ResolvedLemmas.{NodeAt, node_referred, references_end, node_below}
-use Rattle.oe_expr.specs.Below.{below_names}
+use Rattle.oe_graph.proofs.ReferenceGraphLemmas.{indices_from}
+use Rattle.oe_graph.proofs.ResolvedLemmas.{NodeAt, node_referred, node_below}
 use Rattle.oe_expr.specs.NodeKinds.{kind_at}
 use Rattle.oe_expr.specs.Nodes.{node_named}
 use Rattle.oe_expr.specs.Orders.{IsEntry, IsEntryOf, StandsBefore, HasEntry}
@@ -25,16 +26,15 @@ use Rattle.oe_expr.specs.Rows.{node_fault}
 use Rattle.oe_expr.specs.Scope.{PlainScope}
 use Rattle.oe_expr.specs.Stands.{IsSound, sound, StandsAt, StandsOnPath, own_fault}
 use Rattle.oe_expr.specs.States.{state_named, kind_named, kept_kind}
-use Rattle.oe_expr.specs.Walked.{AreResolved, IsNodeAt, state_at, IsJudged, IsJudgedSound, ArePartOrder, LeadsDown, IsSoundOf, IsState, AreDeep, StandsSeen, IsLeastSeen, IsWalked, IsChecked, Waits, IsStep}
-use Rattle.oe_expr.specs.declared.references.Below.TheVariants as below
+use Rattle.oe_expr.specs.Walked.{AreResolved, IsNodeAt, state_at, are_sound, IsJudgedSound, ArePartOrder, IsSoundOf, IsState, StandsSeen, IsLeastSeen, IsWalked, IsChecked, IsStep}
 use Rattle.oe_expr.specs.declared.request.Request.{Request}
 use Rattle.oe_expr.specs.declared.state.State.{State}
 use Rattle.oe_expr.specs.declared.state.State.TheVariants.{Unseen, Faulty, Sound}
 use Rattle.oe_expr.specs.declared.walk.Judged.{Judged}
-use Rattle.oe_expr.proofs.NodeLemmas.{node_is, contains_node, index_of_node, id_within}
+use Rattle.oe_expr.proofs.NodeLemmas.{node_is, contains_node, index_of_node}
 use Rattle.oe_expr.proofs.RequestLemmas.{fault_looks_down, kind_looks_down}
 use Rattle.oe_expr.proofs.SoundLemmas.{kind_unfolds}
-use Rattle.oe_expr.proofs.StateLemmas.{count_plain, node_within, named_at, state_of_id, unseen_below, faulty_below, sound_below}
+use Rattle.oe_expr.proofs.StateLemmas.{OneFaulty, index_among, index_same, named_at, node_within, sound_among, state_of_id}
 
 -- ---- states
 
@@ -52,21 +52,11 @@ seen_stays states index s k within known seen = split (cases_eq k index)
     split (inl e) is = known (sym (set_here states index s within) ∙ (ap (state_at (set states index s)) (sym e) ∙ is))
     split (inr other) is = seen (sym (set_other states index s k other) ∙ is)
 
-pub one_changes : (nodes : List Node) (states : List State) (index : ℕ) (s : State) → index < length states → s ≢ Unseen
-    → IsStep nodes index states (set states index s)
-one_changes nodes states index s within known = record {
+pub one_changes : (states : List State) (index : ℕ) (s : State) → index < length states → s ≢ Unseen
+    → IsStep index states (set states index s)
+one_changes states index s within known = record {
   others = λ k other. set_other states index s k other;
-  waits = λ n at is. absurd (known (sym (set_here states index s within) ∙ is));
-}
-
-pub none_changes : (nodes : List Node) (states : List State) (index : ℕ) (n : PlainNode) → IsNodeAt nodes index n
-    → below_names nodes states (references_named n.arguments) ≡ below.Unseen → IsStep nodes index states states
-none_changes nodes states index n at waits = record {
-  others = λ k other. refl;
-  waits = λ m m_at is.
-      let same : n ≡ m = cc in
-      let one = unseen_below nodes states (references_named n.arguments) waits in
-      subst (λ (x : PlainNode). Waits nodes states x) same (record { name = one.0; refers = one.1; unseen = one.2 });
+  seen = λ is. known (sym (set_here states index s within) ∙ is);
 }
 
 pub faulty_known : Faulty ≢ Unseen
@@ -130,6 +120,12 @@ module _ (scope : PlainScope) (context : Cell) (nodes : List Node) (path : List 
       sym (state_of_id scope nodes is states there.index there.node there.is_there)
       ∙ (ap (state_named nodes states) there.is_named ∙ e)
 
+  name_of_state : (states : List State) (name : List ℕ) (there : NodeAt (plain_nodes nodes) name) (s : State)
+      → state_at states there.index ≡ s → state_named nodes states name ≡ s
+  name_of_state states name there s e =
+      ap (state_named nodes states) (sym there.is_named)
+      ∙ (state_of_id scope nodes is states there.index there.node there.is_there ∙ e)
+
   one_node : (n : PlainNode) (k : ℕ) (m : PlainNode) → IsNodeAt nodes k n → node_named n.id (plain_nodes nodes) ≡ Some m → n ≡ m
   one_node n k m at is_named = let named = named_at scope nodes is k n at in cc
 
@@ -145,12 +141,17 @@ module _ (scope : PlainScope) (context : Cell) (nodes : List Node) (path : List 
         subst (λ m. IsState scope context nodes m s) there.is_named
         (subst (IsState scope context nodes there.node.id) (state_of_name states name there s e) (w.each there.index there.node there.is_there))
 
-    module _ (sound_so : below_names nodes states (references_named n.arguments) ≡ below.Sound) where
+    abbrev indices : List ℕ
+    indices = indices_named (plain_nodes nodes) (references_named n.arguments)
+
+    module _ (sound_so : are_sound states indices ≡ true) where
       sound_reference : (name : List ℕ) → Contains (references_named n.arguments) name
           → (kind : Option CellKind) × (state_named nodes states name ≡ Sound kind) × IsSoundOf scope context nodes name kind
       sound_reference name refers =
-          let one = sound_below nodes states (references_named n.arguments) sound_so name refers in
-          (one.0, one.1, known name (Sound one.0) refers one.1)
+          let there = referred index n name at refers in
+          let one = sound_among states indices sound_so there.index (index_among scope nodes is (references_named n.arguments) name refers there) in
+          let named = name_of_state states name there (Sound one.0) one.1 in
+          (one.0, named, known name (Sound one.0) refers named)
 
       all_sound : (name : List ℕ) → Contains (references_named n.arguments) name → IsSound scope context (plain_nodes nodes) name
       all_sound name refers = (sound_reference name refers).2.sound
@@ -166,23 +167,24 @@ module _ (scope : PlainScope) (context : Cell) (nodes : List Node) (path : List 
       own_is fault e =
           sym (fault_looks_down scope context n (kind_named nodes states) (kind_at scope context (plain_nodes nodes)) kinds_agree) ∙ e
 
-    stands_here : (code : Code) → IsJudged scope context nodes states n (Some code) → StandsAt scope context (plain_nodes nodes) n.id code
-    stands_here code j = record {
-      node = n;
-      is_node = named_at scope nodes is index n at;
-      below = all_sound j.below_it;
-      first = own_is j.below_it (Some code) j.fault_is;
-    }
+      stands_here : (code : Code) → node_fault scope context (kind_named nodes states) n ≡ Some code
+          → StandsAt scope context (plain_nodes nodes) n.id code
+      stands_here code fault_is = record {
+        node = n;
+        is_node = named_at scope nodes is index n at;
+        below = all_sound;
+        first = own_is (Some code) fault_is;
+      }
 
-    sound_here : (kind : Option CellKind) (request : Request) → IsJudgedSound scope context nodes states n kind request
-        → IsSoundOf scope context nodes n.id kind
-    sound_here kind request j = record {
-      sound = sound (named_at scope nodes is index n at) (all_sound j.judged.below_it) (own_is j.judged.below_it None j.judged.fault_is);
-      kind_is =
-          kind_unfolds scope context (plain_nodes nodes) is.resolved.acyclic n.id n (named_at scope nodes is index n at)
-          ∙ (sym (kind_looks_down scope context n (kind_named nodes states) (kind_at scope context (plain_nodes nodes)) (kinds_agree j.judged.below_it))
-          ∙ j.kind_is);
-    }
+      sound_here : (kind : Option CellKind) (request : Request) → IsJudgedSound scope context nodes states n kind request
+          → IsSoundOf scope context nodes n.id kind
+      sound_here kind request j = record {
+        sound = sound (named_at scope nodes is index n at) all_sound (own_is None j.no_fault);
+        kind_is =
+            kind_unfolds scope context (plain_nodes nodes) is.resolved.acyclic n.id n (named_at scope nodes is index n at)
+            ∙ (sym (kind_looks_down scope context n (kind_named nodes states) (kind_at scope context (plain_nodes nodes)) kinds_agree)
+            ∙ j.kind_is);
+      }
 
     -- ---- the states
 
@@ -265,30 +267,34 @@ module _ (scope : PlainScope) (context : Cell) (nodes : List Node) (path : List 
 
       -- ---- the three ends
 
-      not_sound_here : below_names nodes states (references_named n.arguments) ≡ below.Faulty → IsSound scope context (plain_nodes nodes) n.id → ⊥
-      not_sound_here faulty (sound {n = m} is_named below_it own) =
-          let same : n ≡ m = one_node n index m at is_named in
-          let one = faulty_below nodes states (references_named n.arguments) faulty in
-          known one.0 Faulty one.1 one.2 (below_it one.0 (subst (λ (x : PlainNode). Contains (references_named x.arguments) one.0) same one.1))
-
-      none_stands_here : below_names nodes states (references_named n.arguments) ≡ below.Faulty → (code : Code)
-          → StandsAt scope context (plain_nodes nodes) n.id code → ⊥
-      none_stands_here faulty code s =
-          let same : n ≡ s.node = one_node n index s.node at s.is_node in
-          let one = faulty_below nodes states (references_named n.arguments) faulty in
-          known one.0 Faulty one.1 one.2 (s.below one.0 (subst (λ (x : PlainNode). Contains (references_named x.arguments) one.0) same one.1))
-
-      pub walked_below : below_names nodes states (references_named n.arguments) ≡ below.Faulty
-          → IsWalked scope context nodes path (set states index Faulty) order found
-      walked_below faulty = record {
-        each = spread Faulty (not_sound_here faulty);
-        least = same_least Faulty found faulty_known (none_stands_here faulty) w.least;
-        all = λ nothing.
-            let one = faulty_below nodes states (references_named n.arguments) faulty in
+      module _ (faulty : OneFaulty states indices) where
+        -- a reference leads to a node with a fault at or below it
+        faulty_reference : (name : List ℕ) × Contains (references_named n.arguments) name × (IsSound scope context (plain_nodes nodes) name → ⊥)
+        faulty_reference =
+            let one = indices_from (plain_nodes nodes) (references_named n.arguments) faulty.0 faulty.1 in
             let there = referred index n one.0 at one.1 in
-            absurd (w.all nothing there.index (state_of_name states one.0 there Faulty one.2));
-        ordered = kept_order Faulty faulty_known (λ kind e. absurd cc);
-      }
+            let state : state_at states there.index ≡ Faulty = ap (state_at states) (index_same scope nodes is one.0 faulty.0 one.2 there) ∙ faulty.2 in
+            (one.0, one.1, known one.0 Faulty one.1 (name_of_state states one.0 there Faulty state))
+
+        not_sound_here : IsSound scope context (plain_nodes nodes) n.id → ⊥
+        not_sound_here (sound {n = m} is_named below_it own) =
+            let same : n ≡ m = one_node n index m at is_named in
+            let one = faulty_reference in
+            one.2 (below_it one.0 (subst (λ (x : PlainNode). Contains (references_named x.arguments) one.0) same one.1))
+
+        none_stands_here : (code : Code) → StandsAt scope context (plain_nodes nodes) n.id code → ⊥
+        none_stands_here code s =
+            let same : n ≡ s.node = one_node n index s.node at s.is_node in
+            let one = faulty_reference in
+            one.2 (s.below one.0 (subst (λ (x : PlainNode). Contains (references_named x.arguments) one.0) same one.1))
+
+        pub walked_below : IsWalked scope context nodes path (set states index Faulty) order found
+        walked_below = record {
+          each = spread Faulty not_sound_here;
+          least = same_least Faulty found faulty_known none_stands_here w.least;
+          all = λ nothing. absurd (w.all nothing faulty.0 faulty.2);
+          ordered = kept_order Faulty faulty_known (λ kind e. absurd cc);
+        }
 
       stands_not_sound : (code : Code) → StandsAt scope context (plain_nodes nodes) n.id code → IsSound scope context (plain_nodes nodes) n.id → ⊥
       stands_not_sound code s (sound {n = m} is_named below_it own) =
@@ -352,18 +358,20 @@ module _ (scope : PlainScope) (context : Cell) (nodes : List Node) (path : List 
               split (inl old) = inl old
               split (inr new) = inr (same_parts f fault (one_code f.code fault.code new.0 stands) (new.1 ∙ sym named))
 
-      pub walked_faulty : (fault : Fault) → IsJudged scope context nodes states n (Some fault.code) → fault.node ≡ form.node_name path n.id
+      pub walked_faulty : are_sound states indices ≡ true → (fault : Fault)
+          → node_fault scope context (kind_named nodes states) n ≡ Some fault.code → fault.node ≡ form.node_name path n.id
           → IsWalked scope context nodes path (set states index Faulty) order (least found (Some fault))
-      walked_faulty fault j named = record {
-        each = spread Faulty (stands_not_sound fault.code (stands_here fault.code j));
-        least = new_least fault (stands_here fault.code j) named;
+      walked_faulty sound_so fault fault_is named = record {
+        each = spread Faulty (stands_not_sound fault.code (stands_here sound_so fault.code fault_is));
+        least = new_least fault (stands_here sound_so fault.code fault_is) named;
         all = λ nothing. absurd (least_some found fault nothing);
         ordered = kept_order Faulty faulty_known (λ kind e. absurd cc);
       }
 
       -- ---- a sound node
 
-      module _ (kind : Option CellKind) (e : Judged) (is_index : e.node ≡ index) (j : IsJudgedSound scope context nodes states n kind e.request) where
+      module _ (sound_so : are_sound states indices ≡ true) (kind : Option CellKind) (e : Judged) (is_index : e.node ≡ index)
+          (j : IsJudgedSound scope context nodes states n kind e.request) where
         here_entry : IsEntryOf (plain_nodes nodes) n e
         here_entry = record { stands = ap (slice_get (each_node (plain_nodes nodes))) is_index ∙ at; asks = j.asks }
 
@@ -399,7 +407,7 @@ module _ (scope : PlainScope) (context : Cell) (nodes : List Node) (path : List 
         stands_before : (name : List ℕ) → Contains (references_named n.arguments) name → StandsBefore (plain_nodes nodes) (order ++ e ∷ []) (length order) name
         stands_before name refers =
             let there = referred index n name at refers in
-            let one = sound_reference j.judged.below_it name refers in
+            let one = sound_reference sound_so name refers in
             let has = w.ordered.each there.index one.0 (state_of_name states name there (Sound one.0) one.1) in
             let its = w.ordered.entry has.index has.entry has.at in
             let moved : IsNodeAt nodes there.index its.node = subst (λ k. IsNodeAt nodes k its.node) has.is_node its.is_entry.stands in
@@ -432,7 +440,7 @@ module _ (scope : PlainScope) (context : Cell) (nodes : List Node) (path : List 
 
         pub walked_sound : IsWalked scope context nodes path (set states index (Sound kind)) (order ++ e ∷ []) found
         walked_sound =
-            let ok = sound_here kind e.request j in
+            let ok = sound_here sound_so kind e.request j in
             record {
               each = spread (Sound kind) ok;
               least = same_least (Sound kind) found (sound_known kind) (λ code s. stands_not_sound code s ok.sound) w.least;
@@ -462,73 +470,35 @@ module _ (scope : PlainScope) (context : Cell) (nodes : List Node) (path : List 
     };
   }
 
-  pub deep_none : (states : List State) → AreDeep scope context nodes 0 states
-  deep_none states = λ k n at u. record { end = n.id; chain = none }
-
-  -- ---- after a round
-
-  waits_deeper : (count : ℕ) (states : List State) → AreDeep scope context nodes count states → (k : ℕ) (n : PlainNode) → IsNodeAt nodes k n
-      → Waits nodes states n → LeadsDown (plain_nodes nodes) (suc count) n.id
-  waits_deeper count states deep k n at waits =
-      let there = referred k n waits.name at waits.refers in
-      let down = deep there.index there.node there.is_there (state_of_name states waits.name there Unseen waits.unseen) in
-      let one : Refers (plain_nodes nodes) n.id waits.name =
-      record { from = n; is_node = contains_node (plain_nodes nodes) k n at; is_named = refl; refers = waits.refers } in
-      record { end = down.end; chain = more one (subst (λ name. Chain (plain_nodes nodes) count name down.end) there.is_named down.chain) }
-
-  pub deeper : (before after : List State) → ((k : ℕ) (n : PlainNode) → IsNodeAt nodes k n → state_at after k ≡ Unseen → Waits nodes before n)
-      → (count : ℕ) → AreDeep scope context nodes count before → AreDeep scope context nodes (suc count) after
-  deeper before after waits count deep = λ k n at u. waits_deeper count before deep k n at (waits k n at u)
-
-  -- a node that waits for one that was not judged waited for it before
-  pub waits_before : (before after : List State) (k : ℕ) (n : PlainNode) → IsNodeAt nodes k n
-      → ((j : ℕ) → state_at after j ≡ Unseen → state_at before j ≡ Unseen) → Waits nodes after n → Waits nodes before n
-  waits_before before after k n at still_unseen waits =
-      let there = referred k n waits.name at waits.refers in
-      let now = still_unseen there.index (state_of_name after waits.name there Unseen waits.unseen) in
-      record {
-        name = waits.name;
-        refers = waits.refers;
-        unseen = ap (state_named nodes before) (sym there.is_named) ∙ (state_of_id scope nodes is before there.index there.node there.is_there ∙ now);
-      }
-
-  -- ---- after the last round
-
-  all_seen : (states : List State) → AreDeep scope context nodes (length nodes) states → (k : ℕ) (n : PlainNode) → IsNodeAt nodes k n
-      → state_at states k ≢ Unseen
-  all_seen states deep k n at u =
-      let down = deep k n at u in
-      let ends = references_end (plain_nodes nodes) is.result (length nodes) n.id down.end is.resolved down.chain (id_within (plain_nodes nodes) k n at) in
-      let count = count_plain nodes in
-      absurd (omega arith)
+  -- ---- after the last step
 
   sound_state : (s : State) → s ≢ Unseen → s ≢ Faulty → (kind : Option CellKind) × (s ≡ Sound kind)
   sound_state Unseen seen clean = absurd (seen refl)
   sound_state Faulty seen clean = absurd (clean refl)
   sound_state (Sound kind) seen clean = (kind, refl)
 
-  pub checked : (states : List State) (order : List Judged) (found : Option Fault) → length states ≡ length nodes
-      → AreDeep scope context nodes (length nodes) states → IsWalked scope context nodes path states order found
-      → IsChecked scope context nodes path states order found
-  checked states order None long deep w = record {
+  pub checked_seen : (states : List State) (order : List Judged) (found : Option Fault) → length states ≡ length nodes
+      → ((k : ℕ) (n : PlainNode) → IsNodeAt nodes k n → state_at states k ≢ Unseen)
+      → IsWalked scope context nodes path states order found → IsChecked scope context nodes path states order found
+  checked_seen states order None long seen w = record {
     order_is = record {
       each = λ k below.
           let there = node_below (plain_nodes nodes) k below in
-          let one = sound_state (state_at states k) (all_seen states deep k there.node there.is_there) (w.all refl k) in
+          let one = sound_state (state_at states k) (seen k there.node there.is_there) (w.all refl k) in
           w.ordered.each k one.0 one.1;
       once = w.ordered.once;
       entry = w.ordered.entry;
       behind = w.ordered.behind;
     };
     each = λ k n at.
-        let one = sound_state (state_at states k) (all_seen states deep k n at) (w.all refl k) in
+        let one = sound_state (state_at states k) (seen k n at) (w.all refl k) in
         let within : k < length states = subst (λ c. k < c) (sym long) (node_within nodes k n at) in (
           one.0,
           slice_get-get_or states k Unseen within ∙ ap Some one.1,
           subst (IsState scope context nodes n.id) one.1 (w.each k n at),
         );
   }
-  checked states order (Some fault) long deep w = record {
+  checked_seen states order (Some fault) long seen w = record {
     stands = record { id = w.least.0.node.id; at = w.least.0.stands; is_named = w.least.0.is_named };
     least = λ other stands. w.least.1 other (seen_at other stands);
   }
@@ -541,7 +511,7 @@ module _ (scope : PlainScope) (context : Cell) (nodes : List Node) (path : List 
             index = found_at.0;
             node = stands.at.node;
             is_node = found_at.1;
-            seen = all_seen states deep found_at.0 stands.at.node found_at.1;
+            seen = seen found_at.0 stands.at.node found_at.1;
             stands = subst (λ name. StandsAt scope context (plain_nodes nodes) name other.code) (sym there.1) stands.at;
             is_named = stands.is_named ∙ ap (form.node_name path) (sym there.1);
           }

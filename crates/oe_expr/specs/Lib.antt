@@ -14,7 +14,6 @@ pub mod Folds
 pub mod Codes
 pub mod KindCounts
 pub mod States
-pub mod Below
 pub mod EnvRows
 pub mod Programs
 pub mod Compiled

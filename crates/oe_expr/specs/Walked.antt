@@ -1,17 +1,17 @@
 -- How far the walk over the nodes of a callback has come.
-use Rattle.std.specs.Prelude.{◌≡◌, ◌≢◌, ℕ, ⊤, true, false, List, Option, Some, None, Contains, AllPairs, slice_get, slice_index_or}
+use Rattle.std.specs.Prelude.{◌≡◌, ◌≢◌, ℕ, ⊤, Bool, true, false, ◌&&◌, List, [], ◌∷◌, Option, Some, None, Contains, AllPairs, slice_get, slice_index_or}
 use Rattle.oe_cell.specs.declared.cell.Cell.{Cell}
 use Rattle.oe_dims.specs.declared.kind.CellKind.{CellKind}
 use Rattle.oe_graph.specs.Faults.{IsLeast, is_before}
 use Rattle.oe_graph.specs.Form as form
 use Rattle.oe_graph.specs.Plain.{plain_nodes}
-use Rattle.oe_graph.specs.References.{each_node, references_named, Chain}
+use Rattle.oe_graph.specs.Indices.{reference_graph}
+use Rattle.oe_graph.specs.References.{each_node, references_named}
 use Rattle.oe_graph.specs.Resolved.{IsResolvedObject}
 use Rattle.oe_graph.specs.Tree.{Nodes, PlainNode}
-use Rattle.oe_graph.specs.declared.code.Code.{Code}
 use Rattle.oe_graph.specs.declared.fault.Fault.{Fault}
 use Rattle.oe_graph.specs.declared.tree.Node.{Node}
-use Rattle.oe_expr.specs.Below.{below_names}
+use Rattle.oe_order.specs.Graph.{arguments}
 use Rattle.oe_expr.specs.NodeKinds.{kind_at, node_kind}
 use Rattle.oe_expr.specs.Orders.{IsEntry, IsEntryOf, StandsBefore, HasEntry, IsWalkOrder}
 use Rattle.oe_expr.specs.PlainRequests.{plain_cell_request}
@@ -19,8 +19,7 @@ use Rattle.oe_expr.specs.Requests.{cell_request_at}
 use Rattle.oe_expr.specs.Rows.{node_fault}
 use Rattle.oe_expr.specs.Scope.{PlainScope, scope_parameters}
 use Rattle.oe_expr.specs.Stands.{IsSound, StandsAt, StandsOnPath}
-use Rattle.oe_expr.specs.States.{state_named, kind_named}
-use Rattle.oe_expr.specs.declared.references.Below.TheVariants as below
+use Rattle.oe_expr.specs.States.{kind_named}
 use Rattle.oe_expr.specs.declared.request.Request.{Request}
 use Rattle.oe_expr.specs.declared.state.State.{State}
 use Rattle.oe_expr.specs.declared.state.State.TheVariants.{Unseen, Faulty, Sound}
@@ -40,27 +39,29 @@ IsNodeAt nodes index n = slice_get (each_node (plain_nodes nodes)) index ≡ Som
 abbrev pub state_at : List State → ℕ → State
 state_at states index = slice_index_or states index Unseen
 
--- ---- one node, by what is known of those that it refers to
+abbrev pub is_sound : State → Bool
+is_sound Unseen = false
+is_sound Faulty = false
+is_sound (Sound kind) = true
 
--- these have no fault at or below them, and this is the first row that holds at the node itself
-pub record IsJudged (scope : PlainScope) (context : Cell) (nodes : List Node) (states : List State) (n : PlainNode)
-    (fault : Option Code) : Type 0 where
-  pub below_it : below_names nodes states (references_named n.arguments) ≡ below.Sound
-  pub fault_is : node_fault scope context (kind_named nodes states) n ≡ fault
+-- the nodes at these indices are sound
+abbrev pub are_sound : List State → List ℕ → Bool
+are_sound states [] = true
+are_sound states (index ∷ indices) = is_sound (state_at states index) && are_sound states indices
+
+-- ---- one node, whose references are sound
 
 -- no row holds, and this is what the node asks for and its kind
 pub record IsJudgedSound (scope : PlainScope) (context : Cell) (nodes : List Node) (states : List State) (n : PlainNode)
     (kind : Option CellKind) (request : Request) : Type 0 where
-  pub judged : IsJudged scope context nodes states n None
+  pub no_fault : node_fault scope context (kind_named nodes states) n ≡ None
   pub asks : cell_request_at n ≡ Some (plain_cell_request request)
   pub kind_is : node_kind scope context (kind_named nodes states) n ≡ kind
 
+-- or this is the first row that holds
 abbrev pub IsVerdict : PlainScope → Cell → List Node → List State → PlainNode → Verdict → Type 0
-IsVerdict scope context nodes states n verdict.Later =
-    below_names nodes states (references_named n.arguments) ≡ below.Unseen
-IsVerdict scope context nodes states n verdict.Below =
-    below_names nodes states (references_named n.arguments) ≡ below.Faulty
-IsVerdict scope context nodes states n (verdict.Stands code) = IsJudged scope context nodes states n (Some code)
+IsVerdict scope context nodes states n (verdict.Stands code) =
+    node_fault scope context (kind_named nodes states) n ≡ Some code
 IsVerdict scope context nodes states n (verdict.Sound kind request) =
     IsJudgedSound scope context nodes states n kind request
 
@@ -77,11 +78,6 @@ pub record ArePartOrder (nodes : Nodes) (states : List State) (order : List Judg
       → slice_get order k ≡ Some entry → IsEntryOf nodes n entry → Contains (references_named n.arguments) name
       → StandsBefore nodes order k name
 
--- a node that was not judged leads down so many references
-pub record LeadsDown (nodes : Nodes) (count : ℕ) (name : List ℕ) : Type 0 where
-  pub end : List ℕ
-  pub chain : Chain nodes count name end
-
 module _ (scope : PlainScope) (context : Cell) (nodes : List Node) where
   -- the node of a name has no fault at or below it, and is of this kind
   pub record IsSoundOf (name : List ℕ) (kind : Option CellKind) : Type 0 where
@@ -93,12 +89,6 @@ module _ (scope : PlainScope) (context : Cell) (nodes : List Node) where
   IsState name Unseen = ⊤
   IsState name Faulty = ¬ IsSound scope context (plain_nodes nodes) name
   IsState name (Sound kind) = IsSoundOf name kind
-
-  -- each node that was not judged leads down so many references
-  abbrev pub AreDeep : ℕ → List State → Type 0
-  AreDeep count states =
-      (index : ℕ) (n : PlainNode) → IsNodeAt nodes index n → state_at states index ≡ Unseen
-      → LeadsDown (plain_nodes nodes) count n.id
 
   -- no fault stands: each node has its kind, and the entries are an order of evaluation
   pub record AreSound (states : List State) (order : List Judged) : Type 0 where
@@ -137,13 +127,12 @@ module _ (scope : PlainScope) (context : Cell) (nodes : List Node) where
 
 -- ---- one step
 
--- a node waits for one that it refers to
-pub record Waits (nodes : List Node) (states : List State) (n : PlainNode) : Type 0 where
-  pub name : List ℕ
-  pub refers : Contains (references_named n.arguments) name
-  pub unseen : state_named nodes states name ≡ Unseen
+-- each node that the node at an index refers to was judged
+abbrev pub AreSeenBelow : List Node → List State → ℕ → Type 0
+AreSeenBelow nodes states index =
+    (k : ℕ) → Contains (arguments (reference_graph (plain_nodes nodes)) index) k → state_at states k ≢ Unseen
 
--- no other node's state changes, and that of this one is known unless the node waits
-pub record IsStep (nodes : List Node) (index : ℕ) (before after : List State) : Type 0 where
+-- no other node's state changes, and that of this one is known then
+pub record IsStep (index : ℕ) (before after : List State) : Type 0 where
   pub others : (k : ℕ) → k ≢ index → state_at after k ≡ state_at before k
-  pub waits : (n : PlainNode) → IsNodeAt nodes index n → state_at after index ≡ Unseen → Waits nodes before n
+  pub seen : state_at after index ≢ Unseen

@@ -18,7 +18,6 @@ mod laws;
 mod operation;
 mod operators;
 mod program;
-mod references;
 mod request;
 mod row;
 mod scope;

@@ -1,19 +1,22 @@
 // The walk over the nodes of a callback: those that a node refers to before the node itself.
-ghost use Rattle.std.specs.Prelude.{◌≡◌, ◌<◌, ℕ, suc, [], length, replicate, IfOk, OnOk, None};
-ghost use Rattle.oe_graph.specs.Plain.{plain_node};
+ghost use Rattle.std.specs.Prelude.{◌≡◌, ◌<◌, ℕ, [], length, replicate, IfOk, OnOk, None, slice_index_or};
+ghost use Rattle.oe_graph.specs.Indices.{reference_graph};
+ghost use Rattle.oe_graph.specs.Plain.{plain_node, plain_nodes};
+ghost use Rattle.oe_order.specs.Graph.{graph_of};
 ghost use Rattle.oe_expr.specs.Scope.{IsScope, plain_scope};
-ghost use Rattle.oe_expr.specs.Walked.{AreResolved, AreDeep, IsChecked, IsNodeAt, IsStep, IsVerdict, IsWalked, state_at};
+ghost use Rattle.oe_expr.specs.Walked.{AreResolved, AreSeenBelow, IsChecked, IsStep, IsVerdict, IsWalked, state_at};
+ghost use Rattle.oe_expr.specs.Walked as spec;
 ghost use Rattle.oe_expr.specs.declared.state.State.TheVariants.{Unseen};
 
 use crate::judge::judge;
-use crate::references::{Below, below_named};
 use crate::request::{Request, request_at};
 use crate::scope::Scope;
 use crate::state::State;
 use oe_cell::Cell;
 use oe_dims::CellKind;
-use oe_graph::{Code, Fault, Node, fault_at_node, note_fault};
+use oe_graph::{Code, Fault, Node, fault_at_node, note_fault, sort_nodes};
 use oe_memory::OutOfMemory;
+use oe_order::Links;
 use std::alloc::Global;
 
 /// A node without a fault at or below it, by its index, and what it asks for.
@@ -32,20 +35,15 @@ pub(crate) struct Walk<'a> {
     pub found: Option<Fault>,
 }
 
-/// What one node is.
+/// What a node is whose references are sound.
 #[derive(Drop)]
 enum Verdict<'a> {
-    /// One that it refers to is not yet judged.
-    Later,
-    /// There is a fault below it.
-    Below,
     /// This fault stands at it.
     Stands(Code),
     Sound(Option<CellKind>, Request<'a>),
 }
 
-/// The walk over all nodes, where no references lead from a node back to itself. In each round the nodes are judged
-/// whose references were judged before, so that as many rounds as there are nodes are enough.
+/// The walk over all nodes, each behind those that it refers to.
 pub(crate) fn walk_nodes<'a>(
     alloc: Global,
     scope: &Scope,
@@ -59,9 +57,21 @@ pub(crate) fn walk_nodes<'a>(
         nodes.now.items path.now
         walk.states.items walk.order.items walk.found) }
 {
+    let sorted = sort_nodes(alloc, nodes)?;
+    let links = &sorted.links;
+    let indices = sorted.indices.as_slice();
     let mut walk = first_walk(alloc, nodes)?;
-    for _round in 0..nodes.len() {
-        visit_each(alloc, scope, context, nodes, path, &mut walk)?;
+    for index in indices {
+        visit(
+            alloc,
+            scope,
+            context,
+            nodes,
+            path,
+            links,
+            *index as usize,
+            &mut walk,
+        )?;
     }
     Ok(walk)
 }
@@ -90,69 +100,38 @@ fn unseen_states(alloc: Global, count: usize) -> Result<Vec<State>, OutOfMemory>
     Ok(states)
 }
 
-/// One round.
-fn visit_each<'a>(
-    alloc: Global,
-    scope: &Scope,
-    context: &Cell,
-    nodes: &'a Vec<Node>,
-    path: &str,
-    walk: &mut Walk<'a>,
-) -> Result<(), OutOfMemory>
-    requires resolved { AreResolved (plain_scope scope.now) nodes.now.items }
-    requires scope { IsScope (plain_scope scope.now) }
-    requires states { length walk.old.states.items ≡ length nodes.now.items }
-    requires walked { IsWalked (plain_scope scope.now) context.now nodes.now.items path.now
-        walk.old.states.items walk.old.order.items walk.old.found }
-    ensures states { OnOk result (length walk.new.states.items ≡ length nodes.now.items) }
-    ensures walked { OnOk result (IsWalked (plain_scope scope.now) context.now
-        nodes.now.items path.now
-        walk.new.states.items walk.new.order.items walk.new.found) }
-    // a node that was not judged waits for one more
-    ensures deeper { OnOk result ((count : ℕ)
-        → AreDeep (plain_scope scope.now) context.now nodes.now.items count walk.old.states.items
-        → AreDeep (plain_scope scope.now) context.now nodes.now.items
-        (suc count) walk.new.states.items) }
-{
-    for index in 0..nodes.len() {
-        if matches!(walk.states[index], State::Unseen) {
-            visit(alloc, scope, context, nodes, path, index, walk)?;
-        }
-    }
-    Ok(())
-}
-
-/// Judges a node where the nodes that it refers to were judged.
+/// Judges a node, where those that it refers to were judged.
 fn visit<'a>(
     alloc: Global,
     scope: &Scope,
     context: &Cell,
     nodes: &'a Vec<Node>,
     path: &str,
+    links: &Vec<Links>,
     index: usize,
     walk: &mut Walk<'a>,
 ) -> Result<(), OutOfMemory>
     requires resolved { AreResolved (plain_scope scope.now) nodes.now.items }
     requires scope { IsScope (plain_scope scope.now) }
+    requires links { graph_of links.now.items ≡ reference_graph (plain_nodes nodes.now.items) }
     requires within { index < length nodes.now.items }
     requires states { length walk.old.states.items ≡ length nodes.now.items }
     requires unseen { state_at walk.old.states.items index ≡ Unseen }
+    requires below { AreSeenBelow nodes.now.items walk.old.states.items index }
     requires walked { IsWalked (plain_scope scope.now) context.now nodes.now.items path.now
         walk.old.states.items walk.old.order.items walk.old.found }
     ensures states { OnOk result (length walk.new.states.items ≡ length nodes.now.items) }
     ensures walked { OnOk result (IsWalked (plain_scope scope.now) context.now
         nodes.now.items path.now
         walk.new.states.items walk.new.order.items walk.new.found) }
-    ensures step { OnOk result
-        (IsStep nodes.now.items index walk.old.states.items walk.new.states.items) }
+    ensures step { OnOk result (IsStep index walk.old.states.items walk.new.states.items) }
 {
+    if !are_sound(&links[index].arguments, &walk.states) {
+        walk.states[index] = State::Faulty;
+        return Ok(());
+    }
     let node = &nodes[index];
     match judge_node(alloc, scope, context, nodes, &walk.states, node)? {
-        Verdict::Later => Ok(()),
-        Verdict::Below => {
-            walk.states[index] = State::Faulty;
-            Ok(())
-        }
         Verdict::Stands(code) => {
             let fault = fault_at_node(alloc, code, path, node.id.as_str())?;
             walk.states[index] = State::Faulty;
@@ -170,7 +149,7 @@ fn visit<'a>(
     }
 }
 
-/// What a node is, by what is known of those that it refers to.
+/// What a node is whose references are sound.
 fn judge_node<'a>(
     alloc: Global,
     scope: &Scope,
@@ -184,11 +163,6 @@ fn judge_node<'a>(
     ensures { IfOk result (IsVerdict (plain_scope scope.now) context.now nodes.now states.now
         (plain_node node.now)) }
 {
-    match below_named(&node.arguments, nodes, states) {
-        Below::Unseen => return Ok(Verdict::Later),
-        Below::Faulty => return Ok(Verdict::Below),
-        Below::Sound => (),
-    }
     let Some(request) = request_at(alloc, node)? else {
         return Ok(Verdict::Stands(Code::ProcessParameterInvalid));
     };
@@ -196,4 +170,25 @@ fn judge_node<'a>(
         Ok(kind) => Ok(Verdict::Sound(kind, request)),
         Err(code) => Ok(Verdict::Stands(code)),
     }
+}
+
+/// Whether the nodes at these indices are sound.
+fn are_sound(indices: &[u32], states: &[State]) -> bool
+    requires { (k : ℕ) → k < length indices.now
+        → slice_index_or indices.now k 0 < length states.now }
+    ensures { result ≡ spec.are_sound states.now indices.now }
+{
+    for index in indices {
+        if !is_sound(&states[*index as usize]) {
+            return false;
+        }
+    }
+    true
+}
+
+/// Whether there is no fault at or below a node that was judged.
+fn is_sound(state: &State) -> bool
+    ensures { result ≡ spec.is_sound state.now }
+{
+    matches!(state, State::Sound(_))
 }

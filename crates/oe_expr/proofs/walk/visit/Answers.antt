@@ -1,43 +1,75 @@
-use Rattle.std.proofs.Common.{◌≡◌, ◌<◌, ℕ, List, Some, length, set, get_or, refl, sym, ap, subst, ◌∙◌}
+use Rattle.std.proofs.Common.{◌≡◌, ◌<◌, ℕ, true, false, List, Some, length, set, get_or, refl, sym, ap, subst, ◌∙◌, arith, rules}
 use Rattle.std.proofs.lemmas.Option.{slice_get_read}
 use Rattle.oe_graph.specs.Form.{node_name}
-use Rattle.oe_graph.specs.Plain.{plain_node}
+use Rattle.oe_graph.specs.Indices.{indices_named, reference_graph}
+use Rattle.oe_graph.specs.Plain.{plain_node, plain_nodes}
+use Rattle.oe_graph.specs.References.{references_named}
 use Rattle.oe_graph.specs.declared.fault.Fault.{Fault}
 use Rattle.oe_graph.specs.declared.tree.Node.{Node}
+use Rattle.oe_graph.proofs.ReferenceGraphLemmas.{reference_count}
+use Rattle.oe_graph.proofs.ResolvedLemmas.{node_below}
+use Rattle.oe_order.specs.Graph.{graph_of}
+use Rattle.oe_order.specs.declared.Links.{Links}
+use Rattle.oe_order.proofs.Graphs.{length-graph_of}
 use Rattle.oe_expr.specs.Scope.{plain_scope}
-use Rattle.oe_expr.specs.Walked.{IsNodeAt, IsJudged, IsWalked}
+use Rattle.oe_expr.specs.Walked.{IsNodeAt, IsWalked, are_sound}
 use Rattle.oe_expr.specs.declared.state.State.TheVariants.{Faulty, Sound}
 use Rattle.oe_expr.specs.declared.walk.Judged.{Judged}
 use Rattle.oe_expr.specs.declared.walk.Verdict.TheVariants as verdict
-use Rattle.oe_expr.proofs.StateLemmas.{node_at_index, plain_id}
+use Rattle.oe_expr.proofs.StateLemmas.{count_plain, faulty_among, link_within, node_at_index, plain_id, read_sound, seen_below}
 use Rattle.oe_expr.proofs.VerdictLemmas.{moved_verdict}
-use Rattle.oe_expr.proofs.WalkLemmas.{none_changes, walked_below, walked_faulty, walked_sound}
+use Rattle.oe_expr.proofs.WalkLemmas.{faulty_known, one_changes, walked_below, walked_faulty, walked_sound}
 use Rattle.oe_expr.proofs.walk.visit.Goals as goal
 
 -- the node at the index
 at_index : (nodes : List Node) (index : ℕ) (node : Node) → index < length nodes → node ≡ get_or nodes index node → IsNodeAt nodes index (plain_node node)
 at_index nodes index node within is = node_at_index nodes index node (slice_get_read nodes (length nodes) index node refl within is)
 
-pub returns-in-Later-clause-step : goal.returns-in-Later-clause-step
-returns-in-Later-clause-step c =
-    let node = c.index-node.result.now in
-    let nodes = c.args.nodes.now.items in
-    let states = c.args.walk.now.states.items in
-    let is = moved_verdict (plain_scope c.args.scope.now) c.args.context.now (plain_node node) _ nodes _ states _ verdict.Later
-    c.deref.ensures.value c.deref-2.ensures.value c.in-Later.is c.in_ok-judge_node.ensures in
-    none_changes nodes states c.args.index (plain_node node) (at_index nodes c.args.index node c.requires.within c.index-node.ensures) is
+within_links : (nodes : List Node) (links : List Links) (index : ℕ) → graph_of links ≡ reference_graph (plain_nodes nodes)
+    → index < length nodes → index < length links
+within_links nodes links index is within =
+    let long = length-graph_of links in
+    let count = reference_count (plain_nodes nodes) in
+    let plain = count_plain nodes in
+    omega (arith, ap length is)
 
-pub returns-in-Below-clause-walked : goal.returns-in-Below-clause-walked
-returns-in-Below-clause-walked c =
+pub index-requires : goal.index-requires
+index-requires c =
+    let within = within_links c.args.nodes.now.items c.args.links.now.items c.args.index c.requires.links c.requires.within in
+    omega arith
+
+pub are_sound-requires : goal.are_sound-requires
+are_sound-requires c =
+    let nodes = c.args.nodes.now.items in
+    let links = c.args.links.now.items in
+    let link = c.index.result.now in
+    let within = within_links nodes links c.args.index c.requires.links c.requires.within in
+    let many : length c.deref-2.result.now ≡ length c.args.walk.now.states.items = ap length c.deref-2.ensures.value in
+    subst (λ (xs : List ℕ). (k : ℕ) → k < length xs → get_or xs k 0 < length c.deref-2.result.now) (sym c.deref.ensures.value)
+    (λ k below.
+    let here = link_within (plain_scope c.args.scope.now) nodes c.requires.resolved links c.args.index link c.requires.links within c.index.ensures k below in
+    omega (arith, c.requires.states))
+
+pub returns-then-not-are_sound-clause-walked : goal.returns-then-not-are_sound-clause-walked
+returns-then-not-are_sound-clause-walked c =
     let scope = plain_scope c.args.scope.now in
-    let node = c.index-node.result.now in
     let nodes = c.args.nodes.now.items in
     let states = c.args.walk.now.states.items in
     let within : c.args.index < length states = subst (λ n. c.args.index < n) (sym c.requires.states) c.requires.within in
-    let is = moved_verdict scope c.args.context.now (plain_node node) _ nodes _ states _ verdict.Below
-    c.deref.ensures.value c.deref-2.ensures.value c.in-Below.is c.in_ok-judge_node.ensures in
+    let node = node_below (plain_nodes nodes) c.args.index (let count = count_plain nodes in omega (arith, c.requires.within)) in
+    let not : c.are_sound.result ≡ false = search rules in
+    let known = read_sound scope nodes c.requires.resolved c.args.links.now.items c.args.index node.node c.index.result.now states c.deref-2.result.now
+    c.deref.result.now c.are_sound.result c.requires.links (within_links nodes c.args.links.now.items c.args.index c.requires.links c.requires.within)
+    c.index.ensures node.is_there c.deref.ensures.value c.deref-2.ensures.value c.are_sound.ensures in
+    let faulty = faulty_among states (indices_named (plain_nodes nodes) (references_named node.node.arguments))
+    (known ∙ not) (seen_below scope nodes c.requires.resolved states c.args.index node.node node.is_there c.requires.below) in
     walked_below scope c.args.context.now nodes c.args.path.now c.requires.resolved states c.args.walk.now.order.items c.args.walk.now.found c.requires.walked
-    c.args.index (plain_node node) (at_index nodes c.args.index node c.requires.within c.index-node.ensures) within c.requires.unseen is
+    c.args.index node.node node.is_there within c.requires.unseen faulty
+
+pub returns-then-not-are_sound-clause-step : goal.returns-then-not-are_sound-clause-step
+returns-then-not-are_sound-clause-step c =
+    let states = c.args.walk.now.states.items in
+    one_changes states c.args.index Faulty (subst (λ n. c.args.index < n) (sym c.requires.states) c.requires.within) faulty_known
 
 pub returns-in_ok-fault-in-Stands-clause-walked : goal.returns-in_ok-fault-in-Stands-clause-walked
 returns-in_ok-fault-in-Stands-clause-walked c =
@@ -45,16 +77,21 @@ returns-in_ok-fault-in-Stands-clause-walked c =
     let node = c.index-node.result.now in
     let nodes = c.args.nodes.now.items in
     let states = c.args.walk.now.states.items in
+    let yes : c.are_sound.result ≡ true = search rules in
+    let at = at_index nodes c.args.index node c.requires.within c.index-node.ensures in
+    let known = read_sound scope nodes c.requires.resolved c.args.links.now.items c.args.index (plain_node node) c.index.result.now states c.deref-2.result.now
+    c.deref.result.now c.are_sound.result c.requires.links (within_links nodes c.args.links.now.items c.args.index c.requires.links c.requires.within)
+    c.index.ensures at c.deref.ensures.value c.deref-2.ensures.value c.are_sound.ensures ∙ yes in
     let fault = c.in_ok-fault-in-Stands.fault in
     let within : c.args.index < length states = subst (λ n. c.args.index < n) (sym c.requires.states) c.requires.within in
     let is = moved_verdict scope c.args.context.now (plain_node node) _ nodes _ states _ (verdict.Stands c.in-Stands.code)
-    c.deref.ensures.value c.deref-2.ensures.value c.in-Stands.is c.in_ok-judge_node.ensures in
-    let judged = subst (λ code. IsJudged scope c.args.context.now nodes states (plain_node node) (Some code)) (sym (ap (λ (f : Fault). f.code) c.in_ok-fault-in-Stands.ensures)) is in
+    c.deref-3.ensures.value c.deref-4.ensures.value c.in-Stands.is c.in_ok-code.ensures in
+    let judged = is ∙ ap Some (sym (ap (λ (f : Fault). f.code) c.in_ok-fault-in-Stands.ensures)) in
     let named : fault.node ≡ node_name c.args.path.now (plain_node node).id =
     ap (λ (f : Fault). f.node) c.in_ok-fault-in-Stands.ensures ∙ ap (node_name c.args.path.now) (c.as_str.ensures ∙ sym (plain_id node)) in
     subst (IsWalked scope c.args.context.now nodes c.args.path.now (set states c.args.index Faulty) c.args.walk.now.order.items) (sym c.note_fault.ensures)
     (walked_faulty scope c.args.context.now nodes c.args.path.now c.requires.resolved states c.args.walk.now.order.items c.args.walk.now.found c.requires.walked
-    c.args.index (plain_node node) (at_index nodes c.args.index node c.requires.within c.index-node.ensures) within c.requires.unseen fault judged named)
+    c.args.index (plain_node node) (at_index nodes c.args.index node c.requires.within c.index-node.ensures) within c.requires.unseen known fault judged named)
 
 pub returns-in_ok-push-in-Sound-clause-walked : goal.returns-in_ok-push-in-Sound-clause-walked
 returns-in_ok-push-in-Sound-clause-walked c =
@@ -64,9 +101,14 @@ returns-in_ok-push-in-Sound-clause-walked c =
     let states = c.args.walk.now.states.items in
     let within : c.args.index < length states = subst (λ n. c.args.index < n) (sym c.requires.states) c.requires.within in
     let is = moved_verdict scope c.args.context.now (plain_node node) _ nodes _ states _ (verdict.Sound c.in-Sound.kind c.in-Sound.request)
-    c.deref.ensures.value c.deref-2.ensures.value c.in-Sound.is c.in_ok-judge_node.ensures in
+    c.deref-3.ensures.value c.deref-4.ensures.value c.in-Sound.is c.in_ok-code.ensures in
+    let yes : c.are_sound.result ≡ true = search rules in
+    let at = at_index nodes c.args.index node c.requires.within c.index-node.ensures in
+    let known = read_sound scope nodes c.requires.resolved c.args.links.now.items c.args.index (plain_node node) c.index.result.now states c.deref-2.result.now
+    c.deref.result.now c.are_sound.result c.requires.links (within_links nodes c.args.links.now.items c.args.index c.requires.links c.requires.within)
+    c.index.ensures at c.deref.ensures.value c.deref-2.ensures.value c.are_sound.ensures ∙ yes in
     let entry : Judged = record { node = c.args.index; request = c.in-Sound.request } in
     subst (λ order. IsWalked scope c.args.context.now nodes c.args.path.now (set states c.args.index (Sound c.in-Sound.kind)) order c.args.walk.now.found)
     (sym c.in_ok-push-in-Sound.ensures.items)
     (walked_sound scope c.args.context.now nodes c.args.path.now c.requires.resolved states c.args.walk.now.order.items c.args.walk.now.found c.requires.walked
-    c.args.index (plain_node node) (at_index nodes c.args.index node c.requires.within c.index-node.ensures) within c.requires.unseen c.in-Sound.kind entry refl is)
+    c.args.index (plain_node node) (at_index nodes c.args.index node c.requires.within c.index-node.ensures) within c.requires.unseen known c.in-Sound.kind entry refl is)
