@@ -7,7 +7,8 @@ PYTHON = python3
 
 # Something that the program is made from and that is newer, or what `find` complains of where no program stands.
 NEWER = $(shell find crates.txt crates/*/src crates/*/specs crates/*/proofs \
-  -not -path 'crates/oe_rows*' -not -path 'crates/oe_commands*' -newer $(PROGRAM) -print -quit 2>&1)
+  -not -path 'crates/oe_rows*' -not -path 'crates/oe_commands*' -not -path 'crates/oe_lines*' \
+  -not -path 'crates/oe_translate*' -newer $(PROGRAM) -print -quit 2>&1)
 # The proved program, if it stands: else `make run` and `make examples` build its commands over files without their proofs.
 STANDING = $(if $(NEWER),,$(PROGRAM))
 
