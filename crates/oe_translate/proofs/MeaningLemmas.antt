@@ -1,61 +1,50 @@
 -- Each node of a translated graph means what it means in the graph.
-use Rattle.std.proofs.Common.{◌≡◌, ℕ, Bool, true, false, List, [], ◌∷◌, Option, Some, None, Contains, refl, sym, ap, ◌∙◌, subst, true≢false, ℤ}
-use Rattle.std.specs.Prelude.{codes, All, is_none, slice_get, unwrap_or}
+use Rattle.std.proofs.Common.{◌≡◌, ℕ, Bool, true, false, List, [], ◌∷◌, Option, Some, None, Contains, refl, sym, ap, ◌∙◌, subst, ℤ}
+use Rattle.std.specs.Prelude.{All, slice_get, unwrap_or}
 use Rattle.std.specs.Option.{option_and_then, option_map_or}
-use Rattle.std.proofs.lemmas.List.Elements.{All-contains}
+use Rattle.std.proofs.lemmas.List.Elements.{All-contains, All-map, All-weaker}
 use Rattle.std.proofs.lemmas.Option.{get_or_from_slice_get, slice_get_within}
 use Rattle.oe_cell.specs.Cells.{IsCell}
 use Rattle.oe_cell.specs.Kinds.{IsNumeric}
 use Rattle.oe_cell.specs.declared.cell.Cell.{Cell}
 use Rattle.oe_cell.specs.declared.cell.Cell.TheVariants.{Empty}
+use Rattle.oe_cube.specs.Collections.{IsCollection}
 use Rattle.oe_cube.specs.Kinds.{IsOfKind}
 use Rattle.oe_dims.specs.Cube.{Cube, IsCube, Tuple, at, row_major}
 use Rattle.oe_dims.specs.Dimensions.{IsShape, number_labels}
-use Rattle.oe_dims.specs.Instant.{IsInstant}
 use Rattle.oe_dims.specs.declared.dims.DimsRow.{DimsRow}
-use Rattle.oe_dims.specs.declared.kind.CellKind.{CellKind}
-use Rattle.oe_dims.specs.declared.kind.CellKind.TheVariants.{Numbers, Flags}
+use Rattle.oe_dims.specs.declared.kind.CellKind.TheVariants.{Numbers}
 use Rattle.oe_dims.specs.declared.kind.Kind.TheVariants.{Time}
-use Rattle.oe_graph.specs.Form.{callback_name, node_name}
 use Rattle.oe_graph.specs.References.{references_named}
-use Rattle.oe_graph.specs.Tree as tree
 use Rattle.oe_graph.specs.Tree.{PlainNode}
-use Rattle.oe_graph.specs.declared.code.Code.TheVariants.{CellKindInvalid, DimensionNotAvailable, ProcessParameterInvalid}
 use Rattle.oe_graph.proofs.ResolvedLemmas.{node_of_id}
 use Rattle.oe_expr.specs.Nodes.{node_named}
-use Rattle.oe_expr.specs.Requests.{with_both}
-use Rattle.oe_expr.specs.Rows.{first_row}
 use Rattle.oe_expr.specs.Scope as scope
 use Rattle.oe_expr.proofs.NodeLemmas.{contains_node, node_is}
 use Rattle.oe_periods.specs.declared.calendar.Period.{Period}
 use Rattle.oe_meanings.specs.CellKinds.{HasCellsOfKind}
 use Rattle.oe_check.specs.Checked.{CheckedGraph, AreFaultless}
-use Rattle.oe_meanings.specs.Graphs.{Collections, no_datacube, collection_rows, meaning_at, outline_at, request_meaning}
+use Rattle.oe_meanings.specs.Graphs.{Collections, NamedCollection, collection_row, no_datacube, collection_rows, meaning_at, outline_at, request_meaning}
 use Rattle.oe_check.specs.Laws.{AreCollectionsOf}
 use Rattle.oe_meanings.specs.Meaning.{Datacube, cell, operated, outline}
 use Rattle.oe_requests.specs.Operations.{Outline, accumulate, aggregate, callback_under, interval_scope, merge}
-use Rattle.oe_requests.specs.Parameters.{callback_in, cube_in, literal_in, null_or, text_in}
 use Rattle.oe_requests.specs.Periods.{period_intervals}
 use Rattle.oe_requests.specs.Requests.{Called, CubeRequest, called, aggregate_temporal, aggregate_temporal_period, apply_dimension, cube_request_at, merge_cubes}
-use Rattle.oe_meanings.specs.Rows.{cell_kind_invalid}
 use Rattle.oe_meanings.specs.SoundNodes.{AreAcyclic, IsSoundNode}
-use Rattle.oe_requests.specs.RunningSums.{AreSums}
-use Rattle.oe_meanings.specs.Stands.{HasFaultlessCallback, IsSound, Passes, cubes_of, early, early_rows, in_sums, of_kind, sound}
+use Rattle.oe_meanings.specs.Stands.{IsSound, sound}
 use Rattle.oe_check.specs.Walked.{IsNodeOf}
 use Rattle.oe_requests.specs.declared.extent.Interval.{Interval}
 use Rattle.oe_meanings.proofs.GraphLemmas.{are_sound, unfold_at_nodes}
 use Rattle.oe_check.proofs.LinkLemmas.{names_nodes, object}
 use Rattle.oe_meanings.proofs.OutlineLemmas.{at_outlined}
-use Rattle.oe_meanings.proofs.PeriodLemmas.{shape_instants}
-use Rattle.oe_meanings.proofs.RequestLemmas.{meaning_looks_down, of_node_request}
-use Rattle.oe_translate.specs.Laws.{HasRoomForSums, KeepsMeanings, StaysAcyclic, SumCells}
+use Rattle.oe_meanings.proofs.RequestLemmas.{meaning_looks_down}
+use Rattle.oe_translate.specs.Laws.{HasRoomForSums, HaveValidShapes, KeepsMeanings, StaysAcyclic, SumCells}
 use Rattle.oe_translate.specs.Translated.{ignores_at, is_of_periods, is_of_sums, labels_at, periods_at}
-use Rattle.oe_translate.specs.Written.{IsWritable, aggregated_node, given, growing_intervals, merged_node, sum_callback, sum_name, sums_node}
-use Rattle.oe_translate.proofs.IntervalLemmas.{growing_writable, periods_writable}
-use Rattle.oe_translate.proofs.PartLemmas.{PeriodParts, SumParts, ignores_is, is_named, labels_are, no_fault, of_periods, of_sums, periods_are}
-use Rattle.oe_translate.proofs.ReadLemmas.{aggregate_read, read_given}
+use Rattle.oe_translate.specs.Written.{aggregated_node, growing_intervals, merged_node, sum_name, sums_node}
+use Rattle.oe_translate.proofs.OutlineLemmas.{data_has_t, data_numbers, merge_asks, period_asks, period_refers, sum_refers, sums_ask}
+use Rattle.oe_translate.proofs.PartLemmas.{PeriodParts, SumParts, ignores_is, is_named, labels_are, of_periods, of_sums, periods_are}
 use Rattle.oe_translate.proofs.SumLemmas.{merge_graph, sum_graph, sums, sums_same}
-use Rattle.oe_translate.proofs.TranslationLemmas.{after, after_acyclic, one, one_named, one_of_other, one_of_periods, one_of_sums, sums_named}
+use Rattle.oe_translate.proofs.TranslationLemmas.{after, after_acyclic, one_named, one_of_other, one_of_periods, one_of_sums, sums_named}
 use Rattle.oe_translate.proofs.ValueLemmas.{IsSummand}
 
 -- the aggregation of one cube over these intervals, by a callback of the request
@@ -111,26 +100,25 @@ module _ (c : CheckedGraph) (f : AreFaultless c) (room : HasRoomForSums c.nodes)
   outlined : (name : List ℕ) → outline (before_at name) ≡ outline_at c.rows c.nodes name
   outlined name = at_outlined collections c.nodes name ∙ ap (λ (rows : List DimsRow). outline_at rows c.nodes name) has.rows_are
 
+  -- the shapes of the collections are valid
+  shapes : HaveValidShapes c.rows
+  shapes =
+      subst HaveValidShapes has.rows_are
+      (All-map (λ (row : DimsRow). IsShape row.shape) collection_row collections
+      (All-weaker (λ (k : NamedCollection). IsCollection k.1) (λ (k : NamedCollection). IsShape k.1.shape) (λ k is. is.valid) collections has.valid))
+
   -- ---- calendar periods
 
   of_periods_same : (n : PlainNode) (n_in : IsNodeOf c.nodes n) → is_of_periods n ≡ true → (p : PeriodParts n)
-      → All IsWritable (periods_at c.rows c.nodes n)
       → after_at p.cube ≡ before_at p.cube → after_at n.id ≡ before_at n.id
-  of_periods_same n n_in is p writable data_same =
+  of_periods_same n n_in is p data_same =
       let intervals = periods_at c.rows c.nodes n in
       let x = called p.graph p.context in
       let named : node_named n.id (after c f room) ≡ Some (aggregated_node intervals n) =
       one_named c f room n n_in ∙ ap Some (one_of_periods c.rows c.nodes n is) in
-      let asks : cube_request_at (aggregated_node intervals n) ≡ Some (aggregate_temporal p.cube intervals p.name x) =
-      aggregate_read (given (codes "context") n.arguments) (given (codes "data") n.arguments) (given (codes "dimension") n.arguments)
-      (given (codes "reducer") n.arguments) intervals writable n.id (codes "aggregate_temporal") n.namespace p.cube p.name p.graph p.context refl
-      (read_given cube_in (codes "data") n.arguments p.cube p.reads_cube)
-      (read_given (null_or text_in) (codes "dimension") n.arguments p.name p.reads_name)
-      (read_given callback_in (codes "reducer") n.arguments p.graph p.reads_graph)
-      (read_given literal_in (codes "context") n.arguments p.context p.reads_context) in
       let same : intervals ≡ period_intervals p.period (number_labels (outline (before_at p.cube)).shape Time) =
       periods_are c f n n_in p ∙ ap (λ (o : Outline). period_intervals p.period (number_labels o.shape Time)) (sym (outlined p.cube)) in
-      means_after n.id (aggregated_node intervals n) named (aggregate_temporal p.cube intervals p.name x) asks
+      means_after n.id (aggregated_node intervals n) named (aggregate_temporal p.cube intervals p.name x) (period_asks c f room shapes n n_in p)
       ∙ (ap (aggregated_by intervals x) data_same
       ∙ (ap (λ is. aggregated_by is x (before_at p.cube)) same
       ∙ sym (means_before n n_in (aggregate_temporal_period p.cube p.period p.name x) p.asks)))
@@ -146,64 +134,16 @@ module _ (c : CheckedGraph) (f : AreFaultless c) (room : HasRoomForSums c.nodes)
   sound_rows : (m : PlainNode) → IsNodeOf c.nodes m → IsSoundNode (collection_rows collections) c.nodes m.id
   sound_rows m m_in = subst (λ (rows : List DimsRow). IsSoundNode rows c.nodes m.id) (sym has.rows_are) (f.sound_cells m m_in)
 
-  valid_at : (m : PlainNode) → IsNodeOf c.nodes m → IsShape (before_at m.id).cube.shape
-  valid_at m m_in = are_sound.shape collections c.nodes has.valid acyclic m.id (sound_rows m m_in)
-
-  writable : (n : PlainNode) (n_in : IsNodeOf c.nodes n) (p : PeriodParts n) → (m : PlainNode) → IsNodeOf c.nodes m → m.id ≡ p.cube
-      → All IsWritable (periods_at c.rows c.nodes n)
-  writable n n_in p m m_in is =
-      let valid : IsShape (outline_at c.rows c.nodes p.cube).shape =
-      subst (λ (o : Outline). IsShape o.shape) (outlined p.cube) (subst (λ id. IsShape (before_at id).cube.shape) is (valid_at m m_in)) in
-      subst (All IsWritable) (sym (periods_are c f n n_in p))
-      (periods_writable p.period (number_labels (outline_at c.rows c.nodes p.cube).shape Time) (shape_instants (outline_at c.rows c.nodes p.cube).shape valid))
-
   -- ---- running sums
 
   module _ (n : PlainNode) (n_in : IsNodeOf c.nodes n) (p : SumParts n) where
-    abbrev sum_request : CubeRequest
-    sum_request = apply_dimension p.cube p.graph
-
-    abbrev sum_cubes : List Outline
-    sum_cubes = cubes_of c.rows (outline_at c.rows c.nodes) sum_request
-
-    -- the data have t
-    not_lacking : (b : Bool) → is_none (outline_at c.rows c.nodes p.cube).shape.t ≡ b → b ≡ false
-    not_lacking false e = refl
-    not_lacking true e =
-        let first : first_row (early_rows c.rows sum_request sum_cubes) ≡ Some DimensionNotAvailable = rw e refl in
-        absurd (no_fault c f n n_in DimensionNotAvailable n.id (early p.asks first))
-
-    lacks_not : is_none (outline_at c.rows c.nodes p.cube).shape.t ≡ false
-    lacks_not = let b = not_lacking (is_none (outline_at c.rows c.nodes p.cube).shape.t) refl in b
-
-    passes : Passes c.rows (outline_at c.rows c.nodes) n sum_request
-    passes = record { asks = p.asks; none_holds = rw lacks_not refl }
-
-    faultless_callback : HasFaultlessCallback c.rows (outline_at c.rows c.nodes) sum_request
-    faultless_callback = (tt, none_in_sums)
-      where
-        none_in_sums : AreSums p.graph
-        none_in_sums id code name s =
-            no_fault c f n n_in ProcessParameterInvalid (node_name (callback_name n.id (codes "process")) s.node.id)
-            (in_sums passes refl (record { node = s.node; is_node = s.is_node; refused = s.refused; code_is = refl; name_is = refl }))
-
-    -- and they are numbers
-    is_of_numbers : (k : CellKind) → (outline_at c.rows c.nodes p.cube).kind ≡ k → k ≡ Numbers
-    is_of_numbers Numbers e = refl
-    is_of_numbers Flags e =
-        let invalid : cell_kind_invalid sum_request sum_cubes ≡ true = rw e refl in
-        absurd (no_fault c f n n_in CellKindInvalid n.id (of_kind passes faultless_callback invalid))
-
+    -- the data are numbers, and have t
     kind_is : (before_at p.cube).kind ≡ Numbers
-    kind_is = ap (λ (o : Outline). o.kind) (outlined p.cube) ∙ is_of_numbers (outline_at c.rows c.nodes p.cube).kind refl
-
-    t_there : (o : Option (List ℤ)) → is_none o ≡ false → (labels : List ℤ) × (o ≡ Some labels)
-    t_there None e = absurd (true≢false e)
-    t_there (Some labels) e = (labels, refl)
+    kind_is = ap (λ (o : Outline). o.kind) (outlined p.cube) ∙ data_numbers c f room shapes n n_in p
 
     t_is : (labels : List ℤ) × ((before_at p.cube).cube.shape.t ≡ Some labels)
     t_is =
-        let there = t_there (outline_at c.rows c.nodes p.cube).shape.t lacks_not in
+        let there = data_has_t c f room shapes n n_in p in
         (there.0, ap (λ (o : Outline). o.shape.t) (outlined p.cube) ∙ there.1)
 
     of_sums_same : is_of_periods n ≡ false → is_of_sums n ≡ true → Contains (references_named n.arguments) p.cube
@@ -219,29 +159,22 @@ module _ (c : CheckedGraph) (f : AreFaultless c) (room : HasRoomForSums c.nodes)
         let kinds : HasCellsOfKind d = subst (λ id. HasCellsOfKind (before_at id)) m.2 (are_sound.cells collections c.nodes has.valid acyclic m.0.id node_sound) in
         let numeric : All IsNumeric d.cube.cells = subst (λ k. All (IsOfKind k) d.cube.cells) kind_is kinds in
         let summand : (tuple : Tuple) → IsSummand (cell d.cube tuple) = summand_at d.cube (cells.each n n_in is p.cube refers) numeric in
-        let labels_same : labels ≡ number_labels d.cube.shape Time =
+        let same : labels ≡ number_labels d.cube.shape Time =
         labels_are c f n n_in p.cube p.reads_cube ∙ ap (λ (o : Outline). number_labels o.shape Time) (sym (outlined p.cube)) in
-        let instants : All IsInstant (number_labels d.cube.shape Time) = shape_instants d.cube.shape valid in
         let growing = growing_intervals labels in
-        let can : All IsWritable growing = growing_writable labels (subst (All IsInstant) (sym labels_same) instants) in
-        let reads : cube_in (given (codes "data") n.arguments) ≡ Some p.cube = read_given cube_in (codes "data") n.arguments p.cube p.reads_cube in
         let summing_by = called (sum_graph ignore) Empty in
-        let sums_ask : cube_request_at (sums_node ignore labels n) ≡ Some (aggregate_temporal p.cube growing None summing_by) =
-        aggregate_read tree.null (given (codes "data") n.arguments) tree.null (sum_callback ignore) growing can (sum_name n.id) (codes "aggregate_temporal") n.namespace
-        p.cube None (sum_graph ignore) Empty refl reads refl refl refl in
-        let merge_asks : cube_request_at (merged_node n) ≡ Some (merge_cubes (sum_name n.id) p.cube (Some (called merge_graph Empty))) =
-        ap (λ o. option_and_then (λ one. with_both (merge_cubes one) o (Some (Some (called merge_graph Empty)))) (Some (sum_name n.id))) reads in
-        let node_is_merged : one c.rows c.nodes n ≡ merged_node n = one_of_sums c.rows c.nodes n not_periods is in
-        let merged_named : node_named n.id (after c f room) ≡ Some (merged_node n) = one_named c f room n n_in ∙ ap Some node_is_merged in
+        let merged_named : node_named n.id (after c f room) ≡ Some (merged_node n) =
+        one_named c f room n n_in ∙ ap Some (one_of_sums c.rows c.nodes n not_periods is) in
         let summed : after_at (sum_name n.id) ≡ sums ignore d valid counted t_is.0 t_is.1 kind_is summand =
-        means_after (sum_name n.id) (sums_node ignore labels n) (sums_named c f room n n_in not_periods is) (aggregate_temporal p.cube growing None summing_by) sums_ask
+        means_after (sum_name n.id) (sums_node ignore labels n) (sums_named c f room n n_in not_periods is) (aggregate_temporal p.cube growing None summing_by)
+        (sums_ask c f room shapes n n_in p)
         ∙ (ap (aggregated_by growing summing_by) data_same
-        ∙ ap (λ ls. aggregated_by (growing_intervals ls) summing_by d) labels_same) in
-        means_after n.id (merged_node n) merged_named (merge_cubes (sum_name n.id) p.cube (Some (called merge_graph Empty))) merge_asks
+        ∙ ap (λ ls. aggregated_by (growing_intervals ls) summing_by d) same) in
+        means_after n.id (merged_node n) merged_named (merge_cubes (sum_name n.id) p.cube (Some (called merge_graph Empty))) (merge_asks c f room shapes n n_in p)
         ∙ (ap (λ one. merged_by one (after_at p.cube)) summed
         ∙ (ap (merged_by (sums ignore d valid counted t_is.0 t_is.1 kind_is summand)) data_same
         ∙ (sums_same ignore d valid counted t_is.0 t_is.1 kind_is summand
-        ∙ (ap (λ b. operated (accumulate b) (d ∷ [])) (ignores_is c f n n_in p) ∙ sym (means_before n n_in sum_request p.asks)))))
+        ∙ (ap (λ b. operated (accumulate b) (d ∷ [])) (ignores_is c f n n_in p) ∙ sym (means_before n n_in (apply_dimension p.cube p.graph) p.asks)))))
 
   -- ---- each node
 
@@ -252,12 +185,10 @@ module _ (c : CheckedGraph) (f : AreFaultless c) (room : HasRoomForSums c.nodes)
       by : (p : Bool) → is_of_periods n ≡ p → (s : Bool) → is_of_sums n ≡ s → after_at n.id ≡ before_at n.id
       by true e s g =
           let p = of_periods c f n n_in e in
-          let refers : Contains (references_named n.arguments) p.cube = (of_node_request (Contains (references_named n.arguments)) n (aggregate_temporal_period p.cube p.period p.name (called p.graph p.context)) p.asks (λ id h. h)).0 in
-          let m = referred_node n n_in p.cube refers in
-          of_periods_same n n_in e p (writable n n_in p m.0 m.1 m.2) (data_same p.cube refers)
+          of_periods_same n n_in e p (data_same p.cube (period_refers c f room shapes n n_in p))
       by false e true g =
           let p = of_sums c f n n_in g in
-          let refers : Contains (references_named n.arguments) p.cube = (of_node_request (Contains (references_named n.arguments)) n (apply_dimension p.cube p.graph) p.asks (λ id h. h)).0 in
+          let refers = sum_refers c f room shapes n n_in p in
           of_sums_same n n_in p e g refers (data_same p.cube refers)
       by false e false g =
           unfold_at_nodes.meaning collections (after c f room) (after_acyclic c f room) n.id n

@@ -1,5 +1,5 @@
 -- Nodes that are put in order: found by their names, and no others than these.
-use Rattle.std.proofs.Common.{◌≡◌, ◌⊎◌, inl, inr, ℕ, ◌||◌, Bool, true, false, if◌then◌else◌, List, [], ◌∷◌, Option, Some, Contains, refl, sym, ap, ◌∙◌, subst, true≢false}
+use Rattle.std.proofs.Common.{◌≡◌, ◌≢◌, ◌⊎◌, inl, inr, ℕ, ◌||◌, Bool, true, false, if◌then◌else◌, List, [], ◌∷◌, Option, Some, Contains, refl, sym, ap, ◌∙◌, subst, true≢false}
 use Rattle.std.specs.List.{list_any}
 use Rattle.oe_dims.specs.Names.{same_name, is_name_before}
 use Rattle.oe_dims.proofs.NameOrderLemmas.{not_before_itself}
@@ -9,6 +9,14 @@ use Rattle.oe_graph.specs.Tree.{Named, Nodes, no_nodes, node, PlainNode}
 use Rattle.oe_expr.specs.Nodes.{node_named}
 use Rattle.oe_resolve.specs.Rounds.{put_node}
 use Rattle.oe_resolve.proofs.FilledLemmas.{in_cons, in_first, in_rest}
+
+-- a test of names that differ fails
+pub differ : (a b : List ℕ) → a ≢ b → same_name a b ≡ false
+differ a b apart = by (same_name a b) refl
+  where
+    by : (x : Bool) → same_name a b ≡ x → x ≡ false
+    by true e = absurd (apart (sym (same_name_is a b e)))
+    by false e = refl
 
 -- ---- the node of a name
 

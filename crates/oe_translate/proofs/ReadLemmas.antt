@@ -9,7 +9,7 @@ use Rattle.oe_dims.specs.Instant.{IsInstant}
 use Rattle.oe_dims.proofs.InstantLemmas.{instant_read-instant_text}
 use Rattle.oe_graph.specs.References.{argument_named}
 use Rattle.oe_graph.specs.Tree as tree
-use Rattle.oe_graph.specs.Tree.{Argument, Named, PlainGraph, PlainNode, values_from_list}
+use Rattle.oe_graph.specs.Tree.{Argument, Named, PlainGraph, values_from_list}
 use Rattle.oe_expr.specs.Requests.{read, with_both}
 use Rattle.oe_expr.specs.Scope.{read_or_none}
 use Rattle.oe_requests.specs.Parameters.{by_labels, callback_in, cube_in, each_in, extent_from, extent_in, instant_in, intervals_of, is_limited, labelled_interval, list_in, literal_in, null_or, text_in, where_it}

@@ -59,7 +59,7 @@ merge_value : (e : Environment) → graph_value merge_graph e ≡ add_of e.x (mu
 unfolding down_from
 merge_value e = refl
 
-sum_kind : (ignore : Bool) (labels : PlainLabels) (lists : List ListPart)
+pub sum_kind : (ignore : Bool) (labels : PlainLabels) (lists : List ListPart)
     → callback_kind (callback_of (sum_graph ignore) (scope.reduce Numbers labels lists) Empty) ≡ Numbers
 unfolding down_from
 sum_kind ignore labels lists = refl
@@ -95,7 +95,7 @@ labels_from : (first : ℤ) (labels : List ℤ) → labels_of (intervals_from fi
 labels_from first [] = refl
 labels_from first (l ∷ labels) = ap (λ ls. l ∷ ls) (labels_from first labels)
 
-labels_growing : (labels : List ℤ) → labels_of (growing_intervals labels) ≡ labels
+pub labels_growing : (labels : List ℤ) → labels_of (growing_intervals labels) ≡ labels
 labels_growing [] = refl
 labels_growing (l ∷ labels) = labels_from l (l ∷ labels)
 
@@ -221,7 +221,7 @@ epsg_stays epsg = by (epsg == 0) refl
     by true e = rw e refl
     by false e = rw e refl
 
-merged_itself : (d : Dimensions) → IsShape d → merged_shape d d ≡ d
+pub merged_itself : (d : Dimensions) → IsShape d → merged_shape d d ≡ d
 merged_itself d s =
     all_stay d d (epsg_stays d.epsg) (same_stay Time d d s refl) (same_stay Bands d d s refl) (same_stay Y d d s refl) (same_stay X d d s refl)
 
@@ -237,6 +237,16 @@ restrict_itself d tuple is =
 map_same : {X Y : Type 0} (f g : X → Y) (xs : List X) → ((k : ℕ) (x : X) → slice_get xs k ≡ Some x → f x ≡ g x) → map f xs ≡ map g xs
 map_same f g [] same = refl
 map_same f g (x ∷ xs) same = ap (λ y. y ∷ map f xs) (same 0 x refl) ∙ ap (λ ys. g x ∷ ys) (map_same f g xs (λ k y e. same (suc k) y e))
+
+-- with one label of t for each of the intervals it stays as it is
+pub growing_shape : (shape : Dimensions) → IsShape shape → (labels : List ℤ) → shape.t ≡ Some labels
+    → aggregated_shape (growing_intervals (number_labels shape Time)) shape ≡ shape
+growing_shape shape valid labels has_t =
+    let same : number_labels shape Time ≡ labels = ap (λ o. unwrap_or o []) has_t in
+    let up : rises labels ≡ true = subst (λ ls. rises ls ≡ true) same (t_rises shape valid) in
+    ap (λ ls. record shape { t = Some (sorted_labels is_below ls) }) (labels_growing (number_labels shape Time) ∙ same)
+    ∙ (ap (λ ls. record shape { t = Some ls }) (sorted_itself labels (rises_stand labels up))
+    ∙ ap (λ o. record shape { t = o }) (sym has_t))
 
 -- ---- the cube
 
@@ -270,10 +280,7 @@ module _ (ignore : Bool) (d : Datacube) (shape_valid : IsShape d.cube.shape) (co
       value_on_list summing (plain_instants ls) (cells_at d.cube tuple ls)
 
   shape_is : aggregated_shape sum_intervals shape ≡ shape
-  shape_is =
-      ap (λ ls. record shape { t = Some (sorted_labels is_below ls) }) (labels_growing (number_labels shape Time) ∙ labels_are)
-      ∙ (ap (λ ls. record shape { t = Some ls }) (sorted_itself labels (rises_stand labels up))
-      ∙ ap (λ o. record shape { t = o }) (sym has_t))
+  shape_is = growing_shape shape shape_valid labels has_t
 
   sums_are : sums.cube ≡ tabulate shape sum_at_tuple
   sums_are = ap (λ s. tabulate s sum_at_tuple) shape_is

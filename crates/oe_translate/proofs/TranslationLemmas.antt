@@ -1,17 +1,17 @@
 -- The nodes of a translated graph: which they are, what they refer to, and that no references lead back.
-use Rattle.std.proofs.Common.{◌≡◌, ◌≢◌, ◌⊎◌, inl, inr, ℕ, ◌++◌, Bool, true, false, if◌then◌else◌, List, [], ◌∷◌, map, Option, Some, None, Contains, refl, sym, ap, ◌∙◌, subst, true≢false}
-use Rattle.std.specs.Prelude.{codes, unwrap_or, ℤ}
+use Rattle.std.proofs.Common.{◌≡◌, ◌≢◌, ◌⊎◌, inl, inr, ℕ, ◌++◌, Bool, true, false, if◌then◌else◌, List, [], ◌∷◌, Some, Contains, refl, sym, ap, ◌∙◌, subst, true≢false}
+use Rattle.std.specs.Prelude.{codes, ℤ}
 use Rattle.std.specs.List.{list_any}
 use Rattle.std.proofs.lemmas.List.{append_cancel_right}
 use Rattle.std.proofs.lemmas.List.Elements.{Contains-append_cases}
 use Rattle.oe_dims.specs.Names.{same_name}
 use Rattle.oe_dims.specs.declared.dims.DimsRow.{DimsRow}
-use Rattle.oe_dims.proofs.OrderLemmas.{same_name_is, same_name_refl}
+use Rattle.oe_dims.proofs.OrderLemmas.{same_name_refl}
 use Rattle.oe_graph.specs.Printed.{ids_of}
-use Rattle.oe_graph.specs.References.{each_node, argument_named, references_in, references_each, references_named, Refers, Leads, refers, onwards}
+use Rattle.oe_graph.specs.References.{each_node, references_in, references_each, references_named, Refers, Leads, refers, onwards}
 use Rattle.oe_graph.specs.Tree as tree
-use Rattle.oe_graph.specs.Tree.{Argument, Named, Nodes, no_nodes, PlainNode, values_from_list}
-use Rattle.oe_graph.proofs.ResolvedLemmas.{Leads-end, references_of_argument}
+use Rattle.oe_graph.specs.Tree.{Named, Nodes, no_nodes, PlainNode}
+use Rattle.oe_graph.proofs.ResolvedLemmas.{Leads-end}
 use Rattle.oe_expr.specs.Nodes.{node_named}
 use Rattle.oe_expr.proofs.NodeLemmas.{id_within, index_of_node, node_is}
 use Rattle.oe_resolve.specs.Rounds.{put_node}
@@ -23,9 +23,11 @@ use Rattle.oe_check.specs.Walked.{IsNodeOf}
 use Rattle.oe_requests.specs.declared.extent.Interval.{Interval}
 use Rattle.oe_translate.specs.Laws.{HasRoomForSums}
 use Rattle.oe_translate.specs.Translated.{ignores_at, is_of_either, is_of_periods, is_of_sums, labels_at, periods_at, translated_nodes, translations}
-use Rattle.oe_translate.specs.Written.{aggregate_arguments, aggregated_node, extent_argument, end_argument, given, growing_intervals, label_argument, merged_node, sum_callback, sum_name, sums_node}
+use Rattle.oe_translate.specs.Written.{aggregated_node, given, growing_intervals, merged_node, sum_callback, sum_name, sums_node}
 use Rattle.oe_translate.proofs.PartLemmas.{is_named}
-use Rattle.oe_translate.proofs.PutLemmas.{any_put, in_put, named_put}
+use Rattle.oe_translate.proofs.ArgumentLemmas as argument
+use Rattle.oe_translate.proofs.ArgumentLemmas.{of_references}
+use Rattle.oe_translate.proofs.PutLemmas.{any_put, differ, in_put, named_put}
 
 -- ---- no calendar periods and no running sums
 
@@ -46,71 +48,23 @@ module _ (rows : List DimsRow) (all : Nodes) where
 
 -- ---- references
 
-none_written : (written : Interval → Argument) → ((i : Interval) → references_in (written i) ≡ []) → (intervals : List Interval)
-    → references_each (values_from_list (map written intervals)) ≡ []
-none_written written none [] = refl
-none_written written none (i ∷ intervals) =
-    ap (λ xs. xs ++ references_each (values_from_list (map written intervals))) (none i) ∙ none_written written none intervals
-
-no_ends : (o : Option ℤ) → references_in (end_argument o) ≡ []
-no_ends None = refl
-no_ends (Some seconds) = refl
-
-no_extents : (i : Interval) → references_in (extent_argument i) ≡ []
-no_extents i =
-    ap (λ xs. xs ++ (references_in (end_argument i.extent.end) ++ [])) (no_ends i.extent.start) ∙ ap (λ xs. xs ++ []) (no_ends i.extent.end)
+pub periods_refer : (intervals : List Interval) (n : PlainNode) (id : List ℕ)
+    → Contains (references_named (aggregated_node intervals n).arguments) id → Contains (references_named n.arguments) id
+periods_refer intervals n id has = argument.of_periods (List ℕ) references_in references_each references_named of_references id intervals n has
 
 in_given : (name : List ℕ) (arguments : Named) (id : List ℕ) → Contains (references_in (given name arguments)) id
     → Contains (references_named arguments) id
-in_given name arguments id has = by (argument_named name arguments) refl has
-  where
-    by : (o : Option Argument) → argument_named name arguments ≡ o → Contains (references_in (unwrap_or o tree.null)) id
-        → Contains (references_named arguments) id
-    by None e h = absurd (in_none id h)
-    by (Some a) e h = references_of_argument name arguments a id e h
+in_given name arguments id has = argument.in_given (List ℕ) references_in references_each references_named of_references id name arguments has
 
--- an aggregation refers to what its context, data, dimension and reducer do
-of_aggregate : (context cube dimension reducer : Argument) (intervals : List Interval) (id : List ℕ) (P : Type 0)
-    → (Contains (references_in context) id → P) → (Contains (references_in cube) id → P)
-    → (Contains (references_in dimension) id → P) → (Contains (references_in reducer) id → P)
-    → Contains (references_named (aggregate_arguments context cube dimension intervals reducer)) id → P
-of_aggregate context cube dimension reducer intervals id P one two three four has =
-    by (subst (λ xs. Contains (references_in context ++ (references_in cube ++ (references_in dimension ++ xs))) id)
-    (ap (λ xs. xs ++ (references_each (values_from_list (map label_argument intervals)) ++ (references_in reducer ++ []))) (none_written extent_argument no_extents intervals)
-    ∙ ap (λ xs. xs ++ (references_in reducer ++ [])) (none_written label_argument (λ i. refl) intervals)) has)
-  where
-    rest : Contains (references_in reducer ++ []) id → P
-    rest h = elim (Contains-append_cases (references_in reducer) [] id h) as (λ _. P) [ inl a ↦ four a | inr b ↦ absurd (in_none id b) ]
-
-    later : Contains (references_in dimension ++ (references_in reducer ++ [])) id → P
-    later h = elim (Contains-append_cases (references_in dimension) (references_in reducer ++ []) id h) as (λ _. P) [ inl a ↦ three a | inr b ↦ rest b ]
-
-    next : Contains (references_in cube ++ (references_in dimension ++ (references_in reducer ++ []))) id → P
-    next h = elim (Contains-append_cases (references_in cube) (references_in dimension ++ (references_in reducer ++ [])) id h) as (λ _. P) [ inl a ↦ two a | inr b ↦ later b ]
-
-    by : Contains (references_in context ++ (references_in cube ++ (references_in dimension ++ (references_in reducer ++ [])))) id → P
-    by h =
-        elim (Contains-append_cases (references_in context) (references_in cube ++ (references_in dimension ++ (references_in reducer ++ []))) id h) as (λ _. P) [
-          | inl a ↦ one a
-          | inr b ↦ next b
-        ]
-
-periods_refer : (intervals : List Interval) (n : PlainNode) (id : List ℕ)
-    → Contains (references_named (aggregated_node intervals n).arguments) id → Contains (references_named n.arguments) id
-periods_refer intervals n id has =
-    of_aggregate (given (codes "context") n.arguments) (given (codes "data") n.arguments) (given (codes "dimension") n.arguments)
-    (given (codes "reducer") n.arguments) intervals id (Contains (references_named n.arguments) id)
-    (in_given (codes "context") n.arguments id) (in_given (codes "data") n.arguments id) (in_given (codes "dimension") n.arguments id)
-    (in_given (codes "reducer") n.arguments id) has
-
-sums_refer : (ignore : Bool) (labels : List ℤ) (n : PlainNode) (id : List ℕ)
+pub sums_refer : (ignore : Bool) (labels : List ℤ) (n : PlainNode) (id : List ℕ)
     → Contains (references_named (sums_node ignore labels n).arguments) id → Contains (references_named n.arguments) id
 sums_refer ignore labels n id has =
-    of_aggregate tree.null (given (codes "data") n.arguments) tree.null (sum_callback ignore) (growing_intervals labels) id
+    argument.of_aggregate (List ℕ) references_in references_each references_named of_references id
+    tree.null (given (codes "data") n.arguments) tree.null (sum_callback ignore) (growing_intervals labels)
     (Contains (references_named n.arguments) id)
     (λ h. absurd (in_none id h)) (in_given (codes "data") n.arguments id) (λ h. absurd (in_none id h)) (λ h. absurd (in_none id h)) has
 
-merge_refers : (n : PlainNode) (id : List ℕ) → Contains (references_named (merged_node n).arguments) id
+pub merge_refers : (n : PlainNode) (id : List ℕ) → Contains (references_named (merged_node n).arguments) id
     → (sum_name n.id ≡ id) ⊎ Contains (references_named n.arguments) id
 merge_refers n id has =
     elim (in_cons (sum_name n.id) (references_in (given (codes "data") n.arguments) ++ []) id has) as (λ _. (sum_name n.id ≡ id) ⊎ Contains (references_named n.arguments) id) [
@@ -123,16 +77,8 @@ merge_refers n id has =
 
 -- ---- names
 
-same_sum : (a b : List ℕ) → sum_name a ≡ sum_name b → a ≡ b
+pub same_sum : (a b : List ℕ) → sum_name a ≡ sum_name b → a ≡ b
 same_sum a b is = append_cancel_right a b (47 ∷ codes "sum") is
-
--- a test of names that differ fails
-differ : (a b : List ℕ) → a ≢ b → same_name a b ≡ false
-differ a b apart = by (same_name a b) refl
-  where
-    by : (x : Bool) → same_name a b ≡ x → x ≡ false
-    by true e = absurd (apart (sym (same_name_is a b e)))
-    by false e = refl
 
 module _ (rows : List DimsRow) (all : Nodes) where
   -- what stands for a node in its place, and the aggregation of one of running sums
@@ -157,10 +103,10 @@ module _ (rows : List DimsRow) (all : Nodes) where
   pub one_of_other : (n : PlainNode) → is_of_periods n ≡ false → is_of_sums n ≡ false → one n ≡ n
   one_of_other n e f = rw (e, f) refl
 
-  id_of_one : (n : PlainNode) → (one n).id ≡ n.id
+  pub id_of_one : (n : PlainNode) → (one n).id ≡ n.id
   id_of_one n = one_by (is_of_periods n) (is_of_sums n) n
 
-  abbrev put_by : Bool → Bool → PlainNode → Nodes → Nodes
+  abbrev pub put_by : Bool → Bool → PlainNode → Nodes → Nodes
   put_by p s n found =
       if p then put_node (aggregated_node (periods_at rows all n) n) found
       else (if s then put_node (merged_node n) (put_node (sums_of n) found) else put_node n found)
@@ -300,7 +246,7 @@ module _ (c : CheckedGraph) (f : AreFaultless c) (room : HasRoomForSums c.nodes)
   id_there n has = let at = index_of_node c.nodes n has in id_within c.nodes at.0 n at.1
 
   -- a node and the aggregation of another have other names
-  apart : (m n : PlainNode) → IsNodeOf c.nodes m → IsNodeOf c.nodes n → is_of_sums m ≡ true → sum_name m.id ≢ n.id
+  pub apart : (m n : PlainNode) → IsNodeOf c.nodes m → IsNodeOf c.nodes n → is_of_sums m ≡ true → sum_name m.id ≢ n.id
   apart m n m_in n_in sums is = room.each m m_in sums (subst (Contains (ids_of c.nodes)) (sym is) (id_there n n_in))
 
   pub one_named : (n : PlainNode) → IsNodeOf c.nodes n → node_named n.id after ≡ Some (one c.rows c.nodes n)

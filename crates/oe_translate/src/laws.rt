@@ -1,5 +1,5 @@
 // What holds of every translated graph.
-ghost use Rattle.oe_translate.specs.Laws.{KeepsMeanings, LeavesRoom, StaysAcyclic};
+ghost use Rattle.oe_translate.specs.Laws.{KeepsMeanings, LeavesRoom, StaysAcyclic, StaysFaultless, StaysSmall};
 
 /// Does nothing. Its contract says that in the translation of a graph without a fault no references lead from a node
 /// back to itself, where no node of the graph has the name that is given to the aggregation of running sums.
@@ -20,4 +20,18 @@ pub fn meanings_are_kept()
 #[tactic(auto, using(crate::proofs::RoomLemmas::leaves_room))]
 pub fn names_leave_room()
     ensures { LeavesRoom }
+{}
+
+/// Does nothing. Its contract says that a graph in which no fault stood as it was read, and whose calls were replaced,
+/// has few enough nodes for its translation: 256 at most, of which each becomes two at most.
+#[tactic(auto, using(crate::proofs::RoomLemmas::stays_small))]
+pub fn translations_are_small()
+    ensures { StaysSmall }
+{}
+
+/// Does nothing. Its contract says that the translation of a graph without a fault is resolved and has no fault either,
+/// over the same collections: the check of it refuses nothing but for want of memory.
+#[tactic(auto, using(crate::proofs::FaultlessLemmas::stays_faultless))]
+pub fn translations_are_faultless()
+    ensures { StaysFaultless }
 {}
