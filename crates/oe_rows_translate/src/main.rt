@@ -8,6 +8,7 @@
 //! | `dates ID DATES` | has a collection of numbers of one pixel with these dates, a blank between two; ids come in byte order |
 //! | `forget` | forgets the collections before it |
 //! | `translate GRAPH` | the text of the graph, resolved and translated over the collections, or its fault |
+//! | `check GRAPH` | the nodes of the checked translation, each with the count of its dates, or the fault of the graph |
 #![tactic(auto)]
 
 mod translated;
@@ -17,7 +18,7 @@ use oe_lines::{Answers, Fault, Line};
 use std::alloc::Global;
 use std::io::{Read, Write};
 use std::process::ExitCode;
-use translated::spell_translated;
+use translated::{spell_checked, spell_translated};
 
 fn main(rt: HostRuntime) -> ExitCode {
     let alloc = rt.alloc();
@@ -49,6 +50,7 @@ fn answer_lines(alloc: Global, text: &str, answers: &mut Answers) -> Result<(), 
             "forget" => dims.rows = Vec::new(alloc),
             "dates" => dims.rows.push(row_of(&mut line)?)?,
             "translate" => spell_translated(alloc, line.rest(), &dims, answers)?,
+            "check" => spell_checked(alloc, line.rest(), &dims, answers)?,
             _ => return Err(Fault::Line),
         }
         line.report(answers);
