@@ -10,7 +10,8 @@ use Rattle.oe_graph.specs.declared.tree.Node.{Node}
 use Rattle.oe_graph.proofs.PartLemmas.{graph_parts, node_parts}
 use Rattle.oe_resolve.specs.Calls.{callee}
 use Rattle.oe_resolve.specs.Replaced.{values_given, replaced_nodes}
-use Rattle.oe_resolve.specs.Rounds.{known_nodes, under_id, under_nodes, put_node, put_nodes, opened, round_named, round_nodes}
+use Rattle.oe_resolve.specs.Renamed.{renamed_nodes}
+use Rattle.oe_resolve.specs.Rounds.{known_nodes, under_id, put_node, put_nodes, opened, round_named, round_nodes}
 use Rattle.oe_resolve.specs.Sizes.{size_bare, size_bare_nodes, opened_bare, round_bare}
 use Rattle.oe_resolve.specs.declared.weigh.Measure.{Measure}
 
@@ -28,7 +29,7 @@ module _ (m : Measure) where
       → size_bare_nodes m (opened stored n o) ≡ opened_bare m n.id n.process_id o
   bare_opened stored n None = omega arith
   bare_opened stored n (Some s) =
-      bare_replaced stored (values_given s.parameters n.arguments) (under_nodes n.id s.graph.nodes)
+      bare_replaced stored (values_given s.parameters n.arguments) (renamed_nodes (under_id n.id) s.graph.nodes)
 
   put_by : (before : Bool) (n : PlainNode) (id p : List ℕ) (s : Option (List ℕ)) (args : Named) (rest : Nodes)
       → size_bare_nodes m (put_node n rest) ≡ size_bare m n.id n.process_id + size_bare_nodes m rest
@@ -101,11 +102,11 @@ bare_uncalled m stored n o budget left is none taken =
 pub bare_called : (m : Measure) (stored : List PlainStored) (n : Node) (o : Option (Bor StoredProcess)) (process : Bor StoredProcess)
     (budget left : ℕ)
     → option_map (λ (s : Bor StoredProcess). plain_stored s.now) o ≡ callee stored n.namespace n.process_id → o ≡ Some process
-    → budget ≡ left + size_bare_nodes m (under_nodes n.id (plain_nodes (out-Graph process.now.graph).nodes.items))
+    → budget ≡ left + size_bare_nodes m (renamed_nodes (under_id n.id) (plain_nodes (out-Graph process.now.graph).nodes.items))
     → budget ≡ left + opened_bare m n.id n.process_id (callee stored n.namespace n.process_id)
 bare_called m stored n o process budget left is found taken =
     let called : callee stored n.namespace n.process_id ≡ Some (plain_stored process.now) =
     sym is ∙ ap (option_map (λ (s : Bor StoredProcess). plain_stored s.now)) found in
     subst (λ p. budget ≡ left + opened_bare m n.id n.process_id p) (sym called)
-    (subst (λ (h : PlainGraph). budget ≡ left + size_bare_nodes m (under_nodes n.id h.nodes))
+    (subst (λ (h : PlainGraph). budget ≡ left + size_bare_nodes m (renamed_nodes (under_id n.id) h.nodes))
     (sym (graph_parts process.now.graph)) taken)

@@ -7,7 +7,8 @@ use Rattle.oe_graph.specs.Tree.{Named, Nodes, no_nodes, node, PlainGraph, PlainN
 use Rattle.oe_resolve.specs.Calls.{callee, means_stored, stored_named}
 use Rattle.oe_resolve.specs.Counted.{enough, count_with, total, size_by}
 use Rattle.oe_resolve.specs.Replaced.{replaced_nodes, values_given}
-use Rattle.oe_resolve.specs.Rounds.{under_nodes, put_node, put_nodes, opened, round_nodes, round_named, round, rounds, known_nodes, known_graph, known_stored, expanded_by}
+use Rattle.oe_resolve.specs.Renamed.{renamed_nodes}
+use Rattle.oe_resolve.specs.Rounds.{under_id, put_node, put_nodes, opened, round_nodes, round_named, round, rounds, known_nodes, known_graph, known_stored, expanded_by}
 
 abbrev one_each : PlainStored → ℕ
 one_each s = 1
@@ -26,7 +27,7 @@ module _ (stored : List PlainStored) where
   abbrev pub one_more : (PlainStored → ℕ) → PlainStored → ℕ
   one_more size s = count_with stored size s.graph.nodes
 
-  count_under : (size : PlainStored → ℕ) (call : List ℕ) (ns : Nodes) → count_with stored size (under_nodes call ns) ≡ count_with stored size ns
+  count_under : (size : PlainStored → ℕ) (call : List ℕ) (ns : Nodes) → count_with stored size (renamed_nodes (under_id call) ns) ≡ count_with stored size ns
   count_under size call no_nodes = refl
   count_under size call (node id p s args rest) = ap (λ k. option_map_or size (callee stored s p) 1 + k) (count_under size call rest)
 
@@ -62,7 +63,7 @@ module _ (stored : List PlainStored) where
       → count_with stored size (opened stored n o) ≡ option_map_or (one_more size) o 1
   count_opened size n None is = ap (λ o. option_map_or size o 1 + 0) is ∙ omega arith
   count_opened size n (Some s) is =
-      count_replaced size (values_given s.parameters n.arguments) (under_nodes n.id s.graph.nodes)
+      count_replaced size (values_given s.parameters n.arguments) (renamed_nodes (under_id n.id) s.graph.nodes)
       ∙ count_under size n.id s.graph.nodes
 
   count_round : (size : PlainStored → ℕ) (all ns found : Nodes)

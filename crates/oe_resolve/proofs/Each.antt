@@ -5,29 +5,13 @@ use Rattle.oe_graph.specs.Plain.{plain_arg, plain_args, plain_named, plain_nodes
 use Rattle.oe_graph.specs.declared.tree.Arg.{Arg}
 use Rattle.oe_graph.specs.declared.tree.Node.{Node}
 use Rattle.oe_resolve.specs.Rounds as rounds
+use Rattle.oe_resolve.specs.Renamed as renamed
 use Rattle.oe_resolve.specs.Replaced as replaced
 use Rattle.oe_resolve.specs.Filled as filled
 
 -- a member under its name, its value changed
 abbrev pub member_by : (Argument → Argument) → List ℕ × Arg → List ℕ × Argument
 member_by f m = (m.0, f (plain_arg m.1))
-
-pub under_each : (call : List ℕ) (xs : List Arg)
-    → values_from_list (map (λ a. rounds.under call (plain_arg a)) xs) ≡ rounds.under_each call (plain_args xs)
-under_each call [] = refl
-under_each call (a ∷ xs) = ap (argument (rounds.under call (plain_arg a))) (under_each call xs)
-
-pub under_named : (call : List ℕ) (ms : List (List ℕ × Arg))
-    → named_from_list (map (member_by (rounds.under call)) ms) ≡ rounds.under_named call (plain_named ms)
-under_named call [] = refl
-under_named call (m ∷ ms) = ap (named m.0 (rounds.under call (plain_arg m.1))) (under_named call ms)
-
-pub under_nodes : (call : List ℕ) (ns : List Node)
-    → nodes_from_list (map (λ n. rounds.under_node call (plain_node n)) ns) ≡ rounds.under_nodes call (plain_nodes ns)
-under_nodes call [] = refl
-under_nodes call (n ∷ ns) =
-    let m = rounds.under_node call (plain_node n) in
-    ap (node m.id m.process_id m.namespace m.arguments) (under_nodes call ns)
 
 pub known_each : (ids : List (List ℕ)) (xs : List Arg)
     → values_from_list (map (λ a. rounds.known ids (plain_arg a)) xs) ≡ rounds.known_each ids (plain_args xs)
@@ -46,15 +30,15 @@ known_nodes ids (n ∷ ns) =
     let m = rounds.known_node ids (plain_node n) in
     ap (node m.id m.process_id m.namespace m.arguments) (known_nodes ids ns)
 
-pub carried_each : (xs : List Arg)
-    → values_from_list (map (λ a. replaced.carried (plain_arg a)) xs) ≡ replaced.carried_each (plain_args xs)
-carried_each [] = refl
-carried_each (a ∷ xs) = ap (argument (replaced.carried (plain_arg a))) (carried_each xs)
+pub renamed_each : (rename : List ℕ → List ℕ) (xs : List Arg)
+    → values_from_list (map (λ a. renamed.renamed rename (plain_arg a)) xs) ≡ renamed.renamed_each rename (plain_args xs)
+renamed_each rename [] = refl
+renamed_each rename (a ∷ xs) = ap (argument (renamed.renamed rename (plain_arg a))) (renamed_each rename xs)
 
-pub carried_named : (ms : List (List ℕ × Arg))
-    → named_from_list (map (member_by replaced.carried) ms) ≡ replaced.carried_named (plain_named ms)
-carried_named [] = refl
-carried_named (m ∷ ms) = ap (named m.0 (replaced.carried (plain_arg m.1))) (carried_named ms)
+pub renamed_named : (rename : List ℕ → List ℕ) (ms : List (List ℕ × Arg))
+    → named_from_list (map (member_by (renamed.renamed rename)) ms) ≡ renamed.renamed_named rename (plain_named ms)
+renamed_named rename [] = refl
+renamed_named rename (m ∷ ms) = ap (named m.0 (renamed.renamed rename (plain_arg m.1))) (renamed_named rename ms)
 
 pub filled_each : (xs : List Arg)
     → values_from_list (map (λ a. filled.filled (plain_arg a)) xs) ≡ filled.filled_each (plain_args xs)
@@ -73,27 +57,33 @@ filled_nodes (n ∷ ns) =
     let m = filled.filled_node (plain_node n) in
     ap (node m.id m.process_id m.namespace m.arguments) (filled_nodes ns)
 
-pub replaced_each : (stored : List PlainStored) (own : List (List ℕ)) (values : Named) (xs : List Arg)
-    → values_from_list (map (λ a. replaced.replaced stored own values (plain_arg a)) xs)
-    ≡ replaced.replaced_each stored own values (plain_args xs)
-replaced_each stored own values [] = refl
-replaced_each stored own values (a ∷ xs) =
-    ap (argument (replaced.replaced stored own values (plain_arg a))) (replaced_each stored own values xs)
+-- what stands in place of a call
+module _ (stored : List PlainStored) (values : Named) (rename : List ℕ → List ℕ) where
+  abbrev pub inlined : List (List ℕ) → Argument → Argument
+  inlined own a = replaced.replaced stored own values (renamed.renamed rename a)
 
-pub replaced_named : (stored : List PlainStored) (own : List (List ℕ)) (values : Named) (ms : List (List ℕ × Arg))
-    → named_from_list (map (member_by (replaced.replaced stored own values)) ms)
-    ≡ replaced.replaced_named stored own values (plain_named ms)
-replaced_named stored own values [] = refl
-replaced_named stored own values (m ∷ ms) =
-    ap (named m.0 (replaced.replaced stored own values (plain_arg m.1))) (replaced_named stored own values ms)
+  pub inlined_each : (own : List (List ℕ)) (xs : List Arg)
+      → values_from_list (map (λ a. inlined own (plain_arg a)) xs)
+      ≡ replaced.replaced_each stored own values (renamed.renamed_each rename (plain_args xs))
+  inlined_each own [] = refl
+  inlined_each own (a ∷ xs) = ap (argument (inlined own (plain_arg a))) (inlined_each own xs)
 
-pub replaced_nodes : (stored : List PlainStored) (values : Named) (ns : List Node)
-    → nodes_from_list (map (λ n. replaced.replaced_node stored values (plain_node n)) ns)
-    ≡ replaced.replaced_nodes stored values (plain_nodes ns)
-replaced_nodes stored values [] = refl
-replaced_nodes stored values (n ∷ ns) =
-    let m = replaced.replaced_node stored values (plain_node n) in
-    ap (node m.id m.process_id m.namespace m.arguments) (replaced_nodes stored values ns)
+  pub inlined_named : (own : List (List ℕ)) (ms : List (List ℕ × Arg))
+      → named_from_list (map (member_by (inlined own)) ms)
+      ≡ replaced.replaced_named stored own values (renamed.renamed_named rename (plain_named ms))
+  inlined_named own [] = refl
+  inlined_named own (m ∷ ms) = ap (named m.0 (inlined own (plain_arg m.1))) (inlined_named own ms)
+
+  abbrev pub inlined_node : PlainNode → PlainNode
+  inlined_node n = replaced.replaced_node stored values (renamed.renamed_node rename n)
+
+  pub inlined_nodes : (ns : List Node)
+      → nodes_from_list (map (λ n. inlined_node (plain_node n)) ns)
+      ≡ replaced.replaced_nodes stored values (renamed.renamed_nodes rename (plain_nodes ns))
+  inlined_nodes [] = refl
+  inlined_nodes (n ∷ ns) =
+      let m = inlined_node (plain_node n) in
+      ap (node m.id m.process_id m.namespace m.arguments) (inlined_nodes ns)
 
 pub round_each : (stored : List PlainStored) (waits : Bool) (all : Nodes) (xs : List Arg)
     → values_from_list (map (λ a. rounds.round_argument stored waits all (plain_arg a)) xs) ≡ rounds.round_each stored waits all (plain_args xs)

@@ -9,6 +9,7 @@ pub mod OrderLemmas
 pub mod ExpansionLemmas
 pub mod UncalledLemmas
 pub mod ValueLemmas
+pub mod RenamedLemmas
 pub mod StoredLemmas
 pub mod InsertLemmas
 mod Worked

@@ -13,10 +13,11 @@ use Rattle.oe_graph.specs.Resolved.{IsScopedWithin, itself, inside}
 use Rattle.oe_graph.specs.Tree.{Argument, null, flag, whole, inexact, text, list, object, from_node, from_parameter, callback, ListValues, no_arguments, argument, Named, no_named, named, Nodes, no_nodes, node, PlainGraph, PlainNode, PlainParameter, PlainStored}
 use Rattle.oe_resolve.specs.Calls.{means_stored, stored_named, callee, callback_parameters, HoldsNode, by_callback}
 use Rattle.oe_resolve.specs.Calls as calls
+use Rattle.oe_resolve.specs.Renamed.{dangling, renamed, renamed_each, renamed_named, renamed_nodes}
 use Rattle.oe_resolve.specs.Replaced as replaced
-use Rattle.oe_resolve.specs.Replaced.{default_of, value_before, values_given, carried, carried_each, carried_named, without_names}
+use Rattle.oe_resolve.specs.Replaced.{default_of, value_before, values_given, without_names}
 use Rattle.oe_resolve.specs.Rounds as rounds
-use Rattle.oe_resolve.specs.Rounds.{known, known_each, known_named, known_nodes, known_graph, known_stored, under, under_each, under_named, under_nodes, under_id, put_node, put_nodes, id_at, index_of, landed, opened, round, expanded_by, expanded}
+use Rattle.oe_resolve.specs.Rounds.{known, known_each, known_named, known_nodes, known_graph, known_stored, under_id, put_node, put_nodes, id_at, index_of, landed, opened, round, expanded_by, expanded}
 use Rattle.oe_graph.specs.Valid.{is_valid, are_valid, are_valid_named, are_valid_nodes, IsValidGraph, is_plain, are_plain, are_plain_named, IsValidStored, AreValidStored}
 use Rattle.oe_resolve.proofs.FilledLemmas.{in_cons, in_none, in_first, in_rest}
 use Rattle.oe_resolve.proofs.ResolvingLemmas.{in_map, IsOrderedObject, EachObject}
@@ -61,9 +62,9 @@ replaced_names : (stored : List PlainStored) (own : List (List ℕ)) (values : N
 replaced_names stored own values no_named = refl
 replaced_names stored own values (named k a rest) = ap (λ xs. k ∷ xs) (replaced_names stored own values rest)
 
-under_names : (call : List ℕ) (ms : Named) → names_of (under_named call ms) ≡ names_of ms
-under_names call no_named = refl
-under_names call (named k a rest) = ap (λ xs. k ∷ xs) (under_names call rest)
+renamed_names : (rename : List ℕ → List ℕ) (ms : Named) → names_of (renamed_named rename ms) ≡ names_of ms
+renamed_names rename no_named = refl
+renamed_names rename (named k a rest) = ap (λ xs. k ∷ xs) (renamed_names rename rest)
 
 -- ---- order at any depth
 
@@ -239,27 +240,27 @@ module _ (Holding : Bool → Option (List ℕ) → List ℕ → Type 0) (Forming
       known_ordered_nodes in_callback ids rest is.3,
     )
 
-  -- carried values
+  -- values with other references
   mutual
-    carried_ordered : (a : Argument) → Ordered a → Ordered (carried a)
-    carried_ordered null is = tt
-    carried_ordered (flag b) is = tt
-    carried_ordered (whole z) is = tt
-    carried_ordered inexact is = tt
-    carried_ordered (text s) is = tt
-    carried_ordered (list rest) is = carried_ordered_each rest is
-    carried_ordered (object ms) is = carried_ordered_named ms is
-    carried_ordered (from_node id) is = tt
-    carried_ordered (from_parameter name) is = tt
-    carried_ordered (callback ns result) is = is
+    renamed_ordered : (rename : List ℕ → List ℕ) (a : Argument) → Ordered a → Ordered (renamed rename a)
+    renamed_ordered rename null is = tt
+    renamed_ordered rename (flag b) is = tt
+    renamed_ordered rename (whole z) is = tt
+    renamed_ordered rename inexact is = tt
+    renamed_ordered rename (text s) is = tt
+    renamed_ordered rename (list rest) is = renamed_ordered_each rename rest is
+    renamed_ordered rename (object ms) is = renamed_ordered_named rename ms is
+    renamed_ordered rename (from_node id) is = tt
+    renamed_ordered rename (from_parameter name) is = tt
+    renamed_ordered rename (callback ns result) is = is
 
-    carried_ordered_each : (rest : ListValues) → OrderedEach rest → OrderedEach (carried_each rest)
-    carried_ordered_each no_arguments is = tt
-    carried_ordered_each (argument a rest) is = (carried_ordered a is.0, carried_ordered_each rest is.1)
+    renamed_ordered_each : (rename : List ℕ → List ℕ) (rest : ListValues) → OrderedEach rest → OrderedEach (renamed_each rename rest)
+    renamed_ordered_each rename no_arguments is = tt
+    renamed_ordered_each rename (argument a rest) is = (renamed_ordered rename a is.0, renamed_ordered_each rename rest is.1)
 
-    carried_ordered_named : (ms : Named) → OrderedNamed ms → OrderedNamed (carried_named ms)
-    carried_ordered_named no_named is = tt
-    carried_ordered_named (named k a rest) is = (carried_ordered a is.0, carried_ordered_named rest is.1)
+    renamed_ordered_named : (rename : List ℕ → List ℕ) (ms : Named) → OrderedNamed ms → OrderedNamed (renamed_named rename ms)
+    renamed_ordered_named rename no_named is = tt
+    renamed_ordered_named rename (named k a rest) is = (renamed_ordered rename a is.0, renamed_ordered_named rename rest is.1)
 
   without_if : (hidden : Bool) (k : List ℕ) (a : Argument) (rest : Named) → Ordered a → OrderedNamed rest
       → OrderedNamed (if hidden then rest else named k a rest)
@@ -306,7 +307,7 @@ module _ (Holding : Bool → Option (List ℕ) → List ℕ → Type 0) (Forming
             same_order ns (replaced.replaced_nodes stored seen ns) result (replaced_ids stored seen ns) (replaced_count stored seen ns) is.0.0,
             subst Forming (sym (places_of-replaced stored seen ns)) is.0.1,
           ),
-          replaced_ordered_nodes true stored seen ns (carried_ordered_named (without_names own values) (without_ordered own values v)) is.1,
+          replaced_ordered_nodes true stored seen ns (renamed_ordered_named dangling (without_names own values) (without_ordered own values v)) is.1,
         )
 
     replaced_ordered_each : (stored : List PlainStored) (own : List (List ℕ)) (values : Named) (rest : ListValues)
@@ -332,34 +333,12 @@ module _ (Holding : Bool → Option (List ℕ) → List ℕ → Type 0) (Forming
     )
 
   -- nodes under a call
-
-  mutual
-    under_ordered : (call : List ℕ) (a : Argument) → Ordered a → Ordered (under call a)
-    under_ordered call null is = tt
-    under_ordered call (flag b) is = tt
-    under_ordered call (whole z) is = tt
-    under_ordered call inexact is = tt
-    under_ordered call (text s) is = tt
-    under_ordered call (list rest) is = under_ordered_each call rest is
-    under_ordered call (object ms) is = under_ordered_named call ms is
-    under_ordered call (from_node id) is = tt
-    under_ordered call (from_parameter name) is = tt
-    under_ordered call (callback ns result) is = is
-
-    under_ordered_each : (call : List ℕ) (rest : ListValues) → OrderedEach rest → OrderedEach (under_each call rest)
-    under_ordered_each call no_arguments is = tt
-    under_ordered_each call (argument a rest) is = (under_ordered call a is.0, under_ordered_each call rest is.1)
-
-    under_ordered_named : (call : List ℕ) (ms : Named) → OrderedNamed ms → OrderedNamed (under_named call ms)
-    under_ordered_named call no_named is = tt
-    under_ordered_named call (named k a rest) is = (under_ordered call a is.0, under_ordered_named call rest is.1)
-
   under_ordered_nodes : (in_callback : Bool) (call : List ℕ) (ns : Nodes) → OrderedNodes in_callback ns
-      → OrderedNodes in_callback (under_nodes call ns)
+      → OrderedNodes in_callback (renamed_nodes (under_id call) ns)
   under_ordered_nodes in_callback call no_nodes is = tt
   under_ordered_nodes in_callback call (node id p s args rest) is = (
-    ap names_rise (under_names call args) ∙ is.0,
-    under_ordered_named call args is.1,
+    ap names_rise (renamed_names (under_id call) args) ∙ is.0,
+    renamed_ordered_named (under_id call) args is.1,
     is.2,
     under_ordered_nodes in_callback call rest is.3,
   )
@@ -444,7 +423,7 @@ module _ (Holding : Bool → Option (List ℕ) → List ℕ → Type 0) (Forming
   opened_ordered in_callback n None holds stored_is rise is = (rise, is, holds, tt)
   opened_ordered in_callback n (Some s) holds stored_is rise is =
       let s_is = stored_is s refl in
-      replaced_ordered_nodes Holding Forming in_callback stored (values_given s.parameters n.arguments) (under_nodes n.id s.graph.nodes)
+      replaced_ordered_nodes Holding Forming in_callback stored (values_given s.parameters n.arguments) (renamed_nodes (under_id n.id) s.graph.nodes)
       (given_ordered Holding Forming s.parameters n.arguments s_is.defaults is)
       (under_ordered_nodes Holding Forming in_callback n.id s.graph.nodes s_is.nodes)
 

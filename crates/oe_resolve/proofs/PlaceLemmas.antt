@@ -8,7 +8,8 @@ use Rattle.oe_graph.specs.References.{each_node}
 use Rattle.oe_graph.specs.Tree.{Named, Nodes, no_nodes, node, PlainGraph, PlainNode, PlainStored}
 use Rattle.oe_resolve.specs.Calls.{callee}
 use Rattle.oe_resolve.specs.Replaced.{replaced_nodes, values_given}
-use Rattle.oe_resolve.specs.Rounds.{known_nodes, under_id, under_nodes, put_node, put_nodes, opened, round_named, round_nodes, rounds}
+use Rattle.oe_resolve.specs.Renamed.{renamed_nodes}
+use Rattle.oe_resolve.specs.Rounds.{known_nodes, under_id, put_node, put_nodes, opened, round_named, round_nodes, rounds}
 use Rattle.oe_resolve.proofs.FilledLemmas.{in_first, in_rest}
 
 -- the id of a node, its process and its namespace
@@ -75,7 +76,7 @@ places_of-puts (node id p s args rest) found =
     let n : PlainNode = record { id = id; process_id = p; namespace = s; arguments = args } in
     places_of-puts rest (put_node n found) ∙ ap (put_places (places_of rest)) (places_of-put n found)
 
-places_of-under : (call : List ℕ) (ns : Nodes) → places_of (under_nodes call ns) ≡ under_places call (places_of ns)
+places_of-under : (call : List ℕ) (ns : Nodes) → places_of (renamed_nodes (under_id call) ns) ≡ under_places call (places_of ns)
 places_of-under call no_nodes = refl
 places_of-under call (node id p s args rest) =
     ap (λ (ts : List Place). (under_id call id, p, s) ∷ ts) (places_of-under call rest)
@@ -84,7 +85,7 @@ places_of-opened : (stored : List PlainStored) (n : PlainNode) (call : Option Pl
     → places_of (opened stored n call) ≡ opened_places (place_of n) call
 places_of-opened stored n None = refl
 places_of-opened stored n (Some s) =
-    places_of-replaced stored (values_given s.parameters n.arguments) (under_nodes n.id s.graph.nodes)
+    places_of-replaced stored (values_given s.parameters n.arguments) (renamed_nodes (under_id n.id) s.graph.nodes)
     ∙ places_of-under n.id s.graph.nodes
 
 pub places_of-round : (stored : List PlainStored) (all ns found : Nodes)

@@ -15,8 +15,9 @@ use Rattle.oe_graph.specs.declared.tree.Graph.{Graph, out-Graph}
 use Rattle.oe_graph.specs.declared.tree.Node.{Node}
 use Rattle.oe_graph.proofs.PartLemmas.{graph_parts, node_parts}
 use Rattle.oe_resolve.specs.Calls.{callee, callback_parameters}
-use Rattle.oe_resolve.specs.Replaced.{default_of, value_before, values_given, carried, carried_each, carried_named, inside, replaced, replaced_each, replaced_named, replaced_nodes}
-use Rattle.oe_resolve.specs.Rounds.{known, known_each, known_named, known_nodes, known_graph, under, under_each, under_named, under_nodes, put_node, put_nodes, opened, round_argument, round_each, round_named, round_nodes, round}
+use Rattle.oe_resolve.specs.Renamed.{dangling, renamed, renamed_each, renamed_named, renamed_nodes}
+use Rattle.oe_resolve.specs.Replaced.{default_of, value_before, values_given, inside, replaced, replaced_each, replaced_named, replaced_nodes}
+use Rattle.oe_resolve.specs.Rounds.{known, known_each, known_named, known_nodes, known_graph, under_id, put_node, put_nodes, opened, round_argument, round_each, round_named, round_nodes, round}
 use Rattle.oe_resolve.specs.Seen.{names_behind, plain_sizes}
 use Rattle.oe_resolve.specs.Sizes.{value_size, size_in, size_each, size_named, size_nodes, name_size, most, IsWithinLimits, round_size, given_size, given_sizes, size_or, size_for, HasSizes}
 use Rattle.oe_resolve.specs.declared.weigh.ParameterSize.{ParameterSize}
@@ -59,32 +60,32 @@ module _ (m : Measure) where
     size_known_nodes ids (node id p s args rest) = both _ _ _ _ (size_known_named ids args) (size_known_nodes ids rest)
 
   mutual
-    pub size_carried : (a : Argument) → size_in m (carried a) ≡ size_in m a
-    size_carried null = refl
-    size_carried (flag b) = refl
-    size_carried (whole z) = refl
-    size_carried inexact = refl
-    size_carried (text s) = refl
-    size_carried (list rest) = ap (λ n. value_size m + n) (size_carried_each rest)
-    size_carried (object ms) = ap (λ n. value_size m + n) (size_carried_named ms)
-    size_carried (from_node id) = refl
-    size_carried (from_parameter name) = refl
-    size_carried (callback ns result) = refl
+    pub size_dangling : (a : Argument) → size_in m (renamed dangling a) ≡ size_in m a
+    size_dangling null = refl
+    size_dangling (flag b) = refl
+    size_dangling (whole z) = refl
+    size_dangling inexact = refl
+    size_dangling (text s) = refl
+    size_dangling (list rest) = ap (λ n. value_size m + n) (size_dangling_each rest)
+    size_dangling (object ms) = ap (λ n. value_size m + n) (size_dangling_named ms)
+    size_dangling (from_node id) = refl
+    size_dangling (from_parameter name) = refl
+    size_dangling (callback ns result) = refl
 
-    size_carried_each : (rest : ListValues) → size_each m (carried_each rest) ≡ size_each m rest
-    size_carried_each no_arguments = refl
-    size_carried_each (argument a rest) = both _ _ _ _ (size_carried a) (size_carried_each rest)
+    size_dangling_each : (rest : ListValues) → size_each m (renamed_each dangling rest) ≡ size_each m rest
+    size_dangling_each no_arguments = refl
+    size_dangling_each (argument a rest) = both _ _ _ _ (size_dangling a) (size_dangling_each rest)
 
-    size_carried_named : (ms : Named) → size_named m (carried_named ms) ≡ size_named m ms
-    size_carried_named no_named = refl
-    size_carried_named (named name a rest) =
-        both _ _ _ _ (ap (λ n. name_size m name + n) (size_carried a)) (size_carried_named rest)
+    size_dangling_named : (ms : Named) → size_named m (renamed_named dangling ms) ≡ size_named m ms
+    size_dangling_named no_named = refl
+    size_dangling_named (named name a rest) =
+        both _ _ _ _ (ap (λ n. name_size m name + n) (size_dangling a)) (size_dangling_named rest)
 
   -- nor do ids under a call
   module _ (stored : List PlainStored) (values : Named) (call : List ℕ) where
     mutual
       size_under : (own : List (List ℕ)) (a : Argument)
-          → size_in m (replaced stored own values (under call a)) ≡ size_in m (replaced stored own values a)
+          → size_in m (replaced stored own values (renamed (under_id call) a)) ≡ size_in m (replaced stored own values a)
       size_under own null = refl
       size_under own (flag b) = refl
       size_under own (whole z) = refl
@@ -97,18 +98,18 @@ module _ (m : Measure) where
       size_under own (callback ns result) = refl
 
       size_under_each : (own : List (List ℕ)) (rest : ListValues)
-          → size_each m (replaced_each stored own values (under_each call rest)) ≡ size_each m (replaced_each stored own values rest)
+          → size_each m (replaced_each stored own values (renamed_each (under_id call) rest)) ≡ size_each m (replaced_each stored own values rest)
       size_under_each own no_arguments = refl
       size_under_each own (argument a rest) = both _ _ _ _ (size_under own a) (size_under_each own rest)
 
       size_under_named : (own : List (List ℕ)) (ms : Named)
-          → size_named m (replaced_named stored own values (under_named call ms)) ≡ size_named m (replaced_named stored own values ms)
+          → size_named m (replaced_named stored own values (renamed_named (under_id call) ms)) ≡ size_named m (replaced_named stored own values ms)
       size_under_named own no_named = refl
       size_under_named own (named name a rest) =
           both _ _ _ _ (ap (λ n. name_size m name + n) (size_under own a)) (size_under_named own rest)
 
     pub size_under_nodes : (ns : Nodes)
-        → size_nodes m (replaced_nodes stored values (under_nodes call ns)) ≡ size_nodes m (replaced_nodes stored values ns)
+        → size_nodes m (replaced_nodes stored values (renamed_nodes (under_id call) ns)) ≡ size_nodes m (replaced_nodes stored values ns)
     size_under_nodes no_nodes = refl
     size_under_nodes (node id p s args rest) =
         both _ _ _ _ (size_under_named (callback_parameters stored s p) args) (size_under_nodes rest)
@@ -172,17 +173,17 @@ module _ (m : Measure) where
       given_by (same_name p.name name) (option_or (argument_named p.name arguments) (default_of p)) name p.name
       (values_given ps arguments) (size_for m (given_sizes m arguments ps) name) refl (has_given ps arguments name)
 
-  size_carried_or : (found : Option Argument) (name : List ℕ)
-      → size_in m (unwrap_or (option_map carried found) (from_parameter name)) ≡ size_in m (unwrap_or found (from_parameter name))
-  size_carried_or None name = refl
-  size_carried_or (Some a) name = size_carried a
+  size_dangling_or : (found : Option Argument) (name : List ℕ)
+      → size_in m (unwrap_or (option_map (renamed dangling) found) (from_parameter name)) ≡ size_in m (unwrap_or found (from_parameter name))
+  size_dangling_or None name = refl
+  size_dangling_or (Some a) name = size_dangling a
 
   inside_by : (here before : Bool) (found : Option Argument) (name : List ℕ) (size : ℕ)
       → size_in m (unwrap_or found (from_parameter name)) ≡ (if before then size_in m (from_parameter name) else size)
-      → size_in m (unwrap_or (option_map carried (if here then None else found)) (from_parameter name))
+      → size_in m (unwrap_or (option_map (renamed dangling) (if here then None else found)) (from_parameter name))
       ≡ (if here || before then size_in m (from_parameter name) else size)
   inside_by true before found name size is = refl
-  inside_by false before found name size is = size_carried_or found name ∙ is
+  inside_by false before found name size is = size_dangling_or found name ∙ is
 
   -- so has what a callback sees of them
   pub has_inside : (sizes : List (List ℕ × Option ℕ)) (own hidden : List (List ℕ)) (values : Named)

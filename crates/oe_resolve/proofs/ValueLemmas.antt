@@ -1,4 +1,4 @@
--- Values of parameters: given one after the other, hidden and carried.
+-- Values of parameters: given one after the other, hidden, and seen in a callback.
 use Rattle.std.proofs.Common.{◌≡◌, ℕ, ◌+◌, ◌<◌, ◌||◌, Bool, true, false, if◌then◌else◌, List, [], ◌∷◌, ◌++◌, map, length, get_or, drop, refl, sym, ap, ◌∙◌, Option, Some, None, option_map, true≢false}
 use denote.Bor.{Bor}
 use Rattle.std.specs.List.{list_any}
@@ -11,7 +11,8 @@ use Rattle.oe_graph.specs.References.{argument_named}
 use Rattle.oe_graph.specs.Tree.{Argument, null, flag, whole, inexact, text, list, object, from_node, from_parameter, callback, ListValues, no_arguments, argument, Named, no_named, named}
 use Rattle.oe_graph.specs.declared.tree.Arg.{Arg}
 use Rattle.oe_graph.specs.declared.catalogue.ParameterRow.{ParameterRow}
-use Rattle.oe_resolve.specs.Replaced.{default_of, value_before, values_given, carried, carried_each, carried_named, without_names, inside}
+use Rattle.oe_resolve.specs.Renamed.{dangling, renamed, renamed_each, renamed_named}
+use Rattle.oe_resolve.specs.Replaced.{default_of, value_before, values_given, without_names, inside}
 use Rattle.oe_resolve.specs.Seen.{names_behind}
 use Rattle.oe_memory.proofs.Lists.{append_none}
 
@@ -43,32 +44,32 @@ values_given-next ps i p arguments more is =
     ap (λ (xs : List ParameterRow). values_given (map plain_parameter xs) arguments)
     (drop_more ps i p more ∙ ap (λ (x : ParameterRow). x ∷ drop (i + 1) ps) (sym is))
 
--- ---- carried once is carried twice
+-- ---- references dangle once for all
 
 mutual
-  carried-again : (a : Argument) → carried (carried a) ≡ carried a
-  carried-again null = refl
-  carried-again (flag b) = refl
-  carried-again (whole z) = refl
-  carried-again inexact = refl
-  carried-again (text s) = refl
-  carried-again (list rest) = ap list (carried_each-again rest)
-  carried-again (object ms) = ap object (carried_named-again ms)
-  carried-again (from_node id) = refl
-  carried-again (from_parameter name) = refl
-  carried-again (callback ns result) = refl
+  dangling-again : (a : Argument) → renamed dangling (renamed dangling a) ≡ renamed dangling a
+  dangling-again null = refl
+  dangling-again (flag b) = refl
+  dangling-again (whole z) = refl
+  dangling-again inexact = refl
+  dangling-again (text s) = refl
+  dangling-again (list rest) = ap list (dangling_each-again rest)
+  dangling-again (object ms) = ap object (dangling_named-again ms)
+  dangling-again (from_node id) = refl
+  dangling-again (from_parameter name) = refl
+  dangling-again (callback ns result) = refl
 
-  carried_each-again : (rest : ListValues) → carried_each (carried_each rest) ≡ carried_each rest
-  carried_each-again no_arguments = refl
-  carried_each-again (argument a rest) =
-      ap (λ b. argument b (carried_each (carried_each rest))) (carried-again a)
-      ∙ ap (argument (carried a)) (carried_each-again rest)
+  dangling_each-again : (rest : ListValues) → renamed_each dangling (renamed_each dangling rest) ≡ renamed_each dangling rest
+  dangling_each-again no_arguments = refl
+  dangling_each-again (argument a rest) =
+      ap (λ b. argument b (renamed_each dangling (renamed_each dangling rest))) (dangling-again a)
+      ∙ ap (argument (renamed dangling a)) (dangling_each-again rest)
 
-  pub carried_named-again : (ms : Named) → carried_named (carried_named ms) ≡ carried_named ms
-  carried_named-again no_named = refl
-  carried_named-again (named name a rest) =
-      ap (λ b. named name b (carried_named (carried_named rest))) (carried-again a)
-      ∙ ap (named name (carried a)) (carried_named-again rest)
+  pub dangling_named-again : (ms : Named) → renamed_named dangling (renamed_named dangling ms) ≡ renamed_named dangling ms
+  dangling_named-again no_named = refl
+  dangling_named-again (named name a rest) =
+      ap (λ b. named name b (renamed_named dangling (renamed_named dangling rest))) (dangling-again a)
+      ∙ ap (named name (renamed dangling a)) (dangling_named-again rest)
 
 -- ---- hidden in one list of names and then in another
 
@@ -81,17 +82,17 @@ any_append test (x ∷ xs) ys = ap (λ b. test x || b) (any_append test xs ys) �
     or_split true b c = refl
     or_split false b c = refl
 
-carried_if : (hidden : Bool) (name : List ℕ) (a : Argument) (rest : Named)
-    → carried_named (if hidden then rest else named name a rest)
-    ≡ (if hidden then carried_named rest else named name (carried a) (carried_named rest))
-carried_if true name a rest = refl
-carried_if false name a rest = refl
+dangling_if : (hidden : Bool) (name : List ℕ) (a : Argument) (rest : Named)
+    → renamed_named dangling (if hidden then rest else named name a rest)
+    ≡ (if hidden then renamed_named dangling rest else named name (renamed dangling a) (renamed_named dangling rest))
+dangling_if true name a rest = refl
+dangling_if false name a rest = refl
 
-pub without-carried : (names : List (List ℕ)) (ms : Named) → without_names names (carried_named ms) ≡ carried_named (without_names names ms)
-without-carried names no_named = refl
-without-carried names (named name a rest) =
-    ap (λ more. if list_any (same_name name) names then more else named name (carried a) more) (without-carried names rest)
-    ∙ sym (carried_if (list_any (same_name name) names) name a (without_names names rest))
+pub without-dangling : (names : List (List ℕ)) (ms : Named) → without_names names (renamed_named dangling ms) ≡ renamed_named dangling (without_names names ms)
+without-dangling names no_named = refl
+without-dangling names (named name a rest) =
+    ap (λ more. if list_any (same_name name) names then more else named name (renamed dangling a) more) (without-dangling names rest)
+    ∙ sym (dangling_if (list_any (same_name name) names) name a (without_names names rest))
 
 without_if : (own : List (List ℕ)) (here before : Bool) (name : List ℕ) (a : Argument) (rest both : Named)
     → list_any (same_name name) own ≡ here
@@ -115,22 +116,22 @@ without-both own hidden (named name a rest) =
 -- what a callback in a callback sees
 pub inside-inside : (own hidden : List (List ℕ)) (ms : Named) → inside (own ++ hidden) ms ≡ inside own (inside hidden ms)
 inside-inside own hidden ms =
-    ap carried_named (sym (without-both own hidden ms))
-    ∙ (sym (carried_named-again (without_names own (without_names hidden ms)))
-    ∙ ap carried_named (sym (without-carried own (without_names hidden ms))))
+    ap (renamed_named dangling) (sym (without-both own hidden ms))
+    ∙ (sym (dangling_named-again (without_names own (without_names hidden ms)))
+    ∙ ap (renamed_named dangling) (sym (without-dangling own (without_names hidden ms))))
 
 -- ---- the value of a name
 
-pub argument_named-carried : (name : List ℕ) (ms : Named)
-    → argument_named name (carried_named ms) ≡ option_map carried (argument_named name ms)
-argument_named-carried name no_named = refl
-argument_named-carried name (named k a rest) =
-    first (same_name k name) a rest (argument_named-carried name rest)
+pub argument_named-dangling : (name : List ℕ) (ms : Named)
+    → argument_named name (renamed_named dangling ms) ≡ option_map (renamed dangling) (argument_named name ms)
+argument_named-dangling name no_named = refl
+argument_named-dangling name (named k a rest) =
+    first (same_name k name) a rest (argument_named-dangling name rest)
   where
     first : (same : Bool) (a : Argument) (rest : Named)
-        → argument_named name (carried_named rest) ≡ option_map carried (argument_named name rest)
-        → (if same then Some (carried a) else argument_named name (carried_named rest))
-        ≡ option_map carried (if same then Some a else argument_named name rest)
+        → argument_named name (renamed_named dangling rest) ≡ option_map (renamed dangling) (argument_named name rest)
+        → (if same then Some (renamed dangling a) else argument_named name (renamed_named dangling rest))
+        ≡ option_map (renamed dangling) (if same then Some a else argument_named name rest)
     first true a rest more = refl
     first false a rest more = more
 
@@ -168,21 +169,21 @@ argument_named-without name names (named k a rest) =
 -- what is found in a callback
 pub argument_named-inside : (name : List ℕ) (names : List (List ℕ)) (ms : Named)
     → argument_named name (inside names ms)
-    ≡ option_map carried (if list_any (same_name name) names then None else argument_named name ms)
+    ≡ option_map (renamed dangling) (if list_any (same_name name) names then None else argument_named name ms)
 argument_named-inside name names ms =
-    argument_named-carried name (without_names names ms) ∙ ap (option_map carried) (argument_named-without name names ms)
+    argument_named-dangling name (without_names names ms) ∙ ap (option_map (renamed dangling)) (argument_named-without name names ms)
 
 pub hidden_value : (name : List ℕ) (names : List (List ℕ)) (ms : Named) → list_any (same_name name) names ≡ true
     → argument_named name (inside names ms) ≡ None
 hidden_value name names ms hidden =
     argument_named-inside name names ms
-    ∙ ap (λ b. option_map carried (if b then None else argument_named name ms)) hidden
+    ∙ ap (λ b. option_map (renamed dangling) (if b then None else argument_named name ms)) hidden
 
 pub seen_value : (name : List ℕ) (names : List (List ℕ)) (ms : Named) → list_any (same_name name) names ≡ false
-    → argument_named name (inside names ms) ≡ option_map carried (argument_named name ms)
+    → argument_named name (inside names ms) ≡ option_map (renamed dangling) (argument_named name ms)
 seen_value name names ms seen =
     argument_named-inside name names ms
-    ∙ ap (λ b. option_map carried (if b then None else argument_named name ms)) seen
+    ∙ ap (λ b. option_map (renamed dangling) (if b then None else argument_named name ms)) seen
 
 -- what a callback sees, where names were hidden before or not
 pub inside_seen : (own hidden : List (Bor (List ℕ))) (given : Named) (was_carried : Bool)

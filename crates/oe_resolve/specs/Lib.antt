@@ -1,7 +1,8 @@
 pub mod Calls
+pub mod Renamed
 pub mod Replaced
-pub mod Seen
 pub mod Rounds
+pub mod Seen
 pub mod Filled
 pub mod Sizes
 pub mod Faults

@@ -6,6 +6,7 @@ use Rattle.oe_dims.specs.Names.{same_name}
 use Rattle.oe_graph.specs.References.{argument_named}
 use Rattle.oe_graph.specs.Tree.{Argument, null, flag, whole, inexact, text, list, object, from_node, from_parameter, callback, ListValues, no_arguments, argument, Named, no_named, named, Nodes, no_nodes, node, PlainNode, PlainParameter, PlainStored}
 use Rattle.oe_resolve.specs.Calls.{callback_parameters}
+use Rattle.oe_resolve.specs.Renamed.{dangling, renamed_named}
 
 -- ---- what a call gives
 
@@ -26,37 +27,15 @@ values_given (p ∷ parameters) arguments =
 
 -- ---- what is seen in a callback
 
--- Without references: an argument that is carried into another graph object refers to no node there. No node has the
--- empty id. The references in a callback are those of its own nodes, which it takes along.
-abbrev mutual
-  pub carried : Argument → Argument
-  carried null = null
-  carried (flag b) = flag b
-  carried (whole z) = whole z
-  carried inexact = inexact
-  carried (text s) = text s
-  carried (list rest) = list (carried_each rest)
-  carried (object ms) = object (carried_named ms)
-  carried (from_node id) = from_node []
-  carried (from_parameter name) = from_parameter name
-  carried (callback ns result) = callback ns result
-
-  pub carried_each : ListValues → ListValues
-  carried_each no_arguments = no_arguments
-  carried_each (argument a rest) = argument (carried a) (carried_each rest)
-
-  pub carried_named : Named → Named
-  carried_named no_named = no_named
-  carried_named (named name a rest) = named name (carried a) (carried_named rest)
-
 abbrev pub without_names : List (List ℕ) → Named → Named
 without_names names no_named = no_named
 without_names names (named name a rest) =
     if list_any (same_name name) names then without_names names rest else named name a (without_names names rest)
 
--- the values that a callback sees: the parameters that its node gives it hide those of the same names
+-- The values that a callback sees: the parameters that its node gives it hide those of the same names. A value is put into
+-- another graph object there, so its references dangle; those in a callback are between its nodes, which it takes along.
 abbrev pub inside : List (List ℕ) → Named → Named
-inside own values = carried_named (without_names own values)
+inside own values = renamed_named dangling (without_names own values)
 
 -- ---- replaced
 

@@ -9,6 +9,7 @@ use Rattle.oe_graph.specs.Printed.{ids_of}
 use Rattle.oe_graph.specs.References.{each_node}
 use Rattle.oe_graph.specs.Tree.{Argument, null, flag, whole, inexact, text, list, object, from_node, from_parameter, callback, ListValues, no_arguments, argument, Named, no_named, named, Nodes, no_nodes, node, PlainGraph, PlainNode, PlainStored}
 use Rattle.oe_resolve.specs.Calls.{callee}
+use Rattle.oe_resolve.specs.Renamed.{renamed_nodes}
 use Rattle.oe_resolve.specs.Replaced.{values_given, replaced_nodes}
 
 -- ---- references as they were written
@@ -61,36 +62,6 @@ abbrev pub under_id : List ℕ → List ℕ → List ℕ
 under_id call [] = []
 under_id call (b ∷ id) = call ++ 47 ∷ b ∷ id
 
--- nodes and references under a call; those in a callback are its own
-abbrev mutual
-  pub under : List ℕ → Argument → Argument
-  under call null = null
-  under call (flag b) = flag b
-  under call (whole z) = whole z
-  under call inexact = inexact
-  under call (text s) = text s
-  under call (list rest) = list (under_each call rest)
-  under call (object ms) = object (under_named call ms)
-  under call (from_node id) = from_node (under_id call id)
-  under call (from_parameter name) = from_parameter name
-  under call (callback ns result) = callback ns result
-
-  pub under_each : List ℕ → ListValues → ListValues
-  under_each call no_arguments = no_arguments
-  under_each call (argument a rest) = argument (under call a) (under_each call rest)
-
-  pub under_named : List ℕ → Named → Named
-  under_named call no_named = no_named
-  under_named call (named name a rest) = named name (under call a) (under_named call rest)
-
-abbrev pub under_nodes : List ℕ → Nodes → Nodes
-under_nodes call no_nodes = no_nodes
-under_nodes call (node id process_id namespace arguments rest) =
-    node (under_id call id) process_id namespace (under_named call arguments) (under_nodes call rest)
-
-abbrev pub under_node : List ℕ → PlainNode → PlainNode
-under_node call n = record n { id = under_id call n.id; arguments = under_named call n.arguments }
-
 -- ---- one round
 
 -- the index that a name has in byte order among others
@@ -135,7 +106,7 @@ landed stored all id =
 abbrev pub opened : List PlainStored → PlainNode → Option PlainStored → Nodes
 opened stored n None = node n.id n.process_id n.namespace n.arguments no_nodes
 opened stored n (Some s) =
-    replaced_nodes stored (values_given s.parameters n.arguments) (under_nodes n.id s.graph.nodes)
+    replaced_nodes stored (values_given s.parameters n.arguments) (renamed_nodes (under_id n.id) s.graph.nodes)
 
 -- a callback whose result is the node of an id
 abbrev pub callback_with_result : List ℕ → Nodes → Argument

@@ -5,6 +5,7 @@ use denote.Bor.{Bor}
 use Rattle.oe_graph.specs.Plain.{plain_named}
 use Rattle.oe_graph.specs.Tree.{Named}
 use Rattle.oe_resolve.specs.Replaced.{inside}
+use Rattle.oe_resolve.specs.Rounds.{under_id}
 use Rattle.oe_resolve.specs.declared.values.Values.{Values}
 use Rattle.oe_resolve.specs.declared.weigh.ParameterSize.{ParameterSize}
 
@@ -15,8 +16,12 @@ names_behind names = map (λ (name : Bor (List ℕ)). name.now) names
 -- the values that are seen
 abbrev pub seen : Values → Named
 seen values =
-    if values.carried then inside (names_behind values.hidden.items) (plain_named values.given.now.items)
+    if values.in_callback then inside (names_behind values.hidden.items) (plain_named values.given.now.items)
     else plain_named values.given.now.items
+
+-- what becomes of the ids of nodes where these values are put in
+abbrev pub rename_by : Values → List ℕ → List ℕ
+rename_by values id = if values.in_callback then id else under_id values.call.now id
 
 -- the sizes of the values of parameters
 abbrev pub plain_sizes : List ParameterSize → List (List ℕ × Option ℕ)

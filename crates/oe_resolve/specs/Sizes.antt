@@ -7,7 +7,8 @@ use Rattle.oe_graph.specs.References.{argument_named}
 use Rattle.oe_graph.specs.Tree.{Argument, null, flag, whole, inexact, text, list, object, from_node, from_parameter, callback, ListValues, no_arguments, argument, Named, no_named, named, Nodes, no_nodes, node, PlainGraph, PlainNode, PlainParameter, PlainStored}
 use Rattle.oe_resolve.specs.Calls.{callee}
 use Rattle.oe_resolve.specs.Replaced.{default_of}
-use Rattle.oe_resolve.specs.Rounds.{opened, round_named, under_nodes}
+use Rattle.oe_resolve.specs.Renamed.{renamed_nodes}
+use Rattle.oe_resolve.specs.Rounds.{opened, round_named, under_id}
 use Rattle.oe_resolve.specs.declared.weigh.Measure.{Measure}
 use Rattle.oe_resolve.specs.declared.weigh.Measure.TheVariants.{Values, TextBytes, NameBytes}
 
@@ -97,7 +98,7 @@ round_size m stored all (node id process_id namespace arguments rest) =
 -- of the same nodes without their arguments
 abbrev pub opened_bare : Measure → List ℕ → List ℕ → Option PlainStored → ℕ
 opened_bare m id process_id None = size_bare m id process_id
-opened_bare m id process_id (Some s) = size_bare_nodes m (under_nodes id s.graph.nodes)
+opened_bare m id process_id (Some s) = size_bare_nodes m (renamed_nodes (under_id id) s.graph.nodes)
 
 abbrev pub round_bare : Measure → List PlainStored → Nodes → ℕ
 round_bare m stored no_nodes = 0

@@ -6,12 +6,12 @@ mod count;
 mod cycle;
 mod fill;
 mod find;
+mod inline;
 mod judge;
 mod known;
 mod names;
 mod reach;
 mod round;
-mod under;
 mod values;
 mod weigh;
 

@@ -9,8 +9,8 @@ ghost use Rattle.oe_resolve.specs.Rounds as spec;
 
 use crate::calls::{callee, is_call};
 use crate::find::{id_at, index_beside, index_of};
-use crate::under::{under_id, under_nodes};
-use crate::values::{Values, replaced_nodes, values_given};
+use crate::inline::{inline_nodes, under_id};
+use crate::values::{Values, values_given};
 use oe_dims::{Text, copy_text};
 use oe_graph::{Arg, Beside, Graph, Node, StoredProcess, copy_arg, guesses_of, is_name_before};
 use oe_memory::OutOfMemory;
@@ -79,7 +79,7 @@ fn expand_node(
         (callee (map plain_stored stored.now) node.now.namespace node.now.process_id)) }
 {
     match callee(stored, node) {
-        Some(process) => expand_call(alloc, stored, node, &arguments, process),
+        Some(process) => inline_call(alloc, stored, node, &arguments, process),
         None => {
             let mut one = Vec::with_capacity(alloc, 1)?;
             one.push(Node {
@@ -94,7 +94,7 @@ fn expand_node(
 }
 
 /// The nodes of the process that a node calls.
-fn expand_call(
+fn inline_call(
     alloc: Global,
     stored: &[StoredProcess],
     node: &Node,
@@ -108,12 +108,12 @@ fn expand_call(
 {
     let given = values_given(alloc, &process.parameters, arguments)?;
     let values = Values {
+        call: node.id.as_str(),
         given: &given,
         hidden: Vec::new(alloc),
-        carried: false,
+        in_callback: false,
     };
-    let nodes = under_nodes(alloc, node.id.as_str(), &process.graph.nodes)?;
-    replaced_nodes(alloc, &nodes, stored, &values)
+    inline_nodes(alloc, &process.graph.nodes, stored, &values)
 }
 
 /// Puts nodes at the indices that their ids have in byte order.

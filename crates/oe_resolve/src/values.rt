@@ -1,26 +1,29 @@
-// The values of parameters, and arguments in which they stand.
-ghost use Rattle.std.specs.Prelude.{◌≡◌, ◌++◌, [], IfOk, if◌then◌else◌, map, option_map, unwrap_or};
+// The values of parameters.
+ghost use Rattle.std.specs.Prelude.{◌≡◌, ◌++◌, [], true, IfOk, if◌then◌else◌, map, option_map, unwrap_or};
 ghost use Rattle.std.specs.Option.{option_or};
-ghost use Rattle.oe_graph.specs.Plain.{plain_arg, plain_args, plain_named, plain_nodes, plain_node, plain_graph, plain_parameter, plain_stored};
+ghost use Rattle.oe_graph.specs.Plain.{plain_arg, plain_args, plain_named, plain_parameter};
 ghost use Rattle.oe_graph.specs.References.{argument_named};
-ghost use Rattle.oe_graph.specs.Tree.{PlainGraph, from_parameter};
+ghost use Rattle.oe_graph.specs.Tree.{from_parameter};
+ghost use Rattle.oe_resolve.specs.Renamed.{dangling, renamed, renamed_each, renamed_named};
 ghost use Rattle.oe_resolve.specs.Replaced as spec;
 ghost use Rattle.oe_resolve.specs.Seen.{names_behind, seen};
 
-use crate::calls::callback_parameters;
 use crate::names::{is_among, names_of_both};
-use oe_dims::{Text, copy_text};
-use oe_graph::{Arg, Graph, Node, ParameterRow, StoredProcess, argument_named, copy_arg};
+use oe_dims::Text;
+use oe_graph::{Arg, ParameterRow, argument_named, copy_arg};
 use oe_memory::OutOfMemory;
 use std::alloc::Global;
 
-/// What parameters stand for: the values of a call, and in a callback those without the hidden ones, and without
-/// references.
+/// What stands for parameters: the values of a call, and in a callback those that are not hidden, whose references
+/// dangle there.
 #[derive(Drop)]
 pub struct Values<'a> {
+    /// The id of the node that calls.
+    pub call: &'a str,
     pub given: &'a Vec<(Text, Arg)>,
+    /// Names that are hidden in a callback.
     pub hidden: Vec<&'static str>,
-    pub carried: bool,
+    pub in_callback: bool,
 }
 
 /// The value of each parameter of a process that is called with these arguments.
@@ -70,18 +73,21 @@ pub fn default_of(alloc: Global, parameter: &ParameterRow) -> Result<Option<Arg>
 }
 
 /// The values that a callback sees, where its node gives it these parameters.
-fn inside<'a>(
+pub fn inside<'a>(
     alloc: Global,
     own: &[&'static str],
     values: &Values<'a>,
 ) -> Result<Values<'a>, OutOfMemory>
-    ensures { IfOk result (λ v. seen v ≡ spec.inside (names_behind own.now) (seen values.now)) }
+    ensures seen { IfOk result
+        (λ v. seen v ≡ spec.inside (names_behind own.now) (seen values.now)) }
+    ensures in_callback { IfOk result (λ v. v.in_callback ≡ true) }
 {
     let hidden = hidden_inside(alloc, own, values)?;
     Ok(Values {
+        call: values.call,
         given: values.given,
         hidden,
-        carried: true,
+        in_callback: true,
     })
 }
 
@@ -92,9 +98,9 @@ fn hidden_inside(
     values: &Values,
 ) -> Result<Vec<&'static str>, OutOfMemory>
     ensures { IfOk result (λ names. names.items
-        ≡ own.now ++ (if values.now.carried then values.now.hidden.items else [])) }
+        ≡ own.now ++ (if values.now.in_callback then values.now.hidden.items else [])) }
 {
-    if values.carried {
+    if values.in_callback {
         names_of_both(alloc, own, values.hidden.as_slice())
     } else {
         names_of_both(alloc, own, &[])
@@ -102,12 +108,12 @@ fn hidden_inside(
 }
 
 /// The value of a parameter where a reference to it stands.
-fn value_named(alloc: Global, values: &Values, name: &Text) -> Result<Arg, OutOfMemory>
+pub fn value_named(alloc: Global, values: &Values, name: &Text) -> Result<Arg, OutOfMemory>
     ensures { IfOk result (λ a. plain_arg a
         ≡ unwrap_or (argument_named name.now (seen values.now)) (from_parameter name.now)) }
 {
-    if values.carried {
-        return carried_value(alloc, values, name);
+    if values.in_callback {
+        return value_in_callback(alloc, values, name);
     }
     match argument_named(values.given, name.as_str()) {
         Some(value) => copy_arg(alloc, value),
@@ -116,7 +122,7 @@ fn value_named(alloc: Global, values: &Values, name: &Text) -> Result<Arg, OutOf
 }
 
 /// The value of a parameter in a callback.
-fn carried_value(alloc: Global, values: &Values, name: &Text) -> Result<Arg, OutOfMemory>
+fn value_in_callback(alloc: Global, values: &Values, name: &Text) -> Result<Arg, OutOfMemory>
     ensures { IfOk result (λ a. plain_arg a
         ≡ unwrap_or (argument_named name.now
         (spec.inside (names_behind values.now.hidden.items)
@@ -127,15 +133,15 @@ fn carried_value(alloc: Global, values: &Values, name: &Text) -> Result<Arg, Out
         return Ok(Arg::FromParameter(name.copy()?));
     }
     match argument_named(values.given, name.as_str()) {
-        Some(value) => carried_arg(alloc, value),
+        Some(value) => dangling_arg(alloc, value),
         None => Ok(Arg::FromParameter(name.copy()?)),
     }
 }
 
-/// A value without references: it is carried into another graph object.
-#[cycle(carry)]
-fn carried_arg(alloc: Global, arg: &Arg) -> Result<Arg, OutOfMemory>
-    ensures { IfOk result (λ a. plain_arg a ≡ spec.carried (plain_arg arg.now)) }
+/// A copy whose references dangle, as it is put into another graph object.
+#[cycle(dangling)]
+fn dangling_arg(alloc: Global, arg: &Arg) -> Result<Arg, OutOfMemory>
+    ensures { IfOk result (λ a. plain_arg a ≡ renamed dangling (plain_arg arg.now)) }
 {
     match arg {
         Arg::Null => Ok(Arg::Null),
@@ -143,166 +149,38 @@ fn carried_arg(alloc: Global, arg: &Arg) -> Result<Arg, OutOfMemory>
         Arg::Whole(whole) => Ok(Arg::Whole(*whole)),
         Arg::Inexact => Ok(Arg::Inexact),
         Arg::Str(text) => Ok(Arg::Str(text.copy()?)),
-        Arg::List(items) => Ok(Arg::List(carried_args(alloc, items)?)),
-        Arg::Object(members) => Ok(Arg::Object(carried_named(alloc, members)?)),
+        Arg::List(items) => Ok(Arg::List(dangling_args(alloc, items)?)),
+        Arg::Object(members) => Ok(Arg::Object(dangling_named(alloc, members)?)),
         Arg::FromNode(_) => Ok(Arg::FromNode(Text::of(alloc, "")?)),
         Arg::FromParameter(name) => Ok(Arg::FromParameter(name.copy()?)),
         Arg::Callback(_) => copy_arg(alloc, arg),
     }
 }
 
-#[cycle(carry)]
-fn carried_args(alloc: Global, items: &Vec<Arg>) -> Result<Vec<Arg>, OutOfMemory>
+#[cycle(dangling)]
+fn dangling_args(alloc: Global, items: &Vec<Arg>) -> Result<Vec<Arg>, OutOfMemory>
     ensures { IfOk result
-        (λ v. plain_args v.items ≡ spec.carried_each (plain_args items.now.items)) }
+        (λ v. plain_args v.items ≡ renamed_each dangling (plain_args items.now.items)) }
 {
     let mut copy = Vec::with_capacity(alloc, items.len())?;
     for item in items {
-        copy.push(carried_arg(alloc, item)?)?;
+        copy.push(dangling_arg(alloc, item)?)?;
     }
     Ok(copy)
 }
 
-#[cycle(carry)]
-fn carried_named(alloc: Global, members: &Vec<(Text, Arg)>) -> Result<Vec<(Text, Arg)>, OutOfMemory>
-    ensures { IfOk result
-        (λ v. plain_named v.items ≡ spec.carried_named (plain_named members.now.items)) }
-{
-    let mut copy = Vec::with_capacity(alloc, members.len())?;
-    for member in members {
-        let name = member.0.copy()?;
-        copy.push((name, carried_arg(alloc, &member.1)?))?;
-    }
-    Ok(copy)
-}
-
-/// The nodes of a graph object with their parameters replaced. Under a call their ids and references begin with its id;
-/// none has the empty id.
-#[cycle(replace)]
-pub fn replaced_nodes(
-    alloc: Global,
-    nodes: &Vec<Node>,
-    stored: &[StoredProcess],
-    values: &Values,
-) -> Result<Vec<Node>, OutOfMemory>
-    ensures { IfOk result (λ v. plain_nodes v.items
-        ≡ spec.replaced_nodes (map plain_stored stored.now) (seen values.now)
-        (plain_nodes nodes.now.items)) }
-{
-    let mut copy = Vec::with_capacity(alloc, nodes.len())?;
-    for node in nodes {
-        copy.push(replaced_node(alloc, node, stored, values)?)?;
-    }
-    Ok(copy)
-}
-
-#[cycle(replace)]
-fn replaced_node(
-    alloc: Global,
-    node: &Node,
-    stored: &[StoredProcess],
-    values: &Values,
-) -> Result<Node, OutOfMemory>
-    ensures { IfOk result (λ n. plain_node n
-        ≡ spec.replaced_node (map plain_stored stored.now) (seen values.now)
-        (plain_node node.now)) }
-{
-    let own = callback_parameters(stored, node);
-    let arguments = replaced_named(alloc, &node.arguments, stored, own, values)?;
-    Ok(Node {
-        id: node.id.copy()?,
-        process_id: node.process_id.copy()?,
-        namespace: copy_text(&node.namespace)?,
-        arguments,
-    })
-}
-
-#[cycle(replace)]
-fn replaced_named(
+#[cycle(dangling)]
+fn dangling_named(
     alloc: Global,
     members: &Vec<(Text, Arg)>,
-    stored: &[StoredProcess],
-    own: &'static [&'static str],
-    values: &Values,
 ) -> Result<Vec<(Text, Arg)>, OutOfMemory>
-    ensures { IfOk result (λ v. plain_named v.items
-        ≡ spec.replaced_named (map plain_stored stored.now) (names_behind own.now)
-        (seen values.now) (plain_named members.now.items)) }
+    ensures { IfOk result
+        (λ v. plain_named v.items ≡ renamed_named dangling (plain_named members.now.items)) }
 {
     let mut copy = Vec::with_capacity(alloc, members.len())?;
     for member in members {
         let name = member.0.copy()?;
-        copy.push((name, replaced_arg(alloc, &member.1, stored, own, values)?))?;
+        copy.push((name, dangling_arg(alloc, &member.1)?))?;
     }
     Ok(copy)
-}
-
-#[cycle(replace)]
-fn replaced_args(
-    alloc: Global,
-    items: &Vec<Arg>,
-    stored: &[StoredProcess],
-    own: &'static [&'static str],
-    values: &Values,
-) -> Result<Vec<Arg>, OutOfMemory>
-    ensures { IfOk result (λ v. plain_args v.items
-        ≡ spec.replaced_each (map plain_stored stored.now) (names_behind own.now)
-        (seen values.now) (plain_args items.now.items)) }
-{
-    let mut copy = Vec::with_capacity(alloc, items.len())?;
-    for item in items {
-        copy.push(replaced_arg(alloc, item, stored, own, values)?)?;
-    }
-    Ok(copy)
-}
-
-#[cycle(replace)]
-fn replaced_arg(
-    alloc: Global,
-    arg: &Arg,
-    stored: &[StoredProcess],
-    own: &'static [&'static str],
-    values: &Values,
-) -> Result<Arg, OutOfMemory>
-    ensures { IfOk result (λ a. plain_arg a
-        ≡ spec.replaced (map plain_stored stored.now) (names_behind own.now) (seen values.now)
-        (plain_arg arg.now)) }
-{
-    match arg {
-        Arg::Null => Ok(Arg::Null),
-        Arg::Flag(flag) => Ok(Arg::Flag(*flag)),
-        Arg::Whole(whole) => Ok(Arg::Whole(*whole)),
-        Arg::Inexact => Ok(Arg::Inexact),
-        Arg::Str(text) => Ok(Arg::Str(text.copy()?)),
-        Arg::List(items) => { Ok(Arg::List(replaced_args(alloc, items, stored, own, values)?)) }
-        Arg::Object(members) => {
-            Ok(Arg::Object(replaced_named(alloc, members, stored, own, values)?))
-        }
-        Arg::FromNode(id) => Ok(Arg::FromNode(id.copy()?)),
-        Arg::FromParameter(name) => value_named(alloc, values, name),
-        Arg::Callback(graph) => {
-            let inner = inside(alloc, own, values)?;
-            Ok(Arg::Callback(replaced_graph(alloc, graph, stored, &inner)?))
-        }
-    }
-}
-
-#[cycle(replace)]
-fn replaced_graph(
-    alloc: Global,
-    graph: &Graph,
-    stored: &[StoredProcess],
-    values: &Values,
-) -> Result<Graph, OutOfMemory>
-    ensures nodes { IfOk result (λ g. (plain_graph g).nodes
-        ≡ spec.replaced_nodes (map plain_stored stored.now) (seen values.now)
-        (plain_graph graph.now).nodes) }
-    ensures result { IfOk result
-        (λ g. (plain_graph g).result ≡ (plain_graph graph.now).result) }
-{
-    let nodes = replaced_nodes(alloc, &graph.nodes, stored, values)?;
-    Ok(Graph {
-        nodes,
-        result: graph.result,
-    })
 }

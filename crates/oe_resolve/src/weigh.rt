@@ -7,14 +7,15 @@ ghost use Rattle.oe_dims.specs.Names.{same_name};
 ghost use Rattle.oe_graph.specs.Plain.{plain_arg, plain_args, plain_graph, plain_named, plain_node, plain_nodes, plain_parameter, plain_stored};
 ghost use Rattle.oe_graph.specs.Tree.{Named, Nodes, from_parameter};
 ghost use Rattle.oe_resolve.specs.Calls.{callee};
+ghost use Rattle.oe_resolve.specs.Renamed.{renamed_nodes};
 ghost use Rattle.oe_resolve.specs.Replaced as replaced;
 ghost use Rattle.oe_resolve.specs.Rounds as rounds;
 ghost use Rattle.oe_resolve.specs.Seen.{names_behind, plain_sizes};
 ghost use Rattle.oe_resolve.specs.Sizes as spec;
 
 use crate::calls::{callback_parameters, callee};
+use crate::inline::under_id;
 use crate::names::{is_among, names_of_both};
-use crate::under::under_id;
 use oe_dims::{Text, same_text};
 use oe_graph::{Arg, Graph, Node, ParameterRow, StoredProcess, argument_named};
 use oe_memory::OutOfMemory;
@@ -178,7 +179,7 @@ fn under_nodes_left(
     budget: u64,
 ) -> Result<u64, OutOfMemory>
     ensures { IfOk result (λ left. budget ≡ left + spec.size_bare_nodes measure
-        (rounds.under_nodes call.now (plain_nodes nodes.now.items))) }
+        (renamed_nodes (rounds.under_id call.now) (plain_nodes nodes.now.items))) }
 {
     let mut left = budget;
     for node in nodes {

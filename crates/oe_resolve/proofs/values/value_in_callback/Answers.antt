@@ -6,12 +6,12 @@ use Rattle.oe_graph.specs.Plain.{plain_arg, plain_named}
 use Rattle.oe_graph.specs.References.{argument_named}
 use Rattle.oe_graph.specs.Tree.{from_parameter}
 use Rattle.oe_graph.specs.declared.tree.Arg.{Arg}
-use Rattle.oe_resolve.specs.Replaced.{carried}
+use Rattle.oe_resolve.specs.Renamed.{dangling, renamed}
 use Rattle.oe_resolve.specs.Seen.{names_behind}
 use Rattle.oe_resolve.specs.declared.values.Values.{Values}
 use Rattle.oe_resolve.proofs.NodeLemmas.{plain_from_parameter}
 use Rattle.oe_resolve.proofs.ValueLemmas.{hidden_value, seen_value}
-use Rattle.oe_resolve.proofs.values.carried_value.Goals as goal
+use Rattle.oe_resolve.proofs.values.value_in_callback.Goals as goal
 
 pub returns-then-is_among : goal.returns-then-is_among
 returns-then-is_among c =
@@ -33,10 +33,10 @@ returns-in-Some c =
     let found : Some (plain_arg c.in-Some.value.now) ≡ argument_named name ms =
     ap (λ (o : Option (Bor Arg)). option_map (λ (a : Bor Arg). plain_arg a.now) o) (sym c.in-Some.is)
     ∙ (c.argument_named.ensures ∙ ap (λ n. argument_named n ms) c.as_str-2.ensures) in
-    IfOk-weaker c.carried_arg.result _ _
+    IfOk-weaker c.dangling_arg.result _ _
     (λ a is. is ∙ sym (ap (λ o. unwrap_or o (from_parameter name))
-    (seen_value name (names_behind v.hidden.items) ms seen ∙ ap (option_map carried) (sym found))))
-    c.carried_arg.ensures
+    (seen_value name (names_behind v.hidden.items) ms seen ∙ ap (option_map (renamed dangling)) (sym found))))
+    c.dangling_arg.ensures
 
 pub returns-in_ok-copy-in-None : goal.returns-in_ok-copy-in-None
 returns-in_ok-copy-in-None c =
@@ -51,4 +51,4 @@ returns-in_ok-copy-in-None c =
     plain_from_parameter _
     ∙ (ap from_parameter c.in_ok-copy-in-None.ensures
     ∙ sym (ap (λ o. unwrap_or o (from_parameter name))
-    (seen_value name (names_behind v.hidden.items) ms seen ∙ ap (option_map carried) (sym found))))
+    (seen_value name (names_behind v.hidden.items) ms seen ∙ ap (option_map (renamed dangling)) (sym found))))
