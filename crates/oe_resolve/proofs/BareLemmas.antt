@@ -9,27 +9,27 @@ use Rattle.oe_graph.specs.declared.tree.Graph.{out-Graph}
 use Rattle.oe_graph.specs.declared.tree.Node.{Node}
 use Rattle.oe_graph.proofs.PartLemmas.{graph_parts, node_parts}
 use Rattle.oe_resolve.specs.Calls.{callee}
-use Rattle.oe_resolve.specs.Replaced.{values_given, replaced_nodes}
+use Rattle.oe_resolve.specs.Substituted.{values_given, substituted_nodes}
 use Rattle.oe_resolve.specs.Renamed.{renamed_nodes}
-use Rattle.oe_resolve.specs.Rounds.{known_nodes, under_id, put_node, put_nodes, opened, round_named, round_nodes}
+use Rattle.oe_resolve.specs.Rounds.{cleared_nodes, under_id, put_node, put_nodes, opened, round_named, round_nodes}
 use Rattle.oe_resolve.specs.Sizes.{size_bare, size_bare_nodes, opened_bare, round_bare}
 use Rattle.oe_resolve.specs.declared.weigh.Measure.{Measure}
 
 module _ (m : Measure) where
-  pub bare_known : (ids : List (List ℕ)) (ns : Nodes) → size_bare_nodes m (known_nodes ids ns) ≡ size_bare_nodes m ns
+  pub bare_known : (ids : List (List ℕ)) (ns : Nodes) → size_bare_nodes m (cleared_nodes ids ns) ≡ size_bare_nodes m ns
   bare_known ids no_nodes = refl
   bare_known ids (node id p s args rest) = ap (λ n. size_bare m id p + n) (bare_known ids rest)
 
-  pub bare_replaced : (stored : List PlainStored) (values : Named) (ns : Nodes)
-      → size_bare_nodes m (replaced_nodes stored values ns) ≡ size_bare_nodes m ns
-  bare_replaced stored values no_nodes = refl
-  bare_replaced stored values (node id p s args rest) = ap (λ n. size_bare m id p + n) (bare_replaced stored values rest)
+  pub bare_substituted : (stored : List PlainStored) (values : Named) (ns : Nodes)
+      → size_bare_nodes m (substituted_nodes stored values ns) ≡ size_bare_nodes m ns
+  bare_substituted stored values no_nodes = refl
+  bare_substituted stored values (node id p s args rest) = ap (λ n. size_bare m id p + n) (bare_substituted stored values rest)
 
   bare_opened : (stored : List PlainStored) (n : PlainNode) (o : Option PlainStored)
       → size_bare_nodes m (opened stored n o) ≡ opened_bare m n.id n.process_id o
   bare_opened stored n None = omega arith
   bare_opened stored n (Some s) =
-      bare_replaced stored (values_given s.parameters n.arguments) (renamed_nodes (under_id n.id) s.graph.nodes)
+      bare_substituted stored (values_given s.parameters n.arguments) (renamed_nodes (under_id n.id) s.graph.nodes)
 
   put_by : (before : Bool) (n : PlainNode) (id p : List ℕ) (s : Option (List ℕ)) (args : Named) (rest : Nodes)
       → size_bare_nodes m (put_node n rest) ≡ size_bare m n.id n.process_id + size_bare_nodes m rest

@@ -6,9 +6,9 @@ use Rattle.oe_graph.specs.Printed.{ids_of, node_count}
 use Rattle.oe_graph.specs.Tree.{Named, Nodes, no_nodes, node, PlainGraph, PlainNode, PlainStored}
 use Rattle.oe_resolve.specs.Calls.{callee, means_stored, stored_named}
 use Rattle.oe_resolve.specs.Counted.{enough, count_with, total, size_by}
-use Rattle.oe_resolve.specs.Replaced.{replaced_nodes, values_given}
+use Rattle.oe_resolve.specs.Substituted.{substituted_nodes, values_given}
 use Rattle.oe_resolve.specs.Renamed.{renamed_nodes}
-use Rattle.oe_resolve.specs.Rounds.{under_id, put_node, put_nodes, opened, round_nodes, round_named, round, rounds, known_nodes, known_graph, known_stored, expanded_by}
+use Rattle.oe_resolve.specs.Rounds.{under_id, put_node, put_nodes, opened, round_nodes, round_named, round, rounds, cleared_nodes, cleared_graph, cleared_stored, expanded_by}
 
 abbrev one_each : PlainStored → ℕ
 one_each s = 1
@@ -31,11 +31,11 @@ module _ (stored : List PlainStored) where
   count_under size call no_nodes = refl
   count_under size call (node id p s args rest) = ap (λ k. option_map_or size (callee stored s p) 1 + k) (count_under size call rest)
 
-  count_replaced : (size : PlainStored → ℕ) (values : Named) (ns : Nodes)
-      → count_with stored size (replaced_nodes stored values ns) ≡ count_with stored size ns
-  count_replaced size values no_nodes = refl
-  count_replaced size values (node id p s args rest) =
-      ap (λ k. option_map_or size (callee stored s p) 1 + k) (count_replaced size values rest)
+  count_substituted : (size : PlainStored → ℕ) (values : Named) (ns : Nodes)
+      → count_with stored size (substituted_nodes stored values ns) ≡ count_with stored size ns
+  count_substituted size values no_nodes = refl
+  count_substituted size values (node id p s args rest) =
+      ap (λ k. option_map_or size (callee stored s p) 1 + k) (count_substituted size values rest)
 
   count_put_by : (size : PlainStored → ℕ) (n : PlainNode) (id p : List ℕ) (s : Option (List ℕ)) (args : Named) (rest : Nodes) (b : Bool)
       → count_with stored size (put_node n rest) ≡ option_map_or size (callee stored n.namespace n.process_id) 1 + count_with stored size rest
@@ -63,7 +63,7 @@ module _ (stored : List PlainStored) where
       → count_with stored size (opened stored n o) ≡ option_map_or (one_more size) o 1
   count_opened size n None is = ap (λ o. option_map_or size o 1 + 0) is ∙ omega arith
   count_opened size n (Some s) is =
-      count_replaced size (values_given s.parameters n.arguments) (renamed_nodes (under_id n.id) s.graph.nodes)
+      count_substituted size (values_given s.parameters n.arguments) (renamed_nodes (under_id n.id) s.graph.nodes)
       ∙ count_under size n.id s.graph.nodes
 
   count_round : (size : PlainStored → ℕ) (all ns found : Nodes)
@@ -146,31 +146,31 @@ module _ (stored : List PlainStored) where
       → total stored (size_by stored times) ns ≡ min enough (count_with stored (given_by times) ns)
   total_given times ns = cut_count (size_by stored times) (given_by times) ns (cut_given times)
 
--- ---- among stored processes whose references are known
+-- ---- among stored processes without dangling references
 
-named_if : (same : Bool) (s : PlainStored) (rest known_rest : Option PlainStored) → known_rest ≡ option_map known_stored rest
-    → cond same (Some (known_stored s)) known_rest ≡ option_map known_stored (cond same (Some s) rest)
-named_if true s rest known_rest later = refl
-named_if false s rest known_rest later = later
+named_if : (same : Bool) (s : PlainStored) (rest cleared_rest : Option PlainStored) → cleared_rest ≡ option_map cleared_stored rest
+    → cond same (Some (cleared_stored s)) cleared_rest ≡ option_map cleared_stored (cond same (Some s) rest)
+named_if true s rest cleared_rest later = refl
+named_if false s rest cleared_rest later = later
 
-named_known : (id : List ℕ) (stored : List PlainStored)
-    → stored_named id (map known_stored stored) ≡ option_map known_stored (stored_named id stored)
-named_known id [] = refl
-named_known id (s ∷ stored) =
-    named_if (same_name s.id id) s (stored_named id stored) (stored_named id (map known_stored stored)) (named_known id stored)
+named_cleared : (id : List ℕ) (stored : List PlainStored)
+    → stored_named id (map cleared_stored stored) ≡ option_map cleared_stored (stored_named id stored)
+named_cleared id [] = refl
+named_cleared id (s ∷ stored) =
+    named_if (same_name s.id id) s (stored_named id stored) (stored_named id (map cleared_stored stored)) (named_cleared id stored)
 
-called_if : (means : Bool) (o known_o : Option PlainStored) → known_o ≡ option_map known_stored o
-    → (if means then known_o else None) ≡ option_map known_stored (if means then o else None)
-called_if true o known_o is = is
-called_if false o known_o is = refl
+called_if : (means : Bool) (o cleared_o : Option PlainStored) → cleared_o ≡ option_map cleared_stored o
+    → (if means then cleared_o else None) ≡ option_map cleared_stored (if means then o else None)
+called_if true o cleared_o is = is
+called_if false o cleared_o is = refl
 
-pub callee_known : (stored : List PlainStored) (namespace : Option (List ℕ)) (p : List ℕ)
-    → callee (map known_stored stored) namespace p ≡ option_map known_stored (callee stored namespace p)
-callee_known stored namespace p =
-    called_if (means_stored namespace) (stored_named p stored) (stored_named p (map known_stored stored)) (named_known p stored)
+pub callee_cleared : (stored : List PlainStored) (namespace : Option (List ℕ)) (p : List ℕ)
+    → callee (map cleared_stored stored) namespace p ≡ option_map cleared_stored (callee stored namespace p)
+callee_cleared stored namespace p =
+    called_if (means_stored namespace) (stored_named p stored) (stored_named p (map cleared_stored stored)) (named_cleared p stored)
 
 mapped : (size : PlainStored → ℕ) (o : Option PlainStored)
-    → option_map_or size (option_map known_stored o) 1 ≡ option_map_or (λ (s : PlainStored). size (known_stored s)) o 1
+    → option_map_or size (option_map cleared_stored o) 1 ≡ option_map_or (λ (s : PlainStored). size (cleared_stored s)) o 1
 mapped size None = refl
 mapped size (Some s) = refl
 
@@ -190,37 +190,37 @@ same_count stored size other (node id p s args rest) each =
     (count_with stored size rest) (count_with stored other rest)
     (same_one size other (callee stored s p) each) (same_count stored size other rest each)
 
-count_known : (stored : List PlainStored) (size : PlainStored → ℕ) (ids : List (List ℕ)) (ns : Nodes)
-    → count_with (map known_stored stored) size (known_nodes ids ns)
-    ≡ count_with stored (λ (s : PlainStored). size (known_stored s)) ns
-count_known stored size ids no_nodes = refl
-count_known stored size ids (node id p s args rest) =
-    same_sum (option_map_or size (callee (map known_stored stored) s p) 1)
-    (option_map_or (λ (k : PlainStored). size (known_stored k)) (callee stored s p) 1)
-    (count_with (map known_stored stored) size (known_nodes ids rest))
-    (count_with stored (λ (k : PlainStored). size (known_stored k)) rest)
-    (ap (λ o. option_map_or size o 1) (callee_known stored s p) ∙ mapped size (callee stored s p))
-    (count_known stored size ids rest)
+count_cleared : (stored : List PlainStored) (size : PlainStored → ℕ) (ids : List (List ℕ)) (ns : Nodes)
+    → count_with (map cleared_stored stored) size (cleared_nodes ids ns)
+    ≡ count_with stored (λ (s : PlainStored). size (cleared_stored s)) ns
+count_cleared stored size ids no_nodes = refl
+count_cleared stored size ids (node id p s args rest) =
+    same_sum (option_map_or size (callee (map cleared_stored stored) s p) 1)
+    (option_map_or (λ (k : PlainStored). size (cleared_stored k)) (callee stored s p) 1)
+    (count_with (map cleared_stored stored) size (cleared_nodes ids rest))
+    (count_with stored (λ (k : PlainStored). size (cleared_stored k)) rest)
+    (ap (λ o. option_map_or size o 1) (callee_cleared stored s p) ∙ mapped size (callee stored s p))
+    (count_cleared stored size ids rest)
 
-given_known : (stored : List PlainStored) (times : ℕ) (s : PlainStored)
-    → given_by (map known_stored stored) times (known_stored s) ≡ given_by stored times s
-given_known stored zero s = refl
-given_known stored (suc times) s =
-    count_known stored (given_by (map known_stored stored) times) (ids_of s.graph.nodes) s.graph.nodes
-    ∙ same_count stored (λ (k : PlainStored). given_by (map known_stored stored) times (known_stored k)) (given_by stored times)
-    s.graph.nodes (given_known stored times)
+given_cleared : (stored : List PlainStored) (times : ℕ) (s : PlainStored)
+    → given_by (map cleared_stored stored) times (cleared_stored s) ≡ given_by stored times s
+given_cleared stored zero s = refl
+given_cleared stored (suc times) s =
+    count_cleared stored (given_by (map cleared_stored stored) times) (ids_of s.graph.nodes) s.graph.nodes
+    ∙ same_count stored (λ (k : PlainStored). given_by (map cleared_stored stored) times (cleared_stored k)) (given_by stored times)
+    s.graph.nodes (given_cleared stored times)
 
 -- how many nodes the expanded graph has, up to one more than it may have
 pub expanded_count : (stored : List PlainStored) (g : PlainGraph)
     → min enough (node_count (expanded_by (length stored) stored g).nodes) ≡ total stored (size_by stored (length stored)) g.nodes
 expanded_count stored g =
-    let known = map known_stored stored in
+    let cleared = map cleared_stored stored in
     let times = length stored in
     ap (min enough)
-    (count_given known times (known_graph g)
-    ∙ count_known stored (given_by known times) (ids_of g.nodes) g.nodes
-    ∙ same_count stored (λ (s : PlainStored). given_by known times (known_stored s)) (given_by stored times) g.nodes
-    (given_known stored times))
+    (count_given cleared times (cleared_graph g)
+    ∙ count_cleared stored (given_by cleared times) (ids_of g.nodes) g.nodes
+    ∙ same_count stored (λ (s : PlainStored). given_by cleared times (cleared_stored s)) (given_by stored times) g.nodes
+    (given_cleared stored times))
     ∙ sym (total_given stored times g.nodes)
 
 -- ---- what the code counts

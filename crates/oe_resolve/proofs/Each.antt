@@ -6,29 +6,29 @@ use Rattle.oe_graph.specs.declared.tree.Arg.{Arg}
 use Rattle.oe_graph.specs.declared.tree.Node.{Node}
 use Rattle.oe_resolve.specs.Rounds as rounds
 use Rattle.oe_resolve.specs.Renamed as renamed
-use Rattle.oe_resolve.specs.Replaced as replaced
+use Rattle.oe_resolve.specs.Substituted as substituted
 use Rattle.oe_resolve.specs.Filled as filled
 
 -- a member under its name, its value changed
 abbrev pub member_by : (Argument → Argument) → List ℕ × Arg → List ℕ × Argument
 member_by f m = (m.0, f (plain_arg m.1))
 
-pub known_each : (ids : List (List ℕ)) (xs : List Arg)
-    → values_from_list (map (λ a. rounds.known ids (plain_arg a)) xs) ≡ rounds.known_each ids (plain_args xs)
-known_each ids [] = refl
-known_each ids (a ∷ xs) = ap (argument (rounds.known ids (plain_arg a))) (known_each ids xs)
+pub cleared_each : (ids : List (List ℕ)) (xs : List Arg)
+    → values_from_list (map (λ a. rounds.cleared ids (plain_arg a)) xs) ≡ rounds.cleared_each ids (plain_args xs)
+cleared_each ids [] = refl
+cleared_each ids (a ∷ xs) = ap (argument (rounds.cleared ids (plain_arg a))) (cleared_each ids xs)
 
-pub known_named : (ids : List (List ℕ)) (ms : List (List ℕ × Arg))
-    → named_from_list (map (member_by (rounds.known ids)) ms) ≡ rounds.known_named ids (plain_named ms)
-known_named ids [] = refl
-known_named ids (m ∷ ms) = ap (named m.0 (rounds.known ids (plain_arg m.1))) (known_named ids ms)
+pub cleared_named : (ids : List (List ℕ)) (ms : List (List ℕ × Arg))
+    → named_from_list (map (member_by (rounds.cleared ids)) ms) ≡ rounds.cleared_named ids (plain_named ms)
+cleared_named ids [] = refl
+cleared_named ids (m ∷ ms) = ap (named m.0 (rounds.cleared ids (plain_arg m.1))) (cleared_named ids ms)
 
-pub known_nodes : (ids : List (List ℕ)) (ns : List Node)
-    → nodes_from_list (map (λ n. rounds.known_node ids (plain_node n)) ns) ≡ rounds.known_nodes ids (plain_nodes ns)
-known_nodes ids [] = refl
-known_nodes ids (n ∷ ns) =
-    let m = rounds.known_node ids (plain_node n) in
-    ap (node m.id m.process_id m.namespace m.arguments) (known_nodes ids ns)
+pub cleared_nodes : (ids : List (List ℕ)) (ns : List Node)
+    → nodes_from_list (map (λ n. rounds.cleared_node ids (plain_node n)) ns) ≡ rounds.cleared_nodes ids (plain_nodes ns)
+cleared_nodes ids [] = refl
+cleared_nodes ids (n ∷ ns) =
+    let m = rounds.cleared_node ids (plain_node n) in
+    ap (node m.id m.process_id m.namespace m.arguments) (cleared_nodes ids ns)
 
 pub renamed_each : (rename : List ℕ → List ℕ) (xs : List Arg)
     → values_from_list (map (λ a. renamed.renamed rename (plain_arg a)) xs) ≡ renamed.renamed_each rename (plain_args xs)
@@ -60,26 +60,26 @@ filled_nodes (n ∷ ns) =
 -- what stands in place of a call
 module _ (stored : List PlainStored) (values : Named) (rename : List ℕ → List ℕ) where
   abbrev pub inlined : List (List ℕ) → Argument → Argument
-  inlined own a = replaced.replaced stored own values (renamed.renamed rename a)
+  inlined own a = substituted.substituted stored own values (renamed.renamed rename a)
 
   pub inlined_each : (own : List (List ℕ)) (xs : List Arg)
       → values_from_list (map (λ a. inlined own (plain_arg a)) xs)
-      ≡ replaced.replaced_each stored own values (renamed.renamed_each rename (plain_args xs))
+      ≡ substituted.substituted_each stored own values (renamed.renamed_each rename (plain_args xs))
   inlined_each own [] = refl
   inlined_each own (a ∷ xs) = ap (argument (inlined own (plain_arg a))) (inlined_each own xs)
 
   pub inlined_named : (own : List (List ℕ)) (ms : List (List ℕ × Arg))
       → named_from_list (map (member_by (inlined own)) ms)
-      ≡ replaced.replaced_named stored own values (renamed.renamed_named rename (plain_named ms))
+      ≡ substituted.substituted_named stored own values (renamed.renamed_named rename (plain_named ms))
   inlined_named own [] = refl
   inlined_named own (m ∷ ms) = ap (named m.0 (inlined own (plain_arg m.1))) (inlined_named own ms)
 
   abbrev pub inlined_node : PlainNode → PlainNode
-  inlined_node n = replaced.replaced_node stored values (renamed.renamed_node rename n)
+  inlined_node n = substituted.substituted_node stored values (renamed.renamed_node rename n)
 
   pub inlined_nodes : (ns : List Node)
       → nodes_from_list (map (λ n. inlined_node (plain_node n)) ns)
-      ≡ replaced.replaced_nodes stored values (renamed.renamed_nodes rename (plain_nodes ns))
+      ≡ substituted.substituted_nodes stored values (renamed.renamed_nodes rename (plain_nodes ns))
   inlined_nodes [] = refl
   inlined_nodes (n ∷ ns) =
       let m = inlined_node (plain_node n) in

@@ -17,12 +17,12 @@ use Rattle.oe_resolve.specs.Expansion.{IsNameFault, IsExpansion, IsEarly, IsSett
 use Rattle.oe_resolve.specs.Faults.{StandsWithStored}
 use Rattle.oe_resolve.specs.Judged as judged
 use Rattle.oe_resolve.specs.Judged.{IdsRise, IsInside, HasFault, OfItself, OfObject}
-use Rattle.oe_resolve.specs.Rounds.{round, expanded_by, expanded, known_stored, known_graph, most_rounds}
+use Rattle.oe_resolve.specs.Rounds.{round, expanded_by, expanded, cleared_stored, cleared_graph, most_rounds}
 use Rattle.oe_resolve.specs.Sizes.{IsWithinLimits}
 use Rattle.oe_graph.specs.Valid.{IsValidGraph, AreValidStored}
-use Rattle.oe_resolve.proofs.CountLemmas.{callee_known}
+use Rattle.oe_resolve.proofs.CountLemmas.{callee_cleared}
 use Rattle.oe_resolve.proofs.ExpansionLemmas.{Brought, Formed, expanded_in_order}
-use Rattle.oe_resolve.proofs.KnownLemmas.{known_same}
+use Rattle.oe_resolve.proofs.ClearedLemmas.{cleared_same}
 use Rattle.oe_resolve.proofs.OrderLemmas.{each_ordered, valid_in_order}
 use Rattle.oe_resolve.proofs.SettledLemmas.{settled}
 use Rattle.oe_resolve.proofs.StandingLemmas.{early_stands, last_stands, InRound, earlier, last_round, in_round}
@@ -53,13 +53,13 @@ module _ (stored : List PlainStored) (g : PlainGraph) (stored_valid : AreValidSt
 
   -- ---- rounds that change nothing
 
-  leaf_by : (o : Option PlainStored) → is_some o ≡ false → option_map known_stored o ≡ None
+  leaf_by : (o : Option PlainStored) → is_some o ≡ false → option_map cleared_stored o ≡ None
   leaf_by None is = refl
   leaf_by (Some s) is = absurd (true≢false is)
 
   leaf : (namespace : Option (List ℕ)) (p : List ℕ) → is_some (callee stored namespace p) ≡ false
-      → callee (map known_stored stored) namespace p ≡ None
-  leaf namespace p is = callee_known stored namespace p ∙ leaf_by (callee stored namespace p) is
+      → callee (map cleared_stored stored) namespace p ≡ None
+  leaf namespace p is = callee_cleared stored namespace p ∙ leaf_by (callee stored namespace p) is
 
   -- where no call is left
   pub settled_by : (times more : ℕ) → nodes_call stored (expanded_by times stored g).nodes ≡ false
@@ -68,8 +68,8 @@ module _ (stored : List PlainStored) (g : PlainGraph) (stored_valid : AreValidSt
   settled_by times (suc more) is =
       let next : times + suc more ≡ suc (times + more) = omega arith in
       ap (λ k. expanded_by k stored g) next
-      ∙ ap (round (map known_stored stored)) (settled_by times more is)
-      ∙ settled stored (map known_stored stored) leaf (Brought stored g) (Formed stored g) false (expanded_by times stored g) is
+      ∙ ap (round (map cleared_stored stored)) (settled_by times more is)
+      ∙ settled stored (map cleared_stored stored) leaf (Brought stored g) (Formed stored g) false (expanded_by times stored g) is
       (expanded_in_order stored g stored_valid times valid)
 
 -- in a graph as it is written too
@@ -201,7 +201,7 @@ pub itself_expanded : (stored : List PlainStored) (g : Graph) (o : Option Fault)
 itself_expanded stored written o stored_valid valid within no_call least none =
     let g = plain_graph written in
     let faultless = none_by (λ f. OfObject stored true f [] [] g.nodes) o least none in
-    let same = known_same stored true g no_call faultless in
+    let same = cleared_same stored true g no_call faultless in
     let is : IsSettled stored g g None = record {
       times = 0;
       is = sym same;

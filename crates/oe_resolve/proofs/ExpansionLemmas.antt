@@ -20,52 +20,52 @@ use Rattle.oe_resolve.specs.Calls.{means_stored, stored_named, callee, may_stand
 use Rattle.oe_resolve.specs.Faults.{StandsWithStored, process_unsupported, process_recursive, graph_too_large, callback_too_large, most_main_nodes, most_callback_nodes}
 use Rattle.oe_resolve.specs.Filled.{resolved}
 use Rattle.oe_resolve.specs.Rounds as rounds
-use Rattle.oe_resolve.specs.Rounds.{known_stored, known_graph, under_id, expanded_by, expanded, most_rounds}
+use Rattle.oe_resolve.specs.Rounds.{cleared_stored, cleared_graph, under_id, expanded_by, expanded, most_rounds}
 use Rattle.oe_graph.specs.Valid.{IsValidGraph, IsValidStored, AreValidStored}
 use Rattle.oe_resolve.proofs.FilledLemmas.{in_cons, in_none, in_first, in_rest}
 use Rattle.oe_resolve.proofs.IdLemmas.{HasNames}
 use Rattle.oe_resolve.proofs.NodeLemmas.{same_name-turned}
-use Rattle.oe_resolve.proofs.PlaceLemmas.{Place, places_of, places_of-known, places_of-round, put_place, put_places, under_places, opened_places, round_places, length-places_of, NoCalls, no_calls_in, settled_after}
-use Rattle.oe_resolve.proofs.OrderLemmas.{IsInOrder, HoldsInside, IsStoredInOrder, valid_in_order, known_in_order, plain_ordered, known_has_names, callee_in, round_is_in_order, each_ordered, each_holding, each_formed}
+use Rattle.oe_resolve.proofs.PlaceLemmas.{Place, places_of, places_of-cleared, places_of-round, put_place, put_places, under_places, opened_places, round_places, length-places_of, NoCalls, no_calls_in, settled_after}
+use Rattle.oe_resolve.proofs.OrderLemmas.{IsInOrder, HoldsInside, IsStoredInOrder, valid_in_order, cleared_in_order, plain_ordered, cleared_has_names, callee_in, round_is_in_order, each_ordered, each_holding, each_formed}
 use Rattle.oe_resolve.proofs.ResolvingLemmas.{in_map, map_in, IsOrderedObject, EachObject, StandInCatalogue, resolved-is}
 use Rattle.oe_resolve.proofs.UncalledLemmas.{node_uncalled, within_uncalled}
 
--- ---- what a node calls among stored processes whose references are known
+-- ---- what a node calls among stored processes without dangling references
 
-named_if : (same : Bool) (s : PlainStored) (rest : Option PlainStored) (known_rest : Option PlainStored)
-    → known_rest ≡ option_map known_stored rest
-    → cond same (Some (known_stored s)) known_rest ≡ option_map known_stored (cond same (Some s) rest)
-named_if true s rest known_rest later = refl
-named_if false s rest known_rest later = later
+named_if : (same : Bool) (s : PlainStored) (rest : Option PlainStored) (cleared_rest : Option PlainStored)
+    → cleared_rest ≡ option_map cleared_stored rest
+    → cond same (Some (cleared_stored s)) cleared_rest ≡ option_map cleared_stored (cond same (Some s) rest)
+named_if true s rest cleared_rest later = refl
+named_if false s rest cleared_rest later = later
 
-named_known : (id : List ℕ) (stored : List PlainStored)
-    → stored_named id (map known_stored stored) ≡ option_map known_stored (stored_named id stored)
-named_known id [] = refl
-named_known id (s ∷ stored) =
-    named_if (same_name s.id id) s (stored_named id stored) (stored_named id (map known_stored stored)) (named_known id stored)
+named_cleared : (id : List ℕ) (stored : List PlainStored)
+    → stored_named id (map cleared_stored stored) ≡ option_map cleared_stored (stored_named id stored)
+named_cleared id [] = refl
+named_cleared id (s ∷ stored) =
+    named_if (same_name s.id id) s (stored_named id stored) (stored_named id (map cleared_stored stored)) (named_cleared id stored)
 
-called_if : (means : Bool) (o : Option PlainStored) (known_o : Option PlainStored) → known_o ≡ option_map known_stored o
-    → (if means then known_o else None) ≡ option_map known_stored (if means then o else None)
-called_if true o known_o is = is
-called_if false o known_o is = refl
+called_if : (means : Bool) (o : Option PlainStored) (cleared_o : Option PlainStored) → cleared_o ≡ option_map cleared_stored o
+    → (if means then cleared_o else None) ≡ option_map cleared_stored (if means then o else None)
+called_if true o cleared_o is = is
+called_if false o cleared_o is = refl
 
-pub callee_known : (stored : List PlainStored) (namespace : Option (List ℕ)) (p : List ℕ)
-    → callee (map known_stored stored) namespace p ≡ option_map known_stored (callee stored namespace p)
-callee_known stored namespace p =
-    called_if (means_stored namespace) (stored_named p stored) (stored_named p (map known_stored stored)) (named_known p stored)
+pub callee_cleared : (stored : List PlainStored) (namespace : Option (List ℕ)) (p : List ℕ)
+    → callee (map cleared_stored stored) namespace p ≡ option_map cleared_stored (callee stored namespace p)
+callee_cleared stored namespace p =
+    called_if (means_stored namespace) (stored_named p stored) (stored_named p (map cleared_stored stored)) (named_cleared p stored)
 
-known_none : (o : Option PlainStored) → option_map known_stored o ≡ None → o ≡ None
-known_none None is = refl
-known_none (Some s) is = absurd cc
+cleared_none : (o : Option PlainStored) → option_map cleared_stored o ≡ None → o ≡ None
+cleared_none None is = refl
+cleared_none (Some s) is = absurd cc
 
-record KnownOf (o : Option PlainStored) (known : PlainStored) : Type 0 where
+record ClearedOf (o : Option PlainStored) (cleared : PlainStored) : Type 0 where
   pub of : PlainStored
   pub is_some : o ≡ Some of
-  pub is_known : known_stored of ≡ known
+  pub is_known : cleared_stored of ≡ cleared
 
-known_some : (o : Option PlainStored) (known : PlainStored) → option_map known_stored o ≡ Some known → KnownOf o known
-known_some None known is = absurd cc
-known_some (Some s) known is = record { of = s; is_some = refl; is_known = cc }
+cleared_some : (o : Option PlainStored) (cleared : PlainStored) → option_map cleared_stored o ≡ Some cleared → ClearedOf o cleared
+cleared_some None cleared is = absurd cc
+cleared_some (Some s) cleared is = record { of = s; is_some = refl; is_known = cc }
 
 -- ---- what stands
 
@@ -129,7 +129,7 @@ module _ (stored : List PlainStored) (g : PlainGraph) where
     written = written;
     is_written = is_written;
     count = 0;
-    is = sym (places_of-known (ids_of written.nodes) written.nodes);
+    is = sym (places_of-cleared (ids_of written.nodes) written.nodes);
   }
 
   inside_node : (in_callback : Bool) (from k : PlainNode) → Contains (each_node g.nodes) from
@@ -144,23 +144,23 @@ module _ (stored : List PlainStored) (g : PlainGraph) where
         ),
   )
 
-  at_first : IsValidGraph g → IsInOrder (Brought stored g) (Formed stored g) false (known_graph g)
+  at_first : IsValidGraph g → IsInOrder (Brought stored g) (Formed stored g) false (cleared_graph g)
   at_first valid =
-      known_in_order (Brought stored g) (Formed stored g) false g
+      cleared_in_order (Brought stored g) (Formed stored g) false g
       (valid_in_order (Brought stored g) (Formed stored g) false g valid
       (λ k has. from_node false k k has itself)
       (λ k has. inside_node false k k has itself))
 
   module _ (stored_valid : AreValidStored stored) where
-    names : (namespace : Option (List ℕ)) (p : List ℕ) (s : PlainStored) → callee (map known_stored stored) namespace p ≡ Some s
+    names : (namespace : Option (List ℕ)) (p : List ℕ) (s : PlainStored) → callee (map cleared_stored stored) namespace p ≡ Some s
         → HasNames s
     names namespace p s is =
-        let of = known_some (callee stored namespace p) s (sym (callee_known stored namespace p) ∙ is) in
-        subst HasNames of.is_known (known_has_names of.of (stored_valid.each of.of (callee_in stored namespace p of.of of.is_some)))
+        let of = cleared_some (callee stored namespace p) s (sym (callee_cleared stored namespace p) ∙ is) in
+        subst HasNames of.is_known (cleared_has_names of.of (stored_valid.each of.of (callee_in stored namespace p of.of of.is_some)))
 
     opens : (in_callback : Bool) (namespace : Option (List ℕ)) (p : List ℕ) (s : PlainStored)
         → Brought stored g in_callback namespace p → callee stored namespace p ≡ Some s
-        → IsStoredInOrder (Brought stored g) (Formed stored g) in_callback (known_stored s)
+        → IsStoredInOrder (Brought stored g) (Formed stored g) in_callback (cleared_stored s)
     opens in_callback namespace p s b is =
         let valid = stored_valid.each s (callee_in stored namespace p s is) in
         let calls_it : callee stored b.node.namespace b.node.process_id ≡ Some s =
@@ -168,7 +168,7 @@ module _ (stored : List PlainStored) (g : PlainGraph) where
         let brings = λ (k : PlainNode) (has : Contains (each_node s.graph.nodes) k).
         brings_on stored false in_callback in_callback b.from b.node k b.brings (by_call calls_it has itself) in
         record {
-          nodes = (known_in_order (Brought stored g) (Formed stored g) in_callback s.graph
+          nodes = (cleared_in_order (Brought stored g) (Formed stored g) in_callback s.graph
               (valid_in_order (Brought stored g) (Formed stored g) in_callback s.graph valid.graph
               (λ k has. from_node in_callback b.from k b.has (brings k has))
               (λ k has. inside_node in_callback b.from k b.has (brings k has)))).1;
@@ -176,15 +176,15 @@ module _ (stored : List PlainStored) (g : PlainGraph) where
         }
 
     called : (in_callback : Bool) (namespace : Option (List ℕ)) (p : List ℕ) (s : PlainStored)
-        → Brought stored g in_callback namespace p → callee (map known_stored stored) namespace p ≡ Some s
+        → Brought stored g in_callback namespace p → callee (map cleared_stored stored) namespace p ≡ Some s
         → IsStoredInOrder (Brought stored g) (Formed stored g) in_callback s
     called in_callback namespace p s brought is =
-        let of = known_some (callee stored namespace p) s (sym (callee_known stored namespace p) ∙ is) in
+        let of = cleared_some (callee stored namespace p) s (sym (callee_cleared stored namespace p) ∙ is) in
         subst (IsStoredInOrder (Brought stored g) (Formed stored g) in_callback) of.is_known
         (opens in_callback namespace p of.of brought of.is_some)
 
     formed : (ns : Nodes) → Formed stored g (places_of ns)
-        → Formed stored g (places_of (rounds.round_nodes (map known_stored stored) ns ns no_nodes))
+        → Formed stored g (places_of (rounds.round_nodes (map cleared_stored stored) ns ns no_nodes))
     formed ns is =
         let ms = (expanded_by is.count stored is.written).nodes in
         record {
@@ -196,16 +196,16 @@ module _ (stored : List PlainStored) (g : PlainGraph) where
           written = is.written;
           is_written = is.is_written;
           count = suc is.count;
-          is = places_of-round (map known_stored stored) ns ns no_nodes
-              ∙ (ap (λ ts. round_places (map known_stored stored) ts []) is.is
-              ∙ sym (places_of-round (map known_stored stored) ms ms no_nodes));
+          is = places_of-round (map cleared_stored stored) ns ns no_nodes
+              ∙ (ap (λ ts. round_places (map cleared_stored stored) ts []) is.is
+              ∙ sym (places_of-round (map cleared_stored stored) ms ms no_nodes));
         }
 
     -- the graph after so many rounds is in order, and each of its nodes is brought
     pub expanded_in_order : (times : ℕ) → IsValidGraph g → IsInOrder (Brought stored g) (Formed stored g) false (expanded_by times stored g)
     expanded_in_order zero valid = at_first valid
     expanded_in_order (suc times) valid =
-        round_is_in_order (Brought stored g) (Formed stored g) (map known_stored stored) names called formed
+        round_is_in_order (Brought stored g) (Formed stored g) (map cleared_stored stored) names called formed
         false (expanded_by times stored g) (expanded_in_order times valid)
 
     -- so is each graph object in it
@@ -288,14 +288,14 @@ module _ (stored : List PlainStored) (h : PlainGraph) where
             (later.0, in_rest n (each_node rest) later.0 later.1, later.2)
       ]
 
-  first_leads : Leads 0 (places_of (known_graph h).nodes)
+  first_leads : Leads 0 (places_of (cleared_graph h).nodes)
   first_leads s c =
-      let k = node_at h.nodes s (subst (λ (ts : List Place). CallsAt stored ts s) (places_of-known (ids_of h.nodes) h.nodes) c) in
+      let k = node_at h.nodes s (subst (λ (ts : List Place). CallsAt stored ts s) (places_of-cleared (ids_of h.nodes) h.nodes) c) in
       first k.1 (record { caller = k.0; holds = itself; calls = k.2 })
 
   opened_leads : (count : ℕ) (t : Place) (o : Option PlainStored) → callee stored t.2 t.1 ≡ o
       → ((s : PlainStored) → callee stored t.2 t.1 ≡ Some s → Chained stored h count s)
-      → Leads (suc count) (opened_places t (option_map known_stored o))
+      → Leads (suc count) (opened_places t (option_map cleared_stored o))
   opened_leads count t None is here s c =
       elim (place_cases t [] s c) as (λ _. Chained stored h (suc count) s) [
         | inl own ↦ let both : None ≡ Some s = sym is ∙ own in absurd cc
@@ -303,18 +303,18 @@ module _ (stored : List PlainStored) (h : PlainGraph) where
       ]
   opened_leads count t (Some called) is here s c =
       let k = node_at called.graph.nodes s
-      (subst (λ (ts : List Place). CallsAt stored ts s) (places_of-known (ids_of called.graph.nodes) called.graph.nodes)
-      (under_calls t.0 (places_of (known_stored called).graph.nodes) s c)) in
+      (subst (λ (ts : List Place). CallsAt stored ts s) (places_of-cleared (ids_of called.graph.nodes) called.graph.nodes)
+      (under_calls t.0 (places_of (cleared_stored called).graph.nodes) s c)) in
       next (here called is) k.1 (record { caller = k.0; holds = itself; calls = k.2 })
 
   round_leads : (count : ℕ) (ts found : List Place) → Leads count ts → Leads (suc count) found
-      → Leads (suc count) (round_places (map known_stored stored) ts found)
+      → Leads (suc count) (round_places (map cleared_stored stored) ts found)
   round_leads count [] found each before = before
   round_leads count (t ∷ ts) found each before =
-      round_leads count ts (put_places (opened_places t (callee (map known_stored stored) t.2 t.1)) found)
+      round_leads count ts (put_places (opened_places t (callee (map cleared_stored stored) t.2 t.1)) found)
       (leads_tail count t ts each)
-      (leads_puts (suc count) (opened_places t (callee (map known_stored stored) t.2 t.1)) found
-      (subst (λ (o : Option PlainStored). Leads (suc count) (opened_places t o)) (sym (callee_known stored t.2 t.1))
+      (leads_puts (suc count) (opened_places t (callee (map cleared_stored stored) t.2 t.1)) found
+      (subst (λ (o : Option PlainStored). Leads (suc count) (opened_places t o)) (sym (callee_cleared stored t.2 t.1))
       (opened_leads count t (callee stored t.2 t.1) refl (leads_head count t ts each)))
       before)
 
@@ -323,7 +323,7 @@ module _ (stored : List PlainStored) (h : PlainGraph) where
   chain_leads zero = first_leads
   chain_leads (suc times) =
       let ns = (expanded_by times stored h).nodes in
-      subst (λ (ts : List Place). Leads (suc times) ts) (sym (places_of-round (map known_stored stored) ns ns no_nodes))
+      subst (λ (ts : List Place). Leads (suc times) ts) (sym (places_of-round (map cleared_stored stored) ns ns no_nodes))
       (round_leads times (places_of ns) [] (chain_leads times) (λ s c. absurd (in_none c.place c.has)))
 
 -- ---- no chain is longer than there are stored processes
@@ -504,33 +504,33 @@ module _ (stored : List PlainStored) (g : PlainGraph) (stored_valid : AreValidSt
       let stored_ids = length-ids stored in
       omega arith
 
-  no_call : (o : Option PlainStored) → ((s : PlainStored) → o ≡ Some s → ⊥) → option_map known_stored o ≡ None
+  no_call : (o : Option PlainStored) → ((s : PlainStored) → o ≡ Some s → ⊥) → option_map cleared_stored o ≡ None
   no_call None never = refl
   no_call (Some s) never = absurd (never s refl)
 
-  none_called : (ts : List Place) → Leads stored g (length stored) ts → NoCalls (map known_stored stored) ts
+  none_called : (ts : List Place) → Leads stored g (length stored) ts → NoCalls (map cleared_stored stored) ts
   none_called [] each = tt
   none_called (t ∷ ts) each = (
-    callee_known stored t.2 t.1
+    callee_cleared stored t.2 t.1
         ∙ no_call (callee stored t.2 t.1) (λ s is. no_long_chain s (leads_head stored g (length stored) t ts each s is)),
     none_called ts (leads_tail stored g (length stored) t ts each),
   )
 
   -- after as many rounds as there are stored processes no node of the graph itself calls one
-  pub none_left : NoCalls (map known_stored stored) (places_of (expanded_by (length stored) stored g).nodes)
+  pub none_left : NoCalls (map cleared_stored stored) (places_of (expanded_by (length stored) stored g).nodes)
   none_left = none_called (places_of (expanded_by (length stored) stored g).nodes) (chain_leads stored g (length stored))
 
 -- so many rounds or more give as many nodes, where no call is left after them
 count_after : (stored : List PlainStored) (h : PlainGraph) (times : ℕ)
-    → NoCalls (map known_stored stored) (places_of (expanded_by (length stored) stored h).nodes)
-    → NoCalls (map known_stored stored) (places_of (expanded_by times stored h).nodes)
+    → NoCalls (map cleared_stored stored) (places_of (expanded_by (length stored) stored h).nodes)
+    → NoCalls (map cleared_stored stored) (places_of (expanded_by times stored h).nodes)
     → node_count (expanded_by times stored h).nodes ≡ node_count (expanded_by (length stored) stored h).nodes
 count_after stored h times none none_there =
-    let known = map known_stored stored in
+    let cleared = map cleared_stored stored in
     elim (cases_lt times (length stored))
     as (λ _. node_count (expanded_by times stored h).nodes ≡ node_count (expanded_by (length stored) stored h).nodes) [
-      | inl below ↦ sym (settled_after known (known_graph h) times (length stored) (omega arith) none_there).count
-      | inr above ↦ (settled_after known (known_graph h) (length stored) times (omega arith) none).count
+      | inl below ↦ sym (settled_after cleared (cleared_graph h) times (length stored) (omega arith) none_there).count
+      | inr above ↦ (settled_after cleared (cleared_graph h) (length stored) times (omega arith) none).count
     ]
 
 -- ---- after all rounds
@@ -540,7 +540,7 @@ module _ (stored : List PlainStored) (g : PlainGraph) (stored_valid : AreValidSt
   none_recurs : (n : PlainNode) (s : PlainStored) → Contains (each_node g.nodes) n → CallsReach stored n s → ReachesProcess stored s s → ⊥
   none_recurs n s has reaches itself_again = faultless _ _ (process_recursive has reaches itself_again)
 
-  main_none : NoCalls (map known_stored stored) (places_of (expanded_by (length stored) stored g).nodes)
+  main_none : NoCalls (map cleared_stored stored) (places_of (expanded_by (length stored) stored g).nodes)
   main_none =
       none_left stored g stored_valid (λ count s chain reaches.
       let start = begins stored g count s chain in
@@ -585,25 +585,25 @@ module _ (stored : List PlainStored) (g : PlainGraph) (stored_valid : AreValidSt
           | inr within ↦ within
         ]
 
-    known_none_in : (nodes : Nodes) → ((n : PlainNode) → Contains (each_node nodes) n → callee stored n.namespace n.process_id ≡ None)
-        → NoCalls (map known_stored stored) (places_of nodes)
-    known_none_in nodes none =
-        no_calls_in (map known_stored stored) nodes
-        (λ n has. callee_known stored n.namespace n.process_id ∙ ap (λ o. option_map known_stored o) (none n has))
+    cleared_none_in : (nodes : Nodes) → ((n : PlainNode) → Contains (each_node nodes) n → callee stored n.namespace n.process_id ≡ None)
+        → NoCalls (map cleared_stored stored) (places_of nodes)
+    cleared_none_in nodes none =
+        no_calls_in (map cleared_stored stored) nodes
+        (λ n has. callee_cleared stored n.namespace n.process_id ∙ ap (λ o. option_map cleared_stored o) (none n has))
 
     main_fits : node_count (expanded stored g).nodes ≤ most_nodes false
     main_fits =
         let few = not_more (node_count (expanded_by (length stored) stored g).nodes) most_main_nodes
         (λ above. faultless _ _ (graph_too_large above)) in
         let same = count_after stored g most_rounds main_none
-        (known_none_in (expanded stored g).nodes
+        (cleared_none_in (expanded stored g).nodes
         (none_within false [] (expanded stored g).nodes (expanded stored g).result resolved_graphs.itself)) in
         omega arith
 
     callback_fits : (nodes : Nodes) → ((n : PlainNode) → Contains (each_node nodes) n → callee stored n.namespace n.process_id ≡ None)
         → Formed stored g (places_of nodes) → node_count nodes ≤ 64
     callback_fits nodes none is =
-        let here_none = subst (λ ts. NoCalls (map known_stored stored) ts) is.is (known_none_in nodes none) in
+        let here_none = subst (λ ts. NoCalls (map cleared_stored stored) ts) is.is (cleared_none_in nodes none) in
         let there_none = none_left stored is.written stored_valid (λ count s chain reaches.
         let start = begins stored is.written count s chain in
         none_recurs is.from s is.has

@@ -9,7 +9,7 @@ use Rattle.oe_graph.specs.Printed.{ids_of, node_count}
 use Rattle.oe_graph.specs.References.{each_node}
 use Rattle.oe_graph.specs.Tree.{Named, Nodes, no_nodes, node, PlainNode, PlainStored}
 use Rattle.oe_resolve.specs.Calls.{callee}
-use Rattle.oe_resolve.specs.Replaced.{replaced_nodes, values_given}
+use Rattle.oe_resolve.specs.Substituted.{substituted_nodes, values_given}
 use Rattle.oe_resolve.specs.Renamed.{renamed_nodes}
 use Rattle.oe_resolve.specs.Rounds.{under_id, put_node, put_nodes, id_at, index_of, landing, landed, opened, round_named, round_nodes}
 use Rattle.oe_resolve.proofs.FilledLemmas.{in_cons, in_none, in_first, in_rest, other_before, starts_after, rise_from, rise_parts}
@@ -185,9 +185,9 @@ abbrev pub new_ids : List PlainStored → Nodes → List (List ℕ)
 new_ids stored no_nodes = []
 new_ids stored (node id p s args rest) = ids_opened id (callee stored s p) ++ new_ids stored rest
 
-ids_of-replaced : (stored : List PlainStored) (values : Named) (ns : Nodes) → ids_of (replaced_nodes stored values ns) ≡ ids_of ns
-ids_of-replaced stored values no_nodes = refl
-ids_of-replaced stored values (node id p s args rest) = ap (λ xs. id ∷ xs) (ids_of-replaced stored values rest)
+ids_of-substituted : (stored : List PlainStored) (values : Named) (ns : Nodes) → ids_of (substituted_nodes stored values ns) ≡ ids_of ns
+ids_of-substituted stored values no_nodes = refl
+ids_of-substituted stored values (node id p s args rest) = ap (λ xs. id ∷ xs) (ids_of-substituted stored values rest)
 
 ids_of-under : (call : List ℕ) (ns : Nodes) → ids_of (renamed_nodes (under_id call) ns) ≡ map (under_id call) (ids_of ns)
 ids_of-under call no_nodes = refl
@@ -197,7 +197,7 @@ ids_of-opened : (stored : List PlainStored) (n : PlainNode) (call : Option Plain
     → ids_of (opened stored n call) ≡ ids_opened n.id call
 ids_of-opened stored n None = refl
 ids_of-opened stored n (Some s) =
-    ids_of-replaced stored (values_given s.parameters n.arguments) (renamed_nodes (under_id n.id) s.graph.nodes)
+    ids_of-substituted stored (values_given s.parameters n.arguments) (renamed_nodes (under_id n.id) s.graph.nodes)
     ∙ ids_of-under n.id s.graph.nodes
 
 puts_append : (xs ys found : List (List ℕ)) → put_names ys (put_names xs found) ≡ put_names (xs ++ ys) found

@@ -18,7 +18,7 @@ pub mod JudgeLemmas
 pub mod Along
 pub mod CycleLemmas
 pub mod CodeLemmas
-pub mod KnownLemmas
+pub mod ClearedLemmas
 pub mod KnowsLemmas
 pub mod FaultLemmas
 pub mod CountLemmas

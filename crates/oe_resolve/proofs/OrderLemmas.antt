@@ -14,14 +14,14 @@ use Rattle.oe_graph.specs.Tree.{Argument, null, flag, whole, inexact, text, list
 use Rattle.oe_resolve.specs.Calls.{means_stored, stored_named, callee, callback_parameters, HoldsNode, by_callback}
 use Rattle.oe_resolve.specs.Calls as calls
 use Rattle.oe_resolve.specs.Renamed.{dangling, renamed, renamed_each, renamed_named, renamed_nodes}
-use Rattle.oe_resolve.specs.Replaced as replaced
-use Rattle.oe_resolve.specs.Replaced.{default_of, value_before, values_given, without_names}
+use Rattle.oe_resolve.specs.Substituted as substituted
+use Rattle.oe_resolve.specs.Substituted.{default_of, value_before, values_given, without_names}
 use Rattle.oe_resolve.specs.Rounds as rounds
-use Rattle.oe_resolve.specs.Rounds.{known, known_each, known_named, known_nodes, known_graph, known_stored, under_id, put_node, put_nodes, id_at, index_of, landed, opened, round, expanded_by, expanded}
+use Rattle.oe_resolve.specs.Rounds.{cleared, cleared_each, cleared_named, cleared_nodes, cleared_graph, cleared_stored, under_id, put_node, put_nodes, id_at, index_of, landed, opened, round, expanded_by, expanded}
 use Rattle.oe_graph.specs.Valid.{is_valid, are_valid, are_valid_named, are_valid_nodes, IsValidGraph, is_plain, are_plain, are_plain_named, IsValidStored, AreValidStored}
 use Rattle.oe_resolve.proofs.FilledLemmas.{in_cons, in_none, in_first, in_rest}
 use Rattle.oe_resolve.proofs.ResolvingLemmas.{in_map, IsOrderedObject, EachObject}
-use Rattle.oe_resolve.proofs.PlaceLemmas.{Place, places_of, places_of-known, places_of-replaced}
+use Rattle.oe_resolve.proofs.PlaceLemmas.{Place, places_of, places_of-cleared, places_of-substituted}
 use Rattle.oe_resolve.proofs.IdLemmas.{HasNoSlash, AreApart, HasNames, InOrder, round_in_order}
 
 -- ---- changes that keep ids and names
@@ -36,31 +36,31 @@ same_order ns ms result ids count order = record {
   has_result = subst (λ k. result < k) (sym count) order.has_result;
 }
 
-known_ids : (ids : List (List ℕ)) (ns : Nodes) → ids_of (known_nodes ids ns) ≡ ids_of ns
-known_ids ids no_nodes = refl
-known_ids ids (node id p s args rest) = ap (λ xs. id ∷ xs) (known_ids ids rest)
+cleared_ids : (ids : List (List ℕ)) (ns : Nodes) → ids_of (cleared_nodes ids ns) ≡ ids_of ns
+cleared_ids ids no_nodes = refl
+cleared_ids ids (node id p s args rest) = ap (λ xs. id ∷ xs) (cleared_ids ids rest)
 
-known_count : (ids : List (List ℕ)) (ns : Nodes) → node_count (known_nodes ids ns) ≡ node_count ns
-known_count ids no_nodes = refl
-known_count ids (node id p s args rest) = ap suc (known_count ids rest)
+cleared_count : (ids : List (List ℕ)) (ns : Nodes) → node_count (cleared_nodes ids ns) ≡ node_count ns
+cleared_count ids no_nodes = refl
+cleared_count ids (node id p s args rest) = ap suc (cleared_count ids rest)
 
-known_names : (ids : List (List ℕ)) (ms : Named) → names_of (known_named ids ms) ≡ names_of ms
-known_names ids no_named = refl
-known_names ids (named k a rest) = ap (λ xs. k ∷ xs) (known_names ids rest)
+cleared_names : (ids : List (List ℕ)) (ms : Named) → names_of (cleared_named ids ms) ≡ names_of ms
+cleared_names ids no_named = refl
+cleared_names ids (named k a rest) = ap (λ xs. k ∷ xs) (cleared_names ids rest)
 
-replaced_ids : (stored : List PlainStored) (values : Named) (ns : Nodes) → ids_of (replaced.replaced_nodes stored values ns) ≡ ids_of ns
-replaced_ids stored values no_nodes = refl
-replaced_ids stored values (node id p s args rest) = ap (λ xs. id ∷ xs) (replaced_ids stored values rest)
+substituted_ids : (stored : List PlainStored) (values : Named) (ns : Nodes) → ids_of (substituted.substituted_nodes stored values ns) ≡ ids_of ns
+substituted_ids stored values no_nodes = refl
+substituted_ids stored values (node id p s args rest) = ap (λ xs. id ∷ xs) (substituted_ids stored values rest)
 
-replaced_count : (stored : List PlainStored) (values : Named) (ns : Nodes)
-    → node_count (replaced.replaced_nodes stored values ns) ≡ node_count ns
-replaced_count stored values no_nodes = refl
-replaced_count stored values (node id p s args rest) = ap suc (replaced_count stored values rest)
+substituted_count : (stored : List PlainStored) (values : Named) (ns : Nodes)
+    → node_count (substituted.substituted_nodes stored values ns) ≡ node_count ns
+substituted_count stored values no_nodes = refl
+substituted_count stored values (node id p s args rest) = ap suc (substituted_count stored values rest)
 
-replaced_names : (stored : List PlainStored) (own : List (List ℕ)) (values : Named) (ms : Named)
-    → names_of (replaced.replaced_named stored own values ms) ≡ names_of ms
-replaced_names stored own values no_named = refl
-replaced_names stored own values (named k a rest) = ap (λ xs. k ∷ xs) (replaced_names stored own values rest)
+substituted_names : (stored : List PlainStored) (own : List (List ℕ)) (values : Named) (ms : Named)
+    → names_of (substituted.substituted_named stored own values ms) ≡ names_of ms
+substituted_names stored own values no_named = refl
+substituted_names stored own values (named k a rest) = ap (λ xs. k ∷ xs) (substituted_names stored own values rest)
 
 renamed_names : (rename : List ℕ → List ℕ) (ms : Named) → names_of (renamed_named rename ms) ≡ names_of ms
 renamed_names rename no_named = refl
@@ -201,43 +201,43 @@ module _ (Holding : Bool → Option (List ℕ) → List ℕ → Type 0) (Forming
 
   -- ---- order is kept by a change that keeps ids
 
-  -- known references
+  -- dangling references cleared
 
   mutual
-    known_ordered : (ids : List (List ℕ)) (a : Argument) → Ordered a → Ordered (known ids a)
-    known_ordered ids null is = tt
-    known_ordered ids (flag b) is = tt
-    known_ordered ids (whole z) is = tt
-    known_ordered ids inexact is = tt
-    known_ordered ids (text s) is = tt
-    known_ordered ids (list rest) is = known_ordered_each ids rest is
-    known_ordered ids (object ms) is = known_ordered_named ids ms is
-    known_ordered ids (from_node id) is = tt
-    known_ordered ids (from_parameter name) is = tt
-    known_ordered ids (callback ns result) is = (
+    cleared_ordered : (ids : List (List ℕ)) (a : Argument) → Ordered a → Ordered (cleared ids a)
+    cleared_ordered ids null is = tt
+    cleared_ordered ids (flag b) is = tt
+    cleared_ordered ids (whole z) is = tt
+    cleared_ordered ids inexact is = tt
+    cleared_ordered ids (text s) is = tt
+    cleared_ordered ids (list rest) is = cleared_ordered_each ids rest is
+    cleared_ordered ids (object ms) is = cleared_ordered_named ids ms is
+    cleared_ordered ids (from_node id) is = tt
+    cleared_ordered ids (from_parameter name) is = tt
+    cleared_ordered ids (callback ns result) is = (
       (
-        same_order ns (known_nodes (ids_of ns) ns) result (known_ids (ids_of ns) ns) (known_count (ids_of ns) ns) is.0.0,
-        subst Forming (sym (places_of-known (ids_of ns) ns)) is.0.1,
+        same_order ns (cleared_nodes (ids_of ns) ns) result (cleared_ids (ids_of ns) ns) (cleared_count (ids_of ns) ns) is.0.0,
+        subst Forming (sym (places_of-cleared (ids_of ns) ns)) is.0.1,
       ),
-      known_ordered_nodes true (ids_of ns) ns is.1,
+      cleared_ordered_nodes true (ids_of ns) ns is.1,
     )
 
-    known_ordered_each : (ids : List (List ℕ)) (rest : ListValues) → OrderedEach rest → OrderedEach (known_each ids rest)
-    known_ordered_each ids no_arguments is = tt
-    known_ordered_each ids (argument a rest) is = (known_ordered ids a is.0, known_ordered_each ids rest is.1)
+    cleared_ordered_each : (ids : List (List ℕ)) (rest : ListValues) → OrderedEach rest → OrderedEach (cleared_each ids rest)
+    cleared_ordered_each ids no_arguments is = tt
+    cleared_ordered_each ids (argument a rest) is = (cleared_ordered ids a is.0, cleared_ordered_each ids rest is.1)
 
-    known_ordered_named : (ids : List (List ℕ)) (ms : Named) → OrderedNamed ms → OrderedNamed (known_named ids ms)
-    known_ordered_named ids no_named is = tt
-    known_ordered_named ids (named k a rest) is = (known_ordered ids a is.0, known_ordered_named ids rest is.1)
+    cleared_ordered_named : (ids : List (List ℕ)) (ms : Named) → OrderedNamed ms → OrderedNamed (cleared_named ids ms)
+    cleared_ordered_named ids no_named is = tt
+    cleared_ordered_named ids (named k a rest) is = (cleared_ordered ids a is.0, cleared_ordered_named ids rest is.1)
 
-    known_ordered_nodes : (in_callback : Bool) (ids : List (List ℕ)) (ns : Nodes)
-        → OrderedNodes in_callback ns → OrderedNodes in_callback (known_nodes ids ns)
-    known_ordered_nodes in_callback ids no_nodes is = tt
-    known_ordered_nodes in_callback ids (node id p s args rest) is = (
-      ap names_rise (known_names ids args) ∙ is.0,
-      known_ordered_named ids args is.1,
+    cleared_ordered_nodes : (in_callback : Bool) (ids : List (List ℕ)) (ns : Nodes)
+        → OrderedNodes in_callback ns → OrderedNodes in_callback (cleared_nodes ids ns)
+    cleared_ordered_nodes in_callback ids no_nodes is = tt
+    cleared_ordered_nodes in_callback ids (node id p s args rest) is = (
+      ap names_rise (cleared_names ids args) ∙ is.0,
+      cleared_ordered_named ids args is.1,
       is.2,
-      known_ordered_nodes in_callback ids rest is.3,
+      cleared_ordered_nodes in_callback ids rest is.3,
     )
 
   -- values with other references
@@ -272,7 +272,7 @@ module _ (Holding : Bool → Option (List ℕ) → List ℕ → Type 0) (Forming
   without_ordered names (named k a rest) is =
       without_if (list_any (same_name k) names) k a (without_names names rest) is.0 (without_ordered names rest is.1)
 
-  -- replaced parameters
+  -- values substituted for parameters
   value_if : (same : Bool) (a b : Argument) (found : Option Argument) → Ordered a
       → (found ≡ Some b → Ordered b) → (if same then Some a else found) ≡ Some b → Ordered b
   value_if true a b found is later there = let same : a ≡ b = cc in subst Ordered same is
@@ -289,47 +289,47 @@ module _ (Holding : Bool → Option (List ℕ) → List ℕ → Type 0) (Forming
   unwrap_ordered (Some b) name each = each b refl
 
   mutual
-    replaced_ordered : (stored : List PlainStored) (own : List (List ℕ)) (values : Named) (a : Argument)
-        → OrderedNamed values → Ordered a → Ordered (replaced.replaced stored own values a)
-    replaced_ordered stored own values null v is = tt
-    replaced_ordered stored own values (flag b) v is = tt
-    replaced_ordered stored own values (whole z) v is = tt
-    replaced_ordered stored own values inexact v is = tt
-    replaced_ordered stored own values (text s) v is = tt
-    replaced_ordered stored own values (list rest) v is = replaced_ordered_each stored own values rest v is
-    replaced_ordered stored own values (object ms) v is = replaced_ordered_named stored own values ms v is
-    replaced_ordered stored own values (from_node id) v is = tt
-    replaced_ordered stored own values (from_parameter name) v is =
+    substituted_ordered : (stored : List PlainStored) (own : List (List ℕ)) (values : Named) (a : Argument)
+        → OrderedNamed values → Ordered a → Ordered (substituted.substituted stored own values a)
+    substituted_ordered stored own values null v is = tt
+    substituted_ordered stored own values (flag b) v is = tt
+    substituted_ordered stored own values (whole z) v is = tt
+    substituted_ordered stored own values inexact v is = tt
+    substituted_ordered stored own values (text s) v is = tt
+    substituted_ordered stored own values (list rest) v is = substituted_ordered_each stored own values rest v is
+    substituted_ordered stored own values (object ms) v is = substituted_ordered_named stored own values ms v is
+    substituted_ordered stored own values (from_node id) v is = tt
+    substituted_ordered stored own values (from_parameter name) v is =
         unwrap_ordered (argument_named name values) name (λ b there. value_ordered name values b v there)
-    replaced_ordered stored own values (callback ns result) v is =
-        let seen = replaced.inside own values in (
+    substituted_ordered stored own values (callback ns result) v is =
+        let seen = substituted.inside own values in (
           (
-            same_order ns (replaced.replaced_nodes stored seen ns) result (replaced_ids stored seen ns) (replaced_count stored seen ns) is.0.0,
-            subst Forming (sym (places_of-replaced stored seen ns)) is.0.1,
+            same_order ns (substituted.substituted_nodes stored seen ns) result (substituted_ids stored seen ns) (substituted_count stored seen ns) is.0.0,
+            subst Forming (sym (places_of-substituted stored seen ns)) is.0.1,
           ),
-          replaced_ordered_nodes true stored seen ns (renamed_ordered_named dangling (without_names own values) (without_ordered own values v)) is.1,
+          substituted_ordered_nodes true stored seen ns (renamed_ordered_named dangling (without_names own values) (without_ordered own values v)) is.1,
         )
 
-    replaced_ordered_each : (stored : List PlainStored) (own : List (List ℕ)) (values : Named) (rest : ListValues)
-        → OrderedNamed values → OrderedEach rest → OrderedEach (replaced.replaced_each stored own values rest)
-    replaced_ordered_each stored own values no_arguments v is = tt
-    replaced_ordered_each stored own values (argument a rest) v is =
-        (replaced_ordered stored own values a v is.0, replaced_ordered_each stored own values rest v is.1)
+    substituted_ordered_each : (stored : List PlainStored) (own : List (List ℕ)) (values : Named) (rest : ListValues)
+        → OrderedNamed values → OrderedEach rest → OrderedEach (substituted.substituted_each stored own values rest)
+    substituted_ordered_each stored own values no_arguments v is = tt
+    substituted_ordered_each stored own values (argument a rest) v is =
+        (substituted_ordered stored own values a v is.0, substituted_ordered_each stored own values rest v is.1)
 
-    replaced_ordered_named : (stored : List PlainStored) (own : List (List ℕ)) (values : Named) (ms : Named)
-        → OrderedNamed values → OrderedNamed ms → OrderedNamed (replaced.replaced_named stored own values ms)
-    replaced_ordered_named stored own values no_named v is = tt
-    replaced_ordered_named stored own values (named k a rest) v is =
-        (replaced_ordered stored own values a v is.0, replaced_ordered_named stored own values rest v is.1)
+    substituted_ordered_named : (stored : List PlainStored) (own : List (List ℕ)) (values : Named) (ms : Named)
+        → OrderedNamed values → OrderedNamed ms → OrderedNamed (substituted.substituted_named stored own values ms)
+    substituted_ordered_named stored own values no_named v is = tt
+    substituted_ordered_named stored own values (named k a rest) v is =
+        (substituted_ordered stored own values a v is.0, substituted_ordered_named stored own values rest v is.1)
 
-    replaced_ordered_nodes : (in_callback : Bool) (stored : List PlainStored) (values : Named) (ns : Nodes)
-        → OrderedNamed values → OrderedNodes in_callback ns → OrderedNodes in_callback (replaced.replaced_nodes stored values ns)
-    replaced_ordered_nodes in_callback stored values no_nodes v is = tt
-    replaced_ordered_nodes in_callback stored values (node id p s args rest) v is = (
-      ap names_rise (replaced_names stored (callback_parameters stored s p) values args) ∙ is.0,
-      replaced_ordered_named stored (callback_parameters stored s p) values args v is.1,
+    substituted_ordered_nodes : (in_callback : Bool) (stored : List PlainStored) (values : Named) (ns : Nodes)
+        → OrderedNamed values → OrderedNodes in_callback ns → OrderedNodes in_callback (substituted.substituted_nodes stored values ns)
+    substituted_ordered_nodes in_callback stored values no_nodes v is = tt
+    substituted_ordered_nodes in_callback stored values (node id p s args rest) v is = (
+      ap names_rise (substituted_names stored (callback_parameters stored s p) values args) ∙ is.0,
+      substituted_ordered_named stored (callback_parameters stored s p) values args v is.1,
       is.2,
-      replaced_ordered_nodes in_callback stored values rest v is.3,
+      substituted_ordered_nodes in_callback stored values rest v is.3,
     )
 
   -- nodes under a call
@@ -423,7 +423,7 @@ module _ (Holding : Bool → Option (List ℕ) → List ℕ → Type 0) (Forming
   opened_ordered in_callback n None holds stored_is rise is = (rise, is, holds, tt)
   opened_ordered in_callback n (Some s) holds stored_is rise is =
       let s_is = stored_is s refl in
-      replaced_ordered_nodes Holding Forming in_callback stored (values_given s.parameters n.arguments) (renamed_nodes (under_id n.id) s.graph.nodes)
+      substituted_ordered_nodes Holding Forming in_callback stored (values_given s.parameters n.arguments) (renamed_nodes (under_id n.id) s.graph.nodes)
       (given_ordered Holding Forming s.parameters n.arguments s_is.defaults is)
       (under_ordered_nodes Holding Forming in_callback n.id s.graph.nodes s_is.nodes)
 
@@ -630,21 +630,21 @@ module _ (Holding : Bool → Option (List ℕ) → List ℕ → Type 0) (Forming
       let parts = object_parts g.nodes g.result valid in
       (valid_object g.nodes g.result parts.0 parts.1 parts.2, valid_ordered_nodes in_callback g.nodes parts.2 each inside_each)
 
-  pub known_in_order : (in_callback : Bool) (g : PlainGraph) → IsInOrder Holding Forming in_callback g
-      → IsInOrder Holding Forming in_callback (known_graph g)
-  known_in_order in_callback g is =
+  pub cleared_in_order : (in_callback : Bool) (g : PlainGraph) → IsInOrder Holding Forming in_callback g
+      → IsInOrder Holding Forming in_callback (cleared_graph g)
+  cleared_in_order in_callback g is =
       let ids = ids_of g.nodes in (
-        same_order g.nodes (known_nodes ids g.nodes) g.result (known_ids ids g.nodes) (known_count ids g.nodes) is.0,
-        known_ordered_nodes Holding Forming in_callback ids g.nodes is.1,
+        same_order g.nodes (cleared_nodes ids g.nodes) g.result (cleared_ids ids g.nodes) (cleared_count ids g.nodes) is.0,
+        cleared_ordered_nodes Holding Forming in_callback ids g.nodes is.1,
       )
 
--- the ids of a stored process whose references are known
-pub known_has_names : (s : PlainStored) → IsValidStored s → HasNames (known_stored s)
-known_has_names s valid =
+-- the ids of a stored process without dangling references
+pub cleared_has_names : (s : PlainStored) → IsValidStored s → HasNames (cleared_stored s)
+cleared_has_names s valid =
     let parts = object_parts s.graph.nodes s.graph.result valid.graph in
-    let ids = known_ids (ids_of s.graph.nodes) s.graph.nodes in
-    let order = same_order s.graph.nodes (known_graph s.graph).nodes s.graph.result ids
-    (known_count (ids_of s.graph.nodes) s.graph.nodes) (valid_object s.graph.nodes s.graph.result parts.0 parts.1 parts.2) in
+    let ids = cleared_ids (ids_of s.graph.nodes) s.graph.nodes in
+    let order = same_order s.graph.nodes (cleared_graph s.graph).nodes s.graph.result ids
+    (cleared_count (ids_of s.graph.nodes) s.graph.nodes) (valid_object s.graph.nodes s.graph.result parts.0 parts.1 parts.2) in
     record {
       rise = order.rise;
       full = order.full;

@@ -7,9 +7,9 @@ use Rattle.oe_graph.specs.Printed.{node_count}
 use Rattle.oe_graph.specs.References.{each_node}
 use Rattle.oe_graph.specs.Tree.{Named, Nodes, no_nodes, node, PlainGraph, PlainNode, PlainStored}
 use Rattle.oe_resolve.specs.Calls.{callee}
-use Rattle.oe_resolve.specs.Replaced.{replaced_nodes, values_given}
+use Rattle.oe_resolve.specs.Substituted.{substituted_nodes, values_given}
 use Rattle.oe_resolve.specs.Renamed.{renamed_nodes}
-use Rattle.oe_resolve.specs.Rounds.{known_nodes, under_id, put_node, put_nodes, opened, round_named, round_nodes, rounds}
+use Rattle.oe_resolve.specs.Rounds.{cleared_nodes, under_id, put_node, put_nodes, opened, round_named, round_nodes, rounds}
 use Rattle.oe_resolve.proofs.FilledLemmas.{in_first, in_rest}
 
 -- the id of a node, its process and its namespace
@@ -27,15 +27,15 @@ pub length-places_of : (ns : Nodes) → length (places_of ns) ≡ node_count ns
 length-places_of no_nodes = refl
 length-places_of (node id p s args rest) = ap suc (length-places_of rest)
 
-pub places_of-known : (ids : List (List ℕ)) (ns : Nodes) → places_of (known_nodes ids ns) ≡ places_of ns
-places_of-known ids no_nodes = refl
-places_of-known ids (node id p s args rest) = ap (λ (ts : List Place). (id, p, s) ∷ ts) (places_of-known ids rest)
+pub places_of-cleared : (ids : List (List ℕ)) (ns : Nodes) → places_of (cleared_nodes ids ns) ≡ places_of ns
+places_of-cleared ids no_nodes = refl
+places_of-cleared ids (node id p s args rest) = ap (λ (ts : List Place). (id, p, s) ∷ ts) (places_of-cleared ids rest)
 
-pub places_of-replaced : (stored : List PlainStored) (values : Named) (ns : Nodes)
-    → places_of (replaced_nodes stored values ns) ≡ places_of ns
-places_of-replaced stored values no_nodes = refl
-places_of-replaced stored values (node id p s args rest) =
-    ap (λ (ts : List Place). (id, p, s) ∷ ts) (places_of-replaced stored values rest)
+pub places_of-substituted : (stored : List PlainStored) (values : Named) (ns : Nodes)
+    → places_of (substituted_nodes stored values ns) ≡ places_of ns
+places_of-substituted stored values no_nodes = refl
+places_of-substituted stored values (node id p s args rest) =
+    ap (λ (ts : List Place). (id, p, s) ∷ ts) (places_of-substituted stored values rest)
 
 -- ---- a round of places
 
@@ -85,7 +85,7 @@ places_of-opened : (stored : List PlainStored) (n : PlainNode) (call : Option Pl
     → places_of (opened stored n call) ≡ opened_places (place_of n) call
 places_of-opened stored n None = refl
 places_of-opened stored n (Some s) =
-    places_of-replaced stored (values_given s.parameters n.arguments) (renamed_nodes (under_id n.id) s.graph.nodes)
+    places_of-substituted stored (values_given s.parameters n.arguments) (renamed_nodes (under_id n.id) s.graph.nodes)
     ∙ places_of-under n.id s.graph.nodes
 
 pub places_of-round : (stored : List PlainStored) (all ns found : Nodes)

@@ -16,8 +16,8 @@ use Rattle.oe_graph.specs.declared.tree.Node.{Node}
 use Rattle.oe_graph.proofs.PartLemmas.{graph_parts, node_parts}
 use Rattle.oe_resolve.specs.Calls.{callee, callback_parameters}
 use Rattle.oe_resolve.specs.Renamed.{dangling, renamed, renamed_each, renamed_named, renamed_nodes}
-use Rattle.oe_resolve.specs.Replaced.{default_of, value_before, values_given, inside, replaced, replaced_each, replaced_named, replaced_nodes}
-use Rattle.oe_resolve.specs.Rounds.{known, known_each, known_named, known_nodes, known_graph, under_id, put_node, put_nodes, opened, round_argument, round_each, round_named, round_nodes, round}
+use Rattle.oe_resolve.specs.Substituted.{default_of, value_before, values_given, inside, substituted, substituted_each, substituted_named, substituted_nodes}
+use Rattle.oe_resolve.specs.Rounds.{cleared, cleared_each, cleared_named, cleared_nodes, cleared_graph, under_id, put_node, put_nodes, opened, round_argument, round_each, round_named, round_nodes, round}
 use Rattle.oe_resolve.specs.Seen.{names_behind, plain_sizes}
 use Rattle.oe_resolve.specs.Sizes.{value_size, size_in, size_each, size_named, size_nodes, name_size, most, IsWithinLimits, round_size, given_size, given_sizes, size_or, size_for, HasSizes}
 use Rattle.oe_resolve.specs.declared.weigh.ParameterSize.{ParameterSize}
@@ -33,31 +33,31 @@ module _ (m : Measure) where
   -- ---- references count nothing
 
   mutual
-    size_known : (ids : List (List ℕ)) (a : Argument) → size_in m (known ids a) ≡ size_in m a
-    size_known ids null = refl
-    size_known ids (flag b) = refl
-    size_known ids (whole z) = refl
-    size_known ids inexact = refl
-    size_known ids (text s) = refl
-    size_known ids (list rest) = ap (λ n. value_size m + n) (size_known_each ids rest)
-    size_known ids (object ms) = ap (λ n. value_size m + n) (size_known_named ids ms)
-    size_known ids (from_node id) = refl
-    size_known ids (from_parameter name) = refl
-    size_known ids (callback ns result) =
-        ap (λ n. value_size m + n) (both _ _ _ _ (bare_known m (ids_of ns) ns) (size_known_nodes (ids_of ns) ns))
+    size_cleared : (ids : List (List ℕ)) (a : Argument) → size_in m (cleared ids a) ≡ size_in m a
+    size_cleared ids null = refl
+    size_cleared ids (flag b) = refl
+    size_cleared ids (whole z) = refl
+    size_cleared ids inexact = refl
+    size_cleared ids (text s) = refl
+    size_cleared ids (list rest) = ap (λ n. value_size m + n) (size_cleared_each ids rest)
+    size_cleared ids (object ms) = ap (λ n. value_size m + n) (size_cleared_named ids ms)
+    size_cleared ids (from_node id) = refl
+    size_cleared ids (from_parameter name) = refl
+    size_cleared ids (callback ns result) =
+        ap (λ n. value_size m + n) (both _ _ _ _ (bare_known m (ids_of ns) ns) (size_cleared_nodes (ids_of ns) ns))
 
-    size_known_each : (ids : List (List ℕ)) (rest : ListValues) → size_each m (known_each ids rest) ≡ size_each m rest
-    size_known_each ids no_arguments = refl
-    size_known_each ids (argument a rest) = both _ _ _ _ (size_known ids a) (size_known_each ids rest)
+    size_cleared_each : (ids : List (List ℕ)) (rest : ListValues) → size_each m (cleared_each ids rest) ≡ size_each m rest
+    size_cleared_each ids no_arguments = refl
+    size_cleared_each ids (argument a rest) = both _ _ _ _ (size_cleared ids a) (size_cleared_each ids rest)
 
-    size_known_named : (ids : List (List ℕ)) (ms : Named) → size_named m (known_named ids ms) ≡ size_named m ms
-    size_known_named ids no_named = refl
-    size_known_named ids (named name a rest) =
-        both _ _ _ _ (ap (λ n. name_size m name + n) (size_known ids a)) (size_known_named ids rest)
+    size_cleared_named : (ids : List (List ℕ)) (ms : Named) → size_named m (cleared_named ids ms) ≡ size_named m ms
+    size_cleared_named ids no_named = refl
+    size_cleared_named ids (named name a rest) =
+        both _ _ _ _ (ap (λ n. name_size m name + n) (size_cleared ids a)) (size_cleared_named ids rest)
 
-    pub size_known_nodes : (ids : List (List ℕ)) (ns : Nodes) → size_nodes m (known_nodes ids ns) ≡ size_nodes m ns
-    size_known_nodes ids no_nodes = refl
-    size_known_nodes ids (node id p s args rest) = both _ _ _ _ (size_known_named ids args) (size_known_nodes ids rest)
+    pub size_cleared_nodes : (ids : List (List ℕ)) (ns : Nodes) → size_nodes m (cleared_nodes ids ns) ≡ size_nodes m ns
+    size_cleared_nodes ids no_nodes = refl
+    size_cleared_nodes ids (node id p s args rest) = both _ _ _ _ (size_cleared_named ids args) (size_cleared_nodes ids rest)
 
   mutual
     pub size_dangling : (a : Argument) → size_in m (renamed dangling a) ≡ size_in m a
@@ -85,7 +85,7 @@ module _ (m : Measure) where
   module _ (stored : List PlainStored) (values : Named) (call : List ℕ) where
     mutual
       size_under : (own : List (List ℕ)) (a : Argument)
-          → size_in m (replaced stored own values (renamed (under_id call) a)) ≡ size_in m (replaced stored own values a)
+          → size_in m (substituted stored own values (renamed (under_id call) a)) ≡ size_in m (substituted stored own values a)
       size_under own null = refl
       size_under own (flag b) = refl
       size_under own (whole z) = refl
@@ -98,18 +98,18 @@ module _ (m : Measure) where
       size_under own (callback ns result) = refl
 
       size_under_each : (own : List (List ℕ)) (rest : ListValues)
-          → size_each m (replaced_each stored own values (renamed_each (under_id call) rest)) ≡ size_each m (replaced_each stored own values rest)
+          → size_each m (substituted_each stored own values (renamed_each (under_id call) rest)) ≡ size_each m (substituted_each stored own values rest)
       size_under_each own no_arguments = refl
       size_under_each own (argument a rest) = both _ _ _ _ (size_under own a) (size_under_each own rest)
 
       size_under_named : (own : List (List ℕ)) (ms : Named)
-          → size_named m (replaced_named stored own values (renamed_named (under_id call) ms)) ≡ size_named m (replaced_named stored own values ms)
+          → size_named m (substituted_named stored own values (renamed_named (under_id call) ms)) ≡ size_named m (substituted_named stored own values ms)
       size_under_named own no_named = refl
       size_under_named own (named name a rest) =
           both _ _ _ _ (ap (λ n. name_size m name + n) (size_under own a)) (size_under_named own rest)
 
     pub size_under_nodes : (ns : Nodes)
-        → size_nodes m (replaced_nodes stored values (renamed_nodes (under_id call) ns)) ≡ size_nodes m (replaced_nodes stored values ns)
+        → size_nodes m (substituted_nodes stored values (renamed_nodes (under_id call) ns)) ≡ size_nodes m (substituted_nodes stored values ns)
     size_under_nodes no_nodes = refl
     size_under_nodes (node id p s args rest) =
         both _ _ _ _ (size_under_named (callback_parameters stored s p) args) (size_under_nodes rest)
@@ -205,7 +205,7 @@ module _ (m : Measure) where
   -- what stands in place of a call
   pub size_call : (stored : List PlainStored) (n : PlainNode) (s : PlainStored) (budget left : ℕ)
       → ((values : Named) → HasSizes m (given_sizes m n.arguments s.parameters) [] values
-      → budget ≡ left + size_nodes m (replaced_nodes stored values s.graph.nodes))
+      → budget ≡ left + size_nodes m (substituted_nodes stored values s.graph.nodes))
       → budget ≡ left + size_nodes m (opened stored n (Some s))
   size_call stored n s budget left each =
       let values = values_given s.parameters n.arguments in
@@ -302,7 +302,7 @@ pub node_called : (m : Measure) (stored : List PlainStored) (n : Node) (all : No
     → option_map (λ (s : Bor StoredProcess). plain_stored s.now) o ≡ callee stored n.namespace n.process_id → o ≡ Some process
     → sizes ≡ given_sizes m (plain_named n.arguments.items) (map plain_parameter process.now.parameters.items)
     → ((values : Named) → HasSizes m sizes [] values
-    → budget ≡ left + size_nodes m (replaced_nodes stored values (plain_nodes (out-Graph process.now.graph).nodes.items)))
+    → budget ≡ left + size_nodes m (substituted_nodes stored values (plain_nodes (out-Graph process.now.graph).nodes.items)))
     → budget ≡ left
     + size_nodes m
     (opened stored
@@ -322,7 +322,7 @@ node_called m stored n all o process budget left sizes is found sized each =
     subst (λ p. budget ≡ left + size_nodes m
     (opened stored (record (plain_node n) { arguments = round_named stored (is_some p) all (plain_node n).arguments }) p)) (sym called)
     (size_call m stored k (plain_stored process.now) budget left
-    (λ values has. subst (λ (h : PlainGraph). budget ≡ left + size_nodes m (replaced_nodes stored values h.nodes))
+    (λ values has. subst (λ (h : PlainGraph). budget ≡ left + size_nodes m (substituted_nodes stored values h.nodes))
     (sym (graph_parts process.now.graph))
     (each values (subst (λ ks. HasSizes m ks [] values) (sym given) has))))
 
@@ -373,5 +373,5 @@ round_within_budgets stored g a b c values texts names =
     (λ m. subst (λ k. k ≤ most m) (sym (size_round_all m stored ns))
     (within_sizes (λ k. round_size k stored ns ns) a b c (values ns) (texts ns) (names ns) m))
 
-pub known_within : (g : PlainGraph) → IsWithinLimits g → IsWithinLimits (known_graph g)
-known_within g within m = subst (λ n. n ≤ most m) (sym (size_known_nodes m (ids_of g.nodes) g.nodes)) (within m)
+pub cleared_within : (g : PlainGraph) → IsWithinLimits g → IsWithinLimits (cleared_graph g)
+cleared_within g within m = subst (λ n. n ≤ most m) (sym (size_cleared_nodes m (ids_of g.nodes) g.nodes)) (within m)

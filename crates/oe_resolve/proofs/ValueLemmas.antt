@@ -12,7 +12,7 @@ use Rattle.oe_graph.specs.Tree.{Argument, null, flag, whole, inexact, text, list
 use Rattle.oe_graph.specs.declared.tree.Arg.{Arg}
 use Rattle.oe_graph.specs.declared.catalogue.ParameterRow.{ParameterRow}
 use Rattle.oe_resolve.specs.Renamed.{dangling, renamed, renamed_each, renamed_named}
-use Rattle.oe_resolve.specs.Replaced.{default_of, value_before, values_given, without_names, inside}
+use Rattle.oe_resolve.specs.Substituted.{default_of, value_before, values_given, without_names, inside}
 use Rattle.oe_resolve.specs.Seen.{names_behind}
 use Rattle.oe_memory.proofs.Lists.{append_none}
 

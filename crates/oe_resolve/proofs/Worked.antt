@@ -2,7 +2,7 @@
 use Rattle.std.specs.Prelude.{◌≡◌, ℕ, pos, true, false, List, [], ◌∷◌, Some, None, codes, refl}
 use Rattle.oe_graph.specs.Printed.{node_count}
 use Rattle.oe_graph.specs.Tree.{Argument, null, flag, text, whole, list, object, from_node, from_parameter, callback, argument, no_arguments, Named, no_named, named, Nodes, no_nodes, node, PlainGraph, PlainParameter, PlainStored}
-use Rattle.oe_resolve.specs.Replaced.{values_given, replaced_nodes}
+use Rattle.oe_resolve.specs.Substituted.{values_given, substituted_nodes}
 use Rattle.oe_resolve.specs.Called.{nodes_call}
 use Rattle.oe_resolve.specs.Rounds.{round, expanded_by}
 use Rattle.oe_resolve.specs.Filled.{filled_graph}
@@ -110,22 +110,22 @@ pub values_given-each :
 values_given-each = refl
 
 -- at any depth, and once: the value of a parameter is not looked through again
-pub replaced-deep :
-    replaced_nodes [] (one (codes "v") (from_parameter (codes "v")))
+pub substituted-deep :
+    substituted_nodes [] (one (codes "v") (from_parameter (codes "v")))
     (plain_node (codes "n") (codes "mask")
     (one (codes "data") (list (argument (object (one (codes "e") (from_parameter (codes "v")))) no_arguments))) no_nodes)
     ≡ plain_node (codes "n") (codes "mask")
     (one (codes "data") (list (argument (object (one (codes "e") (from_parameter (codes "v")))) no_arguments))) no_nodes
-replaced-deep = refl
+substituted-deep = refl
 
 -- in a callback of `apply` its own `x` hides a parameter x of the stored process, and `v` is seen
-pub replaced-hidden :
-    replaced_nodes [] (named (codes "x") (whole (pos 1)) (one (codes "v") (whole (pos 2))))
+pub substituted-hidden :
+    substituted_nodes [] (named (codes "x") (whole (pos 1)) (one (codes "v") (whole (pos 2))))
     (plain_node (codes "n") (codes "apply")
     (one (codes "process") (callback (add_to (codes "k") (from_parameter (codes "v"))) 0)) no_nodes)
     ≡ plain_node (codes "n") (codes "apply")
     (one (codes "process") (callback (add_to (codes "k") (whole (pos 2))) 0)) no_nodes
-replaced-hidden = refl
+substituted-hidden = refl
 
 -- a default is a plain value, and takes the index that its name has in byte order
 pub filled_graph-apply :

@@ -1,6 +1,6 @@
 pub mod Calls
 pub mod Renamed
-pub mod Replaced
+pub mod Substituted
 pub mod Rounds
 pub mod Seen
 pub mod Filled

@@ -10,50 +10,50 @@ use Rattle.oe_graph.specs.References.{each_node}
 use Rattle.oe_graph.specs.Tree.{Argument, null, flag, whole, inexact, text, list, object, from_node, from_parameter, callback, ListValues, no_arguments, argument, Named, no_named, named, Nodes, no_nodes, node, PlainGraph, PlainNode, PlainStored}
 use Rattle.oe_resolve.specs.Calls.{callee}
 use Rattle.oe_resolve.specs.Renamed.{renamed_nodes}
-use Rattle.oe_resolve.specs.Replaced.{values_given, replaced_nodes}
+use Rattle.oe_resolve.specs.Substituted.{values_given, substituted_nodes}
 
--- ---- references as they were written
+-- ---- dangling references
 
 -- an id, or the empty one where no node has it
-abbrev pub known_id : List (List ℕ) → List ℕ → List ℕ
-known_id ids id = if list_any (same_name id) ids then id else []
+abbrev pub cleared_id : List (List ℕ) → List ℕ → List ℕ
+cleared_id ids id = if list_any (same_name id) ids then id else []
 
--- A reference that names no node of the graph object in which it was written refers to no node, also where a node of
--- that name comes into being: `c/n` in the call c.
+-- A reference that names no node of the graph object in which it was written dangles for good, also where a node of that
+-- name comes into being: `c/n` in the call c. So all such have the empty id at first.
 abbrev mutual
-  pub known : List (List ℕ) → Argument → Argument
-  known ids null = null
-  known ids (flag b) = flag b
-  known ids (whole z) = whole z
-  known ids inexact = inexact
-  known ids (text s) = text s
-  known ids (list rest) = list (known_each ids rest)
-  known ids (object ms) = object (known_named ids ms)
-  known ids (from_node id) = from_node (known_id ids id)
-  known ids (from_parameter name) = from_parameter name
-  known ids (callback ns result) = callback (known_nodes (ids_of ns) ns) result
+  pub cleared : List (List ℕ) → Argument → Argument
+  cleared ids null = null
+  cleared ids (flag b) = flag b
+  cleared ids (whole z) = whole z
+  cleared ids inexact = inexact
+  cleared ids (text s) = text s
+  cleared ids (list rest) = list (cleared_each ids rest)
+  cleared ids (object ms) = object (cleared_named ids ms)
+  cleared ids (from_node id) = from_node (cleared_id ids id)
+  cleared ids (from_parameter name) = from_parameter name
+  cleared ids (callback ns result) = callback (cleared_nodes (ids_of ns) ns) result
 
-  pub known_each : List (List ℕ) → ListValues → ListValues
-  known_each ids no_arguments = no_arguments
-  known_each ids (argument a rest) = argument (known ids a) (known_each ids rest)
+  pub cleared_each : List (List ℕ) → ListValues → ListValues
+  cleared_each ids no_arguments = no_arguments
+  cleared_each ids (argument a rest) = argument (cleared ids a) (cleared_each ids rest)
 
-  pub known_named : List (List ℕ) → Named → Named
-  known_named ids no_named = no_named
-  known_named ids (named name a rest) = named name (known ids a) (known_named ids rest)
+  pub cleared_named : List (List ℕ) → Named → Named
+  cleared_named ids no_named = no_named
+  cleared_named ids (named name a rest) = named name (cleared ids a) (cleared_named ids rest)
 
-  pub known_nodes : List (List ℕ) → Nodes → Nodes
-  known_nodes ids no_nodes = no_nodes
-  known_nodes ids (node id process_id namespace arguments rest) =
-      node id process_id namespace (known_named ids arguments) (known_nodes ids rest)
+  pub cleared_nodes : List (List ℕ) → Nodes → Nodes
+  cleared_nodes ids no_nodes = no_nodes
+  cleared_nodes ids (node id process_id namespace arguments rest) =
+      node id process_id namespace (cleared_named ids arguments) (cleared_nodes ids rest)
 
-abbrev pub known_node : List (List ℕ) → PlainNode → PlainNode
-known_node ids n = record n { arguments = known_named ids n.arguments }
+abbrev pub cleared_node : List (List ℕ) → PlainNode → PlainNode
+cleared_node ids n = record n { arguments = cleared_named ids n.arguments }
 
-abbrev pub known_graph : PlainGraph → PlainGraph
-known_graph g = record { nodes = known_nodes (ids_of g.nodes) g.nodes; result = g.result }
+abbrev pub cleared_graph : PlainGraph → PlainGraph
+cleared_graph g = record { nodes = cleared_nodes (ids_of g.nodes) g.nodes; result = g.result }
 
-abbrev pub known_stored : PlainStored → PlainStored
-known_stored s = record { id = s.id; parameters = s.parameters; graph = known_graph s.graph; text = s.text }
+abbrev pub cleared_stored : PlainStored → PlainStored
+cleared_stored s = record { id = s.id; parameters = s.parameters; graph = cleared_graph s.graph; text = s.text }
 
 -- ---- the graph of a call
 
@@ -106,7 +106,7 @@ landed stored all id =
 abbrev pub opened : List PlainStored → PlainNode → Option PlainStored → Nodes
 opened stored n None = node n.id n.process_id n.namespace n.arguments no_nodes
 opened stored n (Some s) =
-    replaced_nodes stored (values_given s.parameters n.arguments) (renamed_nodes (under_id n.id) s.graph.nodes)
+    substituted_nodes stored (values_given s.parameters n.arguments) (renamed_nodes (under_id n.id) s.graph.nodes)
 
 -- a callback whose result is the node of an id
 abbrev pub callback_with_result : List ℕ → Nodes → Argument
@@ -168,7 +168,7 @@ rounds stored (suc times) g = round stored (rounds stored times g)
 
 -- the graph after so many rounds
 abbrev pub expanded_by : ℕ → List PlainStored → PlainGraph → PlainGraph
-expanded_by times stored g = rounds (map known_stored stored) times (known_graph g)
+expanded_by times stored g = rounds (map cleared_stored stored) times (cleared_graph g)
 
 -- The graph after all rounds. Once no call is left, a round more changes nothing; a graph that has calls after so many
 -- rounds is not resolved.

@@ -4,7 +4,7 @@ use Rattle.std.specs.Prelude.{ℕ, List, Option, map, if◌then◌else◌}
 use denote.Bor.{Bor}
 use Rattle.oe_graph.specs.Plain.{plain_named}
 use Rattle.oe_graph.specs.Tree.{Named}
-use Rattle.oe_resolve.specs.Replaced.{inside}
+use Rattle.oe_resolve.specs.Substituted.{inside}
 use Rattle.oe_resolve.specs.Rounds.{under_id}
 use Rattle.oe_resolve.specs.declared.values.Values.{Values}
 use Rattle.oe_resolve.specs.declared.weigh.ParameterSize.{ParameterSize}

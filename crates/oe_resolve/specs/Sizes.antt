@@ -6,7 +6,7 @@ use Rattle.oe_dims.specs.Names.{same_name}
 use Rattle.oe_graph.specs.References.{argument_named}
 use Rattle.oe_graph.specs.Tree.{Argument, null, flag, whole, inexact, text, list, object, from_node, from_parameter, callback, ListValues, no_arguments, argument, Named, no_named, named, Nodes, no_nodes, node, PlainGraph, PlainNode, PlainParameter, PlainStored}
 use Rattle.oe_resolve.specs.Calls.{callee}
-use Rattle.oe_resolve.specs.Replaced.{default_of}
+use Rattle.oe_resolve.specs.Substituted.{default_of}
 use Rattle.oe_resolve.specs.Renamed.{renamed_nodes}
 use Rattle.oe_resolve.specs.Rounds.{opened, round_named, under_id}
 use Rattle.oe_resolve.specs.declared.weigh.Measure.{Measure}

@@ -4,7 +4,7 @@ ghost use Rattle.oe_graph.specs.Plain.{plain_arg, plain_args, plain_named, plain
 ghost use Rattle.oe_graph.specs.Printed.{names_of};
 ghost use Rattle.oe_graph.specs.References as named;
 ghost use Rattle.oe_resolve.specs.Filled as spec;
-ghost use Rattle.oe_resolve.specs.Replaced.{default_of};
+ghost use Rattle.oe_resolve.specs.Substituted.{default_of};
 ghost use Rattle.oe_resolve.specs.Rounds.{index_among};
 
 use crate::values::default_of;

@@ -2,7 +2,7 @@
 ghost use Rattle.std.specs.Prelude.{◌≡◌, true, IfOk, map};
 ghost use Rattle.oe_graph.specs.Plain.{plain_arg, plain_args, plain_named, plain_nodes, plain_node, plain_graph, plain_stored};
 ghost use Rattle.oe_resolve.specs.Renamed.{renamed, renamed_each, renamed_named, renamed_node, renamed_nodes};
-ghost use Rattle.oe_resolve.specs.Replaced as spec;
+ghost use Rattle.oe_resolve.specs.Substituted as spec;
 ghost use Rattle.oe_resolve.specs.Rounds.{under_id};
 ghost use Rattle.oe_resolve.specs.Seen.{names_behind, rename_by, seen};
 
@@ -36,7 +36,7 @@ pub fn inline_nodes(
     values: &Values,
 ) -> Result<Vec<Node>, OutOfMemory>
     ensures { IfOk result (λ v. plain_nodes v.items
-        ≡ spec.replaced_nodes (map plain_stored stored.now) (seen values.now)
+        ≡ spec.substituted_nodes (map plain_stored stored.now) (seen values.now)
         (renamed_nodes (rename_by values.now) (plain_nodes nodes.now.items))) }
 {
     let mut copy = Vec::with_capacity(alloc, nodes.len())?;
@@ -54,7 +54,7 @@ fn inline_node(
     values: &Values,
 ) -> Result<Node, OutOfMemory>
     ensures { IfOk result (λ n. plain_node n
-        ≡ spec.replaced_node (map plain_stored stored.now) (seen values.now)
+        ≡ spec.substituted_node (map plain_stored stored.now) (seen values.now)
         (renamed_node (rename_by values.now) (plain_node node.now))) }
 {
     let own = callback_parameters(stored, node);
@@ -76,7 +76,7 @@ fn inline_named(
     values: &Values,
 ) -> Result<Vec<(Text, Arg)>, OutOfMemory>
     ensures { IfOk result (λ v. plain_named v.items
-        ≡ spec.replaced_named (map plain_stored stored.now) (names_behind own.now)
+        ≡ spec.substituted_named (map plain_stored stored.now) (names_behind own.now)
         (seen values.now) (renamed_named (rename_by values.now) (plain_named members.now.items))) }
 {
     let mut copy = Vec::with_capacity(alloc, members.len())?;
@@ -96,7 +96,7 @@ fn inline_args(
     values: &Values,
 ) -> Result<Vec<Arg>, OutOfMemory>
     ensures { IfOk result (λ v. plain_args v.items
-        ≡ spec.replaced_each (map plain_stored stored.now) (names_behind own.now)
+        ≡ spec.substituted_each (map plain_stored stored.now) (names_behind own.now)
         (seen values.now) (renamed_each (rename_by values.now) (plain_args items.now.items))) }
 {
     let mut copy = Vec::with_capacity(alloc, items.len())?;
@@ -115,7 +115,7 @@ fn inline_arg(
     values: &Values,
 ) -> Result<Arg, OutOfMemory>
     ensures { IfOk result (λ a. plain_arg a
-        ≡ spec.replaced (map plain_stored stored.now) (names_behind own.now) (seen values.now)
+        ≡ spec.substituted (map plain_stored stored.now) (names_behind own.now) (seen values.now)
         (renamed (rename_by values.now) (plain_arg arg.now))) }
 {
     match arg {
@@ -147,7 +147,7 @@ fn inline_graph(
 ) -> Result<Graph, OutOfMemory>
     requires { values.now.in_callback ≡ true }
     ensures nodes { IfOk result (λ g. (plain_graph g).nodes
-        ≡ spec.replaced_nodes (map plain_stored stored.now) (seen values.now)
+        ≡ spec.substituted_nodes (map plain_stored stored.now) (seen values.now)
         (plain_graph graph.now).nodes) }
     ensures result { IfOk result
         (λ g. (plain_graph g).result ≡ (plain_graph graph.now).result) }

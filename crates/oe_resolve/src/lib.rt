@@ -4,11 +4,11 @@
 mod calls;
 mod count;
 mod cycle;
+mod dangling;
 mod fill;
 mod find;
 mod inline;
 mod judge;
-mod known;
 mod names;
 mod reach;
 mod round;
@@ -88,7 +88,7 @@ pub fn resolve(alloc: Global, graph: &Graph, stored: &[StoredProcess]) -> Result
 }
 
 /// Whether a graph is its own expansion: it calls no stored process, and no fault of names stands in it. Then no
-/// reference of it is unknown, and it need not be copied to be judged.
+/// reference of it dangles, and it need not be copied to be judged.
 fn is_expanded(alloc: Global, stored: &[StoredProcess], graph: &Graph) -> Result<bool, OutOfMemory>
     requires graph_valid { IsValidGraph (plain_graph graph.now) }
     requires stored_valid { AreValidStored (map plain_stored stored.now) }
@@ -115,15 +115,15 @@ fn expand(
     ensures { IfOk result
         (IsExpansion (map plain_stored stored.now) (plain_graph graph.now)) }
 {
-    let first = known::known_graph(alloc, graph)?;
-    let known = known_where_called(alloc, stored, &first)?;
+    let first = dangling::clear_graph(alloc, graph)?;
+    let cleared = clear_where_called(alloc, stored, &first)?;
     let mut expanded = first;
     let mut fault = None;
     let mut times: usize = 0;
     while times < MOST_ROUNDS && reach::has_call(stored, &expanded) {
         let found = names_fault(alloc, stored, false, &expanded)?;
         fault = least(fault, found);
-        expanded = next_round(alloc, known.as_slice(), &expanded)?;
+        expanded = next_round(alloc, cleared.as_slice(), &expanded)?;
         times += 1;
     }
     if reach::has_call(stored, &expanded) {
@@ -174,39 +174,39 @@ fn next_round(alloc: Global, stored: &[StoredProcess], graph: &Graph) -> Result<
 }
 
 /// The stored processes where a graph calls one; else they are not asked for.
-fn known_where_called(
+fn clear_where_called(
     alloc: Global,
     stored: &[StoredProcess],
     graph: &Graph,
 ) -> Result<Vec<StoredProcess>, OutOfMemory>
     ensures { IfOk result (λ v.
         nodes_call (map plain_stored stored.now) (plain_graph graph.now).nodes ≡ true
-        → map plain_stored v.items ≡ map rounds.known_stored (map plain_stored stored.now)) }
+        → map plain_stored v.items ≡ map rounds.cleared_stored (map plain_stored stored.now)) }
 {
     if reach::has_call(stored, graph) {
-        known_stored(alloc, stored)
+        clear_stored(alloc, stored)
     } else {
         Ok(Vec::new(alloc))
     }
 }
 
-/// The stored processes, in whose graphs unknown references have the empty id.
-fn known_stored(alloc: Global, stored: &[StoredProcess]) -> Result<Vec<StoredProcess>, OutOfMemory>
+/// The stored processes, in whose graphs the references that dangle have the empty id.
+fn clear_stored(alloc: Global, stored: &[StoredProcess]) -> Result<Vec<StoredProcess>, OutOfMemory>
     ensures { IfOk result (λ v. map plain_stored v.items
-        ≡ map rounds.known_stored (map plain_stored stored.now)) }
+        ≡ map rounds.cleared_stored (map plain_stored stored.now)) }
 {
-    let mut known = Vec::with_capacity(alloc, stored.len())?;
+    let mut cleared = Vec::with_capacity(alloc, stored.len())?;
     for process in stored {
-        known.push(known_process(alloc, process)?)?;
+        cleared.push(clear_process(alloc, process)?)?;
     }
-    Ok(known)
+    Ok(cleared)
 }
 
-fn known_process(alloc: Global, process: &StoredProcess) -> Result<StoredProcess, OutOfMemory>
+fn clear_process(alloc: Global, process: &StoredProcess) -> Result<StoredProcess, OutOfMemory>
     ensures { IfOk result
-        (λ s. plain_stored s ≡ rounds.known_stored (plain_stored process.now)) }
+        (λ s. plain_stored s ≡ rounds.cleared_stored (plain_stored process.now)) }
 {
     let mut copy = process.copy()?;
-    copy.graph = known::known_graph(alloc, &process.graph)?;
+    copy.graph = dangling::clear_graph(alloc, &process.graph)?;
     Ok(copy)
 }

@@ -5,7 +5,7 @@ ghost use Rattle.oe_graph.specs.Plain.{plain_arg, plain_args, plain_named, plain
 ghost use Rattle.oe_graph.specs.References.{argument_named};
 ghost use Rattle.oe_graph.specs.Tree.{from_parameter};
 ghost use Rattle.oe_resolve.specs.Renamed.{dangling, renamed, renamed_each, renamed_named};
-ghost use Rattle.oe_resolve.specs.Replaced as spec;
+ghost use Rattle.oe_resolve.specs.Substituted as spec;
 ghost use Rattle.oe_resolve.specs.Seen.{names_behind, seen};
 
 use crate::names::{is_among, names_of_both};

@@ -8,7 +8,7 @@ ghost use Rattle.oe_graph.specs.Plain.{plain_arg, plain_args, plain_graph, plain
 ghost use Rattle.oe_graph.specs.Tree.{Named, Nodes, from_parameter};
 ghost use Rattle.oe_resolve.specs.Calls.{callee};
 ghost use Rattle.oe_resolve.specs.Renamed.{renamed_nodes};
-ghost use Rattle.oe_resolve.specs.Replaced as replaced;
+ghost use Rattle.oe_resolve.specs.Substituted as substituted;
 ghost use Rattle.oe_resolve.specs.Rounds as rounds;
 ghost use Rattle.oe_resolve.specs.Seen.{names_behind, plain_sizes};
 ghost use Rattle.oe_resolve.specs.Sizes as spec;
@@ -429,7 +429,7 @@ fn given_size(
 /// The size of what a parameter has where no argument is given.
 fn default_size(parameter: &ParameterRow, measure: Measure) -> Result<Option<u64>, OutOfMemory>
     ensures { IfOk result (λ size. size ≡ option_map (spec.size_in measure)
-        (replaced.default_of (plain_parameter parameter.now))) }
+        (substituted.default_of (plain_parameter parameter.now))) }
 {
     match &parameter.default {
         Some(default) => {
@@ -456,7 +456,7 @@ fn opened_nodes_left(
         → spec.HasSizes sizes.now.measure (plain_sizes sizes.now.each.items)
         (names_behind hidden.now) values
         → budget ≡ left + spec.size_nodes sizes.now.measure
-        (replaced.replaced_nodes (map plain_stored stored.now) values
+        (substituted.substituted_nodes (map plain_stored stored.now) values
         (plain_nodes nodes.now.items))) }
 {
     let mut left = budget;
@@ -479,7 +479,7 @@ fn opened_node_left(
         → spec.HasSizes sizes.now.measure (plain_sizes sizes.now.each.items)
         (names_behind hidden.now) values
         → budget ≡ left + spec.size_named sizes.now.measure
-        (replaced.replaced_node (map plain_stored stored.now) values
+        (substituted.substituted_node (map plain_stored stored.now) values
         (plain_node node.now)).arguments) }
 {
     let own = callback_parameters(stored, node);
@@ -500,7 +500,7 @@ fn opened_named_left(
         → spec.HasSizes sizes.now.measure (plain_sizes sizes.now.each.items)
         (names_behind hidden.now) values
         → budget ≡ left + spec.size_named sizes.now.measure
-        (replaced.replaced_named (map plain_stored stored.now) (names_behind own.now) values
+        (substituted.substituted_named (map plain_stored stored.now) (names_behind own.now) values
         (plain_named members.now.items))) }
 {
     let mut left = budget;
@@ -525,7 +525,7 @@ fn opened_args_left(
         → spec.HasSizes sizes.now.measure (plain_sizes sizes.now.each.items)
         (names_behind hidden.now) values
         → budget ≡ left + spec.size_each sizes.now.measure
-        (replaced.replaced_each (map plain_stored stored.now) (names_behind own.now) values
+        (substituted.substituted_each (map plain_stored stored.now) (names_behind own.now) values
         (plain_args items.now.items))) }
 {
     let mut left = budget;
@@ -550,7 +550,7 @@ fn opened_arg_left(
         → spec.HasSizes sizes.now.measure (plain_sizes sizes.now.each.items)
         (names_behind hidden.now) values
         → budget ≡ left + spec.size_in sizes.now.measure
-        (replaced.replaced (map plain_stored stored.now) (names_behind own.now) values
+        (substituted.substituted (map plain_stored stored.now) (names_behind own.now) values
         (plain_arg arg.now))) }
 {
     let size = value_size(sizes.measure);

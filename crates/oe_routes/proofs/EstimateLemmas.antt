@@ -14,7 +14,7 @@ use Rattle.oe_judge.specs.Judged.{StandsWithCollections, having_result, of_cubes
 use Rattle.oe_resolve.specs.Faults as faults
 use Rattle.oe_resolve.specs.Faults.{HasNode, IsWithin, StandsWithStored}
 use Rattle.oe_resolve.specs.Filled.{filled_nodes, resolved}
-use Rattle.oe_resolve.specs.Rounds.{expanded, expanded_by, known_graph, known_nodes, known_stored, most_rounds, round_nodes, rounds}
+use Rattle.oe_resolve.specs.Rounds.{expanded, expanded_by, cleared_graph, cleared_nodes, cleared_stored, most_rounds, round_nodes, rounds}
 use Rattle.oe_meanings.specs.Stands as cubes
 use Rattle.oe_http.specs.Plain.{PlainRequest}
 use Rattle.oe_jobs.specs.Plain.{PlainJob}
@@ -46,7 +46,7 @@ module _ (stored : List PlainStored) (i j : ℕ) (ns : Nodes) where
   with_j = record { nodes = ns; result = j }
 
   expanded_alike : (times : ℕ) → (expanded_by times stored with_i).nodes ≡ (expanded_by times stored with_j).nodes
-  expanded_alike times = rounds_alike (map known_stored stored) times (known_graph with_i) (known_graph with_j) refl
+  expanded_alike times = rounds_alike (map cleared_stored stored) times (cleared_graph with_i) (cleared_graph with_j) refl
 
   -- a graph has the nodes of another with the same nodes
   abbrev has_alike : (a b : PlainGraph) → a.nodes ≡ b.nodes → (n : PlainNode) (name : List ℕ)

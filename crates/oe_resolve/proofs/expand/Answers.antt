@@ -8,10 +8,10 @@ use Rattle.oe_resolve.specs.Called.{nodes_call}
 use Rattle.oe_resolve.specs.Expansion.{IsEarly, IsExpansion, IsSettled}
 use Rattle.oe_resolve.specs.Judged.{IdsRise, OfObject}
 use Rattle.oe_resolve.specs.Rounds as rounds
-use Rattle.oe_resolve.specs.Rounds.{expanded_by, known_graph, most_rounds}
+use Rattle.oe_resolve.specs.Rounds.{expanded_by, cleared_graph, most_rounds}
 use Rattle.oe_resolve.specs.Sizes.{IsWithinLimits}
 use Rattle.oe_resolve.proofs.ExpandLemmas.{rise_by, early_none, early_more, settled_by}
-use Rattle.oe_resolve.proofs.SizeLemmas.{known_within}
+use Rattle.oe_resolve.proofs.SizeLemmas.{cleared_within}
 use Rattle.oe_resolve.proofs.expand.Goals as goal
 
 pub loop-times-init : goal.loop-times-init
@@ -20,7 +20,7 @@ loop-times-init c = (
   c.in_ok-first.ensures,
   early_none (map plain_stored c.args.stored.now) (plain_graph c.args.graph.now),
   λ below. absurd (omega arith),
-  subst (λ (h : PlainGraph). IsWithinLimits h) (sym c.in_ok-first.ensures) (known_within (plain_graph c.args.graph.now) c.requires.within),
+  subst (λ (h : PlainGraph). IsWithinLimits h) (sym c.in_ok-first.ensures) (cleared_within (plain_graph c.args.graph.now) c.requires.within),
 )
 
 pub names_fault-requires : goal.names_fault-requires
@@ -38,8 +38,8 @@ most_of times few = few
 
 -- a later graph comes of a call in the first
 first_calls : (stored : List PlainStored) (g h : PlainGraph) (times : ℕ) → h ≡ expanded_by times stored g
-    → (0 < times → nodes_call stored (known_graph g).nodes ≡ true) → nodes_call stored h.nodes ≡ true
-    → nodes_call stored (known_graph g).nodes ≡ true
+    → (0 < times → nodes_call stored (cleared_graph g).nodes ≡ true) → nodes_call stored h.nodes ≡ true
+    → nodes_call stored (cleared_graph g).nodes ≡ true
 first_calls stored g h zero is before here = subst (λ (k : PlainGraph). nodes_call stored k.nodes ≡ true) is here
 first_calls stored g h (suc times) is before here = before (omega arith)
 
@@ -50,13 +50,13 @@ loop-times-preserved c =
     let times = c.loop-times.times in
     let called = first_calls stored g (plain_graph c.loop-times.expanded) times c.loop-times.invariant.1 c.loop-times.invariant.3
     (sym c.has_call.ensures ∙ c.if-has_call.true) in
-    let known = c.in_ok-known.ensures (subst (λ (h : PlainGraph). nodes_call stored h.nodes ≡ true) (sym c.in_ok-first.ensures) called) in
+    let cleared = c.in_ok-cleared.ensures (subst (λ (h : PlainGraph). nodes_call stored h.nodes ≡ true) (sym c.in_ok-first.ensures) called) in
     let next : suc times ≡ times + 1 = omega arith in (
       omega (arith, c.loop-times-test.true),
       c.in_ok-expanded.ensures.graph
           ∙ ap (λ xs. rounds.round (map plain_stored xs) (plain_graph c.loop-times.expanded)) c.as_slice.ensures.value
-          ∙ ap (λ xs. rounds.round xs (plain_graph c.loop-times.expanded)) known
-          ∙ ap (rounds.round (map rounds.known_stored stored)) c.loop-times.invariant.1
+          ∙ ap (λ xs. rounds.round xs (plain_graph c.loop-times.expanded)) cleared
+          ∙ ap (rounds.round (map rounds.cleared_stored stored)) c.loop-times.invariant.1
           ∙ ap (λ k. expanded_by k stored g) next,
       subst (IsLeastOf (IsEarly stored g (times + 1))) (sym c.least-fault.ensures)
           (early_more stored g times c.loop-times.fault c.in_ok-found.found c.loop-times.invariant.2

@@ -3,7 +3,7 @@ use Rattle.oe_graph.specs.Plain.{plain_graph, plain_stored}
 use Rattle.oe_resolve.specs.Called.{nodes_call}
 use Rattle.oe_resolve.specs.Expansion.{IsEarly}
 use Rattle.oe_resolve.specs.Judged.{IsLeastFault}
-use Rattle.oe_resolve.specs.Rounds.{expanded_by, known_graph}
+use Rattle.oe_resolve.specs.Rounds.{expanded_by, cleared_graph}
 use Rattle.oe_resolve.specs.Sizes.{IsWithinLimits}
 use Rattle.oe_resolve.proofs.expand.Given as goal
 
@@ -15,5 +15,5 @@ invariant-loop-times l =
     (l.times ≤ 1048576)
     × (plain_graph l.expanded ≡ expanded_by l.times (map plain_stored l.stored) (plain_graph l.graph))
     × IsLeastFault (IsEarly (map plain_stored l.stored) (plain_graph l.graph) l.times) l.fault
-    × (0 < l.times → nodes_call (map plain_stored l.stored) (known_graph (plain_graph l.graph)).nodes ≡ true)
+    × (0 < l.times → nodes_call (map plain_stored l.stored) (cleared_graph (plain_graph l.graph)).nodes ≡ true)
     × IsWithinLimits (plain_graph l.expanded)

@@ -2,7 +2,7 @@ use Rattle.std.proofs.Common.{◌≡◌, map, take, refl, ap, ◌∙◌}
 use Rattle.std.proofs.lemmas.List.{take_all}
 use Rattle.oe_graph.specs.Plain.{plain_arg, plain_pair, plain_node, plain_nodes, plain_stored}
 use Rattle.oe_graph.specs.Tree.{values_from_list, named_from_list, nodes_from_list}
-use Rattle.oe_resolve.specs.Replaced.{replaced_nodes}
+use Rattle.oe_resolve.specs.Substituted.{substituted_nodes}
 use Rattle.oe_resolve.specs.Seen.{names_behind, rename_by, seen}
 use Rattle.oe_resolve.proofs.Each.{inlined, inlined_each, inlined_named, inlined_node, inlined_nodes, member_by}
 use Rattle.oe_resolve.proofs.RenamedLemmas.{kept_nodes, kept_inside}
@@ -45,5 +45,5 @@ pub inline_graph-returns-in-Ok-clause-nodes : goal.inline_graph-returns-in-Ok-cl
 inline_graph-returns-in-Ok-clause-nodes t c =
     let values = c.args.values.now in
     c.in_ok-nodes.ensures
-    ∙ ap (replaced_nodes (map plain_stored c.args.stored.now) (seen values))
+    ∙ ap (substituted_nodes (map plain_stored c.args.stored.now) (seen values))
     (kept_nodes (rename_by values) (kept_inside values c.requires) (plain_nodes c.args.graph.now.nodes.items))

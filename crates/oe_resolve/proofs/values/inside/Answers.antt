@@ -1,6 +1,6 @@
 use Rattle.std.proofs.Common.{List, ℕ, Bor, ap, ◌∙◌}
 use Rattle.oe_graph.specs.Plain.{plain_named}
-use Rattle.oe_resolve.specs.Replaced.{inside}
+use Rattle.oe_resolve.specs.Substituted.{inside}
 use Rattle.oe_resolve.specs.Seen.{names_behind}
 use Rattle.oe_resolve.specs.declared.values.Values.{Values}
 use Rattle.oe_resolve.proofs.ValueLemmas.{inside_seen}

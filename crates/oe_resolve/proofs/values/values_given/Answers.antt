@@ -3,7 +3,7 @@ use Rattle.std.proofs.lemmas.List.{drop_all}
 use Rattle.oe_graph.specs.Plain.{plain_arg, plain_named, plain_parameter}
 use Rattle.oe_graph.specs.declared.tree.Arg.{Arg}
 use Rattle.oe_graph.specs.declared.catalogue.ParameterRow.{ParameterRow}
-use Rattle.oe_resolve.specs.Replaced.{values_given, value_before}
+use Rattle.oe_resolve.specs.Substituted.{values_given, value_before}
 use Rattle.oe_resolve.proofs.ValueLemmas.{joined, joined-none, joined-last, value_in, values_given-next}
 use Rattle.oe_resolve.proofs.values.values_given.Goals.{in-Some+in_ok-copy+in_ok-push, in_default}
 use Rattle.oe_resolve.proofs.values.values_given.Goals as goal

@@ -1,6 +1,6 @@
 use Rattle.std.proofs.Common.{◌≡◌, map, drop}
 use Rattle.oe_graph.specs.Plain.{plain_named, plain_parameter}
-use Rattle.oe_resolve.specs.Replaced.{values_given}
+use Rattle.oe_resolve.specs.Substituted.{values_given}
 use Rattle.oe_resolve.proofs.ValueLemmas.{joined}
 use Rattle.oe_resolve.proofs.values.values_given.Given as goal
 

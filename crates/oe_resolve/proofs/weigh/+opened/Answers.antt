@@ -8,10 +8,10 @@ use Rattle.oe_graph.specs.declared.tree.Node.{Node}
 use Rattle.oe_graph.specs.declared.tree.Graph.{out-Graph}
 use Rattle.oe_graph.proofs.PartLemmas.{node_parts}
 use Rattle.oe_resolve.specs.Calls.{callback_parameters}
-use Rattle.oe_resolve.specs.Replaced.{inside, replaced, replaced_each, replaced_named, replaced_node, replaced_nodes}
+use Rattle.oe_resolve.specs.Substituted.{inside, substituted, substituted_each, substituted_named, substituted_node, substituted_nodes}
 use Rattle.oe_resolve.specs.Seen.{names_behind, plain_sizes}
 use Rattle.oe_resolve.specs.Sizes.{HasSizes, value_size, size_bare_nodes, size_in, size_each, size_named, size_nodes}
-use Rattle.oe_resolve.proofs.BareLemmas.{bare_replaced}
+use Rattle.oe_resolve.proofs.BareLemmas.{bare_substituted}
 use Rattle.oe_resolve.proofs.FaultLemmas.{list_is, object_is, callback_is}
 use Rattle.oe_resolve.proofs.SizeLemmas.{has_inside_behind, size_next}
 use Rattle.oe_resolve.proofs.weigh.+opened.Goals as goal
@@ -23,12 +23,12 @@ opened_nodes_left-returns t c values has =
     let xs = c.deref-node-items.result.now in
     let i = c.loop-node.node-index in
     let past : length xs ≤ i = omega (arith, c.loop-node-test.false) in
-    let none : size_nodes m (replaced_nodes stored values (plain_nodes (drop i xs))) ≡ 0 =
-    at_drop_all (λ (ys : List Node). size_nodes m (replaced_nodes stored values (plain_nodes ys))) xs i past in
-    let whole : size_nodes m (replaced_nodes stored values (plain_nodes xs)) ≡ size_nodes m (replaced_nodes stored values (plain_nodes c.args.nodes.now.items)) =
-    ap (λ (ys : List Node). size_nodes m (replaced_nodes stored values (plain_nodes ys))) c.deref-node-items.ensures.value in
-    let here : c.args.budget + size_nodes m (replaced_nodes stored values (plain_nodes (drop i xs)))
-    ≡ c.loop-node.left + size_nodes m (replaced_nodes stored values (plain_nodes xs)) =
+    let none : size_nodes m (substituted_nodes stored values (plain_nodes (drop i xs))) ≡ 0 =
+    at_drop_all (λ (ys : List Node). size_nodes m (substituted_nodes stored values (plain_nodes ys))) xs i past in
+    let whole : size_nodes m (substituted_nodes stored values (plain_nodes xs)) ≡ size_nodes m (substituted_nodes stored values (plain_nodes c.args.nodes.now.items)) =
+    ap (λ (ys : List Node). size_nodes m (substituted_nodes stored values (plain_nodes ys))) c.deref-node-items.ensures.value in
+    let here : c.args.budget + size_nodes m (substituted_nodes stored values (plain_nodes (drop i xs)))
+    ≡ c.loop-node.left + size_nodes m (substituted_nodes stored values (plain_nodes xs)) =
     c.loop-node.invariant values has in
     omega (arith, none, whole, here)
 
@@ -40,12 +40,12 @@ opened_named_left-returns t c values has =
     let xs = c.deref-member-items.result.now in
     let i = c.loop-member.member-index in
     let past : length xs ≤ i = omega (arith, c.loop-member-test.false) in
-    let none : size_named m (replaced_named stored own values (plain_named (drop i xs))) ≡ 0 =
-    at_drop_all (λ (ys : List (List ℕ × Arg)). size_named m (replaced_named stored own values (plain_named ys))) xs i past in
-    let whole : size_named m (replaced_named stored own values (plain_named xs)) ≡ size_named m (replaced_named stored own values (plain_named c.args.members.now.items)) =
-    ap (λ (ys : List (List ℕ × Arg)). size_named m (replaced_named stored own values (plain_named ys))) c.deref-member-items.ensures.value in
-    let here : c.args.budget + size_named m (replaced_named stored own values (plain_named (drop i xs)))
-    ≡ c.loop-member.left + size_named m (replaced_named stored own values (plain_named xs)) =
+    let none : size_named m (substituted_named stored own values (plain_named (drop i xs))) ≡ 0 =
+    at_drop_all (λ (ys : List (List ℕ × Arg)). size_named m (substituted_named stored own values (plain_named ys))) xs i past in
+    let whole : size_named m (substituted_named stored own values (plain_named xs)) ≡ size_named m (substituted_named stored own values (plain_named c.args.members.now.items)) =
+    ap (λ (ys : List (List ℕ × Arg)). size_named m (substituted_named stored own values (plain_named ys))) c.deref-member-items.ensures.value in
+    let here : c.args.budget + size_named m (substituted_named stored own values (plain_named (drop i xs)))
+    ≡ c.loop-member.left + size_named m (substituted_named stored own values (plain_named xs)) =
     c.loop-member.invariant values has in
     omega (arith, none, whole, here)
 
@@ -57,12 +57,12 @@ opened_args_left-returns t c values has =
     let xs = c.deref-item-items.result.now in
     let i = c.loop-item.item-index in
     let past : length xs ≤ i = omega (arith, c.loop-item-test.false) in
-    let none : size_each m (replaced_each stored own values (plain_args (drop i xs))) ≡ 0 =
-    at_drop_all (λ (ys : List Arg). size_each m (replaced_each stored own values (plain_args ys))) xs i past in
-    let whole : size_each m (replaced_each stored own values (plain_args xs)) ≡ size_each m (replaced_each stored own values (plain_args c.args.items.now.items)) =
-    ap (λ (ys : List Arg). size_each m (replaced_each stored own values (plain_args ys))) c.deref-item-items.ensures.value in
-    let here : c.args.budget + size_each m (replaced_each stored own values (plain_args (drop i xs)))
-    ≡ c.loop-item.left + size_each m (replaced_each stored own values (plain_args xs)) =
+    let none : size_each m (substituted_each stored own values (plain_args (drop i xs))) ≡ 0 =
+    at_drop_all (λ (ys : List Arg). size_each m (substituted_each stored own values (plain_args ys))) xs i past in
+    let whole : size_each m (substituted_each stored own values (plain_args xs)) ≡ size_each m (substituted_each stored own values (plain_args c.args.items.now.items)) =
+    ap (λ (ys : List Arg). size_each m (substituted_each stored own values (plain_args ys))) c.deref-item-items.ensures.value in
+    let here : c.args.budget + size_each m (substituted_each stored own values (plain_args (drop i xs)))
+    ≡ c.loop-item.left + size_each m (substituted_each stored own values (plain_args xs)) =
     c.loop-item.invariant values has in
     omega (arith, none, whole, here)
 
@@ -73,14 +73,14 @@ opened_nodes_left-loop-node-preserved t c values has =
     let xs = c.deref-node-items.result.now in
     let i = c.loop-node.node-index in
     let n : Node = c.node-item.result in
-    let rest = size_nodes m (replaced_nodes stored values (plain_nodes (drop (i + 1) xs))) in
-    let next : size_nodes m (replaced_nodes stored values (plain_nodes (drop i xs)))
-    ≡ size_named m (replaced_node stored values (plain_node n)).arguments + rest =
-    size_next (λ (ys : List Node). size_nodes m (replaced_nodes stored values (plain_nodes ys))) xs i n c.loop-node-test.true c.node-item.is in
-    let before : c.args.budget + size_nodes m (replaced_nodes stored values (plain_nodes (drop i xs)))
-    ≡ c.loop-node.left + size_nodes m (replaced_nodes stored values (plain_nodes xs)) =
+    let rest = size_nodes m (substituted_nodes stored values (plain_nodes (drop (i + 1) xs))) in
+    let next : size_nodes m (substituted_nodes stored values (plain_nodes (drop i xs)))
+    ≡ size_named m (substituted_node stored values (plain_node n)).arguments + rest =
+    size_next (λ (ys : List Node). size_nodes m (substituted_nodes stored values (plain_nodes ys))) xs i n c.loop-node-test.true c.node-item.is in
+    let before : c.args.budget + size_nodes m (substituted_nodes stored values (plain_nodes (drop i xs)))
+    ≡ c.loop-node.left + size_nodes m (substituted_nodes stored values (plain_nodes xs)) =
     c.loop-node.invariant values has in
-    let here : c.loop-node.left ≡ c.in_ok-left.left + size_named m (replaced_node stored values (plain_node n)).arguments =
+    let here : c.loop-node.left ≡ c.in_ok-left.left + size_named m (substituted_node stored values (plain_node n)).arguments =
     c.in_ok-left.ensures values has in
     omega (arith, next, before, here)
 
@@ -92,9 +92,9 @@ opened_node_left-returns t c =
     IfOk-weaker c.opened_named_left.result _ _
     (λ left each values has.
     subst (λ (k : PlainNode). c.args.budget
-    ≡ left + size_named m (replaced_named stored (callback_parameters stored k.namespace k.process_id) values k.arguments))
+    ≡ left + size_named m (substituted_named stored (callback_parameters stored k.namespace k.process_id) values k.arguments))
     (sym (node_parts n))
-    (subst (λ own. c.args.budget ≡ left + size_named m (replaced_named stored own values (plain_named n.arguments.items)))
+    (subst (λ own. c.args.budget ≡ left + size_named m (substituted_named stored own values (plain_named n.arguments.items)))
     c.callback_parameters-own.ensures (each values has)))
     c.opened_named_left.ensures
 
@@ -105,12 +105,12 @@ opened_arg_left-returns-in_ok-left-in-List t c =
     let own = names_behind c.args.own.now in
     IfOk-weaker c.opened_args_left.result _ _
     (λ left each values has.
-    let here : c.in_ok-left-in-List.left ≡ left + size_each m (replaced_each stored own values (plain_args c.in-List.items.items)) =
+    let here : c.in_ok-left-in-List.left ≡ left + size_each m (substituted_each stored own values (plain_args c.in-List.items.items)) =
     each values has in
     let whole : c.args.budget
-    ≡ left + (value_size m + size_each m (replaced_each stored own values (plain_args c.in-List.items.items))) =
+    ≡ left + (value_size m + size_each m (substituted_each stored own values (plain_args c.in-List.items.items))) =
     omega (arith, here, c.in_ok-left-in-List.ensures, c.value_size-size.ensures) in
-    subst (λ (a : Argument). c.args.budget ≡ left + size_in m (replaced stored own values a))
+    subst (λ (a : Argument). c.args.budget ≡ left + size_in m (substituted stored own values a))
     (sym (list_is c.args.arg.now c.in-List.items c.in-List.is)) whole)
     c.opened_args_left.ensures
 
@@ -122,12 +122,12 @@ opened_arg_left-returns-in_ok-left-in-Object t c =
     IfOk-weaker c.opened_named_left.result _ _
     (λ left each values has.
     let here : c.in_ok-left-in-Object.left
-    ≡ left + size_named m (replaced_named stored own values (plain_named c.in-Object.members.items)) =
+    ≡ left + size_named m (substituted_named stored own values (plain_named c.in-Object.members.items)) =
     each values has in
     let whole : c.args.budget
-    ≡ left + (value_size m + size_named m (replaced_named stored own values (plain_named c.in-Object.members.items))) =
+    ≡ left + (value_size m + size_named m (substituted_named stored own values (plain_named c.in-Object.members.items))) =
     omega (arith, here, c.in_ok-left-in-Object.ensures, c.value_size-size.ensures) in
-    subst (λ (a : Argument). c.args.budget ≡ left + size_in m (replaced stored own values a))
+    subst (λ (a : Argument). c.args.budget ≡ left + size_in m (substituted stored own values a))
     (sym (object_is c.args.arg.now c.in-Object.members c.in-Object.is)) whole)
     c.opened_named_left.ensures
 
@@ -144,14 +144,14 @@ opened_arg_left-returns-in_ok-inner-in-Callback t c =
     subst (λ names. HasSizes m sizes (names_behind names) (inside own values))
     (sym (c.as_slice.ensures.value ∙ c.in_ok-inner-in-Callback.ensures))
     (has_inside_behind m sizes c.args.own.now c.args.hidden.now values has) in
-    let here : c.in_ok-room-in-Callback.room ≡ left + size_nodes m (replaced_nodes stored (inside own values) ns) =
+    let here : c.in_ok-room-in-Callback.room ≡ left + size_nodes m (substituted_nodes stored (inside own values) ns) =
     each (inside own values) has_inner in
-    let bare : size_bare_nodes m (replaced_nodes stored (inside own values) ns) ≡ size_bare_nodes m ns =
-    bare_replaced m stored (inside own values) ns in
+    let bare : size_bare_nodes m (substituted_nodes stored (inside own values) ns) ≡ size_bare_nodes m ns =
+    bare_substituted m stored (inside own values) ns in
     let whole : c.args.budget
-    ≡ left + (value_size m + (size_bare_nodes m (replaced_nodes stored (inside own values) ns)
-    + size_nodes m (replaced_nodes stored (inside own values) ns))) =
+    ≡ left + (value_size m + (size_bare_nodes m (substituted_nodes stored (inside own values) ns)
+    + size_nodes m (substituted_nodes stored (inside own values) ns))) =
     omega (arith, here, bare, c.in_ok-left-in-Callback.ensures, c.in_ok-room-in-Callback.ensures, c.value_size-size.ensures) in
-    subst (λ (a : Argument). c.args.budget ≡ left + size_in m (replaced stored own values a))
+    subst (λ (a : Argument). c.args.budget ≡ left + size_in m (substituted stored own values a))
     (sym (callback_is c.args.arg.now c.in-Callback.graph c.in-Callback.is)) whole)
     c.opened_nodes_left.ensures

@@ -1,7 +1,7 @@
 use Rattle.std.proofs.Common.{◌≡◌, ◌+◌, map, drop}
 use Rattle.oe_graph.specs.Plain.{plain_args, plain_named, plain_nodes, plain_stored}
 use Rattle.oe_graph.specs.Tree.{Named}
-use Rattle.oe_resolve.specs.Replaced.{replaced_each, replaced_named, replaced_nodes}
+use Rattle.oe_resolve.specs.Substituted.{substituted_each, substituted_named, substituted_nodes}
 use Rattle.oe_resolve.specs.Seen.{names_behind, plain_sizes}
 use Rattle.oe_resolve.specs.Sizes.{HasSizes, size_each, size_named, size_nodes}
 use Rattle.oe_resolve.proofs.weigh.+opened.Given as goal
@@ -10,23 +10,23 @@ abbrev pub invariant-opened_nodes_left-loop-node : goal.invariant-opened_nodes_l
 invariant-opened_nodes_left-loop-node l =
     (values : Named) → HasSizes l.sizes.measure (plain_sizes l.sizes.each.items) (names_behind l.hidden) values
     → l.budget
-    + size_nodes l.sizes.measure (replaced_nodes (map plain_stored l.stored) values (plain_nodes (drop l.node-index l.node-items)))
-    ≡ l.left + size_nodes l.sizes.measure (replaced_nodes (map plain_stored l.stored) values (plain_nodes l.node-items))
+    + size_nodes l.sizes.measure (substituted_nodes (map plain_stored l.stored) values (plain_nodes (drop l.node-index l.node-items)))
+    ≡ l.left + size_nodes l.sizes.measure (substituted_nodes (map plain_stored l.stored) values (plain_nodes l.node-items))
 
 abbrev pub invariant-opened_named_left-loop-member : goal.invariant-opened_named_left-loop-member
 invariant-opened_named_left-loop-member l =
     (values : Named) → HasSizes l.sizes.measure (plain_sizes l.sizes.each.items) (names_behind l.hidden) values
     → l.budget
     + size_named l.sizes.measure
-    (replaced_named (map plain_stored l.stored) (names_behind l.own) values (plain_named (drop l.member-index l.member-items)))
+    (substituted_named (map plain_stored l.stored) (names_behind l.own) values (plain_named (drop l.member-index l.member-items)))
     ≡ l.left
-    + size_named l.sizes.measure (replaced_named (map plain_stored l.stored) (names_behind l.own) values (plain_named l.member-items))
+    + size_named l.sizes.measure (substituted_named (map plain_stored l.stored) (names_behind l.own) values (plain_named l.member-items))
 
 abbrev pub invariant-opened_args_left-loop-item : goal.invariant-opened_args_left-loop-item
 invariant-opened_args_left-loop-item l =
     (values : Named) → HasSizes l.sizes.measure (plain_sizes l.sizes.each.items) (names_behind l.hidden) values
     → l.budget
     + size_each l.sizes.measure
-    (replaced_each (map plain_stored l.stored) (names_behind l.own) values (plain_args (drop l.item-index l.item-items)))
+    (substituted_each (map plain_stored l.stored) (names_behind l.own) values (plain_args (drop l.item-index l.item-items)))
     ≡ l.left
-    + size_each l.sizes.measure (replaced_each (map plain_stored l.stored) (names_behind l.own) values (plain_args l.item-items))
+    + size_each l.sizes.measure (substituted_each (map plain_stored l.stored) (names_behind l.own) values (plain_args l.item-items))

@@ -1,4 +1,4 @@
--- Parameters replaced by what they stand for, at any depth of an argument.
+-- Values substituted for parameters, at any depth of an argument.
 use Rattle.std.specs.Prelude.{ℕ, List, [], ◌∷◌, Option, Some, None, unwrap_or, if◌then◌else◌}
 use Rattle.std.specs.List.{list_any}
 use Rattle.std.specs.Option.{option_or}
@@ -37,43 +37,43 @@ without_names names (named name a rest) =
 abbrev pub inside : List (List ℕ) → Named → Named
 inside own values = renamed_named dangling (without_names own values)
 
--- ---- replaced
+-- ---- substituted
 
--- Each reference to a parameter that has a value is replaced by it. Values are not looked through again: what they
+-- For each reference to a parameter that has a value this is substituted. Values are not looked through again: what they
 -- refer to belongs to where they were written. `own` has the parameters that the callbacks of the node see.
 abbrev mutual
-  pub replaced : List PlainStored → List (List ℕ) → Named → Argument → Argument
-  replaced stored own values null = null
-  replaced stored own values (flag b) = flag b
-  replaced stored own values (whole z) = whole z
-  replaced stored own values inexact = inexact
-  replaced stored own values (text s) = text s
-  replaced stored own values (list rest) = list (replaced_each stored own values rest)
-  replaced stored own values (object ms) = object (replaced_named stored own values ms)
-  replaced stored own values (from_node id) = from_node id
-  replaced stored own values (from_parameter name) = unwrap_or (argument_named name values) (from_parameter name)
-  replaced stored own values (callback ns result) = callback (replaced_nodes stored (inside own values) ns) result
+  pub substituted : List PlainStored → List (List ℕ) → Named → Argument → Argument
+  substituted stored own values null = null
+  substituted stored own values (flag b) = flag b
+  substituted stored own values (whole z) = whole z
+  substituted stored own values inexact = inexact
+  substituted stored own values (text s) = text s
+  substituted stored own values (list rest) = list (substituted_each stored own values rest)
+  substituted stored own values (object ms) = object (substituted_named stored own values ms)
+  substituted stored own values (from_node id) = from_node id
+  substituted stored own values (from_parameter name) = unwrap_or (argument_named name values) (from_parameter name)
+  substituted stored own values (callback ns result) = callback (substituted_nodes stored (inside own values) ns) result
 
-  pub replaced_each : List PlainStored → List (List ℕ) → Named → ListValues → ListValues
-  replaced_each stored own values no_arguments = no_arguments
-  replaced_each stored own values (argument a rest) =
-      argument (replaced stored own values a) (replaced_each stored own values rest)
+  pub substituted_each : List PlainStored → List (List ℕ) → Named → ListValues → ListValues
+  substituted_each stored own values no_arguments = no_arguments
+  substituted_each stored own values (argument a rest) =
+      argument (substituted stored own values a) (substituted_each stored own values rest)
 
-  pub replaced_named : List PlainStored → List (List ℕ) → Named → Named → Named
-  replaced_named stored own values no_named = no_named
-  replaced_named stored own values (named name a rest) =
-      named name (replaced stored own values a) (replaced_named stored own values rest)
+  pub substituted_named : List PlainStored → List (List ℕ) → Named → Named → Named
+  substituted_named stored own values no_named = no_named
+  substituted_named stored own values (named name a rest) =
+      named name (substituted stored own values a) (substituted_named stored own values rest)
 
-  pub replaced_nodes : List PlainStored → Named → Nodes → Nodes
-  replaced_nodes stored values no_nodes = no_nodes
-  replaced_nodes stored values (node id process_id namespace arguments rest) =
+  pub substituted_nodes : List PlainStored → Named → Nodes → Nodes
+  substituted_nodes stored values no_nodes = no_nodes
+  substituted_nodes stored values (node id process_id namespace arguments rest) =
       node id process_id namespace
-      (replaced_named stored (callback_parameters stored namespace process_id) values arguments)
-      (replaced_nodes stored values rest)
+      (substituted_named stored (callback_parameters stored namespace process_id) values arguments)
+      (substituted_nodes stored values rest)
 
-abbrev pub replaced_node : List PlainStored → Named → PlainNode → PlainNode
-replaced_node stored values n =
+abbrev pub substituted_node : List PlainStored → Named → PlainNode → PlainNode
+substituted_node stored values n =
     record n {
-      arguments = replaced_named stored (callback_parameters stored n.namespace n.process_id) values
+      arguments = substituted_named stored (callback_parameters stored n.namespace n.process_id) values
           n.arguments;
     }

@@ -1,4 +1,4 @@
--- A graph without a fault of names is the same with its known references.
+-- In a graph without a fault of names no reference dangles, so clearing them leaves it as it is.
 use Rattle.std.proofs.Common.{◌≡◌, ℕ, Bool, true, false, List, [], ◌++◌, if◌then◌else◌, Contains, refl, sym, ap, ◌∙◌}
 use Rattle.std.proofs.lemmas.List.Elements.{Contains-append_left, Contains-append_right}
 use Rattle.oe_graph.specs.Form.{node_name, callback_name}
@@ -11,7 +11,7 @@ use Rattle.oe_graph.specs.declared.fault.Fault.{Fault}
 use Rattle.oe_resolve.specs.Called.{nodes_call}
 use Rattle.oe_resolve.specs.Judged as judged
 use Rattle.oe_resolve.specs.Judged.{IsInside, OfObject}
-use Rattle.oe_resolve.specs.Rounds.{known_id, known, known_each, known_named, known_nodes, known_graph}
+use Rattle.oe_resolve.specs.Rounds.{cleared_id, cleared, cleared_each, cleared_named, cleared_nodes, cleared_graph}
 use Rattle.oe_resolve.proofs.Along.{first_there, later_there}
 use Rattle.oe_resolve.proofs.CodeLemmas.{among}
 use Rattle.oe_resolve.proofs.ResolvingLemmas.{callback_of, stands_among}
@@ -30,26 +30,26 @@ AreKnownIn callbacks = (g : PlainGraph) → Contains callbacks g → AreKnown g.
 abbrev AreAmong : List (List ℕ) → List (List ℕ) → Type 0
 AreAmong ids references = (id : List ℕ) → Contains references id → Contains ids id
 
-same_id : (ids : List (List ℕ)) (id : List ℕ) → Contains ids id → known_id ids id ≡ id
+same_id : (ids : List (List ℕ)) (id : List ℕ) → Contains ids id → cleared_id ids id ≡ id
 same_id ids id has = ap (λ b. if b then id else []) (among ids id has)
 
 mutual
   same_nodes : (ids : List (List ℕ)) (ns : Nodes)
       → ((n : PlainNode) → Contains (each_node ns) n
       → AreAmong ids (references_named n.arguments) × AreKnownIn (callbacks_named n.arguments))
-      → known_nodes ids ns ≡ ns
+      → cleared_nodes ids ns ≡ ns
   same_nodes ids no_nodes each = refl
   same_nodes ids (node id p s args rest) each =
       let n : PlainNode = record { id = id; process_id = p; namespace = s; arguments = args } in
       let here = each n (first_there n (each_node rest)) in
-      ap (λ ms. node id p s ms (known_nodes ids rest)) (same_named ids args here.0 here.1)
+      ap (λ ms. node id p s ms (cleared_nodes ids rest)) (same_named ids args here.0 here.1)
       ∙ ap (node id p s args) (same_nodes ids rest (λ m has. each m (later_there n (each_node rest) m has)))
 
   same_named : (ids : List (List ℕ)) (ms : Named) → AreAmong ids (references_named ms) → AreKnownIn (callbacks_named ms)
-      → known_named ids ms ≡ ms
+      → cleared_named ids ms ≡ ms
   same_named ids no_named in_ids each = refl
   same_named ids (named k a rest) in_ids each =
-      ap (λ b. named k b (known_named ids rest)) (same_argument ids a
+      ap (λ b. named k b (cleared_named ids rest)) (same_argument ids a
       (λ id has. in_ids id (Contains-append_left (references_in a) (references_named rest) id has))
       (λ g has. each g (Contains-append_left (callbacks_in a) (callbacks_named rest) g has)))
       ∙ ap (named k a) (same_named ids rest
@@ -57,7 +57,7 @@ mutual
       (λ g has. each g (Contains-append_right (callbacks_in a) (callbacks_named rest) g has)))
 
   same_argument : (ids : List (List ℕ)) (a : Argument) → AreAmong ids (references_in a) → AreKnownIn (callbacks_in a)
-      → known ids a ≡ a
+      → cleared ids a ≡ a
   same_argument ids null in_ids each = refl
   same_argument ids (flag b) in_ids each = refl
   same_argument ids (whole z) in_ids each = refl
@@ -73,10 +73,10 @@ mutual
       (λ id refers. all ns n id judged.itself has refers, λ g there inner m id inside. all inner m id (judged.deeper has there inside))))
 
   same_each : (ids : List (List ℕ)) (rest : ListValues) → AreAmong ids (references_each rest) → AreKnownIn (callbacks_each rest)
-      → known_each ids rest ≡ rest
+      → cleared_each ids rest ≡ rest
   same_each ids no_arguments in_ids each = refl
   same_each ids (argument a rest) in_ids each =
-      ap (λ b. argument b (known_each ids rest)) (same_argument ids a
+      ap (λ b. argument b (cleared_each ids rest)) (same_argument ids a
       (λ id has. in_ids id (Contains-append_left (references_in a) (references_each rest) id has))
       (λ g has. each g (Contains-append_left (callbacks_in a) (callbacks_each rest) g has)))
       ∙ ap (argument a) (same_each ids rest
@@ -99,8 +99,8 @@ module _ (stored : List PlainStored) (last : Bool) where
       (callback_uncalled stored m.arguments g uncalled.1 calls)
       (λ f of. none f (judged.inside there uncalled.0 a.has a.calls of)) absent
 
-  pub known_same : (g : PlainGraph) → nodes_call stored g.nodes ≡ false → ((f : Fault) → ¬ OfObject stored last f [] [] g.nodes) → known_graph g ≡ g
-  known_same g no_call none =
+  pub cleared_same : (g : PlainGraph) → nodes_call stored g.nodes ≡ false → ((f : Fault) → ¬ OfObject stored last f [] [] g.nodes) → cleared_graph g ≡ g
+  cleared_same g no_call none =
       let all : AreKnown g.nodes = λ inner n id inside has refers.
       stands_among (ids_of inner) id (never_unknown inner g.nodes n id [] [] inside has refers no_call none) in
       ap (λ ns. record { nodes = ns; result = g.result }) (same_nodes (ids_of g.nodes) g.nodes (λ n has.
