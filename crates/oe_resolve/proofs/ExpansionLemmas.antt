@@ -1,7 +1,7 @@
 -- What stands in a graph after some rounds. Each node is one that the graph brings where it stands, and each callback one
 -- that it brings, after some rounds of its own. To a node of a graph itself that still calls a stored process a chain of
 -- as many calls leads; so after as many rounds as there are stored processes none does, unless one reaches itself.
-use Rattle.std.proofs.Common.{◌&&◌, ◌≡◌, ◌⊎◌, inl, inr, ℕ, zero, suc, ◌+◌, ◌<◌, ◌≤◌, ◌||◌, not, Bool, true, false, cond, if◌then◌else◌, List, [], ◌∷◌, map, length, slice_get, slice_index_or, find, Contains, Decides, Option, Some, None, option_map, refl, sym, ap, ◌∙◌, subst, true≢false, arith}
+use Rattle.std.proofs.Common.{◌&&◌, ◌≡◌, ◌⊎◌, inl, inr, ℕ, zero, suc, ◌+◌, ◌<◌, ◌≤◌, ◌||◌, not, Bool, true, false, if◌then◌else◌, List, [], ◌∷◌, map, length, slice_get, slice_index_or, find, Contains, Decides, Option, Some, None, option_map, refl, sym, ap, ◌∙◌, subst, true≢false, arith}
 use Rattle.std.specs.Cmp.{IsEquivalence}
 use Rattle.std.specs.List.{IsDistinct, AllByRecursion}
 use Rattle.std.specs.Set.{is_member}
@@ -16,12 +16,13 @@ use Rattle.oe_graph.specs.Resolved as resolved_graphs
 use Rattle.oe_graph.specs.Tree.{Nodes, no_nodes, node, PlainGraph, PlainNode, PlainStored}
 use Rattle.oe_graph.specs.declared.code.Code.{Code}
 use Rattle.oe_resolve.specs.Called.{nodes_call}
-use Rattle.oe_resolve.specs.Calls.{means_stored, stored_named, callee, may_stand, stands_in, holds_fitting, calls_fitting, HoldsNode, itself, by_callback, Calls, ReachesProcess, calls, onwards, CallsReach, directly, Brings, by_call}
+use Rattle.oe_resolve.specs.Calls.{callee, may_stand, stands_in, holds_fitting, calls_fitting, HoldsNode, itself, by_callback, Calls, ReachesProcess, calls, onwards, CallsReach, directly, Brings, by_call}
 use Rattle.oe_resolve.specs.Faults.{StandsWithStored, process_unsupported, process_recursive, graph_too_large, callback_too_large, most_main_nodes, most_callback_nodes}
 use Rattle.oe_resolve.specs.Filled.{resolved}
 use Rattle.oe_resolve.specs.Rounds as rounds
 use Rattle.oe_resolve.specs.Rounds.{cleared_stored, cleared_graph, under_id, expanded_by, expanded, most_rounds}
 use Rattle.oe_graph.specs.Valid.{IsValidGraph, IsValidStored, AreValidStored}
+use Rattle.oe_resolve.proofs.CountLemmas.{callee_cleared}
 use Rattle.oe_resolve.proofs.FilledLemmas.{in_cons, in_none, in_first, in_rest}
 use Rattle.oe_resolve.proofs.IdLemmas.{HasNames}
 use Rattle.oe_resolve.proofs.NodeLemmas.{same_name-turned}
@@ -32,28 +33,6 @@ use Rattle.oe_resolve.proofs.UncalledLemmas.{node_uncalled, within_uncalled}
 
 -- ---- what a node calls among stored processes without dangling references
 
-named_if : (same : Bool) (s : PlainStored) (rest : Option PlainStored) (cleared_rest : Option PlainStored)
-    → cleared_rest ≡ option_map cleared_stored rest
-    → cond same (Some (cleared_stored s)) cleared_rest ≡ option_map cleared_stored (cond same (Some s) rest)
-named_if true s rest cleared_rest later = refl
-named_if false s rest cleared_rest later = later
-
-named_cleared : (id : List ℕ) (stored : List PlainStored)
-    → stored_named id (map cleared_stored stored) ≡ option_map cleared_stored (stored_named id stored)
-named_cleared id [] = refl
-named_cleared id (s ∷ stored) =
-    named_if (same_name s.id id) s (stored_named id stored) (stored_named id (map cleared_stored stored)) (named_cleared id stored)
-
-called_if : (means : Bool) (o : Option PlainStored) (cleared_o : Option PlainStored) → cleared_o ≡ option_map cleared_stored o
-    → (if means then cleared_o else None) ≡ option_map cleared_stored (if means then o else None)
-called_if true o cleared_o is = is
-called_if false o cleared_o is = refl
-
-pub callee_cleared : (stored : List PlainStored) (namespace : Option (List ℕ)) (p : List ℕ)
-    → callee (map cleared_stored stored) namespace p ≡ option_map cleared_stored (callee stored namespace p)
-callee_cleared stored namespace p =
-    called_if (means_stored namespace) (stored_named p stored) (stored_named p (map cleared_stored stored)) (named_cleared p stored)
-
 cleared_none : (o : Option PlainStored) → option_map cleared_stored o ≡ None → o ≡ None
 cleared_none None is = refl
 cleared_none (Some s) is = absurd cc
@@ -61,11 +40,11 @@ cleared_none (Some s) is = absurd cc
 record ClearedOf (o : Option PlainStored) (cleared : PlainStored) : Type 0 where
   pub of : PlainStored
   pub is_some : o ≡ Some of
-  pub is_known : cleared_stored of ≡ cleared
+  pub is_cleared : cleared_stored of ≡ cleared
 
 cleared_some : (o : Option PlainStored) (cleared : PlainStored) → option_map cleared_stored o ≡ Some cleared → ClearedOf o cleared
 cleared_some None cleared is = absurd cc
-cleared_some (Some s) cleared is = record { of = s; is_some = refl; is_known = cc }
+cleared_some (Some s) cleared is = record { of = s; is_some = refl; is_cleared = cc }
 
 -- ---- what stands
 
@@ -156,7 +135,7 @@ module _ (stored : List PlainStored) (g : PlainGraph) where
         → HasNames s
     names namespace p s is =
         let of = cleared_some (callee stored namespace p) s (sym (callee_cleared stored namespace p) ∙ is) in
-        subst HasNames of.is_known (cleared_has_names of.of (stored_valid.each of.of (callee_in stored namespace p of.of of.is_some)))
+        subst HasNames of.is_cleared (cleared_has_names of.of (stored_valid.each of.of (callee_in stored namespace p of.of of.is_some)))
 
     opens : (in_callback : Bool) (namespace : Option (List ℕ)) (p : List ℕ) (s : PlainStored)
         → Brought stored g in_callback namespace p → callee stored namespace p ≡ Some s
@@ -180,7 +159,7 @@ module _ (stored : List PlainStored) (g : PlainGraph) where
         → IsStoredInOrder (Brought stored g) (Formed stored g) in_callback s
     called in_callback namespace p s brought is =
         let of = cleared_some (callee stored namespace p) s (sym (callee_cleared stored namespace p) ∙ is) in
-        subst (IsStoredInOrder (Brought stored g) (Formed stored g) in_callback) of.is_known
+        subst (IsStoredInOrder (Brought stored g) (Formed stored g) in_callback) of.is_cleared
         (opens in_callback namespace p of.of brought of.is_some)
 
     formed : (ns : Nodes) → Formed stored g (places_of ns)
