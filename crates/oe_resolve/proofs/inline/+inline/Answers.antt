@@ -41,8 +41,8 @@ inline_nodes-returns t c =
     ap nodes_from_list all ∙ inlined_nodes stored values rename c.args.nodes.now.items
 
 -- in a callback ids and references stay
-pub inline_graph-returns-in-Ok-clause-nodes : goal.inline_graph-returns-in-Ok-clause-nodes
-inline_graph-returns-in-Ok-clause-nodes t c =
+pub inline_graph-returns-clause-nodes : goal.inline_graph-returns-clause-nodes
+inline_graph-returns-clause-nodes t c =
     let values = c.args.values.now in
     c.in_ok-nodes.ensures
     ∙ ap (substituted_nodes (map plain_stored c.args.stored.now) (seen values))

@@ -6,8 +6,8 @@ use Rattle.oe_resolve.specs.declared.values.Values.{Values}
 use Rattle.oe_resolve.proofs.ValueLemmas.{inside_seen}
 use Rattle.oe_resolve.proofs.values.inside.Goals as goal
 
-pub returns-in-Ok-clause-seen : goal.returns-in-Ok-clause-seen
-returns-in-Ok-clause-seen c =
+pub returns-clause-seen : goal.returns-clause-seen
+returns-clause-seen c =
     let v : Values = c.args.values.now in
     let given = plain_named v.given.now.items in
     ap (λ (names : List (Bor (List ℕ))). inside (names_behind names) given) c.in_ok-hidden.ensures
