@@ -7,7 +7,7 @@ ghost use Rattle.oe_resolve.specs.Rounds as spec;
 
 use crate::find::has_id;
 use oe_dims::{Text, copy_text};
-use oe_graph::{Arg, Beside, Graph, Node, guesses_of};
+use oe_graph::{Arg, Beside, Graph, Node, copy_arg, guesses_of};
 use oe_memory::OutOfMemory;
 use std::alloc::Global;
 
@@ -96,16 +96,11 @@ fn clear_arg(alloc: Global, arg: &Arg, beside: &Beside) -> Result<Arg, OutOfMemo
         ≡ spec.cleared (ids_of (plain_nodes beside.now.nodes.now.items)) (plain_arg arg.now)) }
 {
     match arg {
-        Arg::Null => Ok(Arg::Null),
-        Arg::Flag(flag) => Ok(Arg::Flag(*flag)),
-        Arg::Whole(whole) => Ok(Arg::Whole(*whole)),
-        Arg::Inexact => Ok(Arg::Inexact),
-        Arg::Str(text) => Ok(Arg::Str(text.copy()?)),
         Arg::List(items) => Ok(Arg::List(clear_args(alloc, items, beside)?)),
         Arg::Object(members) => Ok(Arg::Object(clear_named(alloc, members, beside)?)),
         Arg::FromNode(id) => Ok(Arg::FromNode(clear_id(alloc, beside, id)?)),
-        Arg::FromParameter(name) => Ok(Arg::FromParameter(name.copy()?)),
         Arg::Callback(graph) => Ok(Arg::Callback(clear_graph(alloc, graph)?)),
+        _ => copy_arg(alloc, arg),
     }
 }
 

@@ -9,7 +9,7 @@ ghost use Rattle.oe_resolve.specs.Rounds.{index_among};
 
 use crate::values::default_of;
 use oe_dims::{Text, copy_text};
-use oe_graph::{Arg, Graph, Node, ParameterRow, argument_named, is_name_before, process};
+use oe_graph::{Arg, Graph, Node, ParameterRow, argument_named, copy_arg, is_name_before, process};
 use oe_memory::OutOfMemory;
 use std::alloc::Global;
 
@@ -81,16 +81,10 @@ fn filled_arg(alloc: Global, arg: &Arg) -> Result<Arg, OutOfMemory>
     ensures { IfOk result (λ a. plain_arg a ≡ spec.filled (plain_arg arg.now)) }
 {
     match arg {
-        Arg::Null => Ok(Arg::Null),
-        Arg::Flag(flag) => Ok(Arg::Flag(*flag)),
-        Arg::Whole(whole) => Ok(Arg::Whole(*whole)),
-        Arg::Inexact => Ok(Arg::Inexact),
-        Arg::Str(text) => Ok(Arg::Str(text.copy()?)),
         Arg::List(items) => Ok(Arg::List(filled_args(alloc, items)?)),
         Arg::Object(members) => Ok(Arg::Object(filled_named(alloc, members)?)),
-        Arg::FromNode(id) => Ok(Arg::FromNode(id.copy()?)),
-        Arg::FromParameter(name) => Ok(Arg::FromParameter(name.copy()?)),
         Arg::Callback(graph) => Ok(Arg::Callback(filled_graph(alloc, graph)?)),
+        _ => copy_arg(alloc, arg),
     }
 }
 

@@ -9,7 +9,7 @@ ghost use Rattle.oe_resolve.specs.Seen.{names_behind, rename_by, seen};
 use crate::calls::callback_parameters;
 use crate::values::{Values, inside, value_named};
 use oe_dims::{Text, copy_text};
-use oe_graph::{Arg, Graph, Node, StoredProcess};
+use oe_graph::{Arg, Graph, Node, StoredProcess, copy_arg};
 use oe_memory::OutOfMemory;
 use std::alloc::Global;
 
@@ -119,11 +119,6 @@ fn inline_arg(
         (renamed (rename_by values.now) (plain_arg arg.now))) }
 {
     match arg {
-        Arg::Null => Ok(Arg::Null),
-        Arg::Flag(flag) => Ok(Arg::Flag(*flag)),
-        Arg::Whole(whole) => Ok(Arg::Whole(*whole)),
-        Arg::Inexact => Ok(Arg::Inexact),
-        Arg::Str(text) => Ok(Arg::Str(text.copy()?)),
         Arg::List(items) => { Ok(Arg::List(inline_args(alloc, items, stored, own, values)?)) }
         Arg::Object(members) => {
             Ok(Arg::Object(inline_named(alloc, members, stored, own, values)?))
@@ -134,6 +129,7 @@ fn inline_arg(
             let inner = inside(alloc, own, values)?;
             Ok(Arg::Callback(inline_graph(alloc, graph, stored, &inner)?))
         }
+        _ => copy_arg(alloc, arg),
     }
 }
 

@@ -244,18 +244,12 @@ fn round_arg(
         (plain_arg arg.now)) }
 {
     match arg {
-        Arg::Null => Ok(Arg::Null),
-        Arg::Flag(flag) => Ok(Arg::Flag(*flag)),
-        Arg::Whole(whole) => Ok(Arg::Whole(*whole)),
-        Arg::Inexact => Ok(Arg::Inexact),
-        Arg::Str(text) => Ok(Arg::Str(text.copy()?)),
         Arg::List(items) => Ok(Arg::List(round_args(alloc, items, stored, waits, beside)?)),
         Arg::Object(members) => Ok(Arg::Object(round_named(
             alloc, members, stored, waits, beside,
         )?)),
         Arg::FromNode(id) => Ok(Arg::FromNode(landing_beside(alloc, stored, beside, id.as_str())?)),
-        Arg::FromParameter(name) => Ok(Arg::FromParameter(name.copy()?)),
-        Arg::Callback(_) if waits => copy_arg(alloc, arg),
-        Arg::Callback(graph) => Ok(Arg::Callback(round_graph(alloc, graph, stored)?)),
+        Arg::Callback(graph) if !waits => Ok(Arg::Callback(round_graph(alloc, graph, stored)?)),
+        _ => copy_arg(alloc, arg),
     }
 }

@@ -144,16 +144,10 @@ fn dangling_arg(alloc: Global, arg: &Arg) -> Result<Arg, OutOfMemory>
     ensures { IfOk result (λ a. plain_arg a ≡ renamed dangling (plain_arg arg.now)) }
 {
     match arg {
-        Arg::Null => Ok(Arg::Null),
-        Arg::Flag(flag) => Ok(Arg::Flag(*flag)),
-        Arg::Whole(whole) => Ok(Arg::Whole(*whole)),
-        Arg::Inexact => Ok(Arg::Inexact),
-        Arg::Str(text) => Ok(Arg::Str(text.copy()?)),
         Arg::List(items) => Ok(Arg::List(dangling_args(alloc, items)?)),
         Arg::Object(members) => Ok(Arg::Object(dangling_named(alloc, members)?)),
         Arg::FromNode(_) => Ok(Arg::FromNode(Text::of(alloc, "")?)),
-        Arg::FromParameter(name) => Ok(Arg::FromParameter(name.copy()?)),
-        Arg::Callback(_) => copy_arg(alloc, arg),
+        _ => copy_arg(alloc, arg),
     }
 }
 
