@@ -13,7 +13,7 @@ use Rattle.oe_resolve.specs.Substituted.{values_given, substituted_nodes}
 use Rattle.oe_resolve.specs.Renamed.{renamed_nodes}
 use Rattle.oe_resolve.specs.Rounds.{cleared_nodes, under_id, put_node, put_nodes, opened, round_named, round_nodes}
 use Rattle.oe_resolve.specs.Sizes.{size_bare, size_bare_nodes, opened_bare, round_bare}
-use Rattle.oe_resolve.specs.declared.weigh.Measure.{Measure}
+use Rattle.oe_resolve.specs.declared.sizes.Measure.{Measure}
 
 module _ (m : Measure) where
   pub bare_known : (ids : List (List ℕ)) (ns : Nodes) → size_bare_nodes m (cleared_nodes ids ns) ≡ size_bare_nodes m ns

@@ -20,9 +20,9 @@ use Rattle.oe_resolve.specs.Substituted.{default_of, value_before, values_given,
 use Rattle.oe_resolve.specs.Rounds.{cleared, cleared_each, cleared_named, cleared_nodes, cleared_graph, under_id, put_node, put_nodes, opened, round_argument, round_each, round_named, round_nodes, round}
 use Rattle.oe_resolve.specs.Seen.{names_behind, plain_sizes}
 use Rattle.oe_resolve.specs.Sizes.{value_size, size_in, size_each, size_named, size_nodes, name_size, most, IsWithinLimits, round_size, given_size, given_sizes, size_or, size_for, HasSizes}
-use Rattle.oe_resolve.specs.declared.weigh.ParameterSize.{ParameterSize}
-use Rattle.oe_resolve.specs.declared.weigh.Measure.{Measure}
-use Rattle.oe_resolve.specs.declared.weigh.Measure.TheVariants.{Values, TextBytes, NameBytes}
+use Rattle.oe_resolve.specs.declared.sizes.ParameterSize.{ParameterSize}
+use Rattle.oe_resolve.specs.declared.sizes.Measure.{Measure}
+use Rattle.oe_resolve.specs.declared.sizes.Measure.TheVariants.{Values, TextBytes, NameBytes}
 use Rattle.oe_resolve.proofs.BareLemmas.{bare_known, callee_none}
 use Rattle.oe_resolve.proofs.ValueLemmas.{argument_named-inside, any_append}
 

@@ -7,7 +7,7 @@ use Rattle.oe_graph.specs.Tree.{Named}
 use Rattle.oe_resolve.specs.Substituted.{inside}
 use Rattle.oe_resolve.specs.Rounds.{under_id}
 use Rattle.oe_resolve.specs.declared.values.Values.{Values}
-use Rattle.oe_resolve.specs.declared.weigh.ParameterSize.{ParameterSize}
+use Rattle.oe_resolve.specs.declared.sizes.ParameterSize.{ParameterSize}
 
 -- the names behind references
 abbrev pub names_behind : List (Bor (List ℕ)) → List (List ℕ)

@@ -9,8 +9,8 @@ use Rattle.oe_resolve.specs.Calls.{callee}
 use Rattle.oe_resolve.specs.Substituted.{default_of}
 use Rattle.oe_resolve.specs.Renamed.{renamed_nodes}
 use Rattle.oe_resolve.specs.Rounds.{opened, round_named, under_id}
-use Rattle.oe_resolve.specs.declared.weigh.Measure.{Measure}
-use Rattle.oe_resolve.specs.declared.weigh.Measure.TheVariants.{Values, TextBytes, NameBytes}
+use Rattle.oe_resolve.specs.declared.sizes.Measure.{Measure}
+use Rattle.oe_resolve.specs.declared.sizes.Measure.TheVariants.{Values, TextBytes, NameBytes}
 
 -- ---- what is counted
 

@@ -12,8 +12,8 @@ mod judge;
 mod names;
 mod reach;
 mod round;
+mod sizes;
 mod values;
-mod weigh;
 
 ghost use Rattle.std.specs.Prelude.{◌≡◌, ℕ, true, List, [], None, IfOk, IfErr, Contains, map};
 ghost use Rattle.oe_graph.specs.declared.code.Code.{Code};
@@ -76,7 +76,7 @@ pub fn resolve(alloc: Global, graph: &Graph, stored: &[StoredProcess]) -> Result
             node: Text::of(alloc, "")?,
         }));
     }
-    weigh::keep_limits(graph)?;
+    sizes::keep_limits(graph)?;
     if is_expanded(alloc, stored, graph)? {
         return Ok(fill::filled_graph(alloc, graph)?);
     }
@@ -169,7 +169,7 @@ fn next_round(alloc: Global, stored: &[StoredProcess], graph: &Graph) -> Result<
         ≡ rounds.round (map plain_stored stored.now) (plain_graph graph.now)) }
     ensures within { IfOk result (λ g. IsWithinLimits (plain_graph g)) }
 {
-    weigh::keep_limits_in_round(alloc, stored, graph)?;
+    sizes::keep_limits_in_round(alloc, stored, graph)?;
     round::round(alloc, stored, graph)
 }
 

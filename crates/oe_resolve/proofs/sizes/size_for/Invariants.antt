@@ -1,7 +1,7 @@
 use Rattle.std.proofs.Common.{◌≡◌, drop}
 use Rattle.oe_resolve.specs.Seen.{plain_sizes}
 use Rattle.oe_resolve.specs.Sizes.{size_for}
-use Rattle.oe_resolve.proofs.weigh.size_for.Given as goal
+use Rattle.oe_resolve.proofs.sizes.size_for.Given as goal
 
 abbrev pub invariant-loop-parameter : goal.invariant-loop-parameter
 invariant-loop-parameter l =

@@ -1,5 +1,5 @@
 use Rattle.oe_resolve.proofs.SizeLemmas.{within_budgets}
-use Rattle.oe_resolve.proofs.weigh.keep_limits.Goals as goal
+use Rattle.oe_resolve.proofs.sizes.keep_limits.Goals as goal
 
 pub returns : goal.returns
 returns c =

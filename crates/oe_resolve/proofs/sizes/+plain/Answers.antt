@@ -4,7 +4,7 @@ use Rattle.oe_graph.specs.Plain.{plain_args, plain_named, plain_nodes}
 use Rattle.oe_graph.specs.declared.tree.Arg.{Arg}
 use Rattle.oe_graph.specs.declared.tree.Node.{Node}
 use Rattle.oe_resolve.specs.Sizes.{size_each, size_named, size_nodes}
-use Rattle.oe_resolve.proofs.weigh.+plain.Goals as goal
+use Rattle.oe_resolve.proofs.sizes.+plain.Goals as goal
 
 pub nodes_left-returns : goal.nodes_left-returns
 nodes_left-returns t c =

@@ -4,7 +4,7 @@ use Rattle.oe_graph.specs.Tree.{Named}
 use Rattle.oe_resolve.specs.Substituted.{substituted_each, substituted_named, substituted_nodes}
 use Rattle.oe_resolve.specs.Seen.{names_behind, plain_sizes}
 use Rattle.oe_resolve.specs.Sizes.{HasSizes, size_each, size_named, size_nodes}
-use Rattle.oe_resolve.proofs.weigh.+opened.Given as goal
+use Rattle.oe_resolve.proofs.sizes.+opened.Given as goal
 
 abbrev pub invariant-opened_nodes_left-loop-node : goal.invariant-opened_nodes_left-loop-node
 invariant-opened_nodes_left-loop-node l =

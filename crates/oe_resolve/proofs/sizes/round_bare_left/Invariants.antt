@@ -1,7 +1,7 @@
 use Rattle.std.proofs.Common.{◌≡◌, ◌+◌, map, drop}
 use Rattle.oe_graph.specs.Plain.{plain_nodes, plain_stored}
 use Rattle.oe_resolve.specs.Sizes.{round_bare}
-use Rattle.oe_resolve.proofs.weigh.round_bare_left.Given as goal
+use Rattle.oe_resolve.proofs.sizes.round_bare_left.Given as goal
 
 abbrev pub invariant-loop-node : goal.invariant-loop-node
 invariant-loop-node l =

@@ -5,7 +5,7 @@ use Rattle.oe_graph.specs.declared.tree.Node.{Node}
 use Rattle.oe_resolve.specs.Sizes.{size_bare, size_bare_nodes}
 use Rattle.oe_resolve.proofs.BareLemmas.{bare_parts}
 use Rattle.oe_resolve.proofs.SizeLemmas.{size_next}
-use Rattle.oe_resolve.proofs.weigh.bare_nodes_left.Goals as goal
+use Rattle.oe_resolve.proofs.sizes.bare_nodes_left.Goals as goal
 
 pub returns : goal.returns
 returns c =

@@ -1,7 +1,7 @@
 use Rattle.std.proofs.Common.{◌≡◌, ◌+◌, drop}
 use Rattle.oe_graph.specs.Plain.{plain_nodes}
 use Rattle.oe_resolve.specs.Sizes.{size_bare_nodes}
-use Rattle.oe_resolve.proofs.weigh.bare_nodes_left.Given as goal
+use Rattle.oe_resolve.proofs.sizes.bare_nodes_left.Given as goal
 
 abbrev pub invariant-loop-node : goal.invariant-loop-node
 invariant-loop-node l =

@@ -9,12 +9,12 @@ use Rattle.oe_graph.specs.declared.tree.Node.{Node}
 use Rattle.oe_graph.specs.declared.tree.Graph.{out-Graph}
 use Rattle.oe_resolve.specs.Rounds.{round_argument, round_each, round_named, round_nodes}
 use Rattle.oe_resolve.specs.Seen.{plain_sizes}
-use Rattle.oe_resolve.specs.declared.weigh.ParameterSize.{ParameterSize}
+use Rattle.oe_resolve.specs.declared.sizes.ParameterSize.{ParameterSize}
 use Rattle.oe_resolve.specs.Sizes.{given_sizes, round_bare, round_size, size_bare_nodes, name_size, value_size, size_in, size_each, size_named, size_nodes}
 use Rattle.oe_resolve.proofs.BareLemmas.{bare_round_all}
 use Rattle.oe_resolve.proofs.FaultLemmas.{list_is, object_is, callback_is}
 use Rattle.oe_resolve.proofs.SizeLemmas.{node_called, node_uncalled, size_next, size_round_all, sizes_next}
-use Rattle.oe_resolve.proofs.weigh.+rounds.Goals as goal
+use Rattle.oe_resolve.proofs.sizes.+rounds.Goals as goal
 
 pub round_nodes_left-returns : goal.round_nodes_left-returns
 round_nodes_left-returns t c all =

@@ -1,7 +1,7 @@
 use Rattle.std.proofs.Common.{◌≡◌, ◌+◌, drop}
 use Rattle.oe_graph.specs.Plain.{plain_args, plain_named, plain_nodes}
 use Rattle.oe_resolve.specs.Sizes.{size_each, size_named, size_nodes}
-use Rattle.oe_resolve.proofs.weigh.+plain.Given as goal
+use Rattle.oe_resolve.proofs.sizes.+plain.Given as goal
 
 abbrev pub invariant-nodes_left-loop-node : goal.invariant-nodes_left-loop-node
 invariant-nodes_left-loop-node l =

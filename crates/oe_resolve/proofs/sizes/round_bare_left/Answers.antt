@@ -6,7 +6,7 @@ use Rattle.oe_resolve.specs.Calls.{callee}
 use Rattle.oe_resolve.specs.Sizes.{opened_bare, round_bare}
 use Rattle.oe_resolve.proofs.BareLemmas.{opened_parts}
 use Rattle.oe_resolve.proofs.SizeLemmas.{size_next}
-use Rattle.oe_resolve.proofs.weigh.round_bare_left.Goals as goal
+use Rattle.oe_resolve.proofs.sizes.round_bare_left.Goals as goal
 
 pub returns : goal.returns
 returns c =

@@ -1,7 +1,7 @@
 use Rattle.std.proofs.Common.{map}
 use Rattle.oe_graph.specs.Plain.{plain_stored}
 use Rattle.oe_resolve.proofs.SizeLemmas.{round_within_budgets}
-use Rattle.oe_resolve.proofs.weigh.keep_limits_in_round.Goals as goal
+use Rattle.oe_resolve.proofs.sizes.keep_limits_in_round.Goals as goal
 
 pub returns : goal.returns
 returns c =

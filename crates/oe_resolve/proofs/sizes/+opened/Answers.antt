@@ -14,7 +14,7 @@ use Rattle.oe_resolve.specs.Sizes.{HasSizes, value_size, size_bare_nodes, size_i
 use Rattle.oe_resolve.proofs.BareLemmas.{bare_substituted}
 use Rattle.oe_resolve.proofs.FaultLemmas.{list_is, object_is, callback_is}
 use Rattle.oe_resolve.proofs.SizeLemmas.{has_inside_behind, size_next}
-use Rattle.oe_resolve.proofs.weigh.+opened.Goals as goal
+use Rattle.oe_resolve.proofs.sizes.+opened.Goals as goal
 
 pub opened_nodes_left-returns : goal.opened_nodes_left-returns
 opened_nodes_left-returns t c values has =

@@ -7,7 +7,7 @@ use Rattle.oe_resolve.specs.Rounds.{under_id}
 use Rattle.oe_resolve.specs.Sizes.{size_bare, size_bare_nodes}
 use Rattle.oe_resolve.proofs.BareLemmas.{under_parts}
 use Rattle.oe_resolve.proofs.SizeLemmas.{size_next}
-use Rattle.oe_resolve.proofs.weigh.under_nodes_left.Goals as goal
+use Rattle.oe_resolve.proofs.sizes.under_nodes_left.Goals as goal
 
 pub returns : goal.returns
 returns c =

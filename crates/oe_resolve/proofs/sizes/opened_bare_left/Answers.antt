@@ -2,7 +2,7 @@ use Rattle.std.proofs.Common.{map}
 use Rattle.std.proofs.lemmas.Result.{IfOk-weaker}
 use Rattle.oe_graph.specs.Plain.{plain_stored}
 use Rattle.oe_resolve.proofs.BareLemmas.{bare_called, bare_uncalled}
-use Rattle.oe_resolve.proofs.weigh.opened_bare_left.Goals as goal
+use Rattle.oe_resolve.proofs.sizes.opened_bare_left.Goals as goal
 
 pub returns-in_default : goal.returns-in_default
 returns-in_default c =

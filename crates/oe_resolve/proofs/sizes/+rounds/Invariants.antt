@@ -4,7 +4,7 @@ use Rattle.oe_graph.specs.Tree.{Nodes}
 use Rattle.oe_resolve.specs.Rounds.{round_each, round_named}
 use Rattle.oe_resolve.specs.Seen.{plain_sizes}
 use Rattle.oe_resolve.specs.Sizes.{given_sizes, round_size, size_each, size_named}
-use Rattle.oe_resolve.proofs.weigh.+rounds.Given as goal
+use Rattle.oe_resolve.proofs.sizes.+rounds.Given as goal
 
 abbrev pub invariant-round_nodes_left-loop-node : goal.invariant-round_nodes_left-loop-node
 invariant-round_nodes_left-loop-node l =

@@ -3,7 +3,7 @@ use Rattle.oe_graph.specs.Plain.{plain_nodes}
 use Rattle.oe_resolve.specs.Renamed.{renamed_nodes}
 use Rattle.oe_resolve.specs.Rounds.{under_id}
 use Rattle.oe_resolve.specs.Sizes.{size_bare_nodes}
-use Rattle.oe_resolve.proofs.weigh.under_nodes_left.Given as goal
+use Rattle.oe_resolve.proofs.sizes.under_nodes_left.Given as goal
 
 abbrev pub invariant-loop-node : goal.invariant-loop-node
 invariant-loop-node l =
