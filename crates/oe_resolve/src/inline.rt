@@ -35,9 +35,13 @@ pub fn inline_nodes(
     stored: &[StoredProcess],
     values: &Values,
 ) -> Result<Vec<Node>, OutOfMemory>
-    ensures { IfOk result (λ v. plain_nodes v.items
+    ensures nodes { IfOk result (λ v. plain_nodes v.items
         ≡ spec.substituted_nodes (map plain_stored stored.now) (seen values.now)
         (renamed_nodes (rename_by values.now) (plain_nodes nodes.now.items))) }
+    // in a callback ids and references stay
+    ensures kept { values.now.in_callback ≡ true → IfOk result (λ v. plain_nodes v.items
+        ≡ spec.substituted_nodes (map plain_stored stored.now) (seen values.now)
+        (plain_nodes nodes.now.items)) }
 {
     let mut copy = Vec::with_capacity(alloc, nodes.len())?;
     for node in nodes {

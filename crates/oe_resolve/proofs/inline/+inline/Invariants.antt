@@ -1,5 +1,7 @@
 use Rattle.std.proofs.Common.{◌≡◌, map, take}
 use Rattle.oe_graph.specs.Plain.{plain_arg, plain_pair, plain_node, plain_stored}
+use Rattle.oe_resolve.specs.Renamed.{renamed}
+use Rattle.oe_resolve.specs.Substituted.{substituted}
 use Rattle.oe_resolve.specs.Seen.{names_behind, rename_by, seen}
 use Rattle.oe_resolve.proofs.Each.{inlined, inlined_node, member_by}
 use Rattle.oe_resolve.proofs.inline.+inline.Given as goal
@@ -13,7 +15,7 @@ invariant-inline_args-loop-item l =
 abbrev pub invariant-inline_named-loop-member : goal.invariant-inline_named-loop-member
 invariant-inline_named-loop-member l =
     map plain_pair l.copy.items
-    ≡ map (member_by (inlined (map plain_stored l.stored) (seen l.values) (rename_by l.values) (names_behind l.own)))
+    ≡ map (member_by (λ a. substituted (map plain_stored l.stored) (names_behind l.own) (seen l.values) (renamed (rename_by l.values) a)))
     (take l.member-index l.member-items)
 
 abbrev pub invariant-inline_nodes-loop-node : goal.invariant-inline_nodes-loop-node
