@@ -5,6 +5,8 @@ ghost use Rattle.oe_graph.specs.Plain.{plain_arg, plain_args, plain_named, plain
 ghost use Rattle.oe_graph.specs.Printed.{ids_of};
 ghost use Rattle.oe_graph.specs.Tree.{PlainNode, no_nodes};
 ghost use Rattle.oe_resolve.specs.Calls.{callee};
+ghost use Rattle.oe_resolve.specs.Renamed.{renamed_nodes};
+ghost use Rattle.oe_resolve.specs.Substituted.{substituted_nodes};
 ghost use Rattle.oe_resolve.specs.Rounds as spec;
 
 use crate::calls::{callee, is_call};
@@ -107,13 +109,35 @@ fn inline_call(
         (Some (plain_stored process.now))) }
 {
     let given = values_given(alloc, &process.parameters, arguments)?;
+    let nodes = inline_given(
+        alloc,
+        stored,
+        node.id.as_str(),
+        &given,
+        &process.graph.nodes,
+    )?;
+    Ok(nodes)
+}
+
+/// The nodes of a process in place of the call of an id that hands it these values.
+fn inline_given(
+    alloc: Global,
+    stored: &[StoredProcess],
+    call: &str,
+    given: &Vec<(Text, Arg)>,
+    nodes: &Vec<Node>,
+) -> Result<Vec<Node>, OutOfMemory>
+    ensures { IfOk result (λ v. plain_nodes v.items
+        ≡ substituted_nodes (map plain_stored stored.now) (plain_named given.now.items)
+        (renamed_nodes (spec.under_id call.now) (plain_nodes nodes.now.items))) }
+{
     let values = Values {
-        call: node.id.as_str(),
-        given: &given,
+        call,
+        given,
         hidden: Vec::new(alloc),
         in_callback: false,
     };
-    inline_nodes(alloc, &process.graph.nodes, stored, &values)
+    inline_nodes(alloc, nodes, stored, &values)
 }
 
 /// Puts nodes at the indices that their ids have in byte order.
