@@ -47,6 +47,7 @@ impl<T> LabelList<T> {
         }
     }
 
+    /// The labels, in their order.
     pub fn as_slice(&self) -> &[T]
         ensures { result.now ≡ self.now }
     {
@@ -56,6 +57,7 @@ impl<T> LabelList<T> {
         }
     }
 
+    /// The allocator that the labels were taken from.
     pub fn allocator(&self) -> Global {
         match &self.held {
             Held::Alone(labels) => *labels.allocator(),

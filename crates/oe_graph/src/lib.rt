@@ -7,8 +7,7 @@
 //! that the readers refuse exactly where a fault stands, that what they read from bytes has the form that resolving
 //! rests on (`IsValidGraph`, `IsValidStored`), that [`process`] is none exactly for an id without a row, and the word
 //! `IsResolved` for a graph whose names all lead somewhere. [`read_references`] is the one reader of what nodes refer to
-//! by index, [`sort_nodes`] puts each behind those that it refers to, and [`find_index`] is the one search of a node by
-//! its id.
+//! by index, [`sort_nodes`] puts each behind those that it refers to, and [`find_index`] searches a node by its id.
 #![tactic(auto)]
 
 mod build;

@@ -101,8 +101,8 @@ pub record LaysCube (base : ℕ) (store : Option (List ℕ)) (least : Option ℕ
   pub held : HoldsCube store base cube
   pub least_is : least ≡ least_over_of cube.cells
 
--- No part is damaged, and where the parts show a cube, it is laid out. Also of hidden parts a record of some cell
--- stands at each number, of none that is Over where none was found.
+-- No part is damaged, and where the parts show a cube, it is laid out. Where no cell that is Over was found, a record of
+-- some cell that is not Over stands at each number, also of hidden parts.
 pub record Lays (base : ℕ) (shape : Dimensions) (parts : List PartState) (store : Option (List ℕ)) (least : Option ℕ) : Type 0 where
   pub cube : (cube : Cube Cell) → IsCube cube → cube.shape ≡ shape → ShowPartsOf cube parts → LaysCube base store least cube
   pub cells : least ≡ None → HasCells store base (cell_count shape)

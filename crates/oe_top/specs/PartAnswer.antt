@@ -126,8 +126,9 @@ module _ (size : ChunkSize) (workers first end : ℕ) (before after : Objects) w
   PartEnds (Err OutOfMemory) = IsUntouched before after
   PartEnds (Err (Stopped fail)) = IsPartEvaluated (Err fail)
 
-  -- So where the input is visible and holds a graph without a fault that has these chunks and is not too large, no load
-  -- keeps a damaged position and no fault counter rose, it ends by the whole part file, or out of memory.
+  -- So where the input, the collections that it loads and the spool are visible, the input holds a graph without a fault
+  -- that has these chunks and is not too large, no load keeps a damaged position and no fault counter rose, it ends by
+  -- the whole part file, or out of memory.
   pub record PartAnswers (ending : Result (Unit {0}) PartRefusal) : Type 0 where
     pub ends : PartEnds ending
     pub input_taken : TakesAtMost before.input (most_input + 1) after.input

@@ -102,8 +102,9 @@ module _ (size : ChunkSize) (workers : ℕ) (before after : Objects) where
   RunEnds (Err OutOfMemory) = IsUntouched before after
   RunEnds (Err (Stopped fail)) = IsEvaluated (Err fail)
 
-  -- So where the input is visible and holds a graph without a fault whose run is not too large, no load keeps a damaged
-  -- position, no cell of the result is Over and no fault counter rose, it ends by the whole text, or out of memory.
+  -- So where the input, the collections that it loads and the spool are visible, the input holds a graph without a fault
+  -- whose run is not too large, no load keeps a damaged position, no cell of the result is Over and no fault counter
+  -- rose, it ends by the whole text, or out of memory.
   pub record RunAnswers (ending : Result (Unit {0}) RunRefusal) : Type 0 where
     pub ends : RunEnds ending
     -- the input is read only up to one byte past the limit

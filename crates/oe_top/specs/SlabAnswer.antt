@@ -61,9 +61,9 @@ module _ (size : ChunkSize) (before after : Objects) where
   SlabEnds (Err OutOfMemory) = IsUntouched before after
   SlabEnds (Err (Stopped fail)) = IsFolded (Err fail)
 
-  -- So where the input is visible and holds a graph without a fault that has a time cut and whose run is not too large,
-  -- no load keeps a damaged position, no cell of the result is Over and no fault counter rose, it ends by the whole
-  -- text, or out of memory: the one that `run` writes.
+  -- So where the input, the collections that it loads and the spool are visible, the input holds a graph without a fault
+  -- that has a time cut and whose run is not too large, no load keeps a damaged position, no cell of the result is Over
+  -- and no fault counter rose, it ends by the whole text, or out of memory: the one that `run` writes.
   pub record SlabAnswers (ending : Result (Unit {0}) SlabRefusal) : Type 0 where
     pub ends : SlabEnds ending
     -- the input is read only up to one byte past the limit

@@ -181,7 +181,8 @@ openeo describe [ID]
 
 Writes the mounted collections as one line of JSON, as openEO's GET /collections has it: their ids, by rising ids, and
 their extents. With an id it writes that collection as GET /collections/ID has it, with its dimensions: the names of its
-bands, the first and the last label of t, y and x, and the reference system. No collection is read.
+bands, the first and the last label of t, the least and the greatest of y and x, and the reference system. No
+collection is read.
 Exit status: 0, 1 Usage, 2 CollectionNotFound, 8 WriteFault, 9 OutOfMemory, 14 Setup.
 ";
 
