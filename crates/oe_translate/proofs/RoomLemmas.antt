@@ -12,8 +12,9 @@ use Rattle.oe_graph.specs.Valid.{AreValidStored, IsValidGraph}
 use Rattle.oe_resolve.specs.Calls.{Calls, CallsReach, ReachesProcess, callee, calls, directly, itself, onwards}
 use Rattle.oe_resolve.specs.Faults.{StandsWithStored, graph_too_large, process_recursive}
 use Rattle.oe_resolve.specs.Filled.{filled_node, resolved}
-use Rattle.oe_resolve.specs.Rounds.{expanded, expanded_by, known_graph, known_stored, most_rounds}
-use Rattle.oe_resolve.proofs.ExpansionLemmas.{Chained, callee_known, expanded_in_order, first, next, none_left}
+use Rattle.oe_resolve.specs.Rounds.{expanded, expanded_by, cleared_graph, cleared_stored, most_rounds}
+use Rattle.oe_resolve.proofs.CountLemmas.{callee_cleared}
+use Rattle.oe_resolve.proofs.ExpansionLemmas.{Chained, expanded_in_order, first, next, none_left}
 use Rattle.oe_resolve.proofs.IdLemmas.{InOrder, id_has}
 use Rattle.oe_resolve.proofs.PlaceLemmas.{NoCalls, no_calls_in, places_of, settled_after}
 use Rattle.oe_resolve.proofs.ResolvingLemmas.{each_node-filled, ids_of-filled, map_in, node_count-filled}
@@ -61,31 +62,31 @@ begins stored g count s (next {count = k} {n = n} {s = v} chain has call) =
 module _ (stored : List PlainStored) (g : PlainGraph) (stored_valid : AreValidStored stored) (none : IsFaultless (StandsWithStored stored g))
     (uncalled : (n : PlainNode) (s : PlainStored) → IsNodeOf (resolved stored g).nodes n → ¬ Calls stored n s) where
   -- no call is left after as many rounds as there are stored processes, nor after all
-  early_none : NoCalls (map known_stored stored) (places_of (expanded_by (length stored) stored g).nodes)
+  early_none : NoCalls (map cleared_stored stored) (places_of (expanded_by (length stored) stored g).nodes)
   early_none =
       none_left stored g stored_valid (λ count s chain again.
       let start = begins stored g count s chain in none _ _ (process_recursive start.1 start.2 again))
 
   not_called : (n : PlainNode) → IsNodeOf (expanded stored g).nodes n → (o : Option PlainStored) → callee stored n.namespace n.process_id ≡ o
-      → option_map known_stored o ≡ None
+      → option_map cleared_stored o ≡ None
   not_called n has None is = refl
   not_called n has (Some s) is =
       let there : IsNodeOf (resolved stored g).nodes (filled_node n) =
       subst (λ ns. Contains ns (filled_node n)) (sym (each_node-filled (expanded stored g).nodes)) (map_in filled_node (each_node (expanded stored g).nodes) n has) in
       absurd (uncalled (filled_node n) s there (record { caller = filled_node n; holds = itself; calls = is }))
 
-  last_none : NoCalls (map known_stored stored) (places_of (expanded stored g).nodes)
+  last_none : NoCalls (map cleared_stored stored) (places_of (expanded stored g).nodes)
   last_none =
-      no_calls_in (map known_stored stored) (expanded stored g).nodes
-      (λ n has. callee_known stored n.namespace n.process_id ∙ not_called n has (callee stored n.namespace n.process_id) refl)
+      no_calls_in (map cleared_stored stored) (expanded stored g).nodes
+      (λ n has. callee_cleared stored n.namespace n.process_id ∙ not_called n has (callee stored n.namespace n.process_id) refl)
 
   same_count : node_count (expanded stored g).nodes ≡ node_count (expanded_by (length stored) stored g).nodes
   same_count =
-      let known = map known_stored stored in
+      let cleared = map cleared_stored stored in
       elim (cases_lt most_rounds (length stored))
       as (λ _. node_count (expanded stored g).nodes ≡ node_count (expanded_by (length stored) stored g).nodes) [
-        | inl below ↦ sym (settled_after known (known_graph g) most_rounds (length stored) (omega (arith, below)) last_none).count
-        | inr above ↦ (settled_after known (known_graph g) (length stored) most_rounds above early_none).count
+        | inl below ↦ sym (settled_after cleared (cleared_graph g) most_rounds (length stored) (omega (arith, below)) last_none).count
+        | inr above ↦ (settled_after cleared (cleared_graph g) (length stored) most_rounds above early_none).count
       ]
 
   few_before : node_count (expanded stored g).nodes ≤ 256
