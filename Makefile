@@ -40,12 +40,11 @@ examples:
 	@[ -z '$(STANDING)' ] || ! command -v curl > /dev/null || examples/service/replies $(STANDING) > /dev/null
 	@[ -z '$(STANDING)' ] || ! command -v $(PYTHON) > /dev/null || $(PYTHON) -B examples/service/session.py $(STANDING)
 
-# Proves the crates below the program, lowest first and each by several processes, over what earlier checks kept, and
-# then builds it. Side by side, by one process each, they would wait for the longest chain, which is half of the work.
+# Proves the crates that the program stands on, side by side, over what earlier checks kept, and then proves and builds it.
 program:
 	@[ -z '$(STANDING)' ] || exit 0; mkdir -p crates/openeo/out; \
 	echo 'proves and builds the program, half an hour and more the first time; $(LOG) has what rt prints' >&2; \
-	{ cd crates/openeo && rt run --jobs $(JOBS) -- --version; } > $(LOG) 2>&1 \
+	{ tools/prove openeo $(JOBS) && cd crates/openeo && rt run --jobs $(JOBS) -- --version; } > $(LOG) 2>&1 \
 	  || { echo 'the program was not built' >&2; exit 1; }
 
 bench: program
