@@ -8,14 +8,14 @@ use Rattle.oe_graph.specs.Resolved.{scope_inside}
 use Rattle.oe_graph.specs.Tree.{Argument, null, flag, whole, inexact, text, list, object, from_node, from_parameter, callback, ListValues, no_arguments, argument, Named, no_named, named, Nodes, no_nodes, node, PlainGraph, PlainNode, PlainStored}
 use Rattle.oe_graph.specs.declared.code.Code.TheVariants.{NodeUnknown}
 use Rattle.oe_graph.specs.declared.fault.Fault.{Fault}
-use Rattle.oe_resolve.specs.Called.{nodes_call}
-use Rattle.oe_resolve.specs.Judged as judged
-use Rattle.oe_resolve.specs.Judged.{IsInside, OfObject}
-use Rattle.oe_resolve.specs.Rounds.{cleared_id, cleared, cleared_each, cleared_named, cleared_nodes, cleared_graph}
-use Rattle.oe_resolve.proofs.Along.{first_there, later_there}
+use Rattle.oe_calls.specs.HasCall.{nodes_call}
+use Rattle.oe_resolve.specs.NameFaults as name_faults
+use Rattle.oe_resolve.specs.NameFaults.{IsInside, OfObject}
+use Rattle.oe_calls.specs.Rounds.{cleared_id, cleared, cleared_each, cleared_named, cleared_nodes, cleared_graph}
+use Rattle.oe_calls.proofs.Along.{first_there, later_there}
 use Rattle.oe_resolve.proofs.CodeLemmas.{among}
 use Rattle.oe_resolve.proofs.ResolvingLemmas.{callback_of, stands_among}
-use Rattle.oe_resolve.proofs.UncalledLemmas.{node_uncalled, callback_uncalled}
+use Rattle.oe_calls.proofs.UncalledLemmas.{node_uncalled, callback_uncalled}
 
 -- in a graph object and in all callbacks in it each reference names a node beside it
 abbrev AreKnown : Nodes → Type 0
@@ -70,7 +70,7 @@ mutual
   same_argument ids (callback ns result) in_ids each =
       let all = each (record { nodes = ns; result = result }) (first_there (record { nodes = ns; result = result }) []) in
       ap (λ ms. callback ms result) (same_nodes (ids_of ns) ns (λ n has.
-      (λ id refers. all ns n id judged.itself has refers, λ g there inner m id inside. all inner m id (judged.deeper has there inside))))
+      (λ id refers. all ns n id name_faults.itself has refers, λ g there inner m id inside. all inner m id (name_faults.deeper has there inside))))
 
   same_each : (ids : List (List ℕ)) (rest : ListValues) → AreAmong ids (references_each rest) → AreKnownIn (callbacks_each rest)
       → cleared_each ids rest ≡ rest
@@ -89,19 +89,19 @@ module _ (stored : List PlainStored) (last : Bool) where
       → Contains (each_node inner) n → Contains (references_named n.arguments) id
       → nodes_call stored outer ≡ false
       → ((f : Fault) → ¬ OfObject stored last f at scope outer) → (Contains (ids_of inner) id → ⊥) → ⊥
-  never_unknown inner outer n id at scope judged.itself has refers no_call none absent =
+  never_unknown inner outer n id at scope name_faults.itself has refers no_call none absent =
       none (record { code = NodeUnknown; node = node_name at n.id })
-      (judged.by_itself has (record { at = refl; has = judged.node_unknown refers absent }))
-  never_unknown inner outer n id at scope (judged.deeper {n = m} {g = g} there calls inside) has refers no_call none absent =
+      (name_faults.by_itself has (record { at = refl; has = name_faults.node_unknown refers absent }))
+  never_unknown inner outer n id at scope (name_faults.deeper {n = m} {g = g} there calls inside) has refers no_call none absent =
       let a = callback_of m.arguments g calls in
       let uncalled = node_uncalled stored outer m no_call there in
       never_unknown inner g.nodes n id (callback_name (node_name at m.id) a.argument.0) (scope_inside m scope) inside has refers
       (callback_uncalled stored m.arguments g uncalled.1 calls)
-      (λ f of. none f (judged.inside there uncalled.0 a.has a.calls of)) absent
+      (λ f of. none f (name_faults.inside there uncalled.0 a.has a.calls of)) absent
 
   pub cleared_same : (g : PlainGraph) → nodes_call stored g.nodes ≡ false → ((f : Fault) → ¬ OfObject stored last f [] [] g.nodes) → cleared_graph g ≡ g
   cleared_same g no_call none =
       let all : AreKnown g.nodes = λ inner n id inside has refers.
       stands_among (ids_of inner) id (never_unknown inner g.nodes n id [] [] inside has refers no_call none) in
       ap (λ ns. record { nodes = ns; result = g.result }) (same_nodes (ids_of g.nodes) g.nodes (λ n has.
-      (λ id refers. all g.nodes n id judged.itself has refers, λ h there inner m id inside. all inner m id (judged.deeper has there inside))))
+      (λ id refers. all g.nodes n id name_faults.itself has refers, λ h there inner m id inside. all inner m id (name_faults.deeper has there inside))))

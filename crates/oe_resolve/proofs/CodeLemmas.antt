@@ -16,10 +16,10 @@ use Rattle.oe_graph.specs.declared.code.Code.{Code}
 use Rattle.oe_graph.specs.declared.code.Code.TheVariants.{ArgumentUnknown, ProcessParameterMissing, ParameterUnknown, NodeUnknown, GraphCycle}
 use Rattle.oe_graph.specs.declared.fault.Fault.{Fault}
 use Rattle.oe_graph.proofs.LeastLemmas.{IsLeastOf, IsLeastOf-iff}
-use Rattle.oe_resolve.specs.Calls.{parameters_of}
-use Rattle.oe_resolve.specs.Faults.{names_among}
-use Rattle.oe_resolve.specs.Judged.{has_unknown, has_unknown_argument, is_missing, lacks_parameter, sees, see_each, see_named, knows, know_each, know_named, first_code, node_code, HasFault, argument_unknown, process_parameter_missing, parameter_unknown, node_unknown, graph_cycle, OfItself, IsMark}
-use Rattle.oe_resolve.proofs.Along.{first_there, later_there, none_there, there_cases}
+use Rattle.oe_calls.specs.Calls.{parameters_of}
+use Rattle.oe_calls.specs.Faults.{names_among}
+use Rattle.oe_resolve.specs.NameFaults.{has_unknown, has_unknown_argument, is_missing, lacks_parameter, sees, see_each, see_named, knows, know_each, know_named, first_code, node_code, HasFault, argument_unknown, process_parameter_missing, parameter_unknown, node_unknown, graph_cycle, OfItself, IsMark}
+use Rattle.oe_calls.proofs.Along.{first_there, later_there, none_there, there_cases}
 
 -- ---- tests along lists
 

@@ -10,7 +10,7 @@ use Rattle.oe_graph.proofs.ReferenceGraphLemmas.{leads_from, reaches_from}
 use Rattle.oe_graph.proofs.SearchLemmas.{id_there}
 use Rattle.oe_order.specs.Graph as order
 use Rattle.oe_order.specs.Graph.{Reaches, IsAcyclic}
-use Rattle.oe_resolve.specs.Judged.{AreMarks}
+use Rattle.oe_resolve.specs.NameFaults.{AreMarks}
 
 -- ---- marks
 

@@ -11,20 +11,20 @@ use Rattle.oe_graph.specs.declared.code.Code.{Code}
 use Rattle.oe_graph.specs.declared.fault.Fault.{Fault}
 use Rattle.oe_graph.specs.declared.tree.Graph.{Graph}
 use Rattle.oe_graph.proofs.LeastLemmas.{IsLeastOf, IsLeastOf-iff, IsLeastOf-least, Either}
-use Rattle.oe_resolve.specs.Called.{nodes_call}
-use Rattle.oe_resolve.specs.Calls.{callee}
+use Rattle.oe_calls.specs.HasCall.{nodes_call}
+use Rattle.oe_calls.specs.Calls.{callee}
 use Rattle.oe_resolve.specs.Expansion.{IsNameFault, IsExpansion, IsEarly, IsSettled}
-use Rattle.oe_resolve.specs.Faults.{StandsWithStored}
-use Rattle.oe_resolve.specs.Judged as judged
-use Rattle.oe_resolve.specs.Judged.{IdsRise, IsInside, HasFault, OfItself, OfObject}
-use Rattle.oe_resolve.specs.Rounds.{round, expanded_by, expanded, cleared_stored, cleared_graph, most_rounds}
-use Rattle.oe_resolve.specs.Sizes.{IsWithinLimits}
+use Rattle.oe_calls.specs.Faults.{StandsWithStored}
+use Rattle.oe_resolve.specs.NameFaults as name_faults
+use Rattle.oe_resolve.specs.NameFaults.{IdsRise, IsInside, HasFault, OfItself, OfObject}
+use Rattle.oe_calls.specs.Rounds.{round, expanded_by, expanded, cleared_stored, cleared_graph, most_rounds}
+use Rattle.oe_calls.specs.Sizes.{IsWithinLimits}
 use Rattle.oe_graph.specs.Valid.{IsValidGraph, AreValidStored}
-use Rattle.oe_resolve.proofs.CountLemmas.{callee_cleared}
+use Rattle.oe_calls.proofs.CountLemmas.{callee_cleared}
 use Rattle.oe_resolve.proofs.ExpansionLemmas.{Brought, Formed, expanded_in_order}
 use Rattle.oe_resolve.proofs.ClearedLemmas.{cleared_same}
-use Rattle.oe_resolve.proofs.OrderLemmas.{each_ordered, valid_in_order}
-use Rattle.oe_resolve.proofs.SettledLemmas.{settled}
+use Rattle.oe_calls.proofs.OrderLemmas.{each_ordered, valid_in_order}
+use Rattle.oe_calls.proofs.SettledLemmas.{settled}
 use Rattle.oe_resolve.proofs.StandingLemmas.{early_stands, last_stands, InRound, earlier, last_round, in_round}
 
 -- ---- ids rise in each round
@@ -37,9 +37,9 @@ record Within (inner : Nodes) (outer_in_callback : Bool) (outer_scope : List (Li
 
 within_of : (inner outer : Nodes) (in_callback : Bool) (scope : List (List ℕ)) (result : ℕ) → IsInside inner outer
     → Within inner in_callback scope outer result
-within_of inner outer in_callback scope result judged.itself =
+within_of inner outer in_callback scope result name_faults.itself =
     record { in_callback = in_callback; scope = scope; result = result; within = resolved.itself }
-within_of inner outer in_callback scope result (judged.deeper {n = n} {g = g} there has rest) =
+within_of inner outer in_callback scope result (name_faults.deeper {n = n} {g = g} there has rest) =
     let w = within_of inner g.nodes true (resolved.scope_inside n scope) g.result rest in
     record { in_callback = w.in_callback; scope = w.scope; result = w.result; within = resolved.inside there has w.within }
 
@@ -115,31 +115,31 @@ module _ (stored : List PlainStored) (g : PlainGraph) where
 
   later_fault : (scope : List (List ℕ)) (nodes : Nodes) (n : PlainNode) (code : Code) → HasFault stored false scope nodes n code
       → HasFault stored true scope nodes n code
-  later_fault scope nodes n code (judged.argument_unknown same there absent) = judged.argument_unknown same there absent
-  later_fault scope nodes n code (judged.process_parameter_missing same there default optional absent) =
-      judged.process_parameter_missing same there default optional absent
-  later_fault scope nodes n code (judged.parameter_unknown is there absent) = absurd (true≢false (sym is))
-  later_fault scope nodes n code (judged.node_unknown there absent) = judged.node_unknown there absent
-  later_fault scope nodes n code (judged.graph_cycle is leads) = absurd (true≢false (sym is))
+  later_fault scope nodes n code (name_faults.argument_unknown same there absent) = name_faults.argument_unknown same there absent
+  later_fault scope nodes n code (name_faults.process_parameter_missing same there default optional absent) =
+      name_faults.process_parameter_missing same there default optional absent
+  later_fault scope nodes n code (name_faults.parameter_unknown is there absent) = absurd (true≢false (sym is))
+  later_fault scope nodes n code (name_faults.node_unknown there absent) = name_faults.node_unknown there absent
+  later_fault scope nodes n code (name_faults.graph_cycle is leads) = absurd (true≢false (sym is))
 
   later : (f : Fault) (at : List ℕ) (scope : List (List ℕ)) (nodes : Nodes) → OfObject stored false f at scope nodes
       → OfObject stored true f at scope nodes
-  later f at scope nodes (judged.by_itself {n = n} there own) =
-      judged.by_itself there (record { at = own.at; has = later_fault scope nodes n f.code own.has })
-  later f at scope nodes (judged.inside there none argument callback of) = judged.inside there none argument callback (later f _ _ _ of)
+  later f at scope nodes (name_faults.by_itself {n = n} there own) =
+      name_faults.by_itself there (record { at = own.at; has = later_fault scope nodes n f.code own.has })
+  later f at scope nodes (name_faults.inside there none argument callback of) = name_faults.inside there none argument callback (later f _ _ _ of)
 
   phase_by : (last : Bool) (scope : List (List ℕ)) (nodes : Nodes) (n : PlainNode) (code : Code) → HasFault stored last scope nodes n code
       → phase_of code ≡ 4
-  phase_by last scope nodes n code (judged.argument_unknown same there absent) = refl
-  phase_by last scope nodes n code (judged.process_parameter_missing same there default optional absent) = refl
-  phase_by last scope nodes n code (judged.parameter_unknown is there absent) = refl
-  phase_by last scope nodes n code (judged.node_unknown there absent) = refl
-  phase_by last scope nodes n code (judged.graph_cycle is leads) = refl
+  phase_by last scope nodes n code (name_faults.argument_unknown same there absent) = refl
+  phase_by last scope nodes n code (name_faults.process_parameter_missing same there default optional absent) = refl
+  phase_by last scope nodes n code (name_faults.parameter_unknown is there absent) = refl
+  phase_by last scope nodes n code (name_faults.node_unknown there absent) = refl
+  phase_by last scope nodes n code (name_faults.graph_cycle is leads) = refl
 
   phase : (last : Bool) (f : Fault) (at : List ℕ) (scope : List (List ℕ)) (nodes : Nodes) → OfObject stored last f at scope nodes
       → phase_of f.code ≡ 4
-  phase last f at scope nodes (judged.by_itself {n = n} there own) = phase_by last scope nodes n f.code own.has
-  phase last f at scope nodes (judged.inside there none argument callback of) = phase last f _ _ _ of
+  phase last f at scope nodes (name_faults.by_itself {n = n} there own) = phase_by last scope nodes n f.code own.has
+  phase last f at scope nodes (name_faults.inside there none argument callback of) = phase last f _ _ _ of
 
   module _ (after : PlainGraph) (fault found : Option Fault) (is : IsSettled stored g after fault) where
     pub all_rounds : after ≡ expanded stored g

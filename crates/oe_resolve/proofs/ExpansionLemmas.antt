@@ -15,21 +15,21 @@ use Rattle.oe_graph.specs.Resolved.{IsResolved, IsScopedWithin, most_nodes}
 use Rattle.oe_graph.specs.Resolved as resolved_graphs
 use Rattle.oe_graph.specs.Tree.{Nodes, no_nodes, node, PlainGraph, PlainNode, PlainStored}
 use Rattle.oe_graph.specs.declared.code.Code.{Code}
-use Rattle.oe_resolve.specs.Called.{nodes_call}
-use Rattle.oe_resolve.specs.Calls.{callee, may_stand, stands_in, holds_fitting, calls_fitting, HoldsNode, itself, by_callback, Calls, ReachesProcess, calls, onwards, CallsReach, directly, Brings, by_call}
-use Rattle.oe_resolve.specs.Faults.{StandsWithStored, process_unsupported, process_recursive, graph_too_large, callback_too_large, most_main_nodes, most_callback_nodes}
+use Rattle.oe_calls.specs.HasCall.{nodes_call}
+use Rattle.oe_calls.specs.Calls.{callee, may_stand, stands_in, holds_fitting, calls_fitting, HoldsNode, itself, by_callback, Calls, ReachesProcess, calls, onwards, CallsReach, directly, Brings, by_call}
+use Rattle.oe_calls.specs.Faults.{StandsWithStored, process_unsupported, process_recursive, graph_too_large, callback_too_large, most_main_nodes, most_callback_nodes}
 use Rattle.oe_resolve.specs.Filled.{resolved}
-use Rattle.oe_resolve.specs.Rounds as rounds
-use Rattle.oe_resolve.specs.Rounds.{cleared_stored, cleared_graph, under_id, expanded_by, expanded, most_rounds}
+use Rattle.oe_calls.specs.Rounds as rounds
+use Rattle.oe_calls.specs.Rounds.{cleared_stored, cleared_graph, under_id, expanded_by, expanded, most_rounds}
 use Rattle.oe_graph.specs.Valid.{IsValidGraph, IsValidStored, AreValidStored}
-use Rattle.oe_resolve.proofs.CountLemmas.{callee_cleared}
-use Rattle.oe_resolve.proofs.FilledLemmas.{in_cons, in_none, in_first, in_rest}
-use Rattle.oe_resolve.proofs.IdLemmas.{HasNames}
-use Rattle.oe_resolve.proofs.NodeLemmas.{same_name-turned}
-use Rattle.oe_resolve.proofs.PlaceLemmas.{Place, places_of, places_of-cleared, places_of-round, put_place, put_places, under_places, opened_places, round_places, length-places_of, NoCalls, no_calls_in, settled_after}
-use Rattle.oe_resolve.proofs.OrderLemmas.{IsInOrder, HoldsInside, IsStoredInOrder, valid_in_order, cleared_in_order, plain_ordered, cleared_has_names, callee_in, round_is_in_order, each_ordered, each_holding, each_formed}
-use Rattle.oe_resolve.proofs.ResolvingLemmas.{in_map, map_in, IsOrderedObject, EachObject, StandInCatalogue, resolved-is}
-use Rattle.oe_resolve.proofs.UncalledLemmas.{node_uncalled, within_uncalled}
+use Rattle.oe_calls.proofs.CountLemmas.{callee_cleared}
+use Rattle.oe_calls.proofs.Along.{there_cases, none_there, in_first, later_there, in_map, map_there}
+use Rattle.oe_calls.proofs.IdLemmas.{HasNames}
+use Rattle.oe_calls.proofs.NodeLemmas.{same_name-turned}
+use Rattle.oe_calls.proofs.PlaceLemmas.{Place, places_of, places_of-cleared, places_of-round, put_place, put_places, under_places, opened_places, round_places, length-places_of, NoCalls, no_calls_in, settled_after}
+use Rattle.oe_calls.proofs.OrderLemmas.{IsInOrder, HoldsInside, IsStoredInOrder, valid_in_order, cleared_in_order, plain_ordered, cleared_has_names, callee_in, round_is_in_order, each_ordered, each_holding, each_formed, IsOrderedObject, EachObject}
+use Rattle.oe_resolve.proofs.ResolvingLemmas.{StandInCatalogue, resolved-is}
+use Rattle.oe_calls.proofs.UncalledLemmas.{node_uncalled, within_uncalled}
 
 -- ---- what a node calls among stored processes without dangling references
 
@@ -208,7 +208,7 @@ module _ (stored : List PlainStored) (h : PlainGraph) where
 
   place_cases : (t : Place) (ts : List Place) (s : PlainStored) → CallsAt stored (t ∷ ts) s
       → (callee stored t.2 t.1 ≡ Some s) ⊎ CallsAt stored ts s
-  place_cases t ts s c = elim (in_cons t ts c.place c.has) as (λ _. (callee stored t.2 t.1 ≡ Some s) ⊎ CallsAt stored ts s) [
+  place_cases t ts s c = elim (there_cases t ts c.place c.has) as (λ _. (callee stored t.2 t.1 ≡ Some s) ⊎ CallsAt stored ts s) [
     | inl same ↦ inl (ap (λ (u : Place). callee stored u.2 u.1) same ∙ c.calls)
     | inr there ↦ inr (record { place = c.place; has = there; calls = c.calls })
   ]
@@ -225,7 +225,7 @@ module _ (stored : List PlainStored) (h : PlainGraph) where
   leads_head count t ts each s is = each s (record { place = t; has = in_first t ts t refl; calls = is })
 
   leads_tail : (count : ℕ) (t : Place) (ts : List Place) → Leads count (t ∷ ts) → Leads count ts
-  leads_tail count t ts each s c = each s (record { place = c.place; has = in_rest t ts c.place c.has; calls = c.calls })
+  leads_tail count t ts each s c = each s (record { place = c.place; has = later_there t ts c.place c.has; calls = c.calls })
 
   put_leads : (before : Bool) (count : ℕ) (t u : Place) (us : List Place)
       → ((s : PlainStored) → callee stored t.2 t.1 ≡ Some s → Chained stored h count s) → Leads count (u ∷ us)
@@ -245,18 +245,18 @@ module _ (stored : List PlainStored) (h : PlainGraph) where
       leads_puts count ts (put_place t us) (leads_tail count t ts each) (leads_put count t us (leads_head count t ts each) found)
 
   under_calls : (call : List ℕ) (ts : List Place) (s : PlainStored) → CallsAt stored (under_places call ts) s → CallsAt stored ts s
-  under_calls call [] s c = absurd (in_none c.place c.has)
+  under_calls call [] s c = absurd (none_there c.place c.has)
   under_calls call (t ∷ ts) s c =
       elim (place_cases (under_id call t.0, t.1, t.2) (under_places call ts) s c) as (λ _. CallsAt stored (t ∷ ts) s) [
         | inl own ↦ record { place = t; has = in_first t ts t refl; calls = own }
         | inr other ↦
             let later = under_calls call ts s other in
-            record { place = later.place; has = in_rest t ts later.place later.has; calls = later.calls }
+            record { place = later.place; has = later_there t ts later.place later.has; calls = later.calls }
       ]
 
   node_at : (ns : Nodes) (s : PlainStored) → CallsAt stored (places_of ns) s
       → (k : PlainNode) × Contains (each_node ns) k × (callee stored k.namespace k.process_id ≡ Some s)
-  node_at no_nodes s c = absurd (in_none c.place c.has)
+  node_at no_nodes s c = absurd (none_there c.place c.has)
   node_at (node id p namespace args rest) s c =
       let n : PlainNode = record { id = id; process_id = p; namespace = namespace; arguments = args } in
       elim (place_cases (id, p, namespace) (places_of rest) s c)
@@ -264,7 +264,7 @@ module _ (stored : List PlainStored) (h : PlainGraph) where
         | inl own ↦ (n, in_first n (each_node rest) n refl, own)
         | inr other ↦
             let later = node_at rest s other in
-            (later.0, in_rest n (each_node rest) later.0 later.1, later.2)
+            (later.0, later_there n (each_node rest) later.0 later.1, later.2)
       ]
 
   first_leads : Leads 0 (places_of (cleared_graph h).nodes)
@@ -278,7 +278,7 @@ module _ (stored : List PlainStored) (h : PlainGraph) where
   opened_leads count t None is here s c =
       elim (place_cases t [] s c) as (λ _. Chained stored h (suc count) s) [
         | inl own ↦ let both : None ≡ Some s = sym is ∙ own in absurd cc
-        | inr other ↦ absurd (in_none other.place other.has)
+        | inr other ↦ absurd (none_there other.place other.has)
       ]
   opened_leads count t (Some called) is here s c =
       let k = node_at called.graph.nodes s
@@ -303,7 +303,7 @@ module _ (stored : List PlainStored) (h : PlainGraph) where
   chain_leads (suc times) =
       let ns = (expanded_by times stored h).nodes in
       subst (λ (ts : List Place). Leads (suc times) ts) (sym (places_of-round (map cleared_stored stored) ns ns no_nodes))
-      (round_leads times (places_of ns) [] (chain_leads times) (λ s c. absurd (in_none c.place c.has)))
+      (round_leads times (places_of ns) [] (chain_leads times) (λ s c. absurd (none_there c.place c.has)))
 
 -- ---- no chain is longer than there are stored processes
 
@@ -409,12 +409,12 @@ module _ (stored : List PlainStored) (g : PlainGraph) (stored_valid : AreValidSt
       → Contains (along count s chain) u → Contains stored u
   unfolding along
   along_stored count s (first {n = n} has call) u is =
-      elim (in_cons s [] u is) as (λ _. Contains stored u) [
+      elim (there_cases s [] u is) as (λ _. Contains stored u) [
         | inl one ↦ subst (λ x. Contains stored x) one (called_stored n s call)
-        | inr there ↦ absurd (in_none u there)
+        | inr there ↦ absurd (none_there u there)
       ]
   along_stored count s (next {count = k} {n = n} {s = v} chain has call) u is =
-      elim (in_cons s (along k v chain) u is) as (λ _. Contains stored u) [
+      elim (there_cases s (along k v chain) u is) as (λ _. Contains stored u) [
         | inl one ↦ subst (λ x. Contains stored x) one (called_stored n s call)
         | inr there ↦ along_stored k v chain u there
       ]
@@ -423,12 +423,12 @@ module _ (stored : List PlainStored) (g : PlainGraph) (stored_valid : AreValidSt
       → Contains (along count s chain) u → (u ≡ s) ⊎ ReachesProcess stored u s
   unfolding along
   along_reaches count s (first has call) u is =
-      elim (in_cons s [] u is) as (λ _. (u ≡ s) ⊎ ReachesProcess stored u s) [
+      elim (there_cases s [] u is) as (λ _. (u ≡ s) ⊎ ReachesProcess stored u s) [
         | inl one ↦ inl (sym one)
-        | inr there ↦ absurd (in_none u there)
+        | inr there ↦ absurd (none_there u there)
       ]
   along_reaches count s (next {count = k} {n = n} {s = v} chain has call) u is =
-      elim (in_cons s (along k v chain) u is) as (λ _. (u ≡ s) ⊎ ReachesProcess stored u s) [
+      elim (there_cases s (along k v chain) u is) as (λ _. (u ≡ s) ⊎ ReachesProcess stored u s) [
         | inl one ↦ inl (sym one)
         | inr there ↦ elim (along_reaches k v chain u there) as (λ _. (u ≡ s) ⊎ ReachesProcess stored u s) [
           | inl last ↦ inr (subst (λ x. ReachesProcess stored x s) (sym last) (calls has call))
@@ -457,7 +457,7 @@ module _ (stored : List PlainStored) (g : PlainGraph) (stored_valid : AreValidSt
   all_differ s [] differ = tt
   all_differ s (u ∷ us) differ = (
     differs_by s.id u.id (same_name s.id u.id) refl (differ u (in_first u us u refl)),
-    all_differ s us (λ x has. differ x (in_rest u us x has)),
+    all_differ s us (λ x has. differ x (later_there u us x has)),
   )
 
   distinct : (count : ℕ) (s : PlainStored) (chain : Chained stored g count s) → IsDistinct same_name (ids (along count s chain))
@@ -471,7 +471,7 @@ module _ (stored : List PlainStored) (g : PlainGraph) (stored_valid : AreValidSt
   among_ids us each q is =
       let from = in_map (λ (u : PlainStored). u.id) us q ((is_member-Decides tells (ids us) q).0 is) in
       (is_member-Decides tells (ids stored) q).1
-      (subst (λ x. Contains (ids stored) x) from.is (map_in (λ (u : PlainStored). u.id) stored from.of (each from.of from.has)))
+      (subst (λ x. Contains (ids stored) x) from.is (map_there (λ (u : PlainStored). u.id) stored from.of (each from.of from.has)))
 
   pub no_long_chain : (s : PlainStored) → Chained stored g (length stored) s → ⊥
   no_long_chain s chain =

@@ -1,48 +1,28 @@
 -- The faults of graph objects, node by node and argument by argument.
-use Rattle.std.proofs.Common.{◌≡◌, ℕ, zero, suc, ◌<◌, ◌⊎◌, inl, inr, Bool, true, false, List, [], ◌∷◌, Option, Some, None, is_some, Contains, length, map, option_map, get_or, slice_get, slice_index_or, refl, sym, ap, ◌∙◌, subst, true≢false, Vec, Global, arith}
+use Rattle.std.proofs.Common.{◌≡◌, ℕ, zero, suc, ◌<◌, ◌⊎◌, inl, inr, Bool, true, false, List, [], ◌∷◌, Option, Some, None, is_some, Contains, length, map, option_map, get_or, slice_get, slice_index_or, refl, sym, ap, ◌∙◌, subst, true≢false, arith}
 use Rattle.std.proofs.lemmas.List.Elements.{Contains-append_left, Contains-append_right, Contains-append_cases}
 use Rattle.oe_dims.specs.Names.{names_rise}
 use Rattle.oe_graph.specs.Faults.{least}
 use Rattle.oe_graph.specs.Form.{node_name, callback_name}
-use Rattle.oe_graph.specs.Plain.{plain_arg, plain_args, plain_named, plain_node, plain_nodes, plain_pair, arg_step, graph_step, node_step}
+use Rattle.oe_graph.specs.Plain.{plain_arg, plain_args, plain_named, plain_node, plain_nodes, plain_pair}
 use Rattle.oe_graph.specs.Printed.{ids_of}
 use Rattle.oe_graph.specs.References.{each_node, callbacks_in, callbacks_named, callbacks_each}
 use Rattle.oe_graph.specs.Resolved.{scope_inside}
-use Rattle.oe_graph.specs.Tree.{Argument, whole, list, object, callback, argument, Nodes, PlainGraph, PlainNode, PlainStored, named_from_list}
+use Rattle.oe_graph.specs.Tree.{Argument, whole, list, object, callback, Nodes, PlainGraph, PlainNode, PlainStored, named_from_list}
 use Rattle.oe_graph.specs.declared.fault.Fault.{Fault}
 use Rattle.oe_graph.specs.declared.tree.Arg.{Arg}
-use Rattle.oe_graph.specs.declared.tree.Arg.TheFolds.{fold-roll-Arg}
-use Rattle.oe_graph.specs.declared.tree.Arg.TheOpen.{Arg-F}
 use Rattle.oe_graph.specs.declared.tree.Arg.TheVariants as variant
 use Rattle.oe_graph.specs.declared.tree.Graph.{Graph, out-Graph}
 use Rattle.oe_graph.specs.declared.tree.Node.{Node}
 use Rattle.oe_graph.proofs.LeastLemmas.{IsLeastOf, IsLeastOf-iff, IsLeastOf-least, OneOf}
-use Rattle.oe_graph.proofs.PartLemmas.{graph_parts, node_parts}
-use Rattle.oe_resolve.specs.Calls.{callee}
-use Rattle.oe_resolve.specs.Faults.{each_argument}
-use Rattle.oe_resolve.specs.Judged.{AreMarks, IsMark, IdsRise, IdsRiseIn, itself, deeper, OfArgument, OfArguments, OfItself, OfNode, OfObject, by_itself, inside, know_named, node_code}
-use Rattle.oe_resolve.proofs.Along.{first_there, later_there, none_there, there_cases, map_there, one_back}
+use Rattle.oe_graph.proofs.PartLemmas.{node_parts}
+use Rattle.oe_calls.specs.Calls.{callee}
+use Rattle.oe_calls.specs.Faults.{each_argument}
+use Rattle.oe_resolve.specs.NameFaults.{AreMarks, IsMark, IdsRise, IdsRiseIn, itself, deeper, OfArgument, OfArguments, OfItself, OfNode, OfObject, by_itself, inside, know_named, node_code}
+use Rattle.oe_calls.proofs.Along.{first_there, later_there, none_there, there_cases, map_there, one_back}
 use Rattle.oe_resolve.proofs.CodeLemmas.{own_least}
 use Rattle.oe_graph.proofs.ReferenceGraphLemmas.{each_nodes}
-
--- ---- the plain values of lists, objects and callbacks
-
-pub list_is : (a : Arg) (v : Vec Arg Global) → a ≡ variant.List v → plain_arg a ≡ list (plain_args v.items)
-list_is a v is =
-    ap plain_arg (is ∙ sym (variant.rolls-List v))
-    ∙ fold-roll-Arg Argument PlainGraph PlainNode arg_step graph_step node_step (Arg-F.List v)
-
-pub object_is : (a : Arg) (v : Vec (List ℕ × Arg) Global) → a ≡ variant.Object v → plain_arg a ≡ object (plain_named v.items)
-object_is a v is =
-    ap plain_arg (is ∙ sym (variant.rolls-Object v))
-    ∙ fold-roll-Arg Argument PlainGraph PlainNode arg_step graph_step node_step (Arg-F.Object v)
-
-pub callback_is : (a : Arg) (g : Graph) → a ≡ variant.Callback g
-    → plain_arg a ≡ callback (plain_nodes (out-Graph g).nodes.items) (out-Graph g).result
-callback_is a g is =
-    ap plain_arg (is ∙ sym (variant.rolls-Callback g))
-    ∙ fold-roll-Arg Argument PlainGraph PlainNode arg_step graph_step node_step (Arg-F.Callback g)
-    ∙ ap (λ (p : PlainGraph). callback p.nodes p.result) (graph_parts g)
+use Rattle.oe_calls.proofs.NodeLemmas.{callback_is}
 
 -- ---- where callbacks stand
 
@@ -112,9 +92,6 @@ pub rise_of_item : (xs : List Arg) (a : Arg) → IdsRiseIn (callbacks_each (plai
     → Contains xs a → IdsRiseIn (callbacks_in (plain_arg a))
 rise_of_item xs a rise there = λ g has. rise g (callback_each g xs a there has)
 
-pub there_by : {X : Type 0} (xs : List X) (i : ℕ) (x : X) → i < length xs → x ≡ get_or xs i x → Contains xs x
-there_by xs i x below is = (i, below, sym is)
-
 -- ---- the node at an index
 
 get_mapped : {X Y : Type 0} (f : X → Y) (xs : List X) (i : ℕ) (x : X) → i < length xs → x ≡ get_or xs i x
@@ -133,12 +110,6 @@ pub node_there : (ns : List Node) (i : ℕ) (n : Node) → i < length ns → n �
     → slice_get (each_node (plain_nodes ns)) i ≡ Some (plain_node n)
 node_there ns i n below is =
     ap (λ ms. slice_get ms i) (each_nodes (map plain_node ns)) ∙ get_mapped plain_node ns i n below is
-
-pub there_node : (ns : List Node) (i : ℕ) (n : Node) → i < length ns → n ≡ get_or ns i n
-    → Contains (each_node (plain_nodes ns)) (plain_node n)
-there_node ns i n below is =
-    subst (λ ms. Contains ms (plain_node n)) (sym (each_nodes (map plain_node ns)))
-    (map_there plain_node ns n (there_by ns i n below is))
 
 pub mark_there : (last : Bool) (ns : List Node) (i : ℕ) (n : Node) (marks : List Bool) (mark : Bool) → i < length ns
     → n ≡ get_or ns i n → AreMarks last (plain_nodes ns) marks → mark ≡ slice_index_or marks i false

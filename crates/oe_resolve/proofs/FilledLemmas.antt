@@ -1,15 +1,10 @@
 -- What defaults change in the arguments of a node: they add the names of parameters, keep names rising, and bring no
 -- reference, no parameter and no callback.
-use Rattle.std.proofs.Common.{◌≡◌, ◌⊎◌, inl, inr, ℕ, ◌+◌, ◌&&◌, Bool, true, false, if◌then◌else◌, List, [], ◌∷◌, ◌++◌, map, Contains, Option, Some, None, is_some, option_map, Ordering, Less, Equal, Greater, refl, sym, ap, ◌∙◌, subst, true≢false, arith}
-use Rattle.std.specs.Cmp.Lexicographic.{slice_cmp}
+use Rattle.std.proofs.Common.{◌≡◌, ◌⊎◌, inl, inr, ℕ, Bool, true, false, if◌then◌else◌, List, [], ◌∷◌, ◌++◌, map, Contains, Option, Some, None, is_some, option_map, refl, sym, ap, ◌∙◌, subst}
 use Rattle.std.specs.Option.{option_or}
-use Rattle.std.specs.Ordering.{nat_cmp, is_lt, is_eq, ordering_reverse}
-use Rattle.std.proofs.lemmas.Bool.{and_parts}
-use Rattle.std.proofs.lemmas.Cmp.{nat_list_cmp_total}
 use Rattle.std.proofs.lemmas.List.Elements.{Contains-append_left, Contains-append_right, Contains-append_cases}
-use Rattle.std.proofs.lemmas.Map.Text.{is_eq-slice_cmp}
 use Rattle.oe_dims.specs.Names.{same_name, is_name_before, names_rise}
-use Rattle.oe_dims.proofs.OrderLemmas.{same_name-bytes_eq, same_name_is}
+use Rattle.oe_dims.proofs.OrderLemmas.{same_name_is}
 use Rattle.oe_graph.specs.Catalogue.{Parameter, plain_parameter, literal_value}
 use Rattle.oe_graph.specs.Printed.{names_of}
 use Rattle.oe_graph.specs.References.{argument_named, references_in, references_named, parameters_in, parameters_named, callbacks_in, callbacks_named}
@@ -17,21 +12,8 @@ use Rattle.oe_graph.specs.Tree.{Argument, null, Named, no_named, named, PlainGra
 use Rattle.oe_graph.specs.declared.table.Literal.{Literal}
 use Rattle.oe_graph.specs.declared.table.Literal.TheVariants as literal
 use Rattle.oe_resolve.specs.Filled.{put_argument, put_default, put_defaults}
-use Rattle.oe_memory.proofs.Lists.{first_or_later}
-
--- ---- elements of lists
-
-pub in_cons : {X : Type 0} (x : X) (xs : List X) (y : X) → Contains (x ∷ xs) y → (x ≡ y) ⊎ Contains xs y
-in_cons x xs y has = first_or_later x xs y has.0 has.1 has.2
-
-pub in_none : {X : Type 0} (y : X) → Contains [] y → ⊥
-in_none y has = let no = has.1 in omega arith
-
-pub in_first : {X : Type 0} (x : X) (xs : List X) (y : X) → x ≡ y → Contains (x ∷ xs) y
-in_first x xs y is = (0, omega arith, is)
-
-pub in_rest : {X : Type 0} (x : X) (xs : List X) (y : X) → Contains xs y → Contains (x ∷ xs) y
-in_rest x xs y has = Contains-append_right (x ∷ []) xs y has
+use Rattle.oe_calls.proofs.Along.{later_there, there_cases, none_there, in_first}
+use Rattle.oe_calls.proofs.NameLemmas.{other_before, starts_after, rise_from, rise_parts}
 
 -- ---- one default
 
@@ -120,18 +102,18 @@ put_name_if : (before : Bool) (name other : List ℕ) (a b : Argument) (rest : N
     → Contains (names_of (if before then named other b (put_argument name a rest) else named name a (named other b rest))) x
     → (name ≡ x) ⊎ Contains (other ∷ names_of rest) x
 put_name_if true name other a b rest x later has =
-    elim (in_cons other (names_of (put_argument name a rest)) x has) as (λ _. (name ≡ x) ⊎ Contains (other ∷ names_of rest) x) [
+    elim (there_cases other (names_of (put_argument name a rest)) x has) as (λ _. (name ≡ x) ⊎ Contains (other ∷ names_of rest) x) [
       | inl is ↦ inr (in_first other (names_of rest) x is)
       | inr there ↦ elim (later there) as (λ _. (name ≡ x) ⊎ Contains (other ∷ names_of rest) x) [
         | inl is ↦ inl is
-        | inr old ↦ inr (in_rest other (names_of rest) x old)
+        | inr old ↦ inr (later_there other (names_of rest) x old)
       ]
     ]
-put_name_if false name other a b rest x later has = in_cons name (other ∷ names_of rest) x has
+put_name_if false name other a b rest x later has = there_cases name (other ∷ names_of rest) x has
 
 put_name : (name : List ℕ) (a : Argument) (ms : Named) (x : List ℕ) → Contains (names_of (put_argument name a ms)) x
     → (name ≡ x) ⊎ Contains (names_of ms) x
-put_name name a no_named x has = in_cons name [] x has
+put_name name a no_named x has = there_cases name [] x has
 put_name name a (named other b rest) x has =
     put_name_if (is_name_before other name) name other a b rest x (put_name name a rest x) has
 
@@ -140,22 +122,22 @@ kept_if : (before : Bool) (name other : List ℕ) (a b : Argument) (rest : Named
     → Contains (other ∷ names_of rest) x
     → Contains (names_of (if before then named other b (put_argument name a rest) else named name a (named other b rest))) x
 kept_if true name other a b rest x later has =
-    elim (in_cons other (names_of rest) x has) as (λ _. Contains (other ∷ names_of (put_argument name a rest)) x) [
+    elim (there_cases other (names_of rest) x has) as (λ _. Contains (other ∷ names_of (put_argument name a rest)) x) [
       | inl is ↦ in_first other (names_of (put_argument name a rest)) x is
-      | inr there ↦ in_rest other (names_of (put_argument name a rest)) x (later there)
+      | inr there ↦ later_there other (names_of (put_argument name a rest)) x (later there)
     ]
-kept_if false name other a b rest x later has = in_rest name (other ∷ names_of rest) x has
+kept_if false name other a b rest x later has = later_there name (other ∷ names_of rest) x has
 
 put_keeps : (name : List ℕ) (a : Argument) (ms : Named) (x : List ℕ) → Contains (names_of ms) x
     → Contains (names_of (put_argument name a ms)) x
-put_keeps name a no_named x has = absurd (in_none x has)
+put_keeps name a no_named x has = absurd (none_there x has)
 put_keeps name a (named other b rest) x has =
     kept_if (is_name_before other name) name other a b rest x (put_keeps name a rest x) has
 
 here_if : (before : Bool) (name other : List ℕ) (a b : Argument) (rest : Named)
     → Contains (names_of (put_argument name a rest)) name
     → Contains (names_of (if before then named other b (put_argument name a rest) else named name a (named other b rest))) name
-here_if true name other a b rest later = in_rest other (names_of (put_argument name a rest)) name later
+here_if true name other a b rest later = later_there other (names_of (put_argument name a rest)) name later
 here_if false name other a b rest later = in_first name (other ∷ names_of rest) name refl
 
 put_here : (name : List ℕ) (a : Argument) (ms : Named) → Contains (names_of (put_argument name a ms)) name
@@ -167,7 +149,7 @@ found_if : (same : Bool) (name k : List ℕ) (a b : Argument) (rest : Named) →
     → (argument_named name rest ≡ Some b → Contains (names_of rest) name)
     → (if same then Some a else argument_named name rest) ≡ Some b → Contains (k ∷ names_of rest) name
 found_if true name k a b rest is later found = in_first k (names_of rest) name (sym (same_name_is k name is))
-found_if false name k a b rest is later found = in_rest k (names_of rest) name (later found)
+found_if false name k a b rest is later found = later_there k (names_of rest) name (later found)
 
 pub found_name : (name : List ℕ) (ms : Named) (b : Argument) → argument_named name ms ≡ Some b → Contains (names_of ms) name
 found_name name no_named b found = absurd cc
@@ -204,7 +186,7 @@ names-defaults [] ms x has = inr has
 names-defaults (p ∷ ps) ms x has =
     let next = put_default p.name (argument_named p.name ms) (default_by p.default) ms in
     elim (names-defaults ps next x has) as (λ _. Contains (the_names (p ∷ ps)) x ⊎ Contains (names_of ms) x) [
-      | inl later ↦ inl (in_rest p.name (the_names ps) x later)
+      | inl later ↦ inl (later_there p.name (the_names ps) x later)
       | inr now ↦ elim (default_name p.name (argument_named p.name ms) p.default ms x now)
           as (λ _. Contains (the_names (p ∷ ps)) x ⊎ Contains (names_of ms) x) [
             | inl is ↦ inl (in_first p.name (the_names ps) x is)
@@ -222,10 +204,10 @@ names-kept (p ∷ ps) ms x has =
 pub names-given : (ps : List Parameter) (ms : Named) (p : Parameter) → Contains ps p
     → (p.default ≡ None → Contains (names_of ms) p.name)
     → Contains (names_of (put_defaults (map plain_parameter ps) ms)) p.name
-names-given [] ms p has else_given = absurd (in_none p has)
+names-given [] ms p has else_given = absurd (none_there p has)
 names-given (q ∷ ps) ms p has else_given =
     let next = put_default q.name (argument_named q.name ms) (default_by q.default) ms in
-    elim (in_cons q ps p has) as (λ _. Contains (names_of (put_defaults (map plain_parameter ps) next)) p.name) [
+    elim (there_cases q ps p has) as (λ _. Contains (names_of (put_defaults (map plain_parameter ps) next)) p.name) [
       | inl is ↦ names-kept ps next p.name
           (subst (λ (r : Parameter). Contains (names_of (put_default r.name (argument_named r.name ms) (default_by r.default) ms)) p.name)
           (sym is) (default_gives p.name (argument_named p.name ms) p.default ms refl else_given))
@@ -234,32 +216,6 @@ names-given (q ∷ ps) ms p has else_given =
     ]
 
 -- ---- names rise after defaults
-
-by_order : (o : Ordering) → is_lt o ≡ false → is_eq o ≡ false → is_lt (ordering_reverse o) ≡ true
-by_order Less not_less not_same = absurd (true≢false not_less)
-by_order Equal not_less not_same = absurd (true≢false not_same)
-by_order Greater not_less not_same = refl
-
--- of two names that differ one stands before the other
-pub other_before : (a b : List ℕ) → is_name_before a b ≡ false → same_name a b ≡ false → is_name_before b a ≡ true
-other_before a b not_before differ =
-    ap is_lt (nat_list_cmp_total.antisymm b a)
-    ∙ by_order (slice_cmp nat_cmp a b) not_before (is_eq-slice_cmp a b ∙ same_name-bytes_eq a b ∙ differ)
-
--- the first of names stands after a name
-abbrev pub starts_after : List ℕ → List (List ℕ) → Bool
-starts_after a [] = true
-starts_after a (b ∷ names) = is_name_before a b
-
-pub rise_from : (a : List ℕ) (names : List (List ℕ)) → starts_after a names ≡ true → names_rise names ≡ true
-    → names_rise (a ∷ names) ≡ true
-rise_from a [] after rise = refl
-rise_from a (b ∷ names) after rise = ap (λ t. t && names_rise (b ∷ names)) after ∙ rise
-
-pub rise_parts : (a : List ℕ) (names : List (List ℕ)) → names_rise (a ∷ names) ≡ true
-    → (starts_after a names ≡ true) × (names_rise names ≡ true)
-rise_parts a [] rise = (refl, refl)
-rise_parts a (b ∷ names) rise = let parts = and_parts _ _ rise in (parts.0, parts.1)
 
 start_if : (before : Bool) (k name other : List ℕ) (a b : Argument) (rest : Named)
     → is_name_before k name ≡ true → is_name_before k other ≡ true

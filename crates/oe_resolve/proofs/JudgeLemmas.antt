@@ -6,7 +6,7 @@ use Rattle.oe_graph.specs.Plain.{plain_node, plain_named}
 use Rattle.oe_graph.specs.Tree.{Named, PlainNode, PlainParameter, PlainStored}
 use Rattle.oe_graph.specs.declared.tree.Node.{Node}
 use Rattle.oe_graph.proofs.PartLemmas.{node_parts}
-use Rattle.oe_resolve.specs.Calls.{callee, row_meant, parameters_of}
+use Rattle.oe_calls.specs.Calls.{callee, row_meant, parameters_of}
 
 -- a test of the parameters and arguments of a node that calls no stored process
 pub test_meant : (stored : List PlainStored) (n : Node) (parameters : Option (List PlainParameter)) (b : Bool)

@@ -3,13 +3,13 @@ use Rattle.std.proofs.Common.{◌≡◌, ℕ, Bool, true, false, List, [], map, 
 use Rattle.oe_graph.specs.References.{each_node}
 use Rattle.oe_graph.specs.Resolved.{IsScopedWithin, itself, inside, scope_inside}
 use Rattle.oe_graph.specs.Tree.{Nodes, PlainGraph, PlainNode, PlainStored}
-use Rattle.oe_resolve.specs.Called.{nodes_call}
-use Rattle.oe_resolve.specs.Calls as calls
-use Rattle.oe_resolve.specs.Calls.{callee, Calls, HoldsNode}
+use Rattle.oe_calls.specs.HasCall.{nodes_call}
+use Rattle.oe_calls.specs.Calls as calls
+use Rattle.oe_calls.specs.Calls.{callee, Calls, HoldsNode}
 use Rattle.oe_resolve.specs.Filled.{filled_nodes, resolved}
-use Rattle.oe_resolve.specs.Rounds.{expanded}
+use Rattle.oe_calls.specs.Rounds.{expanded}
 use Rattle.oe_resolve.proofs.ResolvingLemmas.{within_filled, node_unfilled}
-use Rattle.oe_resolve.proofs.UncalledLemmas.{node_uncalled, within_uncalled}
+use Rattle.oe_calls.proofs.UncalledLemmas.{node_uncalled, within_uncalled}
 
 -- the graph object in which a node stands that another holds
 record StandsIn (m : PlainNode) (outer_in_callback : Bool) (outer_scope : List (List ℕ)) (outer : Nodes) (outer_result : ℕ) : Type 0 where

@@ -8,10 +8,9 @@ use Rattle.oe_graph.specs.declared.code.Code.TheVariants.{GraphTooLarge}
 use Rattle.oe_graph.specs.declared.fault.Fault.{Fault}
 use Rattle.oe_graph.proofs.LeastLemmas.{IsLeastOf, IsLeastOf-earlier, IsLeastOf-one, Either}
 use Rattle.oe_resolve.specs.Expansion.{IsNameFault}
-use Rattle.oe_resolve.specs.Faults as faults
-use Rattle.oe_resolve.specs.Faults.{StandsWithStored}
-use Rattle.oe_resolve.specs.Judged.{IsLeastFault}
-use Rattle.oe_resolve.specs.Reached.{IsCallFault}
+use Rattle.oe_calls.specs.Faults as faults
+use Rattle.oe_calls.specs.Faults.{StandsWithStored, IsLeastFault}
+use Rattle.oe_calls.specs.Reached.{IsCallFault}
 
 module _ (stored : List PlainStored) (g : PlainGraph) where
   -- what faults are of

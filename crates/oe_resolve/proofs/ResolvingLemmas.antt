@@ -1,6 +1,6 @@
 -- Where no fault stands in a graph, and its expansion is in order, fits its sizes and calls no stored process, the filled
 -- graph is resolved.
-use Rattle.std.proofs.Common.{◌≡◌, ◌⊎◌, inl, inr, ℕ, zero, suc, ◌+◌, ◌<◌, ◌≤◌, ◌&&◌, ◌||◌, not, Bool, true, false, if◌then◌else◌, List, [], ◌∷◌, ◌++◌, map, length, Contains, Decides, Option, Some, None, is_some, option_map, refl, sym, ap, ◌∙◌, subst, true≢false, arith}
+use Rattle.std.proofs.Common.{◌≡◌, inl, inr, ℕ, suc, ◌<◌, ◌≤◌, ◌||◌, not, Bool, true, false, if◌then◌else◌, List, [], ◌∷◌, ◌++◌, map, Contains, Decides, Option, Some, None, is_some, option_map, refl, sym, ap, ◌∙◌, subst, true≢false}
 use Rattle.std.specs.Option.{option_map_or, option_or}
 use Rattle.std.specs.Set.{is_member}
 use Rattle.std.proofs.lemmas.List.{map-append}
@@ -14,40 +14,20 @@ use Rattle.oe_graph.specs.Printed.{ids_of, names_of, node_count}
 use Rattle.oe_graph.specs.References.{each_node, references_in, references_each, references_named, parameters_in, parameters_each, callbacks_in, callbacks_each, callbacks_named, Refers, Leads, refers, onwards}
 use Rattle.oe_graph.specs.References as named_references
 use Rattle.oe_graph.specs.Resolved.{parameter_names, IsResolvedNode, IsResolvedObject, IsResolved, IsScopedWithin, itself, inside, scope_inside, most_nodes}
-use Rattle.oe_graph.specs.Tree.{Argument, null, flag, whole, inexact, text, list, object, from_node, from_parameter, callback, ListValues, no_arguments, argument, Named, no_named, named, Nodes, no_nodes, node, PlainGraph, PlainNode, PlainParameter, PlainStored}
+use Rattle.oe_graph.specs.Tree.{Argument, null, flag, whole, inexact, text, list, object, from_node, from_parameter, callback, ListValues, no_arguments, argument, Named, no_named, named, Nodes, no_nodes, node, PlainGraph, PlainNode, PlainStored}
 use Rattle.oe_graph.specs.declared.code.Code.{Code}
-use Rattle.oe_resolve.specs.Called.{nodes_call}
-use Rattle.oe_resolve.specs.Calls.{callee, means_catalogue, row_meant, stands_in, parameters_of}
-use Rattle.oe_resolve.specs.Faults as faults
-use Rattle.oe_resolve.specs.Faults.{each_argument, HasNode, names_among, StandsWithStored, argument_unknown, process_parameter_missing, parameter_unknown, node_unknown, graph_cycle}
+use Rattle.oe_calls.specs.HasCall.{nodes_call}
+use Rattle.oe_calls.specs.Calls.{callee, means_catalogue, row_meant, stands_in, parameters_of}
+use Rattle.oe_calls.specs.Faults as faults
+use Rattle.oe_calls.specs.Faults.{each_argument, HasNode, names_among, StandsWithStored, argument_unknown, process_parameter_missing, parameter_unknown, node_unknown, graph_cycle}
 use Rattle.oe_resolve.specs.Filled.{parameters_named, filled, filled_each, filled_named, filled_nodes, filled_node, filled_graph, put_defaults, resolved}
-use Rattle.oe_resolve.specs.Rounds.{expanded, most_rounds}
-use Rattle.oe_resolve.proofs.FilledLemmas.{in_cons, in_none, in_first, in_rest, the_names, references-defaults, parameters-defaults, callbacks-defaults, names-defaults, names-kept, names-given, names_rise-defaults}
-use Rattle.oe_resolve.proofs.UncalledLemmas.{node_uncalled, callback_uncalled}
+use Rattle.oe_calls.specs.Rounds.{expanded, most_rounds}
+use Rattle.oe_calls.proofs.Along.{none_there, in_first, later_there, Image, in_map, map_there}
+use Rattle.oe_resolve.proofs.FilledLemmas.{the_names, references-defaults, parameters-defaults, callbacks-defaults, names-defaults, names-given, names_rise-defaults}
+use Rattle.oe_calls.proofs.UncalledLemmas.{node_uncalled, callback_uncalled}
+use Rattle.oe_calls.proofs.OrderLemmas.{IsOrderedObject, EachObject}
 
--- ---- lists
-
-pub record Image {X Y : Type 0} (f : X → Y) (xs : List X) (y : Y) : Type 0 where
-  pub of : X
-  pub has : Contains xs of
-  pub is : f of ≡ y
-
-pub in_map : {X Y : Type 0} (f : X → Y) (xs : List X) (y : Y) → Contains (map f xs) y → Image f xs y
-in_map f [] y has = absurd (in_none y has)
-in_map f (x ∷ xs) y has =
-    elim (in_cons (f x) (map f xs) y has) as (λ _. Image f (x ∷ xs) y) [
-      | inl is ↦ record { of = x; has = in_first x xs x refl; is = is }
-      | inr there ↦ let later = in_map f xs y there in
-          record { of = later.of; has = in_rest x xs later.of later.has; is = later.is }
-    ]
-
-pub map_in : {X Y : Type 0} (f : X → Y) (xs : List X) (x : X) → Contains xs x → Contains (map f xs) (f x)
-map_in f [] x has = absurd (in_none x has)
-map_in f (y ∷ xs) x has =
-    elim (in_cons y xs x has) as (λ _. Contains (f y ∷ map f xs) (f x)) [
-      | inl is ↦ in_first (f y) (map f xs) (f x) (ap f is)
-      | inr there ↦ in_rest (f y) (map f xs) (f x) (map_in f xs x there)
-    ]
+-- ---- names
 
 name_decides : (a b : List ℕ) → Decides (same_name a b) (a ≡ b)
 name_decides a b = (λ is. sym (same_name_is a b is), λ is. subst (λ n. same_name a n ≡ true) is (same_name_refl a))
@@ -230,12 +210,12 @@ pub record CallbackOf (ms : Named) (g : PlainGraph) : Type 0 where
   pub calls : Contains (callbacks_in argument.1) g
 
 pub callback_of : (ms : Named) (g : PlainGraph) → Contains (callbacks_named ms) g → CallbackOf ms g
-callback_of no_named g has = absurd (in_none g has)
+callback_of no_named g has = absurd (none_there g has)
 callback_of (named k a rest) g has =
     elim (Contains-append_cases (callbacks_in a) (callbacks_named rest) g has) as (λ _. CallbackOf (named k a rest) g) [
       | inl here ↦ record { argument = (k, a); has = in_first (k, a) (each_argument rest) (k, a) refl; calls = here }
       | inr there ↦ let later = callback_of rest g there in
-          record { argument = later.argument; has = in_rest (k, a) (each_argument rest) later.argument later.has; calls = later.calls }
+          record { argument = later.argument; has = later_there (k, a) (each_argument rest) later.argument later.has; calls = later.calls }
     ]
 
 pub has_name : (stored : List PlainStored) (in_callback : Bool) (scope : List (List ℕ)) (nodes : Nodes) (result : ℕ)
@@ -298,18 +278,6 @@ row_of stored in_callback n no_call stands =
 
 -- ---- one graph object
 
--- ids and names rise, and the result is the index of a node
-pub record IsOrderedObject (nodes : Nodes) (result : ℕ) : Type 0 where
-  pub ids_rise : names_rise (ids_of nodes) ≡ true
-  pub has_result : result < node_count nodes
-  pub names_rise : (n : PlainNode) → Contains (each_node nodes) n → names_rise (names_of n.arguments) ≡ true
-
--- what holds of each graph object of a graph
-abbrev pub EachObject : (Bool → Nodes → ℕ → Type 0) → PlainGraph → Type 0
-EachObject holds g =
-    (in_callback : Bool) (scope : List (List ℕ)) (nodes : Nodes) (result : ℕ)
-    → IsScopedWithin in_callback scope nodes result false [] g.nodes g.result → holds in_callback nodes result
-
 -- each node calls no stored process and may stand where it does
 abbrev pub StandInCatalogue : List PlainStored → Bool → Nodes → ℕ → Type 0
 StandInCatalogue stored in_callback nodes result =
@@ -365,7 +333,7 @@ module _ (stored : List PlainStored) (g : PlainGraph) (faultless : (code : Code)
       subst (λ xs. Contains xs q.name) (sym (names_of-filled m.arguments))
       (stands_among (names_of m.arguments) q.name
       (λ missing. faultless _ _ (process_parameter_missing most_rounds (has_node m has) row.parameters
-      (map_in plain_parameter row.process.parameters q is_parameter)
+      (map_there plain_parameter row.process.parameters q is_parameter)
       (ap (λ d. option_map literal_value d) none) (ap is_some none) missing)))
 
   has_each_parameter : (m : PlainNode) (row : RowOf stored in_callback m) → Contains (each_node nodes) m

@@ -6,11 +6,11 @@ use Rattle.oe_graph.specs.References.{each_node}
 use Rattle.oe_graph.specs.Tree.{Nodes, PlainGraph, PlainNode, PlainStored}
 use Rattle.oe_graph.specs.declared.code.Code.{Code}
 use Rattle.oe_graph.specs.declared.fault.Fault.{Fault}
-use Rattle.oe_resolve.specs.Faults as faults
-use Rattle.oe_resolve.specs.Faults.{IsWithin, HasNode, StandsWithStored}
-use Rattle.oe_resolve.specs.Judged as judged
-use Rattle.oe_resolve.specs.Judged.{HasFault, OfObject}
-use Rattle.oe_resolve.specs.Rounds.{expanded_by, expanded, most_rounds}
+use Rattle.oe_calls.specs.Faults as faults
+use Rattle.oe_calls.specs.Faults.{IsWithin, HasNode, StandsWithStored}
+use Rattle.oe_resolve.specs.NameFaults as name_faults
+use Rattle.oe_resolve.specs.NameFaults.{HasFault, OfObject}
+use Rattle.oe_calls.specs.Rounds.{expanded_by, expanded, most_rounds}
 
 -- a fault of a node of a graph object that stands within one
 record Found (stored : List PlainStored) (last : Bool) (f : Fault) (at : List ℕ) (outer_scope : List (List ℕ)) (outer : Nodes)
@@ -27,7 +27,7 @@ record Found (stored : List PlainStored) (last : Bool) (f : Fault) (at : List �
 module _ (stored : List PlainStored) (last : Bool) (f : Fault) where
   found_of : (at : List ℕ) (scope : List (List ℕ)) (outer : Nodes) → OfObject stored last f at scope outer
       → Found stored last f at scope outer
-  found_of at scope outer (judged.by_itself {n = n} there own) = record {
+  found_of at scope outer (name_faults.by_itself {n = n} there own) = record {
     name = at;
     scope = scope;
     object = outer;
@@ -37,7 +37,7 @@ module _ (stored : List PlainStored) (last : Bool) (f : Fault) where
     is_named = own.at;
     has = own.has;
   }
-  found_of at scope outer (judged.inside there none argument callback of) =
+  found_of at scope outer (name_faults.inside there none argument callback of) =
       let r = found_of _ _ _ of in record {
         name = r.name;
         scope = r.scope;
@@ -53,9 +53,9 @@ module _ (stored : List PlainStored) (last : Bool) (f : Fault) where
       (n : PlainNode) → IsWithin stored name scope object at outer_scope outer → Contains (each_node object) n
       → f.node ≡ node_name name n.id → HasFault stored last scope object n f.code → OfObject stored last f at outer_scope outer
   of_found name scope object at outer_scope outer n faults.itself there named has =
-      judged.by_itself there (record { at = named; has = has })
+      name_faults.by_itself there (record { at = named; has = has })
   of_found name scope object at outer_scope outer n (faults.inside outer_there none argument callback within) there named has =
-      judged.inside outer_there none argument callback (of_found name scope object _ _ _ n within there named has)
+      name_faults.inside outer_there none argument callback (of_found name scope object _ _ _ n within there named has)
 
   pub of_node : (g : PlainGraph) (n : PlainNode) (h : HasNode stored g n f.node) → HasFault stored last h.scope h.object n f.code
       → OfObject stored last f [] [] g.nodes
@@ -66,22 +66,22 @@ module _ (stored : List PlainStored) (g : PlainGraph) where
 
   early : (times : ℕ) (code : Code) (at : List ℕ) (n : PlainNode)
       → (h : HasNode stored (expanded_by times stored g) n at) → HasFault stored false h.scope h.object n code → StandsWithStored stored g code at
-  early times code at n h (judged.argument_unknown same there absent) = faults.argument_unknown times h same there absent
-  early times code at n h (judged.process_parameter_missing same there default optional absent) =
+  early times code at n h (name_faults.argument_unknown same there absent) = faults.argument_unknown times h same there absent
+  early times code at n h (name_faults.process_parameter_missing same there default optional absent) =
       faults.process_parameter_missing times h same there default optional absent
-  early times code at n h (judged.parameter_unknown is there absent) = absurd (true≢false (sym is))
-  early times code at n h (judged.node_unknown there absent) = faults.node_unknown times h there absent
-  early times code at n h (judged.graph_cycle is leads) = absurd (true≢false (sym is))
+  early times code at n h (name_faults.parameter_unknown is there absent) = absurd (true≢false (sym is))
+  early times code at n h (name_faults.node_unknown there absent) = faults.node_unknown times h there absent
+  early times code at n h (name_faults.graph_cycle is leads) = absurd (true≢false (sym is))
 
   late : (code : Code) (at : List ℕ) (n : PlainNode)
       → (h : HasNode stored (expanded stored g) n at) → HasFault stored true h.scope h.object n code → StandsWithStored stored g code at
-  late code at n h (judged.argument_unknown same there absent) =
+  late code at n h (name_faults.argument_unknown same there absent) =
       faults.argument_unknown most_rounds h same there absent
-  late code at n h (judged.process_parameter_missing same there default optional absent) =
+  late code at n h (name_faults.process_parameter_missing same there default optional absent) =
       faults.process_parameter_missing most_rounds h same there default optional absent
-  late code at n h (judged.parameter_unknown is there absent) = faults.parameter_unknown h there absent
-  late code at n h (judged.node_unknown there absent) = faults.node_unknown most_rounds h there absent
-  late code at n h (judged.graph_cycle is leads) = faults.graph_cycle h leads
+  late code at n h (name_faults.parameter_unknown is there absent) = faults.parameter_unknown h there absent
+  late code at n h (name_faults.node_unknown there absent) = faults.node_unknown most_rounds h there absent
+  late code at n h (name_faults.graph_cycle is leads) = faults.graph_cycle h leads
 
   pub early_stands : (times : ℕ) (f : Fault)
       → OfObject stored false f [] [] (expanded_by times stored g).nodes → StandsWithStored stored g f.code f.node
@@ -123,16 +123,16 @@ module _ (stored : List PlainStored) (g : PlainGraph) where
   in_round code at (faults.callback_too_large has brings written more) phase = absurd (omega arith)
   in_round code at (faults.argument_unknown times {n = n} h same there absent) phase =
       earlier times (of_node stored false (record { code = code; node = at }) (expanded_by times stored g) n h
-      (judged.argument_unknown same there absent))
+      (name_faults.argument_unknown same there absent))
   in_round code at (faults.process_parameter_missing times {n = n} h same there default optional absent) phase =
       earlier times (of_node stored false (record { code = code; node = at }) (expanded_by times stored g) n h
-      (judged.process_parameter_missing same there default optional absent))
+      (name_faults.process_parameter_missing same there default optional absent))
   in_round code at (faults.parameter_unknown {n = n} h there absent) phase =
       last_round (of_node stored true (record { code = code; node = at }) (expanded stored g) n h
-      (judged.parameter_unknown refl there absent))
+      (name_faults.parameter_unknown refl there absent))
   in_round code at (faults.node_unknown times {n = n} h there absent) phase =
       earlier times (of_node stored false (record { code = code; node = at }) (expanded_by times stored g) n h
-      (judged.node_unknown there absent))
+      (name_faults.node_unknown there absent))
   in_round code at (faults.graph_cycle {n = n} h leads) phase =
       last_round (of_node stored true (record { code = code; node = at }) (expanded stored g) n h
-      (judged.graph_cycle refl leads))
+      (name_faults.graph_cycle refl leads))

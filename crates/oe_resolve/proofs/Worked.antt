@@ -2,9 +2,9 @@
 use Rattle.std.specs.Prelude.{◌≡◌, ℕ, pos, true, false, List, [], ◌∷◌, Some, None, codes, refl}
 use Rattle.oe_graph.specs.Printed.{node_count}
 use Rattle.oe_graph.specs.Tree.{Argument, null, flag, text, whole, list, object, from_node, from_parameter, callback, argument, no_arguments, Named, no_named, named, Nodes, no_nodes, node, PlainGraph, PlainParameter, PlainStored}
-use Rattle.oe_resolve.specs.Substituted.{values_given, substituted_nodes}
-use Rattle.oe_resolve.specs.Called.{nodes_call}
-use Rattle.oe_resolve.specs.Rounds.{round, expanded_by}
+use Rattle.oe_calls.specs.Substituted.{values_given, substituted_nodes}
+use Rattle.oe_calls.specs.HasCall.{nodes_call}
+use Rattle.oe_calls.specs.Rounds.{round, expanded_by}
 use Rattle.oe_resolve.specs.Filled.{filled_graph}
 use Rattle.oe_graph.specs.Valid.{is_valid}
 

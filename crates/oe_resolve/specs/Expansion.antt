@@ -6,11 +6,11 @@ use Rattle.oe_graph.specs.Tree.{PlainGraph, PlainStored}
 use Rattle.oe_graph.specs.Plain.{plain_graph}
 use Rattle.oe_graph.specs.declared.fault.Fault.{Fault}
 use Rattle.oe_graph.specs.declared.tree.Graph.{Graph}
-use Rattle.oe_resolve.specs.Called.{nodes_call}
-use Rattle.oe_resolve.specs.Faults.{StandsWithStored}
-use Rattle.oe_resolve.specs.Judged.{IsLeastFault, OfObject}
-use Rattle.oe_resolve.specs.Rounds.{expanded_by, expanded, most_rounds}
-use Rattle.oe_resolve.specs.Sizes.{IsWithinLimits}
+use Rattle.oe_calls.specs.HasCall.{nodes_call}
+use Rattle.oe_calls.specs.Faults.{StandsWithStored, IsLeastFault}
+use Rattle.oe_resolve.specs.NameFaults.{OfObject}
+use Rattle.oe_calls.specs.Rounds.{expanded_by, expanded, most_rounds}
+use Rattle.oe_calls.specs.Sizes.{IsWithinLimits}
 
 -- a fault of names that stands
 abbrev pub IsNameFault : List PlainStored → PlainGraph → Fault → Type 0

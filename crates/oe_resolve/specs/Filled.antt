@@ -5,8 +5,8 @@ use Rattle.oe_dims.specs.Names.{is_name_before}
 use Rattle.oe_graph.specs.Catalogue.{Process, process_named, plain_parameter}
 use Rattle.oe_graph.specs.References.{argument_named}
 use Rattle.oe_graph.specs.Tree.{Argument, null, flag, whole, inexact, text, list, object, from_node, from_parameter, callback, ListValues, no_arguments, argument, Named, no_named, named, Nodes, no_nodes, node, PlainGraph, PlainNode, PlainParameter, PlainStored}
-use Rattle.oe_resolve.specs.Substituted.{default_of}
-use Rattle.oe_resolve.specs.Rounds.{expanded}
+use Rattle.oe_calls.specs.Substituted.{default_of}
+use Rattle.oe_calls.specs.Rounds.{expanded}
 
 -- an argument at the index that its name has in byte order
 abbrev pub put_argument : List ℕ → Argument → Named → Named

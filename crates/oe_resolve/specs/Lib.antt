@@ -1,13 +1,3 @@
-pub mod Calls
-pub mod Renamed
-pub mod Substituted
-pub mod Rounds
-pub mod Seen
 pub mod Filled
-pub mod Sizes
-pub mod Faults
-pub mod Judged
-pub mod Counted
-pub mod Called
+pub mod NameFaults
 pub mod Expansion
-pub mod Reached

@@ -7,7 +7,7 @@ ghost use Rattle.oe_graph.specs.Printed.{ids_of};
 ghost use Rattle.oe_order.specs.Graph.{RefersWithin, IsAcyclic, arguments, graph_of};
 ghost use Rattle.oe_order.specs.Order.{contains};
 ghost use Rattle.oe_order.specs.Sorted.{AreNoLoads};
-ghost use Rattle.oe_resolve.specs.Judged.{AreMarks};
+ghost use Rattle.oe_resolve.specs.NameFaults.{AreMarks};
 
 use oe_graph::Node;
 use oe_memory::OutOfMemory;

@@ -1,13 +1,14 @@
 // References that dangle as they were written: they name no node beside them, and refer to none for good.
 ghost use Rattle.std.specs.Prelude.{◌≡◌, IfOk, map};
+ghost use Rattle.std.specs.List.{list_any};
+ghost use Rattle.oe_dims.specs.Names.{same_name};
 ghost use Rattle.oe_graph.specs.Indices.{NotesRise};
 ghost use Rattle.oe_graph.specs.Plain.{plain_arg, plain_args, plain_named, plain_nodes, plain_node, plain_graph};
 ghost use Rattle.oe_graph.specs.Printed.{ids_of};
-ghost use Rattle.oe_resolve.specs.Rounds as spec;
+ghost use Rattle.oe_calls.specs.Rounds as spec;
 
-use crate::find::has_id;
 use oe_dims::{Text, copy_text};
-use oe_graph::{Arg, Beside, Graph, Node, copy_arg, guesses_of};
+use oe_graph::{Arg, Beside, Graph, Node, copy_arg, find_index, guesses_of};
 use oe_memory::OutOfMemory;
 use std::alloc::Global;
 
@@ -102,6 +103,15 @@ fn clear_arg(alloc: Global, arg: &Arg, beside: &Beside) -> Result<Arg, OutOfMemo
         Arg::Callback(graph) => Ok(Arg::Callback(clear_graph(alloc, graph)?)),
         _ => copy_arg(alloc, arg),
     }
+}
+
+/// Whether a node has this id.
+fn has_id(beside: &Beside, id: &str) -> bool
+    requires rise { NotesRise beside.now }
+    ensures { result
+        ≡ list_any (same_name id.now) (ids_of (plain_nodes beside.now.nodes.now.items)) }
+{
+    find_index(beside, id).is_some()
 }
 
 fn clear_id(alloc: Global, beside: &Beside, id: &Text) -> Result<Text, OutOfMemory>

@@ -1,19 +1,10 @@
 //! Process graphs resolved: calls of stored processes replaced by their graphs, and all names made to lead somewhere.
 #![tactic(auto)]
 
-mod calls;
-mod count;
 mod cycle;
 mod dangling;
-mod fill;
-mod find;
-mod inline;
-mod judge;
-mod names;
-mod reach;
-mod round;
-mod sizes;
-mod values;
+mod defaults;
+mod faults_of_names;
 
 ghost use Rattle.std.specs.Prelude.{◌≡◌, ℕ, true, List, [], None, IfOk, IfErr, Contains, map};
 ghost use Rattle.oe_graph.specs.declared.code.Code.{Code};
@@ -22,16 +13,19 @@ ghost use Rattle.oe_graph.specs.Read.{IsFault};
 ghost use Rattle.oe_graph.specs.References.{each_node};
 ghost use Rattle.oe_graph.specs.Resolved.{IsResolved};
 ghost use Rattle.oe_graph.specs.Tree.{PlainGraph, PlainNode, PlainStored};
-ghost use Rattle.oe_resolve.specs.Calls.{Calls};
-ghost use Rattle.oe_resolve.specs.Faults.{StandsWithStored};
-ghost use Rattle.oe_resolve.specs.Called.{nodes_call};
+ghost use Rattle.oe_calls.specs.Calls.{Calls};
+ghost use Rattle.oe_calls.specs.Faults.{StandsWithStored, IsLeastFault};
+ghost use Rattle.oe_calls.specs.HasCall.{nodes_call};
 ghost use Rattle.oe_resolve.specs.Expansion.{IsExpansion, IsSettled};
 ghost use Rattle.oe_resolve.specs.Filled as spec;
-ghost use Rattle.oe_resolve.specs.Judged.{IdsRise, IsLeastFault, OfObject};
-ghost use Rattle.oe_resolve.specs.Rounds as rounds;
-ghost use Rattle.oe_resolve.specs.Sizes.{IsWithinLimits};
+ghost use Rattle.oe_resolve.specs.NameFaults.{IdsRise, OfObject};
+ghost use Rattle.oe_calls.specs.Rounds as rounds;
+ghost use Rattle.oe_calls.specs.Sizes.{IsWithinLimits};
 ghost use Rattle.oe_graph.specs.Valid.{IsValidGraph, AreValidStored};
 
+use oe_calls::{
+    call_fault, has_call, is_too_large, keep_limits, keep_limits_in_round, read_calls, round,
+};
 use oe_dims::Text;
 use oe_graph::{Code, Fault, Graph, Refusal, StoredProcess, least};
 use oe_memory::OutOfMemory;
@@ -66,25 +60,25 @@ pub fn resolve(alloc: Global, graph: &Graph, stored: &[StoredProcess]) -> Result
     ensures refused { IfErr result
         (IsFault (StandsWithStored (map plain_stored stored.now) (plain_graph graph.now))) }
 {
-    let calls = reach::read_calls(alloc, stored)?;
-    if let Some(fault) = reach::call_fault(alloc, stored, &calls, graph)? {
+    let calls = read_calls(alloc, stored)?;
+    if let Some(fault) = call_fault(alloc, stored, &calls, graph)? {
         return Err(Refusal::Fault(fault));
     }
-    if count::is_too_large(alloc, stored, &calls, graph)? {
+    if is_too_large(alloc, stored, &calls, graph)? {
         return Err(Refusal::Fault(Fault {
             code: Code::GraphTooLarge,
             node: Text::of(alloc, "")?,
         }));
     }
-    sizes::keep_limits(graph)?;
+    keep_limits(graph)?;
     if is_expanded(alloc, stored, graph)? {
-        return Ok(fill::filled_graph(alloc, graph)?);
+        return Ok(defaults::filled_graph(alloc, graph)?);
     }
     let (expanded, fault) = expand(alloc, stored, graph)?;
     if let Some(fault) = fault {
         return Err(Refusal::Fault(fault));
     }
-    Ok(fill::filled_graph(alloc, &expanded)?)
+    Ok(defaults::filled_graph(alloc, &expanded)?)
 }
 
 /// Whether a graph is its own expansion: it calls no stored process, and no fault of names stands in it. Then no
@@ -96,7 +90,7 @@ fn is_expanded(alloc: Global, stored: &[StoredProcess], graph: &Graph) -> Result
     ensures { IfOk result (λ is. is ≡ true
         → IsExpansion (map plain_stored stored.now) (plain_graph graph.now) (graph.now, None)) }
 {
-    if reach::has_call(stored, graph) {
+    if has_call(stored, graph) {
         return Ok(false);
     }
     let fault = names_fault(alloc, stored, true, graph)?;
@@ -120,13 +114,13 @@ fn expand(
     let mut expanded = first;
     let mut fault = None;
     let mut times: usize = 0;
-    while times < MOST_ROUNDS && reach::has_call(stored, &expanded) {
+    while times < MOST_ROUNDS && has_call(stored, &expanded) {
         let found = names_fault(alloc, stored, false, &expanded)?;
         fault = least(fault, found);
         expanded = next_round(alloc, cleared.as_slice(), &expanded)?;
         times += 1;
     }
-    if reach::has_call(stored, &expanded) {
+    if has_call(stored, &expanded) {
         return Err(OutOfMemory);
     }
     judge_last(alloc, stored, expanded, fault)
@@ -158,8 +152,8 @@ fn names_fault(
     ensures { IfOk result (IsLeastFault (λ f. OfObject (map plain_stored stored.now) last f [] []
         (plain_graph graph.now).nodes)) }
 {
-    let judge = judge::Judge { stored, last };
-    judge::names_fault(alloc, &judge, graph)
+    let judge = faults_of_names::Judge { stored, last };
+    faults_of_names::names_fault(alloc, &judge, graph)
 }
 
 /// The graph after a round. Refuses: out of memory, also where it would hold more than a graph may, which is known before
@@ -169,8 +163,8 @@ fn next_round(alloc: Global, stored: &[StoredProcess], graph: &Graph) -> Result<
         ≡ rounds.round (map plain_stored stored.now) (plain_graph graph.now)) }
     ensures within { IfOk result (λ g. IsWithinLimits (plain_graph g)) }
 {
-    sizes::keep_limits_in_round(alloc, stored, graph)?;
-    round::round(alloc, stored, graph)
+    keep_limits_in_round(alloc, stored, graph)?;
+    round(alloc, stored, graph)
 }
 
 /// The stored processes where a graph calls one; else they are not asked for.
@@ -183,7 +177,7 @@ fn clear_where_called(
         nodes_call (map plain_stored stored.now) (plain_graph graph.now).nodes ≡ true
         → map plain_stored v.items ≡ map rounds.cleared_stored (map plain_stored stored.now)) }
 {
-    if reach::has_call(stored, graph) {
+    if has_call(stored, graph) {
         clear_stored(alloc, stored)
     } else {
         Ok(Vec::new(alloc))

@@ -11,10 +11,10 @@ use Rattle.oe_graph.specs.Tree.{Nodes, no_nodes, node, PlainGraph, PlainNode, Pl
 use Rattle.oe_graph.specs.declared.code.Code.{Code}
 use Rattle.oe_graph.specs.declared.fault.Fault.{Fault}
 use Rattle.oe_judge.specs.Judged.{StandsWithCollections, having_result, of_cubes, of_names}
-use Rattle.oe_resolve.specs.Faults as faults
-use Rattle.oe_resolve.specs.Faults.{HasNode, IsWithin, StandsWithStored}
+use Rattle.oe_calls.specs.Faults as faults
+use Rattle.oe_calls.specs.Faults.{HasNode, IsWithin, StandsWithStored}
 use Rattle.oe_resolve.specs.Filled.{filled_nodes, resolved}
-use Rattle.oe_resolve.specs.Rounds.{expanded, expanded_by, cleared_graph, cleared_nodes, cleared_stored, most_rounds, round_nodes, rounds}
+use Rattle.oe_calls.specs.Rounds.{expanded, expanded_by, cleared_graph, cleared_nodes, cleared_stored, most_rounds, round_nodes, rounds}
 use Rattle.oe_meanings.specs.Stands as cubes
 use Rattle.oe_http.specs.Plain.{PlainRequest}
 use Rattle.oe_jobs.specs.Plain.{PlainJob}

@@ -25,7 +25,7 @@ use Rattle.oe_graph.specs.Tree.{Named, Nodes, PlainGraph, PlainNode}
 use Rattle.oe_kernel.specs.Kernels.{KernelValues}
 use Rattle.oe_kernel.specs.declared.border.Border.TheVariants.{Replicate}
 use Rattle.oe_resolve.specs.Filled.{filled_graph, resolved}
-use Rattle.oe_resolve.specs.Rounds.{most_rounds}
+use Rattle.oe_calls.specs.Rounds.{most_rounds}
 use Rattle.oe_meanings.specs.Graphs.{outline_at}
 use Rattle.oe_requests.specs.Operations.{Outline}
 use Rattle.oe_requests.specs.Requests.{CubeRequest, apply_kernel, called, cube_request_at, load_collection, reduce_dimension}

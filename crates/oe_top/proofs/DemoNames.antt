@@ -14,18 +14,18 @@ use Rattle.oe_graph.specs.declared.code.Code.{Code}
 use Rattle.oe_graph.specs.declared.code.Code.TheVariants.{GraphTooLarge}
 use Rattle.oe_graph.specs.declared.fault.Fault.{Fault}
 use Rattle.oe_graph.proofs.LeastLemmas.{IsLeastOf}
-use Rattle.oe_resolve.specs.Calls as calls
-use Rattle.oe_resolve.specs.Calls.{callee, CallsReach}
-use Rattle.oe_resolve.specs.Faults as faults
-use Rattle.oe_resolve.specs.Faults.{StandsWithStored, each_argument}
-use Rattle.oe_resolve.specs.Judged as judged
-use Rattle.oe_resolve.specs.Judged.{IsMark, OfItself, OfObject, know_named, node_code}
-use Rattle.oe_resolve.specs.Reached.{AreReached, IsCallGraph, IsReached, supports_node}
-use Rattle.oe_resolve.specs.Rounds.{expanded, expanded_by, most_rounds, round}
-use Rattle.oe_resolve.proofs.Along.{none_there, there_cases}
-use Rattle.oe_resolve.proofs.CallFaultLemmas.{all_stand, callee_at}
+use Rattle.oe_calls.specs.Calls as calls
+use Rattle.oe_calls.specs.Calls.{callee, CallsReach}
+use Rattle.oe_calls.specs.Faults as faults
+use Rattle.oe_calls.specs.Faults.{StandsWithStored, each_argument}
+use Rattle.oe_resolve.specs.NameFaults as name_faults
+use Rattle.oe_resolve.specs.NameFaults.{IsMark, OfItself, OfObject, know_named, node_code}
+use Rattle.oe_calls.specs.Reached.{AreReached, IsCallGraph, IsReached, supports_node}
+use Rattle.oe_calls.specs.Rounds.{expanded, expanded_by, most_rounds, round}
+use Rattle.oe_calls.proofs.Along.{none_there, there_cases}
+use Rattle.oe_calls.proofs.CallFaultLemmas.{all_stand, callee_at}
 use Rattle.oe_resolve.proofs.CodeLemmas.{own_least}
-use Rattle.oe_resolve.proofs.LargeLemmas.{none_large}
+use Rattle.oe_calls.proofs.LargeLemmas.{none_large}
 use Rattle.oe_resolve.proofs.StandingLemmas.{InRound, earlier, in_round, last_round}
 use Rattle.oe_top.proofs.DemoReadings.{demo_plain, main_nodes, max_nodes, max_arguments, load_arguments, sum_arguments, top_arguments}
 
@@ -211,22 +211,22 @@ max_callbacks n has =
 
 of_reducer : (last : Bool) (f : Fault) (at : List ℕ) (scope : List (List ℕ)) (nodes : Nodes)
     → OfObject [] last f at scope nodes → scope ≡ inner_scope → nodes ≡ max_nodes → ⊥
-of_reducer last f at scope nodes (judged.by_itself {n = n} has own) s is =
+of_reducer last f at scope nodes (name_faults.by_itself {n = n} has own) s is =
     let here : Contains (each_node max_nodes) n = subst (λ (ns : Nodes). Contains (each_node ns) n) is has in
     without last inner_scope max_nodes n (node_name at n.id) (none_leads n.id n.id) (max_code last n here) f
     (subst (λ (ns : Nodes). OfItself [] last (node_name at n.id) inner_scope ns n f) is
     (subst (λ (names : List (List ℕ)). OfItself [] last (node_name at n.id) names nodes n f) s own))
-of_reducer last f at scope nodes (judged.inside {n = n} {a = a} {g = g} has none argument callback inner) s is =
+of_reducer last f at scope nodes (name_faults.inside {n = n} {a = a} {g = g} has none argument callback inner) s is =
     max_callbacks n (subst (λ (ns : Nodes). Contains (each_node ns) n) is has) a argument g callback
 
 of_main : (last : Bool) (f : Fault) (at : List ℕ) (scope : List (List ℕ)) (nodes : Nodes)
     → OfObject [] last f at scope nodes → scope ≡ [] → nodes ≡ main_nodes → ⊥
-of_main last f at scope nodes (judged.by_itself {n = n} has own) s is =
+of_main last f at scope nodes (name_faults.by_itself {n = n} has own) s is =
     let here : Contains (each_node main_nodes) n = subst (λ (ns : Nodes). Contains (each_node ns) n) is has in
     without last [] main_nodes n (node_name at n.id) (main_acyclic n.id) (main_code last n here) f
     (subst (λ (ns : Nodes). OfItself [] last (node_name at n.id) [] ns n f) is
     (subst (λ (names : List (List ℕ)). OfItself [] last (node_name at n.id) names nodes n f) s own))
-of_main last f at scope nodes (judged.inside {n = n} {a = a} {g = g} has none argument callback inner) s is =
+of_main last f at scope nodes (name_faults.inside {n = n} {a = a} {g = g} has none argument callback inner) s is =
     let reducer = main_callbacks n (subst (λ (ns : Nodes). Contains (each_node ns) n) is has) a argument g callback in
     of_reducer last f (callback_name (node_name at n.id) a.0) (scope_inside n scope) g.nodes inner
     (ap (scope_inside n) s ∙ reducer.0) reducer.1

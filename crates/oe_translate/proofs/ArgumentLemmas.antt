@@ -9,7 +9,7 @@ use Rattle.oe_graph.specs.Tree as tree
 use Rattle.oe_graph.specs.Tree.{Argument, ListValues, Named, PlainGraph, PlainNode, values_from_list}
 use Rattle.oe_graph.proofs.ResolvedLemmas.{callbacks_of_argument, parameters_of_argument, references_of_argument}
 use Rattle.oe_requests.specs.declared.extent.Interval.{Interval}
-use Rattle.oe_resolve.proofs.FilledLemmas.{in_none}
+use Rattle.oe_calls.proofs.Along.{none_there}
 use Rattle.oe_translate.specs.Written.{aggregate_arguments, aggregated_node, end_argument, extent_argument, given, label_argument, list_of}
 
 -- a list of values, and the arguments of a node, have what their parts have; a text and null have none
@@ -69,17 +69,17 @@ module _ (X : Type 0) (inside : Argument → List X) (each : ListValues → List
   in_argument k a rest has = Contains-append_cases (inside a) (among rest) x (subst (λ xs. Contains xs x) (is.one_argument k a rest) has)
 
   none_in_null : Contains (inside tree.null) x → ⊥
-  none_in_null has = in_none x (subst (λ xs. Contains xs x) is.of_null has)
+  none_in_null has = none_there x (subst (λ xs. Contains xs x) is.of_null has)
 
   pub none_left : Contains (among tree.no_named) x → ⊥
-  none_left has = in_none x (subst (λ xs. Contains xs x) is.no_arguments has)
+  none_left has = none_there x (subst (λ xs. Contains xs x) is.no_arguments has)
 
   none_in_end : (o : Option ℤ) → Contains (inside (end_argument o)) x → ⊥
   none_in_end None has = none_in_null has
-  none_in_end (Some seconds) has = in_none x (subst (λ xs. Contains xs x) (is.of_text (instant_text seconds)) has)
+  none_in_end (Some seconds) has = none_there x (subst (λ xs. Contains xs x) (is.of_text (instant_text seconds)) has)
 
   none_in_values : Contains (each tree.no_arguments) x → ⊥
-  none_in_values has = in_none x (subst (λ xs. Contains xs x) is.no_values has)
+  none_in_values has = none_there x (subst (λ xs. Contains xs x) is.no_values has)
 
   none_in_extent : (i : Interval) → Contains (inside (extent_argument i)) x → ⊥
   none_in_extent i has =
@@ -94,7 +94,7 @@ module _ (X : Type 0) (inside : Argument → List X) (each : ListValues → List
       ]
 
   none_in_label : (i : Interval) → Contains (inside (label_argument i)) x → ⊥
-  none_in_label i has = in_none x (subst (λ xs. Contains xs x) (is.of_text (instant_text i.label)) has)
+  none_in_label i has = none_there x (subst (λ xs. Contains xs x) (is.of_text (instant_text i.label)) has)
 
   none_in_each : (written : Interval → Argument) → ((i : Interval) → Contains (inside (written i)) x → ⊥) → (intervals : List Interval)
       → Contains (each (values_from_list (map written intervals))) x → ⊥

@@ -22,7 +22,7 @@ use Rattle.oe_expr.specs.declared.scope.ListPart.{ListPart}
 use Rattle.oe_expr.proofs.NodeLemmas.{node_is}
 use Rattle.oe_meanings.proofs.OrderedLemmas.{left_of, right_of}
 use Rattle.oe_requests.specs.Labels.{are_among}
-use Rattle.oe_resolve.proofs.FilledLemmas.{in_cons, in_first, in_none, in_rest}
+use Rattle.oe_calls.proofs.Along.{there_cases, in_first, none_there, later_there}
 use Rattle.oe_translate.specs.Written.{add_node, multiply_node}
 use Rattle.oe_translate.proofs.SumLemmas.{merge_graph, sum_graph}
 
@@ -35,12 +35,12 @@ name_among name (x ∷ names) h = by (same_name name x) refl h (name_among name 
     by : (b : Bool) → same_name name x ≡ b → (b || list_any (same_name name) names) ≡ true
         → (list_any (same_name name) names ≡ true → Contains names name) → Contains (x ∷ names) name
     by true e there later = in_first x names name (same_name_is name x e)
-    by false e there later = in_rest x names name (later there)
+    by false e there later = later_there x names name (later there)
 
 names_among : (wanted names : List (List ℕ)) → are_among same_name names wanted ≡ true → (name : List ℕ) → Contains wanted name → Contains names name
-names_among [] names h name has = absurd (in_none name has)
+names_among [] names h name has = absurd (none_there name has)
 names_among (x ∷ wanted) names h name has =
-    elim (in_cons x wanted name has) as (λ _. Contains names name) [
+    elim (there_cases x wanted name has) as (λ _. Contains names name) [
       | inl is ↦ subst (Contains names) is (name_among x names (left_of (list_any (same_name x) names) _ h))
       | inr there ↦ names_among wanted names (right_of (list_any (same_name x) names) _ h) name there
     ]
@@ -84,7 +84,7 @@ alone : (scope : List (List ℕ)) (g : PlainGraph) → IsResolvedObject true sco
     → ((n : PlainNode) → Contains (each_node g.nodes) n → callbacks_named n.arguments ≡ []) → IsResolvedUnder true scope g
 alone scope g is none in_callback inner_scope nodes result within =
     within_resolved in_callback inner_scope nodes result true scope g.nodes g.result within is
-    (λ n inner has calls. absurd (in_none inner (subst (λ gs. Contains gs inner) (none n has) calls)))
+    (λ n inner has calls. absurd (none_there inner (subst (λ gs. Contains gs inner) (none n has) calls)))
 
 -- ---- `sum` of the list
 
@@ -99,10 +99,10 @@ module _ (ignore : Bool) where
   }
 
   the_sum : (n : PlainNode) → Contains (each_node (sum_graph ignore).nodes) n → sum_node ≡ n
-  the_sum n has = elim (in_cons sum_node [] n has) as (λ _. sum_node ≡ n) [ inl is ↦ is | inr none ↦ absurd (in_none n none) ]
+  the_sum n has = elim (there_cases sum_node [] n has) as (λ _. sum_node ≡ n) [ inl is ↦ is | inr none ↦ absurd (none_there n none) ]
 
   sum_refers : (a b : List ℕ) → Refers (sum_graph ignore).nodes a b → ⊥
-  sum_refers a b r = in_none b (subst (λ (n : PlainNode). Contains (references_named n.arguments) b) (sym (the_sum r.from r.is_node)) r.refers)
+  sum_refers a b r = none_there b (subst (λ (n : PlainNode). Contains (references_named n.arguments) b) (sym (the_sum r.from r.is_node)) r.refers)
 
   sum_leads : (a b : List ℕ) → Leads (sum_graph ignore).nodes a b → ⊥
   sum_leads a b (refers r) = sum_refers a b r
@@ -112,10 +112,10 @@ module _ (ignore : Bool) where
   sum_resolved names sees =
       let one : IsResolvedNode true names (codes "sum" ∷ []) sum_node =
       resolved_node true names (codes "sum" ∷ []) sum_node (row_of (codes "sum")) refl refl refl refl refl
-      (λ id has. absurd (in_none id has))
-      (λ name has. elim (in_cons (codes "data") [] name has) as (λ _. Contains names name) [
+      (λ id has. absurd (none_there id has))
+      (λ name has. elim (there_cases (codes "data") [] name has) as (λ _. Contains names name) [
         | inl is ↦ subst (Contains names) is (name_among (codes "data") names sees)
-        | inr none ↦ absurd (in_none name none)
+        | inr none ↦ absurd (none_there name none)
       ]) in
       alone names (sum_graph ignore)
       (record {
@@ -148,11 +148,11 @@ module _ (ignore : Bool) where
 
 either_node : (n : PlainNode) → Contains (each_node merge_graph.nodes) n → (add_node ≡ n) ⊎ (multiply_node ≡ n)
 either_node n has =
-    elim (in_cons add_node (multiply_node ∷ []) n has) as (λ _. (add_node ≡ n) ⊎ (multiply_node ≡ n)) [
+    elim (there_cases add_node (multiply_node ∷ []) n has) as (λ _. (add_node ≡ n) ⊎ (multiply_node ≡ n)) [
       | inl is ↦ inl is
-      | inr later ↦ elim (in_cons multiply_node [] n later) as (λ _. (add_node ≡ n) ⊎ (multiply_node ≡ n)) [
+      | inr later ↦ elim (there_cases multiply_node [] n later) as (λ _. (add_node ≡ n) ⊎ (multiply_node ≡ n)) [
         | inl is ↦ inr is
-        | inr none ↦ absurd (in_none n none)
+        | inr none ↦ absurd (none_there n none)
       ]
     ]
 
@@ -167,11 +167,11 @@ FromAdd n = (b : List ℕ) → Contains (references_named n.arguments) b → (n.
 
 from_add : (n : PlainNode) → Contains (each_node merge_graph.nodes) n → FromAdd n
 from_add = of_each FromAdd
-    (λ b has. elim (in_cons (codes "multiply") [] b has) as (λ _. (codes "add" ≡ codes "add") × (codes "multiply" ≡ b)) [
+    (λ b has. elim (there_cases (codes "multiply") [] b has) as (λ _. (codes "add" ≡ codes "add") × (codes "multiply" ≡ b)) [
       | inl is ↦ (refl, is)
-      | inr none ↦ absurd (in_none b none)
+      | inr none ↦ absurd (none_there b none)
     ])
-    (λ b has. absurd (in_none b has))
+    (λ b has. absurd (none_there b has))
 
 other_names : codes "add" ≡ codes "multiply" → ⊥
 other_names is =
@@ -196,20 +196,20 @@ merge_resolved names sees_x sees_y =
     let ids : List (List ℕ) = codes "add" ∷ codes "multiply" ∷ [] in
     let one : IsResolvedNode true names ids add_node =
     resolved_node true names ids add_node (row_of (codes "add")) refl refl refl refl refl
-    (λ id has. elim (in_cons (codes "multiply") [] id has) as (λ _. Contains ids id) [
-      | inl is ↦ in_rest (codes "add") (codes "multiply" ∷ []) id (in_first (codes "multiply") [] id is)
-      | inr none ↦ absurd (in_none id none)
+    (λ id has. elim (there_cases (codes "multiply") [] id has) as (λ _. Contains ids id) [
+      | inl is ↦ later_there (codes "add") (codes "multiply" ∷ []) id (in_first (codes "multiply") [] id is)
+      | inr none ↦ absurd (none_there id none)
     ])
-    (λ name has. elim (in_cons (codes "x") [] name has) as (λ _. Contains names name) [
+    (λ name has. elim (there_cases (codes "x") [] name has) as (λ _. Contains names name) [
       | inl is ↦ subst (Contains names) is (name_among (codes "x") names sees_x)
-      | inr none ↦ absurd (in_none name none)
+      | inr none ↦ absurd (none_there name none)
     ]) in
     let two : IsResolvedNode true names ids multiply_node =
     resolved_node true names ids multiply_node (row_of (codes "multiply")) refl refl refl refl refl
-    (λ id has. absurd (in_none id has))
-    (λ name has. elim (in_cons (codes "y") [] name has) as (λ _. Contains names name) [
+    (λ id has. absurd (none_there id has))
+    (λ name has. elim (there_cases (codes "y") [] name has) as (λ _. Contains names name) [
       | inl is ↦ subst (Contains names) is (name_among (codes "y") names sees_y)
-      | inr none ↦ absurd (in_none name none)
+      | inr none ↦ absurd (none_there name none)
     ]) in
     alone names merge_graph
     (record {

@@ -13,7 +13,7 @@ use Rattle.oe_graph.specs.declared.fault.Fault.{Fault}
 use Rattle.oe_graph.specs.declared.fault.Refusal.{Refusal}
 use Rattle.oe_graph.specs.declared.fault.Refusal.TheVariants as refusal
 use Rattle.oe_expr.specs.Nodes.{result_id}
-use Rattle.oe_resolve.specs.Rounds.{index_of}
+use Rattle.oe_calls.specs.Rounds.{index_of}
 use Rattle.oe_graph.proofs.SearchLemmas.{each_count}
 use Rattle.oe_translate.specs.Translated.{has_either, put_translated, translated, translated_nodes, translations}
 use Rattle.oe_translate.proofs.TranslationLemmas.{none_left}

@@ -12,9 +12,10 @@ use Rattle.oe_graph.specs.Tree.{Nodes, no_nodes, node, PlainGraph, PlainNode}
 use Rattle.oe_graph.proofs.ResolvedLemmas.{node_of_id}
 use Rattle.oe_expr.specs.Nodes.{id_at, result_id}
 use Rattle.oe_expr.proofs.NodeLemmas.{contains_node}
-use Rattle.oe_resolve.specs.Rounds.{index_of, put_node}
-use Rattle.oe_resolve.proofs.FilledLemmas.{in_cons, in_first, in_none, in_rest, other_before, rise_from, rise_parts, starts_after}
-use Rattle.oe_resolve.proofs.IdLemmas.{id_has, not_later}
+use Rattle.oe_calls.specs.Rounds.{index_of, put_node}
+use Rattle.oe_calls.proofs.Along.{there_cases, in_first, none_there, later_there}
+use Rattle.oe_calls.proofs.NameLemmas.{other_before, rise_from, rise_parts, starts_after}
+use Rattle.oe_calls.proofs.IdLemmas.{id_has, not_later}
 use Rattle.oe_check.specs.Walked.{IsNodeOf}
 use Rattle.oe_meanings.proofs.OrderedLemmas.{first_not, second_not}
 use Rattle.oe_translate.specs.Translated.{has_either, is_of_either, is_of_periods, is_of_sums, periods_at, translated, translations}
@@ -73,7 +74,7 @@ rise_put n no_nodes new rise = refl
 rise_put n (node id p s a rest) new rise =
     rise_if (is_name_before id n.id) (record { id = id; process_id = p; namespace = s; arguments = a }) n rest refl
     (λ is. new (in_first id (ids_of rest) n.id is)) rise
-    (rise_put n rest (λ has. new (in_rest id (ids_of rest) n.id has)) (tail_rises id (ids_of rest) rise))
+    (rise_put n rest (λ has. new (later_there id (ids_of rest) n.id has)) (tail_rises id (ids_of rest) rise))
 
 -- one that stands before all others
 first_if : (before : Bool) (m n : PlainNode) (rest : Nodes) → is_name_before m.id n.id ≡ before → is_name_before n.id m.id ≡ true
@@ -92,14 +93,14 @@ put_first n (node id p s a rest) rise =
 -- ---- the index of an id
 
 pub index_below : (id : List ℕ) (ns : Nodes) → Contains (ids_of ns) id → index_of id ns < node_count ns
-index_below id no_nodes has = absurd (in_none id has)
+index_below id no_nodes has = absurd (none_there id has)
 index_below id (node other p s a rest) has = by (same_name other id) refl (index_below id rest)
   where
     by : (b : Bool) → same_name other id ≡ b → (Contains (ids_of rest) id → index_of id rest < node_count rest)
         → (if b then 0 else suc (index_of id rest)) < suc (node_count rest)
     by true e later = omega arith
     by false e later =
-        elim (in_cons other (ids_of rest) id has) as (λ _. suc (index_of id rest) < suc (node_count rest)) [
+        elim (there_cases other (ids_of rest) id has) as (λ _. suc (index_of id rest) < suc (node_count rest)) [
           | inl is ↦ absurd (true≢false (sym (subst (λ x. same_name other x ≡ true) is (same_name_refl other)) ∙ e))
           | inr there ↦ omega (arith, later there)
         ]
@@ -107,7 +108,7 @@ index_below id (node other p s a rest) has = by (same_name other id) refl (index
 pub id_there : (ns : Nodes) (k : ℕ) → k < node_count ns → Contains (ids_of ns) (id_at k ns)
 id_there no_nodes k below = absurd (omega arith)
 id_there (node id p s a rest) zero below = in_first id (ids_of rest) id refl
-id_there (node id p s a rest) (suc k) below = in_rest id (ids_of rest) (id_at k rest) (id_there rest k (omega arith))
+id_there (node id p s a rest) (suc k) below = later_there id (ids_of rest) (id_at k rest) (id_there rest k (omega arith))
 
 index_of_id : (ns : Nodes) (k : ℕ) → names_rise (ids_of ns) ≡ true → k < node_count ns → index_of (id_at k ns) ns ≡ k
 index_of_id no_nodes k rise below = absurd (omega arith)
@@ -155,12 +156,12 @@ module _ (rows : List DimsRow) (all : Nodes) where
       let once : (m : PlainNode) → Contains behind m → m.id ≢ id =
       λ m has is. not_later id (ids_of rest) rise (subst (Contains (ids_of rest)) is (id_has rest m has)) in
       rise_by (is_of_periods n) (is_of_sums n) n (translations rows all behind)
-      (new_name behind id once (λ m has sums. apart m n (in_rest n behind m has) own sums))
-      (λ is. new_name behind (sum_name id) (λ m has same. apart n m own (in_rest n behind m has) is (sym same))
+      (new_name behind id once (λ m has sums. apart m n (later_there n behind m has) own sums))
+      (λ is. new_name behind (sum_name id) (λ m has same. apart n m own (later_there n behind m has) is (sym same))
       (λ m has sums same. once m has (same_sum m.id id same)))
       (λ is. apart n n own own is)
       (translations_rise rest (tail_rises id (ids_of rest) rise)
-      (λ m k m_in k_in. apart m k (in_rest n behind m m_in) (in_rest n behind k k_in)))
+      (λ m k m_in k_in. apart m k (later_there n behind m m_in) (later_there n behind k k_in)))
 
   -- each becomes two at most
   count_by : (p s : Bool) (n : PlainNode) (found : Nodes) → node_count (put_by rows all p s n found) ≤ suc (suc (node_count found))

@@ -7,8 +7,8 @@ use Rattle.oe_dims.proofs.OrderLemmas.{same_name_is}
 use Rattle.oe_graph.specs.References.{each_node}
 use Rattle.oe_graph.specs.Tree.{Named, Nodes, no_nodes, node, PlainNode}
 use Rattle.oe_expr.specs.Nodes.{node_named}
-use Rattle.oe_resolve.specs.Rounds.{put_node}
-use Rattle.oe_resolve.proofs.FilledLemmas.{in_cons, in_first, in_rest}
+use Rattle.oe_calls.specs.Rounds.{put_node}
+use Rattle.oe_calls.proofs.Along.{there_cases, in_first, later_there}
 
 -- a test of names that differ fails
 pub differ : (a b : List ℕ) → a ≢ b → same_name a b ≡ false
@@ -70,16 +70,16 @@ in_if : (before : Bool) (m n : PlainNode) (rest : Nodes) (z : PlainNode)
     else node n.id n.process_id n.namespace n.arguments (node m.id m.process_id m.namespace m.arguments rest))) z
     → (n ≡ z) ⊎ Contains (m ∷ each_node rest) z
 in_if true m n rest z later has =
-    elim (in_cons m (each_node (put_node n rest)) z has) as (λ _. (n ≡ z) ⊎ Contains (m ∷ each_node rest) z) [
+    elim (there_cases m (each_node (put_node n rest)) z has) as (λ _. (n ≡ z) ⊎ Contains (m ∷ each_node rest) z) [
       | inl is ↦ inr (in_first m (each_node rest) z is)
       | inr there ↦ elim (later there) as (λ _. (n ≡ z) ⊎ Contains (m ∷ each_node rest) z) [
         | inl is ↦ inl is
-        | inr old ↦ inr (in_rest m (each_node rest) z old)
+        | inr old ↦ inr (later_there m (each_node rest) z old)
       ]
     ]
-in_if false m n rest z later has = in_cons n (m ∷ each_node rest) z has
+in_if false m n rest z later has = there_cases n (m ∷ each_node rest) z has
 
 pub in_put : (n : PlainNode) (ns : Nodes) (z : PlainNode) → Contains (each_node (put_node n ns)) z → (n ≡ z) ⊎ Contains (each_node ns) z
-in_put n no_nodes z has = in_cons n [] z has
+in_put n no_nodes z has = there_cases n [] z has
 in_put n (node id p s a rest) z has =
     in_if (is_name_before id n.id) (record { id = id; process_id = p; namespace = s; arguments = a }) n rest z (in_put n rest z) has

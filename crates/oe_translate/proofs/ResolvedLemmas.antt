@@ -15,9 +15,9 @@ use Rattle.oe_graph.proofs.ResolvedLemmas.{node_of_id, resolved_callback}
 use Rattle.oe_expr.specs.Nodes.{result_id}
 use Rattle.oe_expr.proofs.NodeLemmas.{contains_node, node_is}
 use Rattle.oe_requests.specs.Parameters.{cube_in}
-use Rattle.oe_resolve.specs.Rounds.{index_of}
-use Rattle.oe_resolve.proofs.FilledLemmas.{in_cons, in_none}
-use Rattle.oe_resolve.proofs.IdLemmas.{id_has}
+use Rattle.oe_calls.specs.Rounds.{index_of}
+use Rattle.oe_calls.proofs.Along.{there_cases, none_there}
+use Rattle.oe_calls.proofs.IdLemmas.{id_has}
 use Rattle.oe_check.specs.Checked.{CheckedGraph, AreFaultless}
 use Rattle.oe_check.specs.Walked.{IsNodeOf}
 use Rattle.oe_check.proofs.LinkLemmas.{object}
@@ -174,7 +174,7 @@ module _ (c : CheckedGraph) (f : AreFaultless c) (room : HasRoomForSums c.nodes)
   none_in_data n n_in is g has =
       let p = part.of_sums c f n n_in is in
       let none = no_callbacks (given (codes "data") n.arguments) p.cube (read_given cube_in (codes "data") n.arguments p.cube p.reads_cube) in
-      in_none g (subst (λ gs. Contains gs g) none has)
+      none_there g (subst (λ gs. Contains gs g) none has)
 
   sums_call : (n : PlainNode) → IsNodeOf c.nodes n → is_of_sums n ≡ true → HasResolvedCallbacks (sums_of c.rows c.nodes n)
   sums_call n n_in is g has =
@@ -182,10 +182,10 @@ module _ (c : CheckedGraph) (f : AreFaultless c) (room : HasRoomForSums c.nodes)
       let names : List (List ℕ) = scope_inside (sums_of c.rows c.nodes n) [] in
       of_aggregate PlainGraph callbacks_in callbacks_each callbacks_named of_callbacks g
       tree.null (given (codes "data") n.arguments) tree.null (sum_callback ignore) (growing_intervals (labels_at c.rows c.nodes n)) (IsResolvedUnder true names g)
-      (λ none. absurd (in_none g none)) (λ data_has. absurd (none_in_data n n_in is g data_has)) (λ none. absurd (in_none g none))
-      (λ here. elim (in_cons (sum_graph ignore) [] g here) as (λ _. IsResolvedUnder true names g) [
+      (λ none. absurd (none_there g none)) (λ data_has. absurd (none_in_data n n_in is g data_has)) (λ none. absurd (none_there g none))
+      (λ here. elim (there_cases (sum_graph ignore) [] g here) as (λ _. IsResolvedUnder true names g) [
         | inl same ↦ subst (IsResolvedUnder true names) same (sum_resolved ignore names refl)
-        | inr none ↦ absurd (in_none g none)
+        | inr none ↦ absurd (none_there g none)
       ])
       has
 
@@ -194,9 +194,9 @@ module _ (c : CheckedGraph) (f : AreFaultless c) (room : HasRoomForSums c.nodes)
       let names : List (List ℕ) = scope_inside (merged_node n) [] in
       elim (Contains-append_cases (callbacks_in (given (codes "data") n.arguments)) (merge_graph ∷ []) g has) as (λ _. IsResolvedUnder true names g) [
         | inl data_has ↦ absurd (none_in_data n n_in is g data_has)
-        | inr here ↦ elim (in_cons merge_graph [] g here) as (λ _. IsResolvedUnder true names g) [
+        | inr here ↦ elim (there_cases merge_graph [] g here) as (λ _. IsResolvedUnder true names g) [
           | inl same ↦ subst (IsResolvedUnder true names) same (merge_resolved names refl refl)
-          | inr none ↦ absurd (in_none g none)
+          | inr none ↦ absurd (none_there g none)
         ]
       ]
 

@@ -9,15 +9,16 @@ use Rattle.oe_graph.specs.Read.{IsFaultless}
 use Rattle.oe_graph.specs.References.{each_node}
 use Rattle.oe_graph.specs.Tree.{PlainGraph, PlainNode, PlainStored}
 use Rattle.oe_graph.specs.Valid.{AreValidStored, IsValidGraph}
-use Rattle.oe_resolve.specs.Calls.{Calls, CallsReach, ReachesProcess, callee, calls, directly, itself, onwards}
-use Rattle.oe_resolve.specs.Faults.{StandsWithStored, graph_too_large, process_recursive}
+use Rattle.oe_calls.specs.Calls.{Calls, CallsReach, ReachesProcess, callee, calls, directly, itself, onwards}
+use Rattle.oe_calls.specs.Faults.{StandsWithStored, graph_too_large, process_recursive}
 use Rattle.oe_resolve.specs.Filled.{filled_node, resolved}
-use Rattle.oe_resolve.specs.Rounds.{expanded, expanded_by, cleared_graph, cleared_stored, most_rounds}
-use Rattle.oe_resolve.proofs.CountLemmas.{callee_cleared}
+use Rattle.oe_calls.specs.Rounds.{expanded, expanded_by, cleared_graph, cleared_stored, most_rounds}
+use Rattle.oe_calls.proofs.CountLemmas.{callee_cleared}
 use Rattle.oe_resolve.proofs.ExpansionLemmas.{Chained, expanded_in_order, first, next, none_left}
-use Rattle.oe_resolve.proofs.IdLemmas.{InOrder, id_has}
-use Rattle.oe_resolve.proofs.PlaceLemmas.{NoCalls, no_calls_in, places_of, settled_after}
-use Rattle.oe_resolve.proofs.ResolvingLemmas.{each_node-filled, ids_of-filled, map_in, node_count-filled}
+use Rattle.oe_calls.proofs.IdLemmas.{InOrder, id_has}
+use Rattle.oe_calls.proofs.PlaceLemmas.{NoCalls, no_calls_in, places_of, settled_after}
+use Rattle.oe_resolve.proofs.ResolvingLemmas.{each_node-filled, ids_of-filled, node_count-filled}
+use Rattle.oe_calls.proofs.Along.{map_there}
 use Rattle.oe_check.specs.Walked.{IsNodeOf}
 use Rattle.oe_graph.proofs.SearchLemmas.{each_count}
 use Rattle.oe_translate.specs.Laws.{HasFewNodes, LeavesRoom, StaysSmall}
@@ -72,7 +73,7 @@ module _ (stored : List PlainStored) (g : PlainGraph) (stored_valid : AreValidSt
   not_called n has None is = refl
   not_called n has (Some s) is =
       let there : IsNodeOf (resolved stored g).nodes (filled_node n) =
-      subst (λ ns. Contains ns (filled_node n)) (sym (each_node-filled (expanded stored g).nodes)) (map_in filled_node (each_node (expanded stored g).nodes) n has) in
+      subst (λ ns. Contains ns (filled_node n)) (sym (each_node-filled (expanded stored g).nodes)) (map_there filled_node (each_node (expanded stored g).nodes) n has) in
       absurd (uncalled (filled_node n) s there (record { caller = filled_node n; holds = itself; calls = is }))
 
   last_none : NoCalls (map cleared_stored stored) (places_of (expanded stored g).nodes)

@@ -27,7 +27,7 @@ use Rattle.oe_fold.specs.Value.{reduction_of}
 use Rattle.oe_fold.specs.declared.reducer.Reducer.TheVariants.{Sum}
 use Rattle.oe_graph.specs.Tree.{PlainGraph, no_nodes}
 use Rattle.oe_periods.specs.Sums.{running_sum}
-use Rattle.oe_resolve.proofs.FilledLemmas.{in_cons, in_none}
+use Rattle.oe_calls.proofs.Along.{there_cases, none_there}
 use Rattle.oe_requests.specs.Extents.{is_in_time, labels_in_time, part_in_time}
 use Rattle.oe_requests.specs.Labels.{either_epsg, insert_label, is_below, merged_shape, only_along, restrict, sorted_labels}
 use Rattle.oe_meanings.specs.Meaning.{Datacube, accumulated, cell, cells_at, extent_labelled, instants_inside, joined, labels_before, merged, operated, outline, value_on_list}
@@ -109,7 +109,7 @@ record Found (first : ℤ) (labels : List ℤ) (label : ℤ) : Type 0 where
   found : find (λ (i : Interval). same_number i.label label) (intervals_from first labels) ≡ Some (interval_up_to first label later)
 
 found_in : (first : ℤ) (labels : List ℤ) (label : ℤ) → Contains labels label → Found first labels label
-found_in first [] label has = absurd (in_none label has)
+found_in first [] label has = absurd (none_there label has)
 found_in first (x ∷ xs) label has = by (same_number x label) refl (λ there. found_in first xs label there)
   where
     by : (b : Bool) → same_number x label ≡ b → (Contains xs label → Found first xs label) → Found first (x ∷ xs) label
@@ -117,7 +117,7 @@ found_in first (x ∷ xs) label has = by (same_number x label) refl (λ there. f
         let same : x ≡ label = sym (same_number_is x label e) in
         record { before = []; later = xs; parts = ap (λ l. l ∷ xs) same; found = rw e (ap (λ l. Some (interval_up_to first l xs)) same) }
     by false e later =
-        elim (in_cons x xs label has) as (λ _. Found first (x ∷ xs) label) [
+        elim (there_cases x xs label has) as (λ _. Found first (x ∷ xs) label) [
           | inl is ↦ absurd (true≢false (sym (subst (λ l. same_number x l ≡ true) is (same_number_refl x)) ∙ e))
           | inr there ↦ (
               let f = later there in
@@ -197,7 +197,7 @@ all_at_or_behind first (x ∷ xs) h = rw (lt_le first x (left_of (int_lt first x
 labels_up_to : (labels : List ℤ) (label : ℤ) → rises labels ≡ true → Contains labels label
     → (e : TemporalExtent) × (extent_labelled (growing_intervals labels) (Some label) ≡ Some e)
     × (labels_in_time e labels ≡ labels_before (Some label) labels ++ label ∷ [])
-labels_up_to [] label up has = absurd (in_none label has)
+labels_up_to [] label up has = absurd (none_there label has)
 labels_up_to (first ∷ labels) label up has =
     let f = found_in first (first ∷ labels) label has in
     let stand : stand_in_order is_below (first ∷ labels) ≡ true = rises_stand (first ∷ labels) up in

@@ -14,8 +14,8 @@ use Rattle.oe_graph.specs.Tree.{Named, Nodes, no_nodes, PlainNode}
 use Rattle.oe_graph.proofs.ResolvedLemmas.{Leads-end}
 use Rattle.oe_expr.specs.Nodes.{node_named}
 use Rattle.oe_expr.proofs.NodeLemmas.{id_within, index_of_node, node_is}
-use Rattle.oe_resolve.specs.Rounds.{put_node}
-use Rattle.oe_resolve.proofs.FilledLemmas.{in_cons, in_first, in_none, in_rest}
+use Rattle.oe_calls.specs.Rounds.{put_node}
+use Rattle.oe_calls.proofs.Along.{there_cases, in_first, none_there, later_there}
 use Rattle.oe_check.specs.Checked.{CheckedGraph, AreFaultless}
 use Rattle.oe_meanings.specs.SoundNodes.{AreAcyclic}
 use Rattle.oe_meanings.specs.Stands.{IsSound, sound}
@@ -62,16 +62,16 @@ sums_refer ignore labels n id has =
     argument.of_aggregate (List ℕ) references_in references_each references_named of_references id
     tree.null (given (codes "data") n.arguments) tree.null (sum_callback ignore) (growing_intervals labels)
     (Contains (references_named n.arguments) id)
-    (λ h. absurd (in_none id h)) (in_given (codes "data") n.arguments id) (λ h. absurd (in_none id h)) (λ h. absurd (in_none id h)) has
+    (λ h. absurd (none_there id h)) (in_given (codes "data") n.arguments id) (λ h. absurd (none_there id h)) (λ h. absurd (none_there id h)) has
 
 pub merge_refers : (n : PlainNode) (id : List ℕ) → Contains (references_named (merged_node n).arguments) id
     → (sum_name n.id ≡ id) ⊎ Contains (references_named n.arguments) id
 merge_refers n id has =
-    elim (in_cons (sum_name n.id) (references_in (given (codes "data") n.arguments) ++ []) id has) as (λ _. (sum_name n.id ≡ id) ⊎ Contains (references_named n.arguments) id) [
+    elim (there_cases (sum_name n.id) (references_in (given (codes "data") n.arguments) ++ []) id has) as (λ _. (sum_name n.id ≡ id) ⊎ Contains (references_named n.arguments) id) [
       | inl is ↦ inl is
       | inr later ↦ elim (Contains-append_cases (references_in (given (codes "data") n.arguments)) [] id later) as (λ _. (sum_name n.id ≡ id) ⊎ Contains (references_named n.arguments) id) [
         | inl there ↦ inr (in_given (codes "data") n.arguments id there)
-        | inr none ↦ absurd (in_none id none)
+        | inr none ↦ absurd (none_there id none)
       ]
     ]
 
@@ -132,7 +132,7 @@ module _ (rows : List DimsRow) (all : Nodes) where
       → (n : PlainNode) → node_named name ns ≡ Some n → node_named name (translations rows all (each_node ns)) ≡ Some (one n)
   named_one no_nodes name apart n is = absurd cc
   named_one (tree.node id p s a rest) name apart n is =
-      by (same_name id name) refl is (λ later. named_one rest name (λ m has. apart m (in_rest _ (each_node rest) m has)) n later)
+      by (same_name id name) refl is (λ later. named_one rest name (λ m has. apart m (later_there _ (each_node rest) m has)) n later)
     where
       m : PlainNode
       m = record { id = id; process_id = p; namespace = s; arguments = a }
@@ -162,7 +162,7 @@ module _ (rows : List DimsRow) (all : Nodes) where
       → node_named (sum_name n.id) (translations rows all (each_node ns)) ≡ Some (sums_of n)
   named_sums no_nodes n periods sums apart is = absurd cc
   named_sums (tree.node id p s a rest) n periods sums apart is =
-      by (same_name id n.id) refl is (λ later. named_sums rest n periods sums (λ m has. apart m (in_rest _ (each_node rest) m has)) later)
+      by (same_name id n.id) refl is (λ later. named_sums rest n periods sums (λ m has. apart m (later_there _ (each_node rest) m has)) later)
     where
       m : PlainNode
       m = record { id = id; process_id = p; namespace = s; arguments = a }
@@ -190,7 +190,7 @@ module _ (rows : List DimsRow) (all : Nodes) where
     pub either : (one node ≡ z) ⊎ ((is_of_periods node ≡ false) × (is_of_sums node ≡ true) × (sums_of node ≡ z))
 
   stems_later : (n : PlainNode) (ns : List PlainNode) (z : PlainNode) → Stems ns z → Stems (n ∷ ns) z
-  stems_later n ns z s = record { node = s.node; is_node = in_rest n ns s.node s.is_node; either = s.either }
+  stems_later n ns z s = record { node = s.node; is_node = later_there n ns s.node s.is_node; either = s.either }
 
   stems_by : (p s : Bool) (n : PlainNode) (ns : List PlainNode) (found : Nodes) (z : PlainNode) → is_of_periods n ≡ p → is_of_sums n ≡ s
       → (Contains (each_node found) z → Stems ns z) → Contains (each_node (put_by p s n found)) z → Stems (n ∷ ns) z
@@ -214,7 +214,7 @@ module _ (rows : List DimsRow) (all : Nodes) where
       ]
 
   pub stems : (ns : List PlainNode) (z : PlainNode) → Contains (each_node (translations rows all ns)) z → Stems ns z
-  stems [] z has = absurd (in_none z has)
+  stems [] z has = absurd (none_there z has)
   stems (n ∷ ns) z has = stems_by (is_of_periods n) (is_of_sums n) n ns (translations rows all ns) z refl refl (stems ns z) has
 
   one_refers : (p s : Bool) (n : PlainNode) (id : List ℕ) → is_of_sums n ≡ s

@@ -11,7 +11,7 @@ use Rattle.oe_expr.specs.Nodes.{result_id}
 use Rattle.oe_expr.specs.Requests.{read}
 use Rattle.oe_graph.specs.References.{each_node}
 use Rattle.oe_graph.specs.Tree.{Nodes, no_nodes, PlainGraph, PlainNode}
-use Rattle.oe_resolve.specs.Rounds.{put_node, index_of}
+use Rattle.oe_calls.specs.Rounds.{put_node, index_of}
 use Rattle.oe_meanings.specs.Graphs.{outline_at}
 use Rattle.oe_requests.specs.Parameters.{callback_in, cube_in, period_in}
 use Rattle.oe_requests.specs.Periods.{period_intervals}

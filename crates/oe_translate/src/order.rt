@@ -3,7 +3,7 @@ ghost use Rattle.std.specs.Prelude.{◌≡◌, ◌≤◌, OnOk, length};
 ghost use Rattle.oe_dims.specs.Names.{is_name_before};
 ghost use Rattle.oe_graph.specs.Plain.{plain_node, plain_nodes};
 ghost use Rattle.oe_graph.specs.Printed.{ids_of};
-ghost use Rattle.oe_resolve.specs.Rounds as spec;
+ghost use Rattle.oe_calls.specs.Rounds as spec;
 
 use oe_dims::same_text;
 use oe_graph::Node;

@@ -1,6 +1,6 @@
 use Rattle.std.proofs.Common.{◌≡◌, map, take}
 use Rattle.oe_graph.specs.Plain.{plain_stored}
-use Rattle.oe_resolve.specs.Rounds.{cleared_stored}
+use Rattle.oe_calls.specs.Rounds.{cleared_stored}
 use Rattle.oe_resolve.proofs.clear_stored.Given as goal
 
 abbrev pub invariant-loop-process : goal.invariant-loop-process

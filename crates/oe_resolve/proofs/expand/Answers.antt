@@ -4,14 +4,14 @@ use Rattle.std.proofs.lemmas.Result.{IfOk-weaker}
 use Rattle.oe_graph.proofs.LeastLemmas.{IsLeastOf}
 use Rattle.oe_graph.specs.Plain.{plain_graph, plain_stored}
 use Rattle.oe_graph.specs.Tree.{PlainGraph, PlainStored}
-use Rattle.oe_resolve.specs.Called.{nodes_call}
+use Rattle.oe_calls.specs.HasCall.{nodes_call}
 use Rattle.oe_resolve.specs.Expansion.{IsEarly, IsExpansion, IsSettled}
-use Rattle.oe_resolve.specs.Judged.{IdsRise, OfObject}
-use Rattle.oe_resolve.specs.Rounds as rounds
-use Rattle.oe_resolve.specs.Rounds.{expanded_by, cleared_graph, most_rounds}
-use Rattle.oe_resolve.specs.Sizes.{IsWithinLimits}
+use Rattle.oe_resolve.specs.NameFaults.{IdsRise, OfObject}
+use Rattle.oe_calls.specs.Rounds as rounds
+use Rattle.oe_calls.specs.Rounds.{expanded_by, cleared_graph, most_rounds}
+use Rattle.oe_calls.specs.Sizes.{IsWithinLimits}
 use Rattle.oe_resolve.proofs.ExpandLemmas.{rise_by, early_none, early_more, settled_by}
-use Rattle.oe_resolve.proofs.SizeLemmas.{cleared_within}
+use Rattle.oe_calls.proofs.SizeLemmas.{cleared_within}
 use Rattle.oe_resolve.proofs.expand.Goals as goal
 
 pub loop-times-init : goal.loop-times-init

@@ -1,10 +1,10 @@
 use Rattle.std.proofs.Common.{◌≡◌, ◌<◌, ◌≤◌, ◌-◌, true, length, map}
 use Rattle.oe_graph.specs.Plain.{plain_graph, plain_stored}
-use Rattle.oe_resolve.specs.Called.{nodes_call}
+use Rattle.oe_calls.specs.HasCall.{nodes_call}
 use Rattle.oe_resolve.specs.Expansion.{IsEarly}
-use Rattle.oe_resolve.specs.Judged.{IsLeastFault}
-use Rattle.oe_resolve.specs.Rounds.{expanded_by, cleared_graph}
-use Rattle.oe_resolve.specs.Sizes.{IsWithinLimits}
+use Rattle.oe_calls.specs.Faults.{IsLeastFault}
+use Rattle.oe_calls.specs.Rounds.{expanded_by, cleared_graph}
+use Rattle.oe_calls.specs.Sizes.{IsWithinLimits}
 use Rattle.oe_resolve.proofs.expand.Given as goal
 
 abbrev pub decreases-loop-times : goal.decreases-loop-times

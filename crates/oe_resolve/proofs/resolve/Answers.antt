@@ -4,7 +4,7 @@ use Rattle.oe_graph.specs.References.{each_node}
 use Rattle.oe_graph.specs.Resolved.{IsResolved}
 use Rattle.oe_graph.specs.Tree.{PlainGraph}
 use Rattle.oe_graph.specs.declared.code.Code.TheVariants.{GraphTooLarge}
-use Rattle.oe_resolve.specs.Faults.{StandsWithStored}
+use Rattle.oe_calls.specs.Faults.{StandsWithStored}
 use Rattle.oe_resolve.specs.Filled.{filled_graph}
 use Rattle.oe_resolve.proofs.ExpansionLemmas.{resolved-without_fault}
 use Rattle.oe_resolve.proofs.NoCallLemmas.{calls_none}

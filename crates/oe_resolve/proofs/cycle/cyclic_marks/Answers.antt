@@ -7,7 +7,7 @@ use Rattle.oe_graph.proofs.SearchLemmas.{ids_count, ids_length, node_count-plain
 use Rattle.oe_order.specs.Graph.{graph_of, IsAcyclic, RefersWithin}
 use Rattle.oe_order.specs.Sorted.{AreNoLoads}
 use Rattle.oe_order.proofs.Graphs.{length-graph_of}
-use Rattle.oe_resolve.specs.Judged.{AreMarks}
+use Rattle.oe_resolve.specs.NameFaults.{AreMarks}
 use Rattle.oe_resolve.proofs.CycleLemmas.{LeadBack, marks_from, back_none, back_push, replicate_length}
 use Rattle.oe_resolve.proofs.cycle.cyclic_marks.Goals as goal
 

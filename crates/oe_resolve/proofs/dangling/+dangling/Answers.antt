@@ -3,8 +3,9 @@ use Rattle.std.proofs.lemmas.List.{take_all}
 use Rattle.oe_graph.specs.Plain.{plain_arg, plain_pair, plain_node, plain_nodes}
 use Rattle.oe_graph.specs.Printed.{ids_of}
 use Rattle.oe_graph.specs.Tree.{values_from_list, named_from_list, nodes_from_list}
-use Rattle.oe_resolve.specs.Rounds.{cleared, cleared_node}
-use Rattle.oe_resolve.proofs.Each.{member_by, cleared_each, cleared_named, cleared_nodes}
+use Rattle.oe_calls.specs.Rounds.{cleared, cleared_node}
+use Rattle.oe_calls.proofs.Each.{member_by}
+use Rattle.oe_resolve.proofs.Each.{cleared_each, cleared_named, cleared_nodes}
 use Rattle.oe_resolve.proofs.dangling.+dangling.Goals as goal
 
 pub clear_args-returns : goal.clear_args-returns

@@ -1,8 +1,8 @@
 use Rattle.std.proofs.Common.{◌≡◌, map, take}
 use Rattle.oe_graph.specs.Plain.{plain_arg, plain_pair, plain_node, plain_nodes}
 use Rattle.oe_graph.specs.Printed.{ids_of}
-use Rattle.oe_resolve.specs.Rounds.{cleared, cleared_node}
-use Rattle.oe_resolve.proofs.Each.{member_by}
+use Rattle.oe_calls.specs.Rounds.{cleared, cleared_node}
+use Rattle.oe_calls.proofs.Each.{member_by}
 use Rattle.oe_resolve.proofs.dangling.+dangling.Given as goal
 
 abbrev pub invariant-clear_args-loop-item : goal.invariant-clear_args-loop-item

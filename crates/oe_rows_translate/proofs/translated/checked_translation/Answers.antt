@@ -4,13 +4,13 @@ use Rattle.oe_graph.specs.Plain.{plain_graph}
 use Rattle.oe_graph.specs.References.{each_node}
 use Rattle.oe_graph.specs.Tree.{PlainGraph, PlainNode, PlainStored}
 use Rattle.oe_graph.specs.Valid.{AreValidStored}
-use Rattle.oe_resolve.specs.Calls.{Calls}
-use Rattle.oe_resolve.proofs.FilledLemmas.{in_none}
+use Rattle.oe_calls.specs.Calls.{Calls}
+use Rattle.oe_calls.proofs.Along.{none_there}
 use Rattle.oe_translate.specs.Laws.{HasFewNodes, HasRoomForSums}
 use Rattle.oe_rows_translate.proofs.translated.checked_translation.Goals as goal
 
 none_stored : AreValidStored []
-none_stored = record { each = λ s has. absurd (in_none s has); differ = λ i j a b below is other. absurd cc }
+none_stored = record { each = λ s has. absurd (none_there s has); differ = λ i j a b below is other. absurd cc }
 
 pub check_all-requires-clause-room : goal.check_all-requires-clause-room
 check_all-requires-clause-room c =

@@ -1,7 +1,7 @@
 use Rattle.std.proofs.Common.{◌≡◌, ◌+◌, drop}
 use Rattle.oe_graph.specs.Plain.{plain_nodes}
 use Rattle.oe_graph.specs.Printed.{ids_of}
-use Rattle.oe_resolve.specs.Rounds.{index_among}
+use Rattle.oe_calls.specs.Rounds.{index_among}
 use Rattle.oe_translate.proofs.order.index_among.Given as goal
 
 abbrev pub invariant-loop-index : goal.invariant-loop-index

@@ -1,6 +1,6 @@
 use Rattle.std.proofs.Common.{◌≡◌, ◌+◌, drop}
 use Rattle.oe_graph.specs.Plain.{plain_nodes}
-use Rattle.oe_resolve.specs.Rounds.{index_of}
+use Rattle.oe_calls.specs.Rounds.{index_of}
 use Rattle.oe_translate.proofs.order.index_of.Given as goal
 
 abbrev pub invariant-loop-index : goal.invariant-loop-index

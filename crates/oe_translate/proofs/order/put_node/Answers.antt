@@ -3,8 +3,8 @@ use Rattle.std.specs.List.{insert}
 use Rattle.oe_graph.specs.Plain.{plain_nodes}
 use Rattle.oe_graph.specs.Printed.{ids_of}
 use Rattle.oe_graph.specs.declared.tree.Node.{Node}
-use Rattle.oe_resolve.specs.Rounds.{index_among}
-use Rattle.oe_resolve.proofs.InsertLemmas.{put_node-insert}
+use Rattle.oe_calls.specs.Rounds.{index_among}
+use Rattle.oe_calls.proofs.InsertLemmas.{put_node-insert}
 use Rattle.oe_translate.proofs.order.put_node.Goals as goal
 
 pub returns : goal.returns

@@ -1,0 +1,10 @@
+pub mod Calls
+pub mod Renamed
+pub mod Substituted
+pub mod Rounds
+pub mod PlainValues
+pub mod Sizes
+pub mod Faults
+pub mod NodeCounts
+pub mod HasCall
+pub mod Reached
