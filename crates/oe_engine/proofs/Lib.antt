@@ -23,3 +23,6 @@ pub mod RuleLemmas
 pub mod SeatLemmas
 pub mod EvaluationLemmas
 pub mod CrossLemmas
+pub mod RunRounds
+pub mod RunReads
+pub mod RunResults

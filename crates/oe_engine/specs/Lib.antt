@@ -9,3 +9,5 @@ pub mod Hulls
 pub mod Laws
 pub mod Going
 pub mod Views
+pub mod Results
+pub mod Evaluations

@@ -8,6 +8,7 @@
 
 mod bench;
 mod chunks;
+mod evaluation;
 mod hands;
 mod hulls;
 mod laws;
@@ -23,6 +24,7 @@ mod work;
 mod workspace;
 
 pub use bench::{Bench, State};
+pub use evaluation::evaluate;
 pub use laws::{
     collections_are_mounted, collections_are_shown, collections_are_valid, over_is_of_the_result,
     reads_change_nothing, runs_go_on, runs_stay_apart,

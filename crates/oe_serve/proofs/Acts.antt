@@ -3,8 +3,10 @@ use Rattle.std.proofs.Common.{◌≡◌, ℕ, Bool, true, false, List, Option, S
 use Rattle.oe_steps.specs.Collections.{AreRead}
 use Rattle.oe_engine.specs.Going.{ChangesOwnRecords, IsGoing, StandsBehind}
 use Rattle.oe_engine.specs.Runs.{RunOf}
+use Rattle.oe_engine.specs.Results.{IsVisible}
 use Rattle.oe_engine.proofs.GoingLemmas.{runs_go_on, runs_stay_apart}
 use Rattle.oe_engine.proofs.LawLemmas.{are_mounted, stay_after_reads}
+use Rattle.oe_engine.proofs.RunRounds.{still_visible}
 use Rattle.oe_http.specs.Replies.{reply_bytes}
 use Rattle.oe_jobs.specs.Kept.{Kept}
 use Rattle.oe_jobs.specs.Plain.{PlainBook, plain_book}
@@ -15,14 +17,13 @@ use Rattle.oe_replies.specs.Answers.{refused_reply}
 use Rattle.oe_replies.specs.declared.code.ReplyCode.TheVariants as code
 use Rattle.oe_routes.specs.Actions.{run_now}
 use Rattle.oe_service.specs.Calls.{CommitsOne, Goes, IsKept}
-use Rattle.oe_service.specs.Causes.{IsVisible, Outside, outside}
+use Rattle.oe_service.specs.Causes.{Outside, outside}
 use Rattle.oe_service.specs.GoesOn.{GoesOn, IsService, records_end_of, state_of}
 use Rattle.oe_service.specs.States.{Event, Setting, State, no_command}
 use Rattle.oe_service.specs.declared.service.Service.{Service}
 use Rattle.oe_check.specs.Checked.{CheckedGraph}
 use Rattle.oe_sources.specs.Catalogue.{Row}
 use Rattle.oe_sources.specs.CatalogueDims.{AreDimsOf}
-use Rattle.oe_spool.specs.Spooled.{KeepsBytesBut}
 use Rattle.oe_window.specs.declared.grid.ChunkSize.{ChunkSize}
 use Rattle.oe_serve.specs.Answers.{no_result, out_of_memory, result}
 use Rattle.oe_serve.specs.Evaluations.{IsBegun}
@@ -140,11 +141,6 @@ same_sizes c size workers p graph_is size_is workers_are before after link link_
     subst (λ (n : ℕ). AnswersResult c size n before after link link_after served) workers_are
     (subst (λ (z : ChunkSize). AnswersResult c z p.workers before after link link_after served) size_is
     (subst (λ (g : CheckedGraph). AnswersResult g p.size p.workers before after link link_after served) graph_is answers))
-
-still_visible : (touched : ℕ → Type 0) (old new : Option (List ℕ)) → KeepsBytesBut touched old new → IsVisible old → IsVisible new
-still_visible touched None new kept visible = absurd visible
-still_visible touched (Some bytes) None kept visible = absurd kept
-still_visible touched (Some bytes) (Some more) kept visible = tt
 
 module _ (c : CheckedGraph) (size : ChunkSize) (workers base : ℕ) (r : RunOf) (b : IsBegun c size workers base r)
     (rows : List Row) (may : IsRunnable rows c) (store : Option (List ℕ)) where

@@ -2,6 +2,7 @@
 use Rattle.std.proofs.Common.{◌≡◌, ◌⊎◌, ◌<◌, ◌++◌, ℕ, List, take, Option, Some, None, Ok, Err, inl, inr, refl, ap, ◌∙◌, subst}
 use Rattle.oe_engine.specs.Going.{IsGoing}
 use Rattle.oe_engine.specs.Runs.{RunOf}
+use Rattle.oe_engine.specs.Results.{result_of}
 use Rattle.oe_graph.specs.Printed.{node_count}
 use Rattle.oe_graph.specs.References.{each_node}
 use Rattle.oe_graph.specs.Tree.{PlainNode}
@@ -12,7 +13,7 @@ use Rattle.oe_outside.specs.Visible.{Appends, AppendsPrefix}
 use Rattle.oe_outside.proofs.Causes.{then-Rose}
 use Rattle.oe_plan.specs.Plans.{PlanOf}
 use Rattle.oe_render.specs.Text.{cube_text}
-use Rattle.oe_service.specs.Causes.{Outside, outside, result_of}
+use Rattle.oe_service.specs.Causes.{Outside, outside}
 use Rattle.oe_check.specs.Checked.{CheckedGraph, collection_of_node}
 use Rattle.oe_check.specs.Links.{loaded_collection}
 use Rattle.oe_sources.specs.Catalogue.{Row}
@@ -26,7 +27,7 @@ use Rattle.oe_serve.specs.declared.refusal.ResultRefusal.{ResultRefusal}
 use Rattle.oe_serve.specs.declared.refusal.ResultRefusal.TheVariants.{PlanTooLarge, ReadFault, SourceDamaged, SpoolFault, NumberOverflow, SpoolDamaged}
 use Rattle.oe_serve.specs.declared.served.Served.{Served}
 use Rattle.oe_serve.specs.declared.served.Served.TheVariants.{Answered, Cut, LinkFailed}
-use Rattle.oe_serve.proofs.Endings.{hidden, of_meaning, without_over}
+use Rattle.oe_engine.proofs.RunResults.{hidden, of_meaning, without_over}
 
 module _ (r after : RunOf) (rows rows_after : List Row) (store store_after store_last : Option (List ℕ))
     (faults faults_after faults_last : ℕ) (going : IsGoing r rows store) (kept : Option Kept) (keeper_faults : ℕ)
@@ -48,7 +49,7 @@ module _ (r after : RunOf) (rows rows_after : List Row) (store store_after store
 
     why_cut : Rose faults_after faults_last ⊎ (store_after ≡ None) → Rose faults faults_last ⊎ (store ≡ None)
     why_cut (inl rose) = inl (then-Rose c.spool_count rose)
-    why_cut (inr none) = inr (hidden r after rows rows_after store store_after going c.goes none)
+    why_cut (inr none) = inr (hidden r after rows rows_after store store_after going.given going.rows_are going.planned c.goes none)
 
     pub with_text : (served : Served)
         → SendsRunText after store_after faults_after faults_last (result_head count) link link_after served → Answers served
@@ -56,20 +57,20 @@ module _ (r after : RunOf) (rows rows_after : List Row) (store store_after store
         let writes = s.sends.1 in
         with_result count writes.text (record {
           is_run = ran;
-          numbers = without_over r after rows rows_after store store_after going c.goes c.complete.done c.complete.numbers;
-          text_is = of_meaning r after rows rows_after store store_after going c.goes (λ cube. writes.text ≡ cube_text cube) writes.text_is;
+          numbers = without_over r after rows rows_after store store_after going.given going.rows_are going.planned c.goes c.complete.done c.complete.numbers;
+          text_is = of_meaning r after rows rows_after store store_after going.given going.rows_are going.planned c.goes (λ cube. writes.text ≡ cube_text cube) writes.text_is;
           count_is = c.counted;
         }) (record { sends = (s.sends.0, writes.written); count = s.count })
     with_text Cut s =
         with_result count (cube_text (result_of rows r.plan.graph)) (record {
           is_run = ran;
-          numbers = without_over r after rows rows_after store store_after going c.goes c.complete.done c.complete.numbers;
+          numbers = without_over r after rows rows_after store store_after going.given going.rows_are going.planned c.goes c.complete.done c.complete.numbers;
           text_is = λ visible loads. refl;
           count_is = c.counted;
         }) (record {
           sends = (
             why_cut s.sends.0,
-            λ shown. of_meaning r after rows rows_after store store_after going c.goes
+            λ shown. of_meaning r after rows rows_after store store_after going.given going.rows_are going.planned c.goes
                 (λ cube. (n : ℕ) × Appends link.written (result_head count ++ take n (cube_text cube)) link_after.written)
                 s.sends.1 shown.0 shown.1,
           );
@@ -78,13 +79,13 @@ module _ (r after : RunOf) (rows rows_after : List Row) (store store_after store
     with_text LinkFailed s =
         with_result count (cube_text (result_of rows r.plan.graph)) (record {
           is_run = ran;
-          numbers = without_over r after rows rows_after store store_after going c.goes c.complete.done c.complete.numbers;
+          numbers = without_over r after rows rows_after store store_after going.given going.rows_are going.planned c.goes c.complete.done c.complete.numbers;
           text_is = λ visible loads. refl;
           count_is = c.counted;
         }) (record {
           sends = (
             s.sends.0,
-            λ shown. of_meaning r after rows rows_after store store_after going c.goes
+            λ shown. of_meaning r after rows rows_after store store_after going.given going.rows_are going.planned c.goes
                 (λ cube. AppendsPrefix link.written (result_head count ++ cube_text cube) link_after.written)
                 s.sends.1 shown.0 shown.1,
           );

@@ -1,12 +1,13 @@
 -- Connections that are served while nothing fails.
 use Rattle.std.proofs.Common.{◌≡◌, ℕ, Bool, List, Option, sym, ap, subst, inl, inr}
+use Rattle.oe_engine.specs.Results.{IsVisible}
 use Rattle.oe_outside.proofs.Causes.{then-Rose}
 use Rattle.oe_outside.specs.Faults.{Rose}
 use Rattle.oe_outside.specs.Visible.{Appends}
 use Rattle.oe_jobs.specs.Plain.{PlainBook}
 use Rattle.oe_routes.specs.Actions.{PlainAction}
 use Rattle.oe_routes.specs.Scenes.{PlainScene}
-use Rattle.oe_service.specs.Causes.{IsVisible, Outside}
+use Rattle.oe_service.specs.Causes.{Outside}
 use Rattle.oe_check.specs.Checked.{CheckedGraph}
 use Rattle.oe_window.specs.declared.grid.ChunkSize.{ChunkSize}
 use Rattle.oe_serve.specs.Answers.{Answer, IsAnswer, IsAnswerTo, SendsAnswer, bytes_of, change, no_result, out_of_memory, reply, result, status_of, store_fault, unreadable}

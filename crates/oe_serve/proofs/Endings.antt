@@ -1,80 +1,22 @@
 -- What becomes of a run that is made whole, by what its rounds left.
-use Rattle.std.proofs.Common.{◌≡◌, IfErr, IfOk, ◌<◌, ℕ, length, List, Option, Some, None, Result, Ok, Err, refl, sym, ap, ◌∙◌, subst}
-use Rattle.oe_cell.specs.declared.cell.Cell.{Cell}
-use Rattle.oe_dims.specs.Cube.{Cube}
+use Rattle.std.proofs.Common.{◌≡◌, IfErr, IfOk, ◌<◌, ℕ, length, List, Option, Result, Ok, Err, refl, sym, ◌∙◌, subst}
 use Rattle.oe_dims.specs.Dimensions.{cell_count}
 use Rattle.oe_engine.specs.Going.{IsGoing}
-use Rattle.oe_engine.specs.Laws.{LoadsVisible, collections_of}
-use Rattle.oe_engine.specs.Runs.{HasDone, RunOf, ShowsDone, chunk_total, result_cube, result_shape}
+use Rattle.oe_engine.specs.Runs.{RunOf, result_shape}
+use Rattle.oe_engine.specs.Evaluations.{Evaluates, OfRun}
 use Rattle.oe_steps.specs.declared.fail.RunFail.{RunFail}
 use Rattle.oe_steps.specs.declared.fail.RunFail.TheVariants as run
-use Rattle.oe_engine.proofs.LawLemmas.{begin_and_end}
+use Rattle.oe_engine.proofs.RunReads.{reads_for_run}
+use Rattle.oe_engine.proofs.RunResults.{hidden, of_meaning, over_is, without_over}
 use Rattle.oe_outside.specs.Faults.{NeverFalls}
 use Rattle.oe_outside.proofs.Causes.{NeverFalls-trans, then-Rose}
-use Rattle.oe_plan.specs.Plans.{IsPlan, PlanOf}
+use Rattle.oe_plan.specs.Plans.{PlanOf}
 use Rattle.oe_render.specs.Text.{cube_text}
-use Rattle.oe_service.specs.Causes.{IsVisible, IsWithoutOver, OfMeaning, result_of}
-use Rattle.oe_meanings.specs.Graphs.{Collections}
-use Rattle.oe_check.specs.Laws.{AreCollectionsOf}
 use Rattle.oe_sources.specs.Catalogue.{Row}
-use Rattle.oe_spool.specs.Least.{least_over_of}
-use Rattle.oe_serve.specs.Evaluations.{Completes, Evaluates, Goes, OfRun, TextRefused}
+use Rattle.oe_serve.specs.Evaluations.{Completes, TextRefused}
 use Rattle.oe_serve.specs.Results.{RunRefused, of_run}
 use Rattle.oe_serve.specs.declared.refusal.ResultRefusal.{ResultRefusal}
 use Rattle.oe_serve.specs.declared.refusal.ResultRefusal.TheVariants.{PlanTooLarge, ReadFault, SourceDamaged, SpoolFault, NumberOverflow, SpoolDamaged}
-use Rattle.oe_serve.proofs.Loads.{reads_for_result}
-
--- what holds of bytes that are visible
-pub shows_done : (r : RunOf) (store : Option (List ℕ)) (cube : Cube Cell) → IsVisible store → HasDone r store cube → ShowsDone r store cube
-shows_done r None cube visible has = absurd visible
-shows_done r (Some bytes) cube visible has = has
-
-module _ (r after : RunOf) (rows rows_after : List Row) (store store_after : Option (List ℕ)) (going : IsGoing r rows store)
-    (goes : Goes r after rows rows_after store store_after) where
-  abbrev p : PlanOf
-  p = r.plan
-
-  abbrev shown : Collections
-  shown = collections_of rows
-
-  are : AreCollectionsOf p.graph shown
-  are = going.given.valid p.graph going.rows_are
-
-  has_done : LoadsVisible p.graph rows → HasDone after store_after (result_of rows p.graph)
-  has_done visible = goes.values shown are (going.given.shown p.graph going.rows_are visible)
-
-  -- ---- the look for a cell that is Over
-
-  module _ (done : after.done ≡ chunk_total p) where
-    pub over_is : LoadsVisible p.graph rows → after.over ≡ least_over_of (result_of rows p.graph).cells
-    over_is visible =
-        let same = goes.plan in
-        begin_and_end.over after store_after shown (subst IsPlan (sym same) going.planned)
-        (subst (λ (q : PlanOf). AreCollectionsOf q.graph shown) (sym same) are) (done ∙ ap chunk_total (sym same))
-        (subst (λ (q : PlanOf). HasDone after store_after (result_cube shown q)) (sym same) (has_done visible))
-        ∙ ap (λ (q : PlanOf). least_over_of (result_cube shown q).cells) same
-
-    pub without_over : after.over ≡ None → OfMeaning rows p.graph IsWithoutOver
-    without_over none visible = sym (over_is visible) ∙ none
-
-  -- what holds of the cube of the result holds of what the graph means
-  pub of_meaning : (P : Cube Cell → Type 0) → OfRun after store_after P → IsVisible store → OfMeaning rows p.graph P
-  of_meaning P h visible loads =
-      let same = goes.plan in
-      subst (λ (q : PlanOf). P (result_cube shown q)) same
-      (h shown (subst (λ (q : PlanOf). AreCollectionsOf q.graph shown) (sym same) are)
-      (subst (λ (q : PlanOf). ShowsDone after store_after (result_cube shown q)) (sym same)
-      (shows_done after store_after (result_of rows p.graph) (goes.visible visible) (has_done loads))))
-
-  pub hidden : store_after ≡ None → store ≡ None
-  hidden none = by store refl
-    where
-      by : (s : Option (List ℕ)) → store ≡ s → store ≡ None
-      by None e = e
-      by (Some bytes) e =
-          let visible : IsVisible store = subst IsVisible (sym e) tt in
-          let after_none : IsVisible None = subst IsVisible none (goes.visible visible) in
-          absurd after_none
 
 -- ---- all rounds, and the length of the text
 
@@ -88,13 +30,13 @@ module _ (r after : RunOf) (rows rows_after : List Row) (store store_after : Opt
   rounds_cause run.SpoolFailed e = e.through.spool_cause.failed refl
   rounds_cause (run.Overflow number) e = λ visible.
       let over = e.overflow number refl in
-      sym (over_is r after rows rows_after store store_after going e.through.goes over.0 visible) ∙ over.1
+      sym (over_is r after rows rows_after store store_after going.given going.rows_are going.planned e.through.goes over.0 visible) ∙ over.1
 
   pub not_completed : (fail : RunFail) → Evaluates r after rows rows_after store store_after faults faults_after (Err fail)
       → Completes r after rows rows_after store store_after faults faults_after (Err (of_run fail))
   not_completed fail e = record {
     goes = e.through.goes;
-    reads = reads_for_result r.plan going.planned rows rows_after e.through.goes.read e.through.asked;
+    reads = reads_for_run r.plan going.planned rows rows_after e.through.reads;
     complete = tt;
     counted = tt;
     refused = rounds_cause fail e;
@@ -108,9 +50,9 @@ module _ (r after : RunOf) (rows rows_after : List Row) (store store_after : Opt
         → Completes r after rows rows_after store store_after faults faults_last (Ok bytes)
     completed bytes counted = record {
       goes = e.through.goes;
-      reads = reads_for_result r.plan going.planned rows rows_after e.through.goes.read e.through.asked;
+      reads = reads_for_run r.plan going.planned rows rows_after e.through.reads;
       complete = record { done = e.through.done; numbers = e.numbers };
-      counted = of_meaning r after rows rows_after store store_after going e.through.goes (λ cube. bytes ≡ length (cube_text cube)) counted;
+      counted = of_meaning r after rows rows_after store store_after going.given going.rows_are going.planned e.through.goes (λ cube. bytes ≡ length (cube_text cube)) counted;
       refused = tt;
       spool_count = NeverFalls-trans e.through.spool_cause.count count;
     }
@@ -125,8 +67,8 @@ module _ (r after : RunOf) (rows rows_after : List Row) (store store_after : Opt
     text_cause (NumberOverflow number) cause = absurd cause
     text_cause (SpoolDamaged number) cause = record {
       within = subst (λ (q : PlanOf). number < cell_count (result_shape q)) e.through.goes.plan cause.1;
-      hidden = hidden r after rows rows_after store store_after going e.through.goes cause.0;
-      numbers = without_over r after rows rows_after store store_after going e.through.goes e.through.done e.numbers;
+      hidden = hidden r after rows rows_after store store_after going.given going.rows_are going.planned e.through.goes cause.0;
+      numbers = without_over r after rows rows_after store store_after going.given going.rows_are going.planned e.through.goes e.through.done e.numbers;
     }
 
     pub not_counted : (refusal : ResultRefusal)
@@ -134,7 +76,7 @@ module _ (r after : RunOf) (rows rows_after : List Row) (store store_after : Opt
         → Completes r after rows rows_after store store_after faults faults_last (Err refusal)
     not_counted refusal cause = record {
       goes = e.through.goes;
-      reads = reads_for_result r.plan going.planned rows rows_after e.through.goes.read e.through.asked;
+      reads = reads_for_run r.plan going.planned rows rows_after e.through.reads;
       complete = tt;
       counted = tt;
       refused = text_cause refusal cause;

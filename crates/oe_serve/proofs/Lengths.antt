@@ -10,6 +10,7 @@ use Rattle.oe_dims.specs.Dimensions.{IsShape}
 use Rattle.oe_dims.specs.Positions.{IsPosition, Position}
 use Rattle.oe_dims.proofs.CubeLemmas.{position_there}
 use Rattle.oe_engine.specs.Runs.{HasDone, RunOf, ShowsDone, chunk_total, chunks_from, result_cube, result_shape}
+use Rattle.oe_engine.specs.Evaluations.{OfRun}
 use Rattle.oe_engine.proofs.GridLemmas.{all_inside}
 use Rattle.oe_engine.proofs.RenderLemmas.{result_shape_is, result_whole}
 use Rattle.oe_outside.specs.Faults.{last_count}
@@ -25,7 +26,6 @@ use Rattle.oe_spool.specs.Least.{IsLeastOver}
 use Rattle.oe_spool.specs.Spooled.{IsInSome}
 use Rattle.oe_spool.proofs.CubeRecords.{cells_counted}
 use Rattle.oe_window.specs.Cells.{cell_at}
-use Rattle.oe_serve.specs.Evaluations.{OfRun}
 
 -- what is said of bytes that are visible holds of them
 pub done_shown : (r : RunOf) (store : Option (List ℕ)) (cube : Cube Cell) → ShowsDone r store cube → HasDone r store cube

@@ -1,4 +1,3 @@
-mod Rounds
 mod Loads
 mod Pieces
 mod Texts

@@ -4,6 +4,7 @@ use Rattle.std.proofs.lemmas.Option.{same_Some}
 use Rattle.oe_cell.specs.declared.cell.Cell.{Cell}
 use Rattle.oe_dims.specs.Cube.{Cube}
 use Rattle.oe_engine.specs.Runs.{RunOf, chunk_total, result_cube, result_shape}
+use Rattle.oe_engine.specs.Evaluations.{OfRun}
 use Rattle.oe_engine.proofs.RenderLemmas.{result_shape_is, result_whole, text_is}
 use Rattle.oe_outside.specs.Faults.{HasCauseOf, NeverFalls, Rose}
 use Rattle.oe_outside.specs.Visible.{Appends, AppendsPrefix}
@@ -13,7 +14,7 @@ use Rattle.oe_render.specs.Rendered.{AppendsCube, IsRefusalWithin}
 use Rattle.oe_render.specs.Text.{cube_text}
 use Rattle.oe_render.specs.declared.rendering.RenderFail.{RenderFail}
 use Rattle.oe_render.specs.declared.rendering.RenderFail.TheVariants as render
-use Rattle.oe_serve.specs.Evaluations.{OfRun, SendsRun, SendsRunText, WritesText, served_of}
+use Rattle.oe_serve.specs.Evaluations.{SendsRun, SendsRunText, WritesText, served_of}
 use Rattle.oe_serve.specs.Links.{LinkOf}
 use Rattle.oe_serve.specs.declared.served.Served.{Served}
 use Rattle.oe_serve.specs.declared.served.Served.TheVariants.{Answered, Cut, LinkFailed}

@@ -11,7 +11,7 @@ use Rattle.oe_outside.specs.Faults.{NeverFalls}
 use Rattle.oe_outside.specs.declared.door.Next.{Next}
 use Rattle.oe_outside.specs.declared.door.Next.TheVariants as door
 use Rattle.oe_service.specs.Calls.{IsKept}
-use Rattle.oe_service.specs.Causes.{IsVisible, Outside}
+use Rattle.oe_service.specs.Causes.{Outside}
 use Rattle.oe_service.specs.GoesOn.{GoesOn, IsService, StaysWithin, state_of}
 use Rattle.oe_service.specs.States.{Event, State}
 use Rattle.oe_service.specs.Steps.{TicksService}
@@ -21,6 +21,7 @@ use Rattle.oe_service.specs.declared.answer.Ticked.TheVariants as ticked
 use Rattle.oe_service.specs.declared.service.Service.{Service}
 use Rattle.oe_window.specs.declared.grid.ChunkSize.{ChunkSize}
 use Rattle.oe_engine.specs.Runs.{RunOf}
+use Rattle.oe_engine.specs.Results.{IsVisible}
 use Rattle.oe_sources.specs.Catalogue.{Row}
 use Rattle.oe_serve.specs.Links.{LinkOf}
 use Rattle.oe_routes.specs.declared.site.Site.{Site}

@@ -1,9 +1,10 @@
 -- What holds of every connection that is served.
 use Rattle.std.specs.Prelude.{◌≡◌, ⊤, ℤ, Bool}
+use Rattle.oe_engine.specs.Results.{IsVisible}
 use Rattle.oe_steps.specs.Collections.{LoadRose}
 use Rattle.oe_outside.specs.Faults.{Rose}
 use Rattle.oe_outside.specs.Visible.{Appends}
-use Rattle.oe_service.specs.Causes.{IsVisible, Outside}
+use Rattle.oe_service.specs.Causes.{Outside}
 use Rattle.oe_service.specs.States.{Event, State}
 use Rattle.oe_check.specs.Checked.{CheckedGraph}
 use Rattle.oe_serve.specs.Answers.{Answer, IsAnswer, bytes_of, change, no_result, out_of_memory, reply, result, status_of, store_fault, unreadable}

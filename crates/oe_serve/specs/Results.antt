@@ -1,28 +1,25 @@
 -- What becomes of a graph that is run whole, in one call, to be answered with its result.
-use Rattle.std.specs.Prelude.{◌≡◌, ℕ, ◌<◌, ◌≤◌, ◌+◌, ◌*◌, ◌⊎◌, List, [], ◌++◌, length, take, codes, decimal, count_by, true, unwrap_or, Option, Some, None}
-use Rattle.oe_cell.specs.declared.cell.Cell.{Cell}
-use Rattle.oe_dims.specs.Cube.{Cube}
+use Rattle.std.specs.Prelude.{◌≡◌, ℕ, ◌<◌, ◌≤◌, ◌+◌, ◌⊎◌, List, [], ◌++◌, length, take, codes, decimal, true, unwrap_or, Option, None}
 use Rattle.oe_dims.specs.Dimensions.{cell_count}
-use Rattle.oe_steps.specs.Collections.{AreRead, LoadRose}
+use Rattle.oe_steps.specs.Collections.{LoadRose}
 use Rattle.oe_engine.specs.Laws.{LoadsVisible}
+use Rattle.oe_engine.specs.Results.{IsOverFirst, IsVisible, IsWithoutOver, OfMeaning}
+use Rattle.oe_engine.specs.Evaluations.{ReadsForRun}
 use Rattle.oe_steps.specs.Refusals.{KeepsDamage}
 use Rattle.oe_steps.specs.declared.fail.RunFail.{RunFail}
 use Rattle.oe_steps.specs.declared.fail.RunFail.TheVariants as run
 use Rattle.oe_http.specs.Replies.{PlainResponse, reply_bytes, reply_head}
-use Rattle.oe_order.specs.Graph.{is_load}
 use Rattle.oe_outside.specs.Faults.{NeverFalls, Rose}
 use Rattle.oe_outside.specs.Visible.{Appends, AppendsPrefix}
-use Rattle.oe_plan.specs.Figures.{bound_of, chunks_of, largest_window, most_held_cells, shape_of_node, steps_of}
+use Rattle.oe_plan.specs.Figures.{bound_of, most_held_cells, shape_of_node}
 use Rattle.oe_render.specs.Text.{cube_text}
 use Rattle.oe_replies.specs.Answers.{refused_reply}
 use Rattle.oe_replies.specs.Codes.{status_of}
 use Rattle.oe_replies.specs.declared.code.ReplyCode.{ReplyCode}
 use Rattle.oe_replies.specs.declared.code.ReplyCode.TheVariants as code
-use Rattle.oe_service.specs.Causes.{IsVisible, IsWithoutOver, OfMeaning, Outside}
+use Rattle.oe_service.specs.Causes.{Outside}
 use Rattle.oe_check.specs.Checked.{CheckedGraph, collection_of_node}
-use Rattle.oe_check.specs.Links.{links_of}
-use Rattle.oe_sources.specs.Catalogue.{Row, cells_asked}
-use Rattle.oe_spool.specs.Least.{least_over_of}
+use Rattle.oe_sources.specs.Catalogue.{Row}
 use Rattle.oe_window.specs.declared.grid.ChunkSize.{ChunkSize}
 use Rattle.oe_serve.specs.Links.{LinkOf, SendsReply}
 use Rattle.oe_serve.specs.declared.refusal.ResultRefusal.{ResultRefusal}
@@ -65,20 +62,7 @@ of_run (run.Overflow number) = NumberOverflow number
 
 -- ---- what is read
 
--- how many of the nodes that the result needs load a collection
-abbrev pub loads_of : CheckedGraph → ℕ
-loads_of c = count_by (is_load (links_of c.nodes)) (steps_of c)
-
--- For each chunk one largest window at most is asked for, for each of these nodes.
-pub record ReadsForResult (c : CheckedGraph) (size : ChunkSize) (rows rows_after : List Row) : Type 0 where
-  pub read : AreRead rows rows_after
-  pub asked : cells_asked rows_after ≤ cells_asked rows + chunks_of c size * (loads_of c * largest_window c size)
-
 -- ---- causes
-
--- this is the least row-major number of a cell that is Over
-abbrev pub IsOverFirst : ℕ → Cube Cell → Type 0
-IsOverFirst number cube = least_over_of cube.cells ≡ Some number
 
 module _ (c : CheckedGraph) (rows rows_after : List Row) (spool : Option (List ℕ)) (faults faults_after : ℕ) where
   -- what was read back for the cell of a number is no record, which never comes of a spool whose bytes are visible
@@ -105,7 +89,7 @@ module _ (c : CheckedGraph) (size : ChunkSize) (workers : ℕ) (before after : O
   -- it holds no more, and reads no more than a run does
   pub record IsRun : Type 0 where
     pub fits : bound_of c size workers ≤ most_held_cells
-    pub reads : ReadsForResult c size before.rows after.rows
+    pub reads : ReadsForRun c size before.rows after.rows
 
   -- No cell of the result is Over, and the text, of which the head says the length, is that of what the graph means.
   pub record IsResult (count : ℕ) (text : List ℕ) : Type 0 where

@@ -3,6 +3,7 @@ use Rattle.std.specs.Prelude.{◌≡◌, ◌≢◌, ℕ, ◌+◌, ℤ, Bool, tru
 use Rattle.oe_steps.specs.Collections.{AreRead}
 use Rattle.oe_engine.specs.Laws.{GivesCollections}
 use Rattle.oe_engine.specs.Runs.{RunOf}
+use Rattle.oe_engine.specs.Results.{IsVisible}
 use Rattle.http.specs.StatusCode.{reason_phrase}
 use Rattle.oe_jobs.specs.Changes.{changed}
 use Rattle.oe_jobs.specs.Plain.{PlainBook, plain_book, plain_change}
@@ -18,7 +19,7 @@ use Rattle.oe_routes.specs.Scenes.{PlainScene}
 use Rattle.oe_routes.specs.Tokens.{Entry}
 use Rattle.oe_routes.specs.declared.site.Site.{Site}
 use Rattle.oe_service.specs.Calls.{Goes, IsDecided, IsKept}
-use Rattle.oe_service.specs.Causes.{IsVisible, Outside}
+use Rattle.oe_service.specs.Causes.{Outside}
 use Rattle.oe_service.specs.GoesOn.{GoesOn, HasSizesOf, IsService, state_of}
 use Rattle.oe_service.specs.States.{Event, State, no_command, setting_of}
 use Rattle.oe_service.specs.declared.service.Service.{Service}

@@ -1,12 +1,13 @@
 -- Turns of a server: the connections that came, what became of them, and the events that this was.
 use Rattle.std.specs.Prelude.{◌≡◌, ℕ, zero, suc, ℤ, Bool, true, List, [], ◌∷◌, ◌++◌, map, Option, Some, None, IfSome, if◌then◌else◌}
 use Rattle.std.specs.List.{All}
+use Rattle.oe_engine.specs.Results.{IsVisible}
 use Rattle.oe_steps.specs.Collections.{AreRead}
 use Rattle.oe_jobs.specs.Events.{has_busy_job}
 use Rattle.oe_outside.specs.Doors.{VisibleDoor}
 use Rattle.oe_outside.specs.Faults.{NeverFalls, counted}
 use Rattle.oe_service.specs.Calls.{IsKept}
-use Rattle.oe_service.specs.Causes.{IsVisible, Outside}
+use Rattle.oe_service.specs.Causes.{Outside}
 use Rattle.oe_service.specs.States.{Event, Setting, State}
 use Rattle.oe_service.specs.States.{after as after_events}
 use Rattle.oe_service.specs.Ticks.{Ticks, is_event}

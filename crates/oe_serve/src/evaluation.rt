@@ -1,6 +1,7 @@
 // The run of a graph that is answered at once.
 ghost use Rattle.std.specs.Prelude.{◌≡◌, ◌≤◌, ◌^◌, ℕ, IfErr, IfOk, IsErrOf, None, length};
 ghost use Rattle.oe_dims.specs.Dimensions.{cell_count};
+ghost use Rattle.oe_engine.specs.Evaluations.{IsFirst};
 ghost use Rattle.oe_engine.specs.Going.{IsGoing};
 ghost use Rattle.oe_engine.specs.Runs.{HasRunRecords, ShowsDone, chunk_total, result_cube, result_shape};
 ghost use Rattle.oe_outside.specs.Faults.{NeverFalls};
@@ -15,7 +16,7 @@ ghost use Rattle.oe_serve.specs.Results.{IsTooLarge};
 
 use crate::refusal::ResultRefusal;
 use oe_check::Checked;
-use oe_engine::{Progress, Run, RunFail, Workspace};
+use oe_engine::{Run, Workspace, evaluate};
 use oe_outside::{CountSink, Gate, Pending, Store};
 use oe_plan::{Plan, PlanFail};
 use oe_render::RenderFail;
@@ -58,7 +59,7 @@ pub(crate) fn complete<R: Threads + Sync, P: Store, G: Gate>(
     spool: &mut P,
     gate: &G,
 ) -> Result<u64, ResultRefusal>
-    requires first { spec.IsFirst run.old }
+    requires first { IsFirst run.old }
     requires going { IsGoing run.old (rows_of seen catalogue.old) (P.bytes spool.old) }
     ensures { spec.Completes run.old run.new (rows_of seen catalogue.old)
         (rows_of seen catalogue.new) (P.bytes spool.old) (P.bytes spool.new)
@@ -68,55 +69,6 @@ pub(crate) fn complete<R: Threads + Sync, P: Store, G: Gate>(
         Ok(()) => count_text(run, pending, spool),
         Err(fail) => Err(ResultRefusal::of_run(fail)),
     }
-}
-
-/// All rounds of a run, and whether no cell of its result is out of the range of numbers.
-///
-/// Refuses: as a round does; `Overflow` exactly where all rounds were made and such a cell was found, with the first
-/// one.
-fn evaluate<R: Threads + Sync, P: Store, G: Gate>(
-    rt: &R,
-    run: &mut Run,
-    catalogue: &mut Catalogue,
-    spool: &mut P,
-    gate: &G,
-) -> Result<(), RunFail>
-    requires first { spec.IsFirst run.old }
-    requires going { IsGoing run.old (rows_of seen catalogue.old) (P.bytes spool.old) }
-    ensures { spec.Evaluates run.old run.new (rows_of seen catalogue.old)
-        (rows_of seen catalogue.new) (P.bytes spool.old) (P.bytes spool.new)
-        (P.faults spool.old) (P.faults spool.new) result }
-{
-    match go_through(rt, run, catalogue, spool, gate) {
-        Ok(()) => run.finish(),
-        Err(fail) => Err(fail),
-    }
-}
-
-/// All rounds of a run.
-fn go_through<R: Threads + Sync, P: Store, G: Gate>(
-    rt: &R,
-    run: &mut Run,
-    catalogue: &mut Catalogue,
-    spool: &mut P,
-    gate: &G,
-) -> Result<(), RunFail>
-    requires first { spec.IsFirst run.old }
-    requires going { IsGoing run.old (rows_of seen catalogue.old) (P.bytes spool.old) }
-    ensures through { spec.GoesThrough run.old run.new (rows_of seen catalogue.old)
-        (rows_of seen catalogue.new) (P.bytes spool.old) (P.bytes spool.new)
-        (P.faults spool.old) (P.faults spool.new) result }
-    ensures no_overflow { (number : ℕ) → ¬ IsErrOf result (RunFail.Overflow number) }
-{
-    let chunks = run.chunks();
-    for _ in 0..chunks {
-        match run.round(rt, catalogue, spool, gate) {
-            Ok(Progress::Complete) => return Ok(()),
-            Ok(Progress::More) => {}
-            Err(fail) => return Err(fail),
-        }
-    }
-    Ok(())
 }
 
 /// How many bytes the text of a run has all of whose chunks are done.

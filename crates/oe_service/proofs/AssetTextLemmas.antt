@@ -9,9 +9,11 @@ use Rattle.oe_dims.proofs.CubeLemmas.{length-tuples}
 use Rattle.oe_engine.specs.Going.{IsGoing}
 use Rattle.oe_engine.specs.Laws.{LoadsVisible, collections_of}
 use Rattle.oe_engine.specs.Runs.{HasDone, RunOf, ShowsDone, chunk_total, overflow_of, result_cube, result_shape}
+use Rattle.oe_engine.specs.Results.{IsVisible, IsWithoutOver, OfMeaning, result_of}
 use Rattle.oe_steps.specs.declared.fail.RunFail.{RunFail}
 use Rattle.oe_steps.specs.declared.fail.RunFail.TheVariants as run
 use Rattle.oe_engine.proofs.LawLemmas.{begin_and_end}
+use Rattle.oe_engine.proofs.RunResults.{shows_done}
 use Rattle.oe_jobs.specs.Valid.{most_asset}
 use Rattle.oe_outside.specs.Faults.{HasCauseOf, Rose}
 use Rattle.oe_outside.specs.Visible.{Appends, AppendsPrefix}
@@ -28,14 +30,10 @@ use Rattle.oe_requests.specs.Operations.{Outline}
 use Rattle.oe_check.proofs.CheckedLemmas.{give_cubes}
 use Rattle.oe_sources.specs.Catalogue.{Row}
 use Rattle.oe_spool.specs.Least.{least_over_of}
-use Rattle.oe_service.specs.Causes.{HasNoText, IsAssetText, IsTextTooLong, IsVisible, IsWithoutOver, OfMeaning, TextRefused, result_of}
+use Rattle.oe_service.specs.Causes.{HasNoText, IsAssetText, IsTextTooLong, TextRefused}
 use Rattle.oe_service.specs.Refusals.{of_round, of_text}
 use Rattle.oe_service.specs.declared.refusal.RunRefusal.{RunRefusal}
 use Rattle.oe_service.specs.declared.refusal.RunRefusal.TheVariants.{Graph, PlanTooLarge, ReadFault, SourceDamaged, SpoolFault, SpoolDamaged, NumberOverflow, AssetTooLarge, OutOfMemory}
-
-shows_done : (r : RunOf) (store : Option (List ℕ)) (cube : Cube Cell) → IsVisible store → HasDone r store cube → ShowsDone r store cube
-shows_done r None cube visible has = absurd visible
-shows_done r (Some bytes) cube visible has = has
 
 module _ (r : RunOf) (rows : List Row) (store : Option (List ℕ)) (going : IsGoing r rows store)
     (done : r.done ≡ chunk_total r.plan) where

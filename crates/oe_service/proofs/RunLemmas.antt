@@ -6,6 +6,7 @@ use Rattle.oe_engine.specs.Laws.{GivesCollections}
 use Rattle.oe_engine.specs.Rounds.{Advances, HasCauses, ReadsChunks, WritesChunks}
 use Rattle.oe_engine.specs.Runs.{RunOf, chunk_total}
 use Rattle.oe_engine.specs.declared.rounds.Progress.{Progress}
+use Rattle.oe_engine.specs.Evaluations.{IsPlanOf}
 use Rattle.oe_steps.specs.declared.fail.RunFail.{RunFail}
 use Rattle.oe_steps.specs.declared.fail.RunFail.TheVariants as run
 use Rattle.oe_engine.proofs.GoingLemmas.{runs_go_on, runs_stay_apart}
@@ -21,7 +22,7 @@ use Rattle.oe_sources.specs.Catalogue.{Row}
 use Rattle.oe_sources.specs.CatalogueDims.{AreDimsOf, dims_of}
 use Rattle.oe_window.specs.declared.grid.ChunkSize.{ChunkSize}
 use Rattle.oe_service.specs.Causes.{IsPlannable, JudgeRefused, PlanRefused, RoundRefused, Stands}
-use Rattle.oe_service.specs.GoesOn.{IsPlanOf, IsRunOf, MissesAsset, StaysWithin}
+use Rattle.oe_service.specs.GoesOn.{IsRunOf, MissesAsset, StaysWithin}
 use Rattle.oe_service.specs.Refusals.{of_plan, of_round}
 use Rattle.oe_service.specs.Runs.{asset_chunks, asset_graph, ids_of_ran, ran_of}
 use Rattle.oe_service.specs.States.{count_assets}

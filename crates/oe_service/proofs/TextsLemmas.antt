@@ -6,6 +6,7 @@ use Rattle.oe_dims.specs.Names.{same_name}
 use Rattle.oe_dims.specs.declared.dims.DimsRow.{DimsRow}
 use Rattle.oe_steps.specs.Collections.{AreRead, without_counts}
 use Rattle.oe_engine.specs.Laws.{collection_at, collection_named_by, collections_of, null_collection}
+use Rattle.oe_engine.specs.Results.{IsVisible, result_of}
 use Rattle.oe_engine.proofs.LawLemmas.{stay_after_reads}
 use Rattle.oe_jobs.specs.Plain.{PlainRan}
 use Rattle.oe_render.specs.Text.{cube_text}
@@ -15,7 +16,7 @@ use Rattle.oe_sources.specs.Catalogue.{Row, row_of}
 use Rattle.oe_sources.specs.CatalogueDims.{dims_of}
 use Rattle.oe_sources.specs.Source.{collection_of}
 use Rattle.oe_window.specs.declared.grid.ChunkSize.{ChunkSize}
-use Rattle.oe_service.specs.Causes.{IsOfTick, IsVisible, Outside, result_of}
+use Rattle.oe_service.specs.Causes.{IsOfTick, Outside}
 use Rattle.oe_service.specs.Finishes.{BringsText}
 use Rattle.oe_service.specs.Runs.{asset_graph}
 use Rattle.oe_service.specs.States.{Due, rest, start, plan, round, store, finish, Event, command, no_command, tick, refusal, reopen}

@@ -4,7 +4,7 @@ use Rattle.oe_cell.specs.declared.cell.Cell.{Cell}
 use Rattle.oe_dims.specs.Cube.{Cube}
 use Rattle.oe_dims.specs.declared.dims.DimsRow.{DimsRow}
 use Rattle.oe_steps.specs.Collections.{LoadRose}
-use Rattle.oe_engine.specs.Laws.{LoadsVisible, collections_of}
+use Rattle.oe_engine.specs.Results.{IsVisible, IsWithoutOver, OfMeaning}
 use Rattle.oe_steps.specs.Refusals.{KeepsDamage}
 use Rattle.oe_graph.specs.Faults.{IsLeast}
 use Rattle.oe_graph.specs.Read.{IsFaultless}
@@ -18,7 +18,6 @@ use Rattle.oe_outside.specs.Faults.{Rose}
 use Rattle.oe_plan.specs.Figures.{bound_of, most_held_cells}
 use Rattle.oe_render.specs.Text.{cube_text}
 use Rattle.oe_check.specs.Checked.{CheckedGraph}
-use Rattle.oe_check.specs.Laws.{meaning_of_node}
 use Rattle.oe_sources.specs.Catalogue.{Row}
 use Rattle.oe_sources.specs.CatalogueDims.{dims_of}
 use Rattle.oe_spool.specs.Least.{least_over_of}
@@ -47,27 +46,10 @@ outside rows spool spool_faults kept keeper_faults = record {
   keeper_faults = keeper_faults;
 }
 
--- bytes are visible
-abbrev pub IsVisible : Option (List ℕ) → Type 0
-IsVisible None = ⊥
-IsVisible (Some bytes) = ⊤
-
--- the cube of a graph's result over the collections of a catalogue, in which neither chunks nor workers occur
-abbrev pub result_of : List Row → CheckedGraph → Cube Cell
-result_of rows c = (meaning_of_node (collections_of rows) c c.result).cube
-
--- something holds of this cube, where the collections that the graph loads are visible
-abbrev pub OfMeaning : List Row → CheckedGraph → (Cube Cell → Type 0) → Type 0
-OfMeaning rows c Holds = LoadsVisible c rows → Holds (result_of rows c)
-
 -- a cell is Over
 pub record HasOver (cube : Cube Cell) : Type 0 where
   pub number : ℕ
   pub least : least_over_of cube.cells ≡ Some number
-
--- no cell is Over
-abbrev pub IsWithoutOver : Cube Cell → Type 0
-IsWithoutOver cube = least_over_of cube.cells ≡ None
 
 -- the text of the cube is longer than that of an asset may be
 abbrev pub IsTooLong : Cube Cell → Type 0

@@ -4,13 +4,12 @@ use Rattle.std.specs.Option.{option_map, option_map_or}
 use Rattle.oe_steps.specs.Collections.{AreRead}
 use Rattle.oe_engine.specs.Going.{ChangesOwnRecords, IsGoing, records_end}
 use Rattle.oe_engine.specs.Runs.{RunOf, chunks_in_round, load_count}
+use Rattle.oe_engine.specs.Evaluations.{IsPlanOf}
 use Rattle.oe_jobs.specs.Events.{running_job}
 use Rattle.oe_jobs.specs.Plain.{PlainBook, PlainJob, PlainRan, plain_book}
 use Rattle.oe_jobs.specs.Valid.{IsBook, IsRan}
 use Rattle.oe_plan.specs.Figures.{largest_window}
-use Rattle.oe_plan.specs.Plans.{IsPlan, PlanOf}
 use Rattle.oe_plan.specs.Ranges.{IsWithinRanges}
-use Rattle.oe_check.specs.Checked.{CheckedGraph}
 use Rattle.oe_sources.specs.Catalogue.{Row, cells_asked}
 use Rattle.oe_window.specs.declared.grid.ChunkSize.{ChunkSize}
 use Rattle.oe_service.specs.Runs.{asset_graph, ids_of_ran, ran_of}
@@ -25,13 +24,6 @@ abbrev pub state_of : Service → State
 state_of s = state (plain_book s.book) s.run
 
 -- ---- what is valid
-
--- this is the plan of a graph, in chunks of a size and with so many workers
-pub record IsPlanOf (c : CheckedGraph) (size : ChunkSize) (workers : ℕ) (p : PlanOf) : Type 0 where
-  pub graph_is : p.graph ≡ c
-  pub planned : IsPlan p
-  pub size_is : p.size ≡ size
-  pub workers_are : p.workers ≡ workers
 
 -- what a job runs is there, and valid
 pub record HasRan (job : PlainJob) : Type 0 where

@@ -2,12 +2,13 @@
 use Rattle.std.specs.Prelude.{◌≡◌, ⊤, ℕ, ℤ, List}
 use Rattle.oe_steps.specs.Collections.{AreRead}
 use Rattle.oe_engine.specs.Laws.{LoadsVisible}
+use Rattle.oe_engine.specs.Results.{IsVisible, result_of}
 use Rattle.oe_jobs.specs.Plain.{PlainRan}
 use Rattle.oe_render.specs.Text.{cube_text}
 use Rattle.oe_sources.specs.Catalogue.{Row}
 use Rattle.oe_sources.specs.CatalogueDims.{dims_of}
 use Rattle.oe_window.specs.declared.grid.ChunkSize.{ChunkSize}
-use Rattle.oe_service.specs.Causes.{IsOfTick, IsVisible, Outside, result_of}
+use Rattle.oe_service.specs.Causes.{IsOfTick, Outside}
 use Rattle.oe_service.specs.Finishes.{BringsText}
 use Rattle.oe_service.specs.Runs.{asset_graph, ran_of}
 use Rattle.oe_service.specs.States.{Due, rest, start, plan, round, store, finish, Event}

@@ -14,9 +14,11 @@ use Rattle.oe_dims.specs.declared.dims.DimsRow.{DimsRow}
 use Rattle.oe_dims.specs.Positions.{IsPosition, Position}
 use Rattle.oe_dims.proofs.CubeLemmas.{position_there}
 use Rattle.oe_steps.specs.Collections.{AreRead, LoadRose, without_counts}
-use Rattle.oe_engine.specs.Laws.{BeginAndEnd, GivesCollections, LoadsVisible}
+use Rattle.oe_engine.specs.Laws.{GivesCollections, LoadsVisible}
 use Rattle.oe_steps.specs.Refusals.{KeepsDamage}
 use Rattle.oe_engine.specs.Runs.{HasDone, HasRunRecords, IsHiddenDamage, RunOf, ShowsDone, chunk_total, chunks_from, result_cube, result_shape}
+use Rattle.oe_engine.specs.Results.{IsVisible, result_of}
+use Rattle.oe_engine.specs.Evaluations.{Evaluates, IsPlanOf}
 use Rattle.oe_steps.specs.declared.fail.RunFail.{RunFail}
 use Rattle.oe_steps.specs.declared.fail.RunFail.TheVariants as run
 use Rattle.oe_engine.proofs.GridLemmas.{all_inside}
@@ -41,7 +43,7 @@ use Rattle.oe_spool.specs.Spooled.{HoldsRecord, IsInSome}
 use Rattle.oe_spool.proofs.CubeRecords.{cells_counted}
 use Rattle.oe_top.specs.DemoAnswer.{DemoAnswers, Demonstrates, FiguresEnd, IsDemonstrated, IsDemonstration}
 use Rattle.oe_top.specs.Demonstration.{HasSpooled, IsSpooled, demo_graph, demo_text, figures_text}
-use Rattle.oe_top.specs.Evaluated.{CanBeNamed, Completes, IsPlanOf, IsFailOfRun, IsVisible, fail_of_text, result_of}
+use Rattle.oe_top.specs.Evaluated.{CanBeNamed, IsFailOfRun, fail_of_text}
 use Rattle.oe_graph.specs.Faults.{IsLeast}
 use Rattle.oe_graph.specs.declared.fault.Fault.{Fault}
 use Rattle.oe_top.specs.Faults.{StandsOver}
@@ -53,7 +55,7 @@ use Rattle.oe_top.specs.declared.demo.DemoRefusal.TheVariants.{TooLarge, Stopped
 use Rattle.oe_top.specs.declared.evaluation.EvaluationFail.{EvaluationFail}
 use Rattle.oe_top.specs.declared.evaluation.EvaluationFail.TheVariants.{Overflow, WriteFault, SpoolDamaged}
 use Rattle.oe_top.proofs.DemoCubes.{demo_valid}
-use Rattle.oe_top.proofs.Evaluations.{of_meaning, over_is}
+use Rattle.oe_engine.proofs.RunResults.{hidden, of_meaning, over_is}
 use Rattle.oe_top.proofs.Inputs.{sizes}
 
 -- ---- one record
@@ -209,14 +211,10 @@ never_rose c rows rows_after demo read never load =
 
 -- ---- how it ends
 
-hidden_before : (store store_after : Option (List ℕ)) → (IsVisible store → IsVisible store_after) → store_after ≡ None → store ≡ None
-hidden_before None store_after stays none = refl
-hidden_before (Some bytes) store_after stays none = absurd (subst IsVisible none (stays tt))
-
 -- a damaged position is never met, so that none has to be named
 pub named : (r after : RunOf) (rows rows_after : List Row) (store store_after : Option (List ℕ)) (faults faults_after : ℕ)
     → IsDemonstration rows → (graph : CheckedGraph) (fail : RunFail)
-    → Completes r after rows rows_after store store_after faults faults_after (Err fail) → CanBeNamed graph fail
+    → Evaluates r after rows rows_after store store_after faults faults_after (Err fail) → CanBeNamed graph fail
 named r after rows rows_after store store_after faults faults_after demo graph run.SourceFailed c = tt
 named r after rows rows_after store store_after faults faults_after demo graph (run.SourceDamaged node number) c =
     absurd (keeps_none r.plan.graph rows node number demo (c.through.says node number refl))
@@ -226,7 +224,7 @@ named r after rows rows_after store store_after faults faults_after demo graph (
 -- a run that was completed has all its records from the first byte on
 module _ (r after : RunOf) (rows rows_after : List Row) (store store_after : Option (List ℕ)) (faults faults_after : ℕ)
     (is : IsPlan r.plan) (front : r.base ≡ 0)
-    (c : Completes r after rows rows_after store store_after faults faults_after (Ok tt)) where
+    (c : Evaluates r after rows rows_after store store_after faults faults_after (Ok tt)) where
   planned : IsPlan after.plan
   planned = subst IsPlan (sym c.through.goes.plan) is
 
@@ -260,7 +258,7 @@ module _ (r after : RunOf) (rows rows_after : List Row) (store store_after : Opt
 
 module _ (r after : RunOf) (rows rows_after : List Row) (store store_after : Option (List ℕ)) (faults faults_after : ℕ)
     (demo : IsDemonstration rows) (given : GivesCollections rows) (rows_are : r.plan.graph.rows ≡ dims_of rows)
-    (ends : BeginAndEnd) (is : IsPlan r.plan) where
+    (is : IsPlan r.plan) where
   abbrev p : PlanOf
   p = r.plan
 
@@ -280,7 +278,7 @@ module _ (r after : RunOf) (rows rows_after : List Row) (store store_after : Opt
     stopped_at store_last faults_last = objects input input_faults out out_faults store_last faults_last lent
 
     pub refused : NeverFailed rows_after 0 → (fail : RunFail) (stop : EvaluationFail)
-        → Completes r after rows rows_after store store_after faults faults_after (Err fail)
+        → Evaluates r after rows rows_after store store_after faults faults_after (Err fail)
         → IsFailOfRun p.graph fail stop
         → Demonstrates rows p.graph start (stopped_at store_after faults_after) (Err stop)
     refused never fail stop c same = record {
@@ -289,7 +287,7 @@ module _ (r after : RunOf) (rows rows_after : List Row) (store store_after : Opt
       spool_count = c.through.spool_cause.count;
     }
       where
-        by : (fail : RunFail) → Completes r after rows rows_after store store_after faults faults_after (Err fail)
+        by : (fail : RunFail) → Evaluates r after rows rows_after store store_after faults faults_after (Err fail)
             → IsFailOfRun p.graph fail stop → FiguresEnd rows p.graph start (stopped_at store_after faults_after) (Err stop)
         by run.SourceFailed c same =
             absurd (never_rose p.graph rows rows_after demo c.through.goes.read never (c.through.read_cause refl))
@@ -301,12 +299,12 @@ module _ (r after : RunOf) (rows rows_after : List Row) (store store_after : Opt
             let over = c.overflow number refl in
             subst (λ (e : EvaluationFail). FiguresEnd rows p.graph start (stopped_at store_after faults_after) (Err e)) (sym same)
             (record {
-              least = sym (over_is r after rows rows_after store store_after faults faults_after given rows_are ends is
+              least = sym (over_is r after rows rows_after store store_after given rows_are is
                   c.through.goes over.0 loads) ∙ over.1;
               unwritten = record { out = refl; faults = refl };
             })
 
-    module _ (c : Completes r after rows rows_after store store_after faults faults_after (Ok tt)) where
+    module _ (c : Evaluates r after rows rows_after store store_after faults faults_after (Ok tt)) where
       pub unspooled : (store_last : Option (List ℕ)) (faults_last : ℕ) (fail : RenderFail) (stop : EvaluationFail) → stop ≡ fail_of_text fail
           → HasCauseOf {T = Cell × Cell} text.SpoolFailed faults_after faults_last (Err fail) → IsHiddenDamage store_after fail
           → fail ≢ text.SinkFailed
@@ -329,7 +327,7 @@ module _ (r after : RunOf) (rows rows_after : List Row) (store store_after : Opt
           by (text.SpoolDamaged number) same cause damage other =
               subst (λ (e : EvaluationFail). FiguresEnd rows p.graph start (stopped_at store_last faults_last) (Err e)) (sym same)
               (record {
-                hidden = hidden_before store store_after c.through.goes.visible damage;
+                hidden = hidden r after rows rows_after store store_after given rows_are is c.through.goes damage;
                 unwritten = record { out = refl; faults = refl };
               })
           by text.SinkFailed same cause damage other = absurd (other refl)
@@ -340,8 +338,7 @@ module _ (r after : RunOf) (rows rows_after : List Row) (store store_after : Opt
           (first last : Cell) (at_first : IsSpooled store_after count 0 first) (at_last : IsSpooled store_after count (count - 1) last) where
         figures_of_meaning : IsVisible store → figures_text count first last ≡ demo_text (result_of rows p.graph)
         figures_of_meaning visible =
-            of_meaning r after rows rows_after store store_after faults faults_after given rows_are ends is c
-            input input input_faults input_faults out out out_faults out_faults faults_after
+            of_meaning r after rows rows_after store store_after given rows_are is c.through.goes
             (λ (cube : Cube Cell). figures_text count first last ≡ demo_text cube)
             (shown r after rows rows_after store store_after faults faults_after is front c first last store_after count count_is at_first at_last)
             visible loads
@@ -356,7 +353,7 @@ module _ (r after : RunOf) (rows rows_after : List Row) (store store_after : Opt
               → Demonstrates rows p.graph start (ended out_after out_faults_after store_last faults_last) (Ok tt)
           written appends = record {
             ends = record {
-              numbers = sym (over_is r after rows rows_after store store_after faults faults_after given rows_are ends is
+              numbers = sym (over_is r after rows rows_after store store_after given rows_are is
                   c.through.goes c.through.done loads) ∙ c.numbers;
               text = λ visible. subst (λ t. Appends out t out_after) (line_of_meaning visible) appends;
             };

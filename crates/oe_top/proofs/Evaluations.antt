@@ -1,11 +1,13 @@
 -- How the evaluation of a graph ends, by what its rounds left and by what was written of its text.
 use Rattle.std.proofs.Common.{◌≡◌, ◌<◌, ℕ, List, Option, Some, None, Result, Ok, Err, refl, sym, ap, ◌∙◌, subst}
 use Rattle.std.proofs.lemmas.List.{append-nil}
-use Rattle.oe_cell.specs.declared.cell.Cell.{Cell}
-use Rattle.oe_dims.specs.Cube.{Cube}
 use Rattle.oe_dims.specs.Dimensions.{cell_count}
-use Rattle.oe_engine.specs.Laws.{BeginAndEnd, GivesCollections, LoadsVisible, collections_of}
-use Rattle.oe_engine.specs.Runs.{HasDone, RunOf, ShowsDone, chunk_total, result_cube, result_shape}
+use Rattle.oe_engine.specs.Laws.{GivesCollections}
+use Rattle.oe_engine.specs.Runs.{RunOf, result_shape}
+use Rattle.oe_engine.specs.Results.{IsWithoutOver, OfMeaning}
+use Rattle.oe_engine.specs.Evaluations.{Evaluates as EvaluatesRun, OfRun, ReadsForPlan}
+use Rattle.oe_engine.proofs.RunReads.{reads_for_run}
+use Rattle.oe_engine.proofs.RunResults.{hidden, of_meaning, over_is, without_over}
 use Rattle.oe_steps.specs.declared.fail.RunFail.{RunFail}
 use Rattle.oe_steps.specs.declared.fail.RunFail.TheVariants as run
 use Rattle.oe_outside.proofs.Causes.{NeverFalls-refl, NeverFalls-trans, then-Rose}
@@ -16,13 +18,9 @@ use Rattle.oe_render.specs.Rendered.{IsRefusalWithin}
 use Rattle.oe_render.specs.Text.{cube_text}
 use Rattle.oe_render.specs.declared.rendering.RenderFail.{RenderFail}
 use Rattle.oe_render.specs.declared.rendering.RenderFail.TheVariants as text
-use Rattle.oe_meanings.specs.Graphs.{Collections}
-use Rattle.oe_check.specs.Laws.{AreCollectionsOf}
 use Rattle.oe_sources.specs.Catalogue.{Row}
 use Rattle.oe_sources.specs.CatalogueDims.{dims_of}
-use Rattle.oe_spool.specs.Least.{least_over_of}
-use Rattle.oe_top.proofs.Loads.{reads_for_run}
-use Rattle.oe_top.specs.Evaluated.{Completes, Goes, IsFailOfRun, IsVisible, IsWithoutOver, OfMeaning, ReadsForPlan, fail_of_text, result_of}
+use Rattle.oe_top.specs.Evaluated.{IsFailOfRun, fail_of_text}
 use Rattle.oe_top.specs.Objects.{Objects, objects}
 use Rattle.oe_top.specs.RunAnswer.{EvaluationEnds, Evaluates}
 use Rattle.oe_top.specs.declared.evaluation.EvaluationFail.{EvaluationFail}
@@ -33,33 +31,10 @@ pub nothing_more : (held : Option (List ℕ)) (piece : List ℕ) → AppendsPref
 nothing_more None piece = (0, refl)
 nothing_more (Some bytes) piece = (0, ap Some (sym (append-nil bytes)))
 
--- what holds of bytes that are visible
-shows_done : (r : RunOf) (store : Option (List ℕ)) (cube : Cube Cell) → IsVisible store → HasDone r store cube → ShowsDone r store cube
-shows_done r None cube visible has = absurd visible
-shows_done r (Some bytes) cube visible has = has
-
 module _ (r after : RunOf) (rows rows_after : List Row) (store store_after : Option (List ℕ)) (faults faults_after : ℕ)
-    (given : GivesCollections rows) (rows_are : r.plan.graph.rows ≡ dims_of rows) (ends : BeginAndEnd) (is : IsPlan r.plan) where
+    (given : GivesCollections rows) (rows_are : r.plan.graph.rows ≡ dims_of rows) (is : IsPlan r.plan) where
   abbrev p : PlanOf
   p = r.plan
-
-  abbrev shown : Collections
-  shown = collections_of rows
-
-  are : AreCollectionsOf p.graph shown
-  are = given.valid p.graph rows_are
-
-  has_done : Goes r after rows rows_after store store_after → LoadsVisible p.graph rows → HasDone after store_after (result_of rows p.graph)
-  has_done goes visible = goes.values shown are (given.shown p.graph rows_are visible)
-
-  pub over_is : Goes r after rows rows_after store store_after → after.done ≡ chunk_total p → LoadsVisible p.graph rows
-      → after.over ≡ least_over_of (result_of rows p.graph).cells
-  over_is goes done visible =
-      let same = goes.plan in
-      ends.over after store_after shown (subst IsPlan (sym same) is)
-      (subst (λ (q : PlanOf). AreCollectionsOf q.graph shown) (sym same) are) (done ∙ ap chunk_total (sym same))
-      (subst (λ (q : PlanOf). HasDone after store_after (result_cube shown q)) (sym same) (has_done goes visible))
-      ∙ ap (λ (q : PlanOf). least_over_of (result_cube shown q).cells) same
 
   -- ---- before the text
 
@@ -74,7 +49,7 @@ module _ (r after : RunOf) (rows rows_after : List Row) (store store_after : Opt
         → EvaluationEnds p.graph start end ending → Evaluates p.graph p.size start end ending
     evaluated ending reads count e = record { ends = e; reads = reads_for_run p is rows rows_after reads; out_count = NeverFalls-refl out_faults; spool_count = count }
 
-    pub refused : (fail : RunFail) (stop : EvaluationFail) → Completes r after rows rows_after store store_after faults faults_after (Err fail)
+    pub refused : (fail : RunFail) (stop : EvaluationFail) → EvaluatesRun r after rows rows_after store store_after faults faults_after (Err fail)
         → IsFailOfRun p.graph fail stop
         → Evaluates p.graph p.size start end (Err stop)
     refused run.SourceFailed stop c same = subst (λ (e : EvaluationFail). Evaluates p.graph p.size start end (Err e)) (sym same)
@@ -95,31 +70,19 @@ module _ (r after : RunOf) (rows rows_after : List Row) (store store_after : Opt
         let over = c.overflow number refl in
         subst (λ (e : EvaluationFail). Evaluates p.graph p.size start end (Err e)) (sym same)
         (evaluated (Err (Overflow number)) c.through.reads c.through.spool_cause.count (record {
-          least = λ visible. sym (over_is c.through.goes over.0 visible) ∙ over.1;
+          least = λ visible. sym (over_is r after rows rows_after store store_after given rows_are is c.through.goes over.0 visible) ∙ over.1;
           unwritten = record { out = refl; faults = refl };
         }))
 
   -- ---- with the text
 
-  module _ (c : Completes r after rows rows_after store store_after faults faults_after (Ok tt))
+  module _ (c : EvaluatesRun r after rows rows_after store store_after faults faults_after (Ok tt))
       (input input_after : Option (List ℕ)) (input_faults input_faults_after : ℕ) (out out_after : Option (List ℕ)) (out_faults out_faults_after faults_last : ℕ) where
     abbrev begun : Objects
     begun = objects input input_faults out out_faults store faults rows
 
     abbrev ended : Objects
     ended = objects input_after input_faults_after out_after out_faults_after store_after faults_last rows_after
-
-    abbrev Holds : (Cube Cell → Type 0) → Type 0
-    Holds P = (collections : Collections) → AreCollectionsOf after.plan.graph collections
-        → ShowsDone after store_after (result_cube collections after.plan) → P (result_cube collections after.plan)
-
-    pub of_meaning : (P : Cube Cell → Type 0) → Holds P → IsVisible store → OfMeaning rows p.graph P
-    of_meaning P h visible loads =
-        let same = c.through.goes.plan in
-        subst (λ (q : PlanOf). P (result_cube shown q)) same
-        (h shown (subst (λ (q : PlanOf). AreCollectionsOf q.graph shown) (sym same) are)
-        (subst (λ (q : PlanOf). ShowsDone after store_after (result_cube shown q)) (sym same)
-        (shows_done after store_after (result_of rows p.graph) (c.through.goes.visible visible) (has_done c.through.goes loads))))
 
     last : (ending : Result (Unit {0}) EvaluationFail) → NeverFalls faults_after faults_last → NeverFalls out_faults out_faults_after
         → EvaluationEnds p.graph begun ended ending → Evaluates p.graph p.size begun ended ending
@@ -131,28 +94,18 @@ module _ (r after : RunOf) (rows rows_after : List Row) (store store_after : Opt
     }
 
     no_over : OfMeaning rows p.graph IsWithoutOver
-    no_over loads = sym (over_is c.through.goes c.through.done loads) ∙ c.numbers
+    no_over = without_over r after rows rows_after store store_after given rows_are is c.through.goes c.through.done c.numbers
 
-    pub written : Holds (λ cube. Appends out (cube_text cube) out_after) → NeverFalls faults_after faults_last
+    pub written : OfRun after store_after (λ cube. Appends out (cube_text cube) out_after) → NeverFalls faults_after faults_last
         → NeverFalls out_faults out_faults_after
         → Evaluates p.graph p.size begun ended (Ok tt)
     written appends count out_count = last (Ok tt) count out_count (record {
       numbers = no_over;
-      text = λ visible. of_meaning (λ cube. Appends out (cube_text cube) out_after) appends visible;
+      text = λ visible. of_meaning r after rows rows_after store store_after given rows_are is c.through.goes (λ cube. Appends out (cube_text cube) out_after) appends visible;
     })
 
-    hidden : store_after ≡ None → store ≡ None
-    hidden none = by store refl
-      where
-        by : (s : Option (List ℕ)) → store ≡ s → store ≡ None
-        by None e = e
-        by (Some bytes) e =
-            let visible : IsVisible store = subst IsVisible (sym e) tt in
-            let after_none : IsVisible None = subst IsVisible none (c.through.goes.visible visible) in
-            absurd after_none
-
     pub stopped : (fail : RenderFail) (stop : EvaluationFail) → stop ≡ fail_of_text fail
-        → Holds (λ cube. AppendsPrefix out (cube_text cube) out_after)
+        → OfRun after store_after (λ cube. AppendsPrefix out (cube_text cube) out_after)
         → HasCauseOf {T = Unit {0}} text.SpoolFailed faults_after faults_last (Err fail)
         → HasCauseOf {T = Unit {0}} text.SinkFailed out_faults out_faults_after (Err fail)
         → IsRefusalWithin store_after 0 (cell_count (result_shape after.plan)) fail
@@ -160,7 +113,7 @@ module _ (r after : RunOf) (rows rows_after : List Row) (store store_after : Opt
     stopped text.SpoolFailed stop same prefix spool sink damage = subst (λ (e : EvaluationFail). Evaluates p.graph p.size begun ended (Err e)) (sym same)
         (last (Err SpoolFault) spool.count sink.count (
           then-Rose c.through.spool_cause.count (spool.failed refl),
-          of_meaning (λ cube. AppendsPrefix out (cube_text cube) out_after) prefix,
+          of_meaning r after rows rows_after store store_after given rows_are is c.through.goes (λ cube. AppendsPrefix out (cube_text cube) out_after) prefix,
         ))
     stopped (text.SpoolDamaged number) stop same prefix spool sink damage =
         subst (λ (e : EvaluationFail). Evaluates p.graph p.size begun ended (Err e)) (sym same)
@@ -168,8 +121,8 @@ module _ (r after : RunOf) (rows rows_after : List Row) (store store_after : Opt
         (record {
           within = subst (λ (q : PlanOf). number < cell_count (result_shape q)) c.through.goes.plan damage.2;
           numbers = no_over;
-          hidden = hidden damage.0;
+          hidden = hidden r after rows rows_after store store_after given rows_are is c.through.goes damage.0;
         }))
     stopped text.SinkFailed stop same prefix spool sink damage = subst (λ (e : EvaluationFail). Evaluates p.graph p.size begun ended (Err e)) (sym same)
         (last (Err WriteFault) spool.count sink.count
-        (record { rose = sink.failed refl; numbers = no_over; prefix = of_meaning (λ cube. AppendsPrefix out (cube_text cube) out_after) prefix }))
+        (record { rose = sink.failed refl; numbers = no_over; prefix = of_meaning r after rows rows_after store store_after given rows_are is c.through.goes (λ cube. AppendsPrefix out (cube_text cube) out_after) prefix }))

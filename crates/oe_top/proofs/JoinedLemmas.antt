@@ -2,6 +2,7 @@
 use Rattle.std.proofs.Common.{◌≡◌, ℕ, List, slice_get, option_map, Option, Some, None, refl, sym, ap, ◌∙◌, subst}
 use Rattle.std.proofs.lemmas.Option.{none-some, same_Some, slice_get-map}
 use Rattle.oe_engine.specs.Laws.{collections_of}
+use Rattle.oe_engine.specs.Results.{result_of}
 use Rattle.oe_parts.specs.Head.{PartHead}
 use Rattle.oe_parts.specs.Parts.{PartState, ShowPartsOf, heads_of}
 use Rattle.oe_parts.specs.Whole.{IsOfRun}
@@ -12,7 +13,6 @@ use Rattle.oe_check.specs.Laws.{AreCollectionsOf, IsCubeOfNode, meaning_of_node}
 use Rattle.oe_requests.specs.Operations.{Outline}
 use Rattle.oe_sources.specs.Catalogue.{Row}
 use Rattle.oe_window.specs.declared.grid.ChunkSize.{ChunkSize}
-use Rattle.oe_top.specs.Evaluated.{result_of}
 use Rattle.oe_top.specs.JoinAnswer.{outline_of_run}
 use Rattle.oe_top.specs.Joined.{ArePartsOfMeaning, JoinedIsRun}
 

@@ -8,6 +8,8 @@ use Rattle.oe_dims.specs.Dimensions.{Dimensions, cell_count}
 use Rattle.oe_dims.specs.Positions.{IsPosition}
 use Rattle.oe_dims.specs.declared.kind.CellKind.{CellKind}
 use Rattle.oe_engine.proofs.RenderLemmas.{cells_of_cube}
+use Rattle.oe_engine.proofs.RunRounds.{still_visible}
+use Rattle.oe_engine.specs.Results.{IsOverFirst, IsVisible, IsWithoutOver}
 use Rattle.oe_graph.specs.Form.{most_input}
 use Rattle.oe_outside.proofs.Causes.{NeverFalls-refl, then-Rose}
 use Rattle.oe_outside.specs.Faults.{HasCauseOf, NeverFalls}
@@ -30,8 +32,7 @@ use Rattle.oe_render.specs.declared.rendering.RenderFail.TheVariants as text
 use Rattle.oe_sources.specs.Catalogue.{Row}
 use Rattle.oe_spool.specs.Spooled.{ChangesOnly, HoldsCube, IsRecordByte}
 use Rattle.oe_top.proofs.Evaluations.{nothing_more}
-use Rattle.oe_top.proofs.Rounds.{still_visible}
-use Rattle.oe_top.specs.Evaluated.{IsOverFirst, IsVisible, IsWithoutOver, fail_of_text}
+use Rattle.oe_top.specs.Evaluated.{fail_of_text}
 use Rattle.oe_top.specs.JoinAnswer.{IsBeforeParts, IsJoined, IsMisfit, IsMisfitNamed, JoinAnswers, JoinEnds, JoiningEnds, OfNameAt, OfParts, outline_of_run}
 use Rattle.oe_top.specs.Judged.{IsInputText, IsRefused}
 use Rattle.oe_top.specs.Objects.{IsUntouched, Objects, objects}

@@ -4,13 +4,11 @@ pub mod Ended
 pub mod Inputs
 pub mod Joins
 pub mod JoinedLemmas
-pub mod Loads
 pub mod Numbers
 pub mod Packings
 pub mod Plans
 pub mod Repackings
 pub mod Said
-pub mod Rounds
 pub mod Evaluations
 pub mod Explanations
 pub mod DemoReadings

@@ -10,7 +10,10 @@ use Rattle.oe_dims.specs.Positions.{Position, number_of}
 use Rattle.oe_engine.specs.Laws.{GivesCollections, LoadsVisible, collections_of}
 use Rattle.oe_engine.specs.Parts.{HasPartDone}
 use Rattle.oe_engine.specs.Runs.{PartRunOf, chunks_from, result_shape}
+use Rattle.oe_engine.specs.Results.{IsVisible, OfMeaning, result_of}
+use Rattle.oe_engine.specs.Evaluations.{loads_of}
 use Rattle.oe_engine.proofs.RenderLemmas.{result_shape_is}
+use Rattle.oe_engine.proofs.RunReads.{load_count_is}
 use Rattle.oe_outside.proofs.Causes.{NeverFalls-refl, NeverFalls-trans, then-Rose}
 use Rattle.oe_outside.specs.Faults.{HasCauseOf, NeverFalls}
 use Rattle.oe_outside.specs.Visible.{Appends, AppendsPrefix}
@@ -35,8 +38,7 @@ use Rattle.oe_window.specs.declared.window.Window.{Window}
 use Rattle.oe_steps.specs.declared.fail.RunFail.{RunFail}
 use Rattle.oe_steps.specs.declared.fail.RunFail.TheVariants as run
 use Rattle.oe_top.proofs.Evaluations.{nothing_more}
-use Rattle.oe_top.proofs.Loads.{load_count_is}
-use Rattle.oe_top.specs.Evaluated.{IsFailOfRun, IsVisible, OfMeaning, fail_of_text, loads_of, result_of}
+use Rattle.oe_top.specs.Evaluated.{IsFailOfRun, fail_of_text}
 use Rattle.oe_top.specs.Objects.{Objects, objects}
 use Rattle.oe_top.specs.PartAnswer.{ChunksEnd, EvaluatesChunks, head_for}
 use Rattle.oe_top.specs.PartEvaluated.{GoesThroughPart, ReadsForPart}

@@ -16,13 +16,13 @@ use Rattle.oe_engine.specs.Parts.{AdvancesPart, HasPartCauses, HasPartDone, Read
 use Rattle.oe_engine.specs.Runs.{PartRunOf, chunks_from, result_cube}
 use Rattle.oe_engine.specs.declared.rounds.Progress.{Progress}
 use Rattle.oe_engine.specs.declared.rounds.Progress.TheVariants.{Complete}
+use Rattle.oe_engine.specs.Evaluations.{most_asked}
+use Rattle.oe_engine.proofs.RunRounds.{still_visible}
 use Rattle.oe_spool.specs.Least.{IsLeastOver}
 use Rattle.oe_spool.specs.Spooled.{IsInSome}
 use Rattle.oe_cell.specs.declared.cell.Cell.{Cell}
 use Rattle.oe_dims.specs.Cube.{Cube}
 use Rattle.oe_dims.specs.Positions.{Position}
-use Rattle.oe_top.proofs.Rounds.{still_visible}
-use Rattle.oe_top.specs.Evaluated.{most_asked}
 use Rattle.oe_top.specs.PartEvaluated.{GoesInPart, GoesThroughPart, IsPartBegun, ReadsForPart}
 
 -- a part after some turns of rounds, each of which made at least one chunk more

@@ -1,5 +1,6 @@
 -- How `part` ends, by how the evaluation of its chunks does.
 use Rattle.std.proofs.Common.{◌≡◌, ℕ, ◌+◌, ◌<◌, List, Result, Ok, Err, subst}
+use Rattle.oe_engine.specs.Evaluations.{IsPlanOf}
 use Rattle.oe_graph.specs.Form.{most_input}
 use Rattle.oe_outside.specs.Faults.{NeverFalls}
 use Rattle.oe_outside.specs.Input.{TakesAtMost}
@@ -9,7 +10,6 @@ use Rattle.oe_plan.specs.Plans.{PlanOf}
 use Rattle.oe_check.specs.Checked.{CheckedGraph}
 use Rattle.oe_window.specs.declared.grid.ChunkSize.{ChunkSize}
 use Rattle.oe_top.proofs.Runs.{plan_fits}
-use Rattle.oe_top.specs.Evaluated.{IsPlanOf}
 use Rattle.oe_top.specs.Judged.{IsInputText}
 use Rattle.oe_top.specs.Objects.{IsUntouched, Objects}
 use Rattle.oe_top.specs.PartAnswer.{AreChunksOf, EvaluatesChunks, IsPartEvaluated, PartAnswers, head_for}

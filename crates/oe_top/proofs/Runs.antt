@@ -1,5 +1,6 @@
 -- How a run ends, by how the evaluation of its graph does.
 use Rattle.std.proofs.Common.{◌≡◌, ℕ, ◌+◌, ◌<◌, ◌≤◌, Result, Ok, Err, subst}
+use Rattle.oe_engine.specs.Evaluations.{IsPlanOf}
 use Rattle.oe_graph.specs.Form.{most_input}
 use Rattle.oe_outside.specs.Faults.{NeverFalls}
 use Rattle.oe_outside.specs.Input.{TakesAtMost}
@@ -7,7 +8,6 @@ use Rattle.oe_plan.specs.Figures.{bound_of, most_held_cells}
 use Rattle.oe_plan.specs.Plans.{PlanOf}
 use Rattle.oe_check.specs.Checked.{CheckedGraph}
 use Rattle.oe_window.specs.declared.grid.ChunkSize.{ChunkSize}
-use Rattle.oe_top.specs.Evaluated.{IsPlanOf}
 use Rattle.oe_top.specs.Judged.{IsInput}
 use Rattle.oe_top.specs.Objects.{IsUntouched, Objects}
 use Rattle.oe_top.specs.RunAnswer.{Evaluates, IsEvaluated, RunAnswers}

@@ -5,6 +5,7 @@ use Rattle.oe_cell.specs.declared.cell.Cell.{Cell}
 use Rattle.oe_dims.specs.Cube.{Cube}
 use Rattle.oe_dims.specs.Dimensions.{cell_count}
 use Rattle.oe_engine.specs.Laws.{GivesCollections, LoadsVisible, collections_of}
+use Rattle.oe_engine.specs.Results.{IsVisible, IsWithoutOver, OfMeaning, result_of}
 use Rattle.oe_slab.specs.Laws.{BeginAndEnd}
 use Rattle.oe_slab.specs.Plans.{IsSlabPlan, SlabPlanOf}
 use Rattle.oe_slab.specs.Runs.{HasDone, ShowsDone, SlabRunOf, chunk_total, result_cube, result_shape}
@@ -24,7 +25,7 @@ use Rattle.oe_sources.specs.CatalogueDims.{dims_of}
 use Rattle.oe_spool.specs.Least.{least_over_of}
 use Rattle.oe_top.proofs.Evaluations.{nothing_more}
 use Rattle.oe_top.proofs.SlabLoads.{reads_for_slabs}
-use Rattle.oe_top.specs.Evaluated.{IsFailOfRun, IsVisible, IsWithoutOver, OfMeaning, fail_of_text, result_of}
+use Rattle.oe_top.specs.Evaluated.{IsFailOfRun, fail_of_text}
 use Rattle.oe_top.specs.Objects.{Objects, objects}
 use Rattle.oe_top.specs.RunAnswer.{EvaluationEnds}
 use Rattle.oe_top.specs.SlabAnswer.{FoldsSlabs}

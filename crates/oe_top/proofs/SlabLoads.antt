@@ -1,6 +1,7 @@
 -- What a run reads that is folded slab by slab, by its plan and by its graph.
 use Rattle.std.proofs.Common.{◌≡◌, ℕ, ◌+◌, ◌*◌, ◌≤◌, List, length, Option, slice_index, ap, ◌∙◌, subst}
 use Rattle.std.specs.List.{count_by, range_with_len}
+use Rattle.oe_engine.proofs.RunReads.{by_index}
 use Rattle.oe_order.specs.Graph.{is_load}
 use Rattle.oe_plan.specs.Figures.{chunks_of, steps_of}
 use Rattle.oe_plan.specs.Schedules.{links_given}
@@ -9,7 +10,6 @@ use Rattle.oe_slab.specs.Figures.{largest_slab}
 use Rattle.oe_slab.specs.Plans.{IsSlabPlan, SlabPlanOf}
 use Rattle.oe_slab.specs.Schedules.{load_count}
 use Rattle.oe_sources.specs.Catalogue.{Row, cells_asked}
-use Rattle.oe_top.proofs.Loads.{by_index}
 use Rattle.oe_top.specs.SlabEvaluated.{ReadsForSlabPlan, ReadsForSlabs, loads_before, slabs_of}
 
 -- a plan has as many steps before the cut that load a collection as its graph

@@ -3,6 +3,7 @@ use Rattle.std.proofs.Common.{◌≡◌, ℕ, ◌+◌, ◌-◌, ◌*◌, ◌<◌
 use Rattle.std.proofs.Math.Nat.{add-mul, mul-le-mul_right}
 use Rattle.std.specs.Result.{IsErrOf}
 use Rattle.oe_engine.specs.Laws.{StayAfterReads}
+use Rattle.oe_engine.proofs.RunRounds.{still_visible}
 use Rattle.oe_outside.proofs.Causes.{NeverFalls-trans, then-Rose}
 use Rattle.oe_outside.specs.Faults.{NeverFalls}
 use Rattle.oe_check.specs.Laws.{AreCollectionsOf}
@@ -16,7 +17,6 @@ use Rattle.oe_steps.specs.Collections.{AreRead, HasCollections, LoadRose, Shows}
 use Rattle.oe_steps.specs.Refusals.{RefusalSays}
 use Rattle.oe_steps.specs.declared.fail.RunFail.{RunFail}
 use Rattle.oe_steps.specs.declared.fail.RunFail.TheVariants as run
-use Rattle.oe_top.proofs.Rounds.{still_visible}
 use Rattle.oe_top.specs.SlabEvaluated.{CompletesSlabs, FoldsThrough, GoesBySlabs, IsSlabBegun, ReadsForSlabPlan}
 
 -- a run after so many rounds, each of which made one chunk

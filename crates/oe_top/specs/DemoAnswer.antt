@@ -1,5 +1,6 @@
 -- How the command `demo` ends: the table of its statuses, one case a row.
 use Rattle.std.specs.Prelude.{◌≡◌, ◌<◌, ◌≤◌, ℕ, List, None, Result, Ok, Err}
+use Rattle.oe_engine.specs.Results.{IsOverFirst, IsVisible, IsWithoutOver, result_of}
 use Rattle.oe_outside.specs.Faults.{NeverFalls, Rose}
 use Rattle.oe_outside.specs.Visible.{Appends, AppendsPrefix}
 use Rattle.oe_plan.specs.Figures.{bound_of, most_held_cells}
@@ -8,7 +9,6 @@ use Rattle.oe_sources.specs.Catalogue.{Row, demonstration}
 use Rattle.oe_sources.specs.CatalogueDims.{dims_of}
 use Rattle.oe_window.specs.declared.grid.ChunkSize.{ChunkSize}
 use Rattle.oe_top.specs.Demonstration.{demo_graph, demo_text}
-use Rattle.oe_top.specs.Evaluated.{IsWithoutOver, IsOverFirst, IsVisible, result_of}
 use Rattle.oe_top.specs.Judged.{IsCheckedText}
 use Rattle.oe_top.specs.Objects.{Objects}
 use Rattle.oe_top.specs.Written.{IsUnwritten}

@@ -1,5 +1,6 @@
 -- How the command `join` ends: the table of its statuses, one case a row.
 use Rattle.std.specs.Prelude.{◌≡◌, ◌<◌, ℕ, ◌+◌, List, slice_get, None, Some, IfSome, Result, Ok, Err}
+use Rattle.oe_engine.specs.Results.{IsOverFirst, IsVisible, IsWithoutOver}
 use Rattle.oe_dims.specs.Cube.{Cube, IsCube}
 use Rattle.oe_dims.specs.Dimensions.{Dimensions, cell_count}
 use Rattle.oe_cell.specs.declared.cell.Cell.{Cell}
@@ -17,7 +18,6 @@ use Rattle.oe_plan.specs.Figures.{shape_of_node}
 use Rattle.oe_render.specs.Text.{cube_text}
 use Rattle.oe_check.specs.Checked.{CheckedGraph}
 use Rattle.oe_top.specs.PartAnswer.{kind_of_result}
-use Rattle.oe_top.specs.Evaluated.{IsVisible, IsWithoutOver, IsOverFirst}
 use Rattle.oe_top.specs.Judged.{IsInputText, IsRefused}
 use Rattle.oe_top.specs.Objects.{Objects, IsUntouched}
 use Rattle.oe_top.specs.Written.{IsUnwritten}

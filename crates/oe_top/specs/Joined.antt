@@ -1,6 +1,7 @@
 -- Parts and runs: however the chunks of a run are dealt out, what is joined of its parts is what the run writes.
 use Rattle.std.specs.Prelude.{◌≡◌, ℕ, List, slice_get, Some}
 use Rattle.oe_engine.specs.Laws.{collections_of}
+use Rattle.oe_engine.specs.Results.{IsVisible, IsWithoutOver, result_of}
 use Rattle.oe_outside.specs.Visible.{Appends}
 use Rattle.oe_parts.specs.Head.{AreSides}
 use Rattle.oe_parts.specs.Parts.{PartState, ShowsPartOf, heads_of}
@@ -11,7 +12,6 @@ use Rattle.oe_check.specs.Checked.{AreFaultless, CheckedGraph}
 use Rattle.oe_check.specs.Laws.{AreCollectionsOf}
 use Rattle.oe_sources.specs.Catalogue.{Row}
 use Rattle.oe_window.specs.declared.grid.ChunkSize.{ChunkSize}
-use Rattle.oe_top.specs.Evaluated.{IsVisible, IsWithoutOver, result_of}
 use Rattle.oe_top.specs.JoinAnswer.{WritesJoined, outline_of_run}
 use Rattle.oe_top.specs.Objects.{Objects}
 use Rattle.oe_top.specs.PartAnswer.{head_for}

@@ -1,5 +1,7 @@
 -- How the command `part` ends: the table of its statuses, one case a row.
 use Rattle.std.specs.Prelude.{◌≡◌, ◌<◌, ◌≤◌, ℕ, ◌+◌, ◌-◌, ◌*◌, List, None, Result, Ok, Err}
+use Rattle.oe_engine.specs.Results.{IsVisible, OfMeaning}
+use Rattle.oe_engine.specs.Evaluations.{loads_of}
 use Rattle.oe_dims.specs.Positions.{Position, number_of}
 use Rattle.oe_dims.specs.declared.kind.CellKind.{CellKind}
 use Rattle.oe_graph.specs.Form.{most_input}
@@ -16,7 +18,6 @@ use Rattle.oe_sources.specs.Catalogue.{cells_asked}
 use Rattle.oe_spool.specs.Spooled.{IsInSome}
 use Rattle.oe_steps.specs.Collections.{AreRead, LoadRose}
 use Rattle.oe_window.specs.declared.grid.ChunkSize.{ChunkSize}
-use Rattle.oe_top.specs.Evaluated.{IsVisible, OfMeaning, loads_of}
 use Rattle.oe_top.specs.Judged.{IsInputText, IsRefused}
 use Rattle.oe_top.specs.Objects.{Objects, IsUntouched}
 use Rattle.oe_top.specs.RunAnswer.{MeetsDamage}

@@ -11,7 +11,8 @@ use Rattle.oe_steps.specs.declared.fail.RunFail.{RunFail}
 use Rattle.oe_steps.specs.declared.fail.RunFail.TheVariants as run
 use Rattle.oe_engine.specs.Parts.{HasPartDone, HasPartRecords}
 use Rattle.oe_engine.specs.Runs.{PartRunOf, result_cube}
-use Rattle.oe_top.specs.Evaluated.{IsVisible, most_asked}
+use Rattle.oe_engine.specs.Results.{IsVisible}
+use Rattle.oe_engine.specs.Evaluations.{most_asked}
 
 -- a part of a run that stands before its first round
 pub record IsPartBegun (r : PartRunOf) : Type 0 where

@@ -1,5 +1,7 @@
 -- How the command `run` ends: the table of its statuses, one case a row.
 use Rattle.std.specs.Prelude.{◌≡◌, ◌<◌, ◌≤◌, ℕ, ◌+◌, List, None, Some, Result, Ok, Err}
+use Rattle.oe_engine.specs.Results.{IsOverFirst, IsVisible, IsWithoutOver, OfMeaning}
+use Rattle.oe_engine.specs.Evaluations.{ReadsForRun}
 use Rattle.oe_dims.specs.Dimensions.{cell_count}
 use Rattle.oe_steps.specs.Collections.{LoadRose}
 use Rattle.oe_steps.specs.Refusals.{KeepsDamage}
@@ -11,7 +13,6 @@ use Rattle.oe_plan.specs.Figures.{bound_of, most_held_cells, shape_of_node}
 use Rattle.oe_render.specs.Text.{cube_text}
 use Rattle.oe_check.specs.Checked.{CheckedGraph, collection_of_node}
 use Rattle.oe_window.specs.declared.grid.ChunkSize.{ChunkSize}
-use Rattle.oe_top.specs.Evaluated.{IsWithoutOver, IsOverFirst, IsVisible, OfMeaning, ReadsForRun}
 use Rattle.oe_top.specs.Judged.{IsInput, IsRefused}
 use Rattle.oe_top.specs.Objects.{Objects, IsUntouched}
 use Rattle.oe_top.specs.Written.{IsUnwritten}

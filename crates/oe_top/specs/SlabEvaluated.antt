@@ -1,5 +1,7 @@
 -- What the rounds of a run leave that is folded slab by slab.
 use Rattle.std.specs.Prelude.{◌≡◌, ◌≤◌, ℕ, ◌+◌, ◌*◌, List, Option, None, Some, Result, IsErrOf, OnOk}
+use Rattle.oe_engine.specs.Results.{IsVisible}
+use Rattle.oe_engine.specs.Evaluations.{loads_of}
 use Rattle.oe_outside.specs.Faults.{HasCauseOf}
 use Rattle.oe_plan.specs.Figures.{chunks_of}
 use Rattle.oe_check.specs.Checked.{CheckedGraph}
@@ -16,7 +18,6 @@ use Rattle.oe_steps.specs.declared.fail.RunFail.{RunFail}
 use Rattle.oe_steps.specs.declared.fail.RunFail.TheVariants as run
 use Rattle.oe_window.specs.Chunks.{parts_along}
 use Rattle.oe_window.specs.declared.grid.ChunkSize.{ChunkSize}
-use Rattle.oe_top.specs.Evaluated.{IsVisible, loads_of}
 
 -- ---- what a run reads
 

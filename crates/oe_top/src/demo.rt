@@ -157,7 +157,6 @@ fn write_figures<R: Threads + Sync, O: Sink, P: Store, G: Gate>(
 {
     // Laws that the proof rests on; they do nothing.
     laws::collections_are_mounted();
-    laws::over_is_of_the_result();
     if let Err(fail) = complete(rt, &mut run, chunks, catalogue, spool, gate) {
         // A law: no read of a generated collection has failed.
         catalogue.generated_never_failed(0);

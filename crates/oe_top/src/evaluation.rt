@@ -2,16 +2,16 @@
 ghost use Rattle.std.specs.Prelude.{◌≡◌, ◌<◌, ℕ, IfOk, IsErrOf};
 ghost use Rattle.oe_steps.specs.Collections.{HasCollections};
 ghost use Rattle.oe_engine.specs.Runs.{chunk_total};
+ghost use Rattle.oe_engine.specs.Evaluations.{Evaluates, IsPlanOf};
 ghost use Rattle.oe_plan.specs.Figures.{bound_of, most_held_cells};
 ghost use Rattle.oe_plan.specs.Ranges.{IsWithinRanges};
 ghost use Rattle.oe_sources.specs.CatalogueRows.{rows_of};
-ghost use Rattle.oe_top.specs.Evaluated.{CanBeNamed, Completes, GoesThrough, IsBegun, IsFailOfRun, IsPlanOf};
+ghost use Rattle.oe_top.specs.Evaluated.{CanBeNamed, IsBegun, IsFailOfRun};
 ghost use Rattle.oe_top.specs.Evaluated as spec;
 
-use crate::laws;
 use crate::short_name::ShortName;
 use oe_check::Checked;
-use oe_engine::{Progress, Run, RunFail, Workspace};
+use oe_engine::{Run, RunFail, Workspace, evaluate};
 use oe_outside::{Gate, Store};
 use oe_plan::{Plan, PlanFail};
 use oe_render::RenderFail;
@@ -75,66 +75,13 @@ pub(crate) fn complete<R: Threads + Sync, P: Store, G: Gate>(
     requires begun { IsBegun run.old }
     requires chunks { chunks ≡ chunk_total run.old.plan }
     requires mounted { HasCollections run.old.plan.graph (rows_of seen catalogue.old) }
-    ensures { Completes run.old run.new (rows_of seen catalogue.old) (rows_of seen catalogue.new)
+    ensures { Evaluates run.old run.new (rows_of seen catalogue.old) (rows_of seen catalogue.new)
         (P.bytes spool.old) (P.bytes spool.new) (P.faults spool.old) (P.faults spool.new) result }
 {
     gate.open(chunks);
-    let end = finish(rt, run, chunks, catalogue, spool, gate);
+    let end = evaluate(rt, run, catalogue, spool, gate);
     gate.close();
     end
-}
-
-/// All rounds of a run, which has so many chunks, and whether no cell of its result is out of the range of numbers,
-/// at a gate that is open.
-fn finish<R: Threads + Sync, P: Store, G: Gate>(
-    rt: &R,
-    run: &mut Run,
-    chunks: u64,
-    catalogue: &mut Catalogue,
-    spool: &mut P,
-    gate: &G,
-) -> Result<(), RunFail>
-    requires begun { IsBegun run.old }
-    requires chunks { chunks ≡ chunk_total run.old.plan }
-    requires mounted { HasCollections run.old.plan.graph (rows_of seen catalogue.old) }
-    ensures { Completes run.old run.new (rows_of seen catalogue.old) (rows_of seen catalogue.new)
-        (P.bytes spool.old) (P.bytes spool.new) (P.faults spool.old) (P.faults spool.new) result }
-{
-    match go_through(rt, run, chunks, catalogue, spool, gate) {
-        Ok(()) => run.finish(),
-        Err(fail) => Err(fail),
-    }
-}
-
-/// All rounds of a run, which has so many chunks.
-fn go_through<R: Threads + Sync, P: Store, G: Gate>(
-    rt: &R,
-    run: &mut Run,
-    chunks: u64,
-    catalogue: &mut Catalogue,
-    spool: &mut P,
-    gate: &G,
-) -> Result<(), RunFail>
-    requires begun { IsBegun run.old }
-    requires chunks { chunks ≡ chunk_total run.old.plan }
-    requires mounted { HasCollections run.old.plan.graph (rows_of seen catalogue.old) }
-    ensures through { GoesThrough run.old run.new (rows_of seen catalogue.old)
-        (rows_of seen catalogue.new) (P.bytes spool.old) (P.bytes spool.new) (P.faults spool.old)
-        (P.faults spool.new) result }
-    ensures no_overflow { (number : ℕ) → ¬ IsErrOf result (RunFail.Overflow number) }
-{
-    // Laws that the proof rests on; they do nothing.
-    laws::reads_change_nothing();
-    laws::over_is_of_the_result();
-    laws::runs_stay_apart();
-    for _ in 0..chunks {
-        match run.round(rt, catalogue, spool, gate) {
-            Ok(Progress::Complete) => return Ok(()),
-            Ok(Progress::More) => {}
-            Err(fail) => return Err(fail),
-        }
-    }
-    Ok(())
 }
 
 /// Why the rounds of a graph stopped.

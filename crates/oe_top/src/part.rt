@@ -2,13 +2,13 @@
 ghost use Rattle.std.specs.Prelude.{◌≡◌, ◌<◌, ◌+◌, ◌↔◌, ℕ, [], List, Option, IfOk, IsErrOf, IsTrue, IsUtf8};
 ghost use Rattle.oe_dims.specs.declared.dims.DimsRow.{DimsRow};
 ghost use Rattle.oe_engine.specs.Laws.{GivesCollections};
+ghost use Rattle.oe_engine.specs.Evaluations.{IsPlanOf};
 ghost use Rattle.oe_parts.specs.Head.{AreSides, IsPartHead, front_bytes};
 ghost use Rattle.oe_plan.specs.Figures.{bound_of, most_held_cells};
 ghost use Rattle.oe_plan.specs.Ranges.{IsWithinRanges};
 ghost use Rattle.oe_sources.specs.CatalogueDims.{AreDimsOf, dims_of};
 ghost use Rattle.oe_sources.specs.CatalogueRows.{rows_of};
 ghost use Rattle.oe_steps.specs.Collections.{HasCollections};
-ghost use Rattle.oe_top.specs.Evaluated.{IsPlanOf};
 ghost use Rattle.oe_top.specs.Judged.{IsCheckedText};
 ghost use Rattle.oe_top.specs.Objects.{lends, objects};
 ghost use Rattle.oe_top.specs.PartAnswer.{AreChunksOf, EvaluatesChunks, PartAnswers, head_for};

@@ -114,7 +114,6 @@ fn write_result<R: Threads + Sync, O: Sink, P: Store, G: Gate>(
 {
     // Laws that the proof rests on; they do nothing.
     laws::collections_are_mounted();
-    laws::over_is_of_the_result();
     laws::ids_are_valid(catalogue);
     match complete(rt, &mut run, chunks, catalogue, spool, gate) {
         Ok(()) => match run.render(spool, out, pending) {

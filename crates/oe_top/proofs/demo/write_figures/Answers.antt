@@ -33,7 +33,7 @@ returns-in-Err g c = λ input input_faults lent.
     let graph_is = c.checked.ensures ∙ ap (λ (p : PlanOf). p.graph) c.in-Err.ensures.through.goes.plan in
     refused c.args.run c.complete.new.run rows rows_after (g.P.Store.bytes c.args.spool.now) (g.P.Store.bytes c.complete.new.spool)
     (g.P.Store.faults c.args.spool.now) (g.P.Store.faults c.complete.new.spool)
-    c.requires.demonstration c.requires.collections c.requires.rows c.over_is_of_the_result.ensures c.requires.begun.planned
+    c.requires.demonstration c.requires.collections c.requires.rows c.requires.begun.planned
     input input_faults (g.O.Sink.written c.args.out.now) (g.O.Sink.faults c.args.out.now) lent
     c.generated_never_failed.ensures c.in-Err.fail c.fail_of_run.result c.in-Err.ensures
     (subst (λ (k : CheckedGraph). IsFailOfRun k c.in-Err.fail c.fail_of_run.result) graph_is c.fail_of_run.ensures)
@@ -62,7 +62,7 @@ returns-in-Ok-write g c = λ input input_faults lent.
     let rows_after = rows_of (λ z. (goal.CubeSource-dyn g z).seen z.1) c.complete.new.catalogue in
     written c.args.run c.complete.new.run rows rows_after (g.P.Store.bytes c.args.spool.now) (g.P.Store.bytes c.complete.new.spool)
     (g.P.Store.faults c.args.spool.now) (g.P.Store.faults c.complete.new.spool)
-    c.requires.demonstration c.requires.collections c.requires.rows c.over_is_of_the_result.ensures c.requires.begun.planned
+    c.requires.demonstration c.requires.collections c.requires.rows c.requires.begun.planned
     input input_faults (g.O.Sink.written c.args.out.now) (g.O.Sink.faults c.args.out.now) lent
     c.in_default.ensures c.requires.front c.cells-count.result (c.cells-count.ensures.value ∙ ap cell_count c.shape.ensures)
     c.in-Ok.first c.in-Ok.last c.in-Ok.ensures.first c.in-Ok.ensures.last
@@ -76,7 +76,7 @@ returns-in-Ok g c = λ input input_faults lent.
     let rows_after = rows_of (λ z. (goal.CubeSource-dyn g z).seen z.1) c.complete.new.catalogue in
     stopped_figures c.args.run c.complete.new.run rows rows_after (g.P.Store.bytes c.args.spool.now) (g.P.Store.bytes c.complete.new.spool)
     (g.P.Store.faults c.args.spool.now) (g.P.Store.faults c.complete.new.spool)
-    c.requires.demonstration c.requires.collections c.requires.rows c.over_is_of_the_result.ensures c.requires.begun.planned
+    c.requires.demonstration c.requires.collections c.requires.rows c.requires.begun.planned
     input input_faults (g.O.Sink.written c.args.out.now) (g.O.Sink.faults c.args.out.now) lent
     c.in_default.ensures c.requires.front c.cells-count.result (c.cells-count.ensures.value ∙ ap cell_count c.shape.ensures)
     c.in-Ok.first c.in-Ok.last c.in-Ok.ensures.first c.in-Ok.ensures.last
@@ -90,7 +90,7 @@ returns g c = λ input input_faults lent.
     let rows_after = rows_of (λ z. (goal.CubeSource-dyn g z).seen z.1) c.complete.new.catalogue in
     unspooled c.args.run c.complete.new.run rows rows_after (g.P.Store.bytes c.args.spool.now) (g.P.Store.bytes c.complete.new.spool)
     (g.P.Store.faults c.args.spool.now) (g.P.Store.faults c.complete.new.spool)
-    c.requires.demonstration c.requires.collections c.requires.rows c.over_is_of_the_result.ensures c.requires.begun.planned
+    c.requires.demonstration c.requires.collections c.requires.rows c.requires.begun.planned
     input input_faults (g.O.Sink.written c.args.out.now) (g.O.Sink.faults c.args.out.now) lent
     c.in_default.ensures (g.P.Store.bytes c.read_ends.new.spool) (g.P.Store.faults c.read_ends.new.spool)
     c.in-Err-read_ends.fail c.fail_of_text.result c.fail_of_text.ensures c.in-Err-read_ends.ensures.cause

@@ -1,5 +1,5 @@
 use Rattle.oe_top.proofs.PartRounds.{last_of_part, mounted_in_part, one_more_of_part, part_refused}
-use Rattle.oe_top.proofs.Rounds.{more_is_left}
+use Rattle.oe_engine.proofs.RunRounds.{more_is_left}
 use Rattle.oe_top.proofs.part.go_through_part.Goals as goal
 
 pub round-requires-clause-mounted : goal.round-requires-clause-mounted

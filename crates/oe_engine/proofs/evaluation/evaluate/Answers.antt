@@ -1,9 +1,9 @@
 use Rattle.std.proofs.Common.{Result, Err, sym, ap, subst}
 use Rattle.oe_steps.specs.declared.fail.RunFail.{RunFail}
 use Rattle.oe_sources.specs.CatalogueRows.{rows_of}
-use Rattle.oe_serve.specs.Evaluations.{Evaluates}
-use Rattle.oe_serve.proofs.Rounds.{finished, stopped}
-use Rattle.oe_serve.proofs.evaluation.evaluate.Goals as goal
+use Rattle.oe_engine.specs.Evaluations.{Evaluates}
+use Rattle.oe_engine.proofs.RunRounds.{finished, stopped}
+use Rattle.oe_engine.proofs.evaluation.evaluate.Goals as goal
 
 pub returns-in-Ok : goal.returns-in-Ok
 returns-in-Ok g c =

@@ -10,8 +10,9 @@ use Rattle.oe_check.specs.Laws.{AreCollectionsOf}
 use Rattle.oe_sources.specs.Catalogue.{Row, cells_asked}
 use Rattle.oe_spool.specs.Spooled.{ChangesOnly, KeepsBytesBut}
 use Rattle.oe_steps.specs.Collections.{AreRead, HasCollections, LoadRose, Shows}
-use Rattle.oe_engine.specs.Going.{ChangesOwnRecords, RunsStayApart}
-use Rattle.oe_engine.specs.Laws.{BeginAndEnd, StayAfterReads}
+use Rattle.oe_engine.specs.Going.{ChangesOwnRecords}
+use Rattle.oe_engine.proofs.GoingLemmas.{runs_stay_apart}
+use Rattle.oe_engine.proofs.LawLemmas.{begin_and_end, stay_after_reads}
 use Rattle.oe_engine.specs.Rounds.{Advances, HasCauses, ReadsChunks, WritesChunks}
 use Rattle.oe_steps.specs.Refusals.{RefusalSays}
 use Rattle.oe_engine.specs.Runs.{HasDone, RunOf, chunk_total, chunks_in_round, overflow_of, result_cube, result_shape}
@@ -19,7 +20,8 @@ use Rattle.oe_engine.specs.declared.rounds.Progress.{Progress}
 use Rattle.oe_engine.specs.declared.rounds.Progress.TheVariants.{Complete, More}
 use Rattle.oe_steps.specs.declared.fail.RunFail.{RunFail}
 use Rattle.oe_steps.specs.declared.fail.RunFail.TheVariants as run
-use Rattle.oe_top.specs.Evaluated.{Completes, Goes, GoesThrough, IsBegun, IsVisible, ReadsForPlan, most_asked}
+use Rattle.oe_engine.specs.Evaluations.{Evaluates, Goes, GoesThrough, IsFirst, ReadsForPlan, most_asked}
+use Rattle.oe_engine.specs.Results.{IsVisible}
 
 -- bytes that are visible stay so where only some of them change
 pub still_visible : (touched : ℕ → Type 0) (old new : Option (List ℕ)) → KeepsBytesBut touched old new → IsVisible old → IsVisible new
@@ -35,11 +37,11 @@ pub record Stands (before now : RunOf) (rows rows_now : List Row) (store store_n
   pub count : NeverFalls faults faults_now
   pub turned : turns ≤ now.done
 
-pub begun : (r : RunOf) (rows : List Row) (store : Option (List ℕ)) (faults : ℕ) → IsBegun r → StayAfterReads → BeginAndEnd
-    → RunsStayApart → NeverFalls faults faults → Stands r r rows rows store store faults faults 0
-begun r rows store faults b reads ends apart never =
+pub begun : (r : RunOf) (rows : List Row) (store : Option (List ℕ)) (faults : ℕ) → IsFirst r → NeverFalls faults faults
+    → Stands r r rows rows store store faults faults 0
+begun r rows store faults b never =
     let none = b.none_done in
-    let start = ends.begun r b.none_done b.none_over store in
+    let start = begin_and_end.begun r b.none_done b.none_over store in
     record {
       goes = record {
         plan = refl;
@@ -47,8 +49,8 @@ begun r rows store faults b reads ends apart never =
         within = omega arith;
         records = start.0;
         values = λ collections are shows. start.1 (result_cube collections r.plan);
-        read = reads.none rows;
-        changes = apart.none r store;
+        read = stay_after_reads.none rows;
+        changes = runs_stay_apart.none r store;
         visible = λ v. v;
       };
       asked = omega arith;
@@ -61,14 +63,14 @@ more_is_left progress is all = let same : More ≡ Complete = sym is ∙ all in 
 
 -- what is mounted stays so
 pub still_mounted : {before now : RunOf} {rows rows_now : List Row} {store store_now : Option (List ℕ)} {faults faults_now turns : ℕ}
-    → StayAfterReads → Stands before now rows rows_now store store_now faults faults_now turns
+    → Stands before now rows rows_now store store_now faults faults_now turns
     → HasCollections before.plan.graph rows → HasCollections now.plan.graph rows_now
-still_mounted {before} {now} {rows} {rows_now} reads s mounted =
+still_mounted {before} {now} {rows} {rows_now} s mounted =
     subst (λ (p : PlanOf). HasCollections p.graph rows_now) (sym s.goes.plan)
-    (reads.mounted before.plan.graph rows rows_now s.goes.read mounted)
+    (stay_after_reads.mounted before.plan.graph rows rows_now s.goes.read mounted)
 
 module _ (before now after : RunOf) (rows rows_now rows_after : List Row) (store store_now store_after : Option (List ℕ))
-    (faults faults_now faults_after turns : ℕ) (is : IsPlan before.plan) (reads : StayAfterReads) (apart : RunsStayApart)
+    (faults faults_now faults_after turns : ℕ) (is : IsPlan before.plan)
     (s : Stands before now rows rows_now store store_now faults faults_now turns) where
   abbrev total : ℕ
   total = chunk_total before.plan
@@ -82,11 +84,11 @@ module _ (before now after : RunOf) (rows rows_now rows_after : List Row) (store
   module _ (result : Result Progress RunFail) (advances : Advances now after result)
       (writes : WritesChunks now rows_now store_now after store_after) (round : ReadsChunks now rows_now rows_after) where
     read_all : AreRead rows rows_after
-    read_all = reads.both rows rows_now rows_after s.goes.read round.read
+    read_all = stay_after_reads.both rows rows_now rows_after s.goes.read round.read
 
     round_changed : ChangesOwnRecords before store_now store_after
     round_changed =
-        let own = apart.round now after rows_now store_now store_after (subst IsPlan (sym s.goes.plan) is) writes in
+        let own = runs_stay_apart.round now after rows_now store_now store_after (subst IsPlan (sym s.goes.plan) is) writes in
         subst (λ (base : ℕ). ChangesOnly base (result_shape before.plan) (IsPosition (result_shape before.plan)) store_now store_after) s.goes.base
         (subst (λ (p : PlanOf). ChangesOnly now.base (result_shape p) (IsPosition (result_shape p)) store_now store_after) s.goes.plan own)
 
@@ -102,12 +104,12 @@ module _ (before now after : RunOf) (rows rows_now rows_after : List Row) (store
           let are_now : AreCollectionsOf now.plan.graph collections = subst (λ (p : PlanOf). AreCollectionsOf p.graph collections) (sym same) are in
           let shows_now : Shows now.plan.graph rows_now collections =
           subst (λ (p : PlanOf). Shows p.graph rows_now collections) (sym same)
-          ((reads.shows before.plan.graph rows rows_now s.goes.read collections).1 shows) in
+          ((stay_after_reads.shows before.plan.graph rows rows_now s.goes.read collections).1 shows) in
           let had : HasDone now store_now (result_cube collections now.plan) =
           subst (λ (p : PlanOf). HasDone now store_now (result_cube collections p)) (sym same) (s.goes.values collections are shows) in
           subst (λ (p : PlanOf). HasDone after store_after (result_cube collections p)) same (writes.values collections are_now shows_now had);
       read = read_all;
-      changes = apart.both before store store_now store_after s.goes.changes round_changed;
+      changes = runs_stay_apart.both before store store_now store_after s.goes.changes round_changed;
       visible = λ v. still_visible _ store_now store_after writes.changes (s.goes.visible v);
     }
 
@@ -195,11 +197,11 @@ module _ (before now after : RunOf) (rows rows_now rows_after : List Row) (store
         goes = goes_on (Err refusal) advances writes round (omega (arith, stays, within));
         reads = read_for (Err refusal) advances writes round;
         done = tt;
-        read_cause = λ e. reads.rose_later before.plan.graph rows rows_now rows_after s.goes.read
+        read_cause = λ e. stay_after_reads.rose_later before.plan.graph rows rows_now rows_after s.goes.read
             (subst (λ (p : PlanOf). LoadRose p.graph rows_now rows_after) s.goes.plan (causes.read_cause (source_of refusal e)));
         says = λ load number e.
             let says : RefusalSays before.plan.graph rows refusal =
-            reads.says before.plan.graph rows rows_now s.goes.read refusal
+            stay_after_reads.says before.plan.graph rows rows_now s.goes.read refusal
             (subst (λ (p : PlanOf). RefusalSays p.graph rows_now refusal) s.goes.plan causes.says) in
             subst (RefusalSays before.plan.graph rows) (refusal_of refusal (run.SourceDamaged load number) e) says;
         spool_cause = record {
@@ -240,7 +242,7 @@ all_done before now rows rows_now store store_now faults faults_now turns s enou
 module _ (before now : RunOf) (rows rows_now : List Row) (store store_now : Option (List ℕ)) (faults faults_now : ℕ) where
   pub stopped : (refusal : RunFail) → ¬ ((number : ℕ) × (refusal ≡ run.Overflow number))
       → GoesThrough before now rows rows_now store store_now faults faults_now (Err refusal)
-      → Completes before now rows rows_now store store_now faults faults_now (Err refusal)
+      → Evaluates before now rows rows_now store store_now faults faults_now (Err refusal)
   stopped refusal other through = record {
     through = through;
     numbers = tt;
@@ -248,10 +250,10 @@ module _ (before now : RunOf) (rows rows_now : List Row) (store store_now : Opti
   }
 
   pub finished : GoesThrough before now rows rows_now store store_now faults faults_now (Ok tt)
-      → Completes before now rows rows_now store store_now faults faults_now (overflow_of now.over)
+      → Evaluates before now rows rows_now store store_now faults faults_now (overflow_of now.over)
   finished through = by now.over refl
     where
-      by : (over : Option ℕ) → now.over ≡ over → Completes before now rows rows_now store store_now faults faults_now (overflow_of over)
+      by : (over : Option ℕ) → now.over ≡ over → Evaluates before now rows rows_now store store_now faults faults_now (overflow_of over)
       by None e = record { through = through; numbers = e; overflow = λ number is. cc }
       by (Some found) e = record {
         through = record {

@@ -1,23 +1,22 @@
-use Rattle.oe_top.proofs.Rounds.{last_one, more_is_left, one_more, refused, still_mounted}
-use Rattle.oe_top.proofs.evaluation.go_through.Goals as goal
+use Rattle.oe_engine.proofs.RunRounds.{last_one, more_is_left, one_more, refused, still_mounted}
+use Rattle.oe_engine.proofs.evaluation.go_through.Goals as goal
 
 pub round-requires-clause-mounted : goal.round-requires-clause-mounted
-round-requires-clause-mounted g c κs within =
-    still_mounted c.reads_change_nothing.ensures c.loop.invariant c.requires.mounted
+round-requires-clause-mounted g c κs within = still_mounted c.loop.invariant c.requires.mounted
 
 pub returns-in-Ok-Complete-clause-through : goal.returns-in-Ok-Complete-clause-through
 returns-in-Ok-Complete-clause-through g c =
-    last_one _ _ _ _ _ _ _ _ _ _ _ _ _ c.requires.begun.planned c.reads_change_nothing.ensures c.runs_stay_apart.ensures c.loop.invariant
+    last_one _ _ _ _ _ _ _ _ _ _ _ _ _ c.requires.planned c.loop.invariant
     c.in-Ok-Complete.field-0 c.in-Ok-Complete.ensures.advances c.in-Ok-Complete.ensures.writes c.in-Ok-Complete.ensures.reads
     c.in-Ok-Complete.ensures.causes.spool_cause.count c.in-Ok-Complete.field-0-is
 
 pub returns-in-Err-clause-through : goal.returns-in-Err-clause-through
 returns-in-Err-clause-through g c =
-    refused _ _ _ _ _ _ _ _ _ _ _ _ _ c.requires.begun.planned c.reads_change_nothing.ensures c.runs_stay_apart.ensures c.loop.invariant
+    refused _ _ _ _ _ _ _ _ _ _ _ _ _ c.requires.planned c.loop.invariant
     c.in-Err.fail c.in-Err.ensures.advances c.in-Err.ensures.writes c.in-Err.ensures.reads c.in-Err.ensures.causes
 
 pub loop-preserved : goal.loop-preserved
 loop-preserved g c =
-    one_more _ _ _ _ _ _ _ _ _ _ _ _ _ c.requires.begun.planned c.reads_change_nothing.ensures c.runs_stay_apart.ensures c.loop.invariant
+    one_more _ _ _ _ _ _ _ _ _ _ _ _ _ c.requires.planned c.loop.invariant
     c.in-Ok-More.field-0 c.in-Ok-More.ensures.advances c.in-Ok-More.ensures.writes c.in-Ok-More.ensures.reads
     c.in-Ok-More.ensures.causes.spool_cause.count (more_is_left c.in-Ok-More.field-0 c.in-Ok-More.field-0-is)

@@ -8,7 +8,7 @@ use Rattle.oe_plan.specs.Figures.{chunks_of, largest_window, steps_of}
 use Rattle.oe_plan.specs.Plans.{IsPlan, PlanOf}
 use Rattle.oe_check.specs.Links.{links_of}
 use Rattle.oe_sources.specs.Catalogue.{Row, cells_asked}
-use Rattle.oe_top.specs.Evaluated.{ReadsForPlan, ReadsForRun, loads_of}
+use Rattle.oe_engine.specs.Evaluations.{ReadsForPlan, ReadsForRun, loads_of}
 
 -- counting by index is counting the numbers
 fold_map : (g f : ℕ → ℕ) (z : ℕ) (xs : List ℕ) → fold (λ a x. a + g x) z (map f xs) ≡ fold (λ a i. a + g (f i)) z xs

@@ -1,6 +1,6 @@
 use Rattle.oe_sources.specs.CatalogueRows.{rows_of}
-use Rattle.oe_serve.proofs.Rounds.{Stands}
-use Rattle.oe_serve.proofs.evaluation.go_through.Given as goal
+use Rattle.oe_engine.proofs.RunRounds.{Stands}
+use Rattle.oe_engine.proofs.evaluation.go_through.Given as goal
 
 abbrev pub invariant-loop : goal.invariant-loop
 invariant-loop g l =
