@@ -8,10 +8,10 @@ use Rattle.oe_plan.specs.Plans.{IsPlan, PlanOf}
 use Rattle.oe_sources.specs.Catalogue.{Row}
 use Rattle.oe_sources.specs.CatalogueDims.{dims_of}
 use Rattle.oe_spool.specs.Least.{least_over_of}
-use Rattle.oe_engine.specs.Evaluations.{Goes, OfRun}
+use Rattle.oe_engine.specs.Evaluations.{Goes}
 use Rattle.oe_engine.specs.Laws.{GivesCollections, LoadsVisible, collections_of}
 use Rattle.oe_engine.specs.Results.{IsVisible, IsWithoutOver, OfMeaning, result_of}
-use Rattle.oe_engine.specs.Runs.{HasDone, RunOf, ShowsDone, chunk_total, result_cube}
+use Rattle.oe_engine.specs.Runs.{HasDone, OfRun, RunOf, ShowsDone, chunk_total, result_cube}
 use Rattle.oe_engine.proofs.LawLemmas.{begin_and_end}
 
 -- what holds of bytes that are visible

@@ -16,7 +16,7 @@ use Rattle.oe_steps.specs.declared.fail.RunFail.TheVariants as run
 use Rattle.oe_window.specs.declared.grid.ChunkSize.{ChunkSize}
 use Rattle.oe_engine.specs.Going.{ChangesOwnRecords}
 use Rattle.oe_engine.specs.Results.{IsVisible}
-use Rattle.oe_engine.specs.Runs.{HasDone, HasRunRecords, RunOf, ShowsDone, chunk_total, load_count, result_cube}
+use Rattle.oe_engine.specs.Runs.{HasDone, HasRunRecords, RunOf, chunk_total, load_count, result_cube}
 
 -- ---- before the first round
 
@@ -87,8 +87,3 @@ pub record Evaluates (before after : RunOf) (rows rows_after : List Row) (store 
   pub numbers : OnOk result (after.over ≡ None)
   pub overflow : (number : ℕ) → IsErrOf result (run.Overflow number)
       → (after.done ≡ chunk_total before.plan) × (after.over ≡ Some number)
-
--- something holds of the cube of a run's result, where the bytes of the store that its records stand in are visible
-abbrev pub OfRun : RunOf → Option (List ℕ) → (Cube Cell → Type 0) → Type 0
-OfRun r store Holds = (collections : Collections) → AreCollectionsOf r.plan.graph collections
-    → ShowsDone r store (result_cube collections r.plan) → Holds (result_cube collections r.plan)

@@ -53,13 +53,11 @@ impl Run {
     ghost use Rattle.oe_render.specs.Rendered.{AppendsCube, IsRefusalWithin};
     ghost use Rattle.oe_render.specs.Text.{cube_text};
     ghost use Rattle.oe_render.specs.declared.rendering.RenderFail.{RenderFail};
-    ghost use Rattle.oe_meanings.specs.Graphs.{Collections};
-    ghost use Rattle.oe_check.specs.Laws.{AreCollectionsOf};
     ghost use Rattle.oe_sources.specs.CatalogueRows.{rows_of};
     ghost use Rattle.oe_steps.specs.Collections.{HasCollections};
     ghost use Rattle.oe_engine.specs.Going as spec;
     ghost use Rattle.oe_engine.specs.Rounds.{Advances, HasCauses, ReadsChunks, WritesChunks};
-    ghost use Rattle.oe_engine.specs.Runs.{HasRunRecords, ShowsDone, chunk_total, overflow_of, result_cube, result_shape};
+    ghost use Rattle.oe_engine.specs.Runs.{HasRunRecords, OfRun, chunk_total, overflow_of, result_shape};
     ghost use Rattle.oe_engine.specs.Workspaces.{AreBenchesFor};
 
     /// A run of a plan at its first chunk, whose records are to stand in a spool from byte `base` on.
@@ -127,30 +125,18 @@ impl Run {
         requires complete { self.old.done ≡ chunk_total self.old.plan }
         requires numbers { self.old.over ≡ None }
         requires records { HasRunRecords self.old (P.bytes spool.old) }
-        ensures text { OnOk result ((collections : Collections)
-            → AreCollectionsOf self.old.plan.graph collections
-            → ShowsDone self.old (P.bytes spool.old) (result_cube collections self.old.plan)
-            → Appends (O.written out.old) (cube_text (result_cube collections self.old.plan))
-            (O.written out.new)) }
-        ensures prefix { OnErr result ((collections : Collections)
-            → AreCollectionsOf self.old.plan.graph collections
-            → ShowsDone self.old (P.bytes spool.old) (result_cube collections self.old.plan)
-            → AppendsPrefix (O.written out.old) (cube_text (result_cube collections self.old.plan))
-            (O.written out.new)) }
+        ensures text { OnOk result (OfRun self.old (P.bytes spool.old) (λ cube.
+            Appends (O.written out.old) (cube_text cube) (O.written out.new))) }
+        ensures prefix { OnErr result (OfRun self.old (P.bytes spool.old) (λ cube.
+            AppendsPrefix (O.written out.old) (cube_text cube) (O.written out.new))) }
         // it is that of cells that stand there, also where collections are hidden
         ensures cells { OnOk result (AppendsCube (P.bytes spool.old) self.old.base
             (result_shape self.old.plan) (O.written out.old) (O.written out.new)) }
         // and how many bytes it has
-        ensures counted { OnOk result ((collections : Collections)
-            → AreCollectionsOf self.old.plan.graph collections
-            → ShowsDone self.old (P.bytes spool.old) (result_cube collections self.old.plan)
-            → AddsBytes (O.size out.old)
-            (length (cube_text (result_cube collections self.old.plan))) (O.size out.new)) }
-        ensures counted_prefix { OnErr result ((collections : Collections)
-            → AreCollectionsOf self.old.plan.graph collections
-            → ShowsDone self.old (P.bytes spool.old) (result_cube collections self.old.plan)
-            → AddsSome (O.size out.old)
-            (length (cube_text (result_cube collections self.old.plan))) (O.size out.new)) }
+        ensures counted { OnOk result (OfRun self.old (P.bytes spool.old) (λ cube.
+            AddsBytes (O.size out.old) (length (cube_text cube)) (O.size out.new))) }
+        ensures counted_prefix { OnErr result (OfRun self.old (P.bytes spool.old) (λ cube.
+            AddsSome (O.size out.old) (length (cube_text cube)) (O.size out.new))) }
         ensures spool_cause { HasCauseOf RenderFail.SpoolFailed (P.faults spool.old)
             (P.faults spool.new) result }
         ensures sink_cause { HasCauseOf RenderFail.SinkFailed (O.faults out.old)

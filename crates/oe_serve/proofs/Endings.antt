@@ -2,8 +2,8 @@
 use Rattle.std.proofs.Common.{◌≡◌, IfErr, IfOk, ◌<◌, ℕ, length, List, Option, Result, Ok, Err, refl, sym, ◌∙◌, subst}
 use Rattle.oe_dims.specs.Dimensions.{cell_count}
 use Rattle.oe_engine.specs.Going.{IsGoing}
-use Rattle.oe_engine.specs.Runs.{RunOf, result_shape}
-use Rattle.oe_engine.specs.Evaluations.{Evaluates, OfRun}
+use Rattle.oe_engine.specs.Runs.{OfRun, RunOf, result_shape}
+use Rattle.oe_engine.specs.Evaluations.{Evaluates}
 use Rattle.oe_steps.specs.declared.fail.RunFail.{RunFail}
 use Rattle.oe_steps.specs.declared.fail.RunFail.TheVariants as run
 use Rattle.oe_engine.proofs.RunReads.{reads_for_run}

@@ -9,8 +9,7 @@ use Rattle.oe_dims.specs.Cube.{Cube, IsCube}
 use Rattle.oe_dims.specs.Dimensions.{IsShape}
 use Rattle.oe_dims.specs.Positions.{IsPosition, Position}
 use Rattle.oe_dims.proofs.CubeLemmas.{position_there}
-use Rattle.oe_engine.specs.Runs.{HasDone, RunOf, ShowsDone, chunk_total, chunks_from, result_cube, result_shape}
-use Rattle.oe_engine.specs.Evaluations.{OfRun}
+use Rattle.oe_engine.specs.Runs.{HasDone, OfRun, RunOf, ShowsDone, chunk_total, chunks_from, result_cube, result_shape}
 use Rattle.oe_engine.proofs.GridLemmas.{all_inside}
 use Rattle.oe_engine.proofs.RenderLemmas.{result_shape_is, result_whole}
 use Rattle.oe_outside.specs.Faults.{last_count}

@@ -3,8 +3,7 @@ use Rattle.std.proofs.Common.{◌≡◌, ℕ, List, [], take, Option, Some, Err,
 use Rattle.std.proofs.lemmas.Option.{same_Some}
 use Rattle.oe_cell.specs.declared.cell.Cell.{Cell}
 use Rattle.oe_dims.specs.Cube.{Cube}
-use Rattle.oe_engine.specs.Runs.{RunOf, chunk_total, result_cube, result_shape}
-use Rattle.oe_engine.specs.Evaluations.{OfRun}
+use Rattle.oe_engine.specs.Runs.{OfRun, RunOf, chunk_total, result_cube, result_shape}
 use Rattle.oe_engine.proofs.RenderLemmas.{result_shape_is, result_whole, text_is}
 use Rattle.oe_outside.specs.Faults.{HasCauseOf, NeverFalls, Rose}
 use Rattle.oe_outside.specs.Visible.{Appends, AppendsPrefix}

@@ -1,8 +1,8 @@
 -- The rounds of a run that is made whole.
 use Rattle.std.specs.Prelude.{◌≡◌, ◌⊎◌, ⊤, ℕ, ◌+◌, ◌<◌, List, ◌++◌, length, take, Option, None, Result, OnOk, IfOk, IfErr}
-use Rattle.oe_engine.specs.Runs.{RunOf, chunk_total}
+use Rattle.oe_engine.specs.Runs.{OfRun, RunOf, chunk_total}
 use Rattle.oe_engine.specs.Results.{IsVisible, OfMeaning}
-use Rattle.oe_engine.specs.Evaluations.{Goes, IsFirst, IsPlanOf, OfRun, ReadsForRun}
+use Rattle.oe_engine.specs.Evaluations.{Goes, IsFirst, IsPlanOf, ReadsForRun}
 use Rattle.oe_graph.specs.Printed.{node_count}
 use Rattle.oe_outside.specs.Faults.{NeverFalls, Rose}
 use Rattle.oe_outside.specs.Visible.{Appends, AppendsPrefix}

@@ -3,13 +3,11 @@ ghost use Rattle.std.specs.Prelude.{◌≡◌, ◌≤◌, ◌^◌, ℕ, IfErr, I
 ghost use Rattle.oe_dims.specs.Dimensions.{cell_count};
 ghost use Rattle.oe_engine.specs.Evaluations.{IsFirst};
 ghost use Rattle.oe_engine.specs.Going.{IsGoing};
-ghost use Rattle.oe_engine.specs.Runs.{HasRunRecords, ShowsDone, chunk_total, result_cube, result_shape};
+ghost use Rattle.oe_engine.specs.Runs.{HasRunRecords, OfRun, chunk_total, result_shape};
 ghost use Rattle.oe_outside.specs.Faults.{NeverFalls};
 ghost use Rattle.oe_plan.specs.Plans.{IsPlan};
 ghost use Rattle.oe_plan.specs.Ranges.{IsWithinRanges};
 ghost use Rattle.oe_render.specs.Text.{cube_text};
-ghost use Rattle.oe_meanings.specs.Graphs.{Collections};
-ghost use Rattle.oe_check.specs.Laws.{AreCollectionsOf};
 ghost use Rattle.oe_sources.specs.CatalogueRows.{rows_of};
 ghost use Rattle.oe_serve.specs.Evaluations as spec;
 ghost use Rattle.oe_serve.specs.Results.{IsTooLarge};
@@ -81,10 +79,8 @@ fn count_text<P: Store>(
     requires complete { run.old.done ≡ chunk_total run.old.plan }
     requires numbers { run.old.over ≡ None }
     requires records { HasRunRecords run.old (P.bytes spool.old) }
-    ensures counted { IfOk result (λ count. (collections : Collections)
-        → AreCollectionsOf run.old.plan.graph collections
-        → ShowsDone run.old (P.bytes spool.old) (result_cube collections run.old.plan)
-        → count ≡ length (cube_text (result_cube collections run.old.plan))) }
+    ensures counted { IfOk result (λ count. OfRun run.old (P.bytes spool.old)
+        (λ cube. count ≡ length (cube_text cube))) }
     ensures refused { IfErr result (spec.TextRefused (P.bytes spool.old)
         (cell_count (result_shape run.old.plan)) (P.faults spool.old) (P.faults spool.new)) }
     ensures run { run.new ≡ run.old }

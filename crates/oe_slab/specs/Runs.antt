@@ -9,7 +9,7 @@ use Rattle.oe_dims.specs.Dimensions.{Dimensions}
 use Rattle.oe_dims.specs.Positions.{Position, number_of}
 use Rattle.oe_plan.specs.Figures.{chunks_of, shape_of_node}
 use Rattle.oe_meanings.specs.Graphs.{Collections}
-use Rattle.oe_check.specs.Laws.{meaning_of_node}
+use Rattle.oe_check.specs.Laws.{AreCollectionsOf, meaning_of_node}
 use Rattle.oe_spool.specs.Least.{IsLeastOver}
 use Rattle.oe_spool.specs.Spooled.{HoldsRecord, HoldsRecords, IsInSome}
 use Rattle.oe_steps.specs.declared.fail.RunFail.{RunFail}
@@ -61,6 +61,11 @@ pub record HasDone (r : SlabRunOf) (store : Option (List ℕ)) (cube : Cube Cell
 abbrev pub ShowsDone : SlabRunOf → Option (List ℕ) → Cube Cell → Type 0
 ShowsDone r None cube = ⊥
 ShowsDone r (Some bytes) cube = HasDone r (Some bytes) cube
+
+-- something holds of the cube of a run's result, where the bytes of the store that its records stand in are visible
+abbrev pub OfRun : SlabRunOf → Option (List ℕ) → (Cube Cell → Type 0) → Type 0
+OfRun r store Holds = (collections : Collections) → AreCollectionsOf r.plan.graph collections
+    → ShowsDone r store (result_cube collections r.plan) → Holds (result_cube collections r.plan)
 
 -- a record of some cell stands at each position that is done, of none that is Over where none was found
 pub record HasSome (r : SlabRunOf) (store : Option (List ℕ)) (p : Position) : Type 0 where

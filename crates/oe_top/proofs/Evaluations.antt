@@ -3,9 +3,9 @@ use Rattle.std.proofs.Common.{◌≡◌, ◌<◌, ℕ, List, Option, Some, None,
 use Rattle.std.proofs.lemmas.List.{append-nil}
 use Rattle.oe_dims.specs.Dimensions.{cell_count}
 use Rattle.oe_engine.specs.Laws.{GivesCollections}
-use Rattle.oe_engine.specs.Runs.{RunOf, result_shape}
+use Rattle.oe_engine.specs.Runs.{OfRun, RunOf, result_shape}
 use Rattle.oe_engine.specs.Results.{IsWithoutOver, OfMeaning}
-use Rattle.oe_engine.specs.Evaluations.{Evaluates as EvaluatesRun, OfRun, ReadsForPlan}
+use Rattle.oe_engine.specs.Evaluations.{Evaluates as EvaluatesRun, ReadsForPlan}
 use Rattle.oe_engine.proofs.RunReads.{reads_for_run}
 use Rattle.oe_engine.proofs.RunResults.{hidden, of_meaning, over_is, without_over}
 use Rattle.oe_steps.specs.declared.fail.RunFail.{RunFail}
