@@ -1,5 +1,5 @@
 -- The ids of the nodes that make assets.
-use Rattle.std.proofs.Common.{◌≡◌, ℕ, suc, ◌+◌, true, List, [], ◌∷◌, map, refl, ap, sym, ◌∙◌, inl, inr, true≢false, arith}
+use Rattle.std.proofs.Common.{◌≡◌, ℕ, suc, ◌+◌, true, List, [], ◌∷◌, map, refl, ap, sym, ◌∙◌, inl, inr, true≢false, arith, ◌<◌, subst}
 use Rattle.std.specs.Prelude.{◌&&◌, nat_le}
 use Rattle.std.specs.List.{AllByRecursion}
 use Rattle.std.proofs.lemmas.Bool.{and_parts, and_from, cases_Bool}
@@ -82,3 +82,17 @@ pub asset_ids_rise : (graph : PlainGraph) → IsValidGraph graph → names_rise 
 asset_ids_rise graph valid =
     let parts = and_parts (nat_le (suc graph.result) (node_count graph.nodes) && names_rise (ids_of graph.nodes)) (are_valid_nodes graph.nodes) valid in
     kept_rise graph.result 0 graph.nodes (and_parts _ _ parts.0).1
+
+-- the nodes that make assets are nodes of the graph
+pub nodes_below : (result index : ℕ) (nodes : Nodes)
+    → AllByRecursion (λ i. i < index + node_count nodes) (asset_nodes_from result index nodes)
+nodes_below result index no_nodes = tt
+nodes_below result index (node id process_id namespace arguments rest) =
+    let same : (index + 1) + node_count rest ≡ index + suc (node_count rest) = omega arith in
+    let more : AllByRecursion (λ i. i < index + suc (node_count rest)) (asset_nodes_from result (index + 1) rest) =
+    subst (λ (n : ℕ). AllByRecursion (λ i. i < n) (asset_nodes_from result (index + 1) rest)) same
+    (nodes_below result (index + 1) rest) in
+    elim (cases_Bool (makes_asset result index process_id)) [
+      | inl t ↦ rw t (omega arith, more)
+      | inr f ↦ rw f more
+    ]

@@ -27,10 +27,10 @@ same_faults ms ns same code node (form.node_invalid is member valid invalid) =
 same_faults ms ns same code node (form.result_node_count is other) =
     form.result_node_count (same_objects (object ms) (object ns) _ _ same is) other
 
-other_name : codes "process_graph" ≡ codes "id" → ⊥
+pub other_name : codes "process_graph" ≡ codes "id" → ⊥
 other_name e = cc
 
-other_parameters : codes "parameters" ≡ codes "id" → ⊥
+pub other_parameters : codes "parameters" ≡ codes "id" → ⊥
 other_parameters e = cc
 
 pub id_leaves_faults : IdLeavesFaults

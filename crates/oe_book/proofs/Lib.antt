@@ -1,8 +1,8 @@
-mod RunningLemmas
+pub mod RunningLemmas
 mod StoredLemmas
-mod ProcessLemmas
-mod AssetLemmas
-mod IdLemmas
+pub mod ProcessLemmas
+pub mod AssetLemmas
+pub mod IdLemmas
 mod IdleLemmas
 mod LoopLemmas
 mod CountLemmas

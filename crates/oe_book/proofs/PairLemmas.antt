@@ -2,7 +2,7 @@
 use Rattle.std.proofs.Common.{◌≡◌, ◌≢◌, ◌↔◌, ℕ, ◌==◌, ◌&&◌, ◌||◌, Bool, true, false, true≢false, not, List, [], ◌∷◌, map, refl, sym, ap, ◌∙◌, subst, arith}
 use Rattle.std.specs.Prelude.{IsTrue}
 use Rattle.std.specs.List.{list_any}
-use Rattle.std.proofs.lemmas.Bool.{and_parts}
+use Rattle.std.proofs.lemmas.Bool.{and_parts, not-true}
 use Rattle.std.proofs.lemmas.Bool.Decides.{nat_tests}
 use Rattle.oe_dims.specs.Names.{same_name}
 use Rattle.oe_graph.specs.Plain.{plain_stored}
@@ -74,10 +74,6 @@ apart_turn job other apart =
     differ true same apart = absurd (apart (turns_equal job.turn other.turn same))
     differ false same apart = refl
 
-not_true : (b : Bool) → not b ≡ true → b ≡ false
-not_true true e = cc
-not_true false e = refl
-
 pub runs_told : (job other : PlainJob) (run : Bool) → run ≡ (is_running job.status && is_running other.status) → run ≡ true
     → IsTrue false ↔ AreApart job other
 runs_told job other run is run_true = (
@@ -88,7 +84,7 @@ runs_told job other run is run_true = (
 pub turn_told : (job other : PlainJob) (run turn : Bool) → run ≡ (is_running job.status && is_running other.status) → run ≡ false
     → turn ≡ (is_busy job.status && is_busy other.status && (job.turn == other.turn)) → IsTrue (not turn) ↔ AreApart job other
 turn_told job other run turn run_is none is = (
-  λ t. apart_is job other (sym run_is ∙ none) (sym is ∙ not_true turn t),
+  λ t. apart_is job other (sym run_is ∙ none) (sym is ∙ not-true turn t),
   λ a. ap not (is ∙ apart_turn job other a),
 )
 

@@ -1,18 +1,16 @@
 -- A text is that of a process just where its one value is a graph and the text is the value's.
-use Rattle.std.proofs.Common.{◌≡◌, ◌↔◌, ℕ, Bool, List, Some, sym, ap, ◌∙◌, subst}
+use Rattle.std.proofs.Common.{◌≡◌, ◌↔◌, ℕ, Bool, List, sym, ap, ◌∙◌, subst, arith}
 use Rattle.std.specs.Prelude.{IsTrue}
 use Rattle.serde_json.specs.Data.{Data}
 use Rattle.oe_dims.specs.Names.{same_name}
 use Rattle.oe_dims.proofs.OrderLemmas.{same_name_is, same_name_refl}
 use Rattle.oe_graph.specs.Faults.{IsLeast}
-use Rattle.oe_graph.specs.Form.{IsReading, StandsIn}
+use Rattle.oe_graph.specs.Form.{IsReading, Stands, StandsIn, graph_unreadable, input_too_long, of_value}
 use Rattle.oe_graph.specs.Read.{IsFaultless}
 use Rattle.oe_graph.specs.declared.fault.Fault.{Fault}
+use Rattle.oe_graph.proofs.ReadLemmas.{same_value}
 use Rattle.oe_jobs.specs.Valid.{IsProcessText}
 use Rattle.oe_book.specs.Process.{IsTextOf}
-
-same_value : (bytes : List ℕ) (d e : Data) → IsReading bytes d → IsReading bytes e → d ≡ e
-same_value bytes d e first other = let both : Some d ≡ Some e = sym first.value ∙ other.value in cc
 
 abbrev IsGraphText : Data → List ℕ → Type 0
 IsGraphText d text = IsTextOf d text × IsFaultless (StandsIn d)
@@ -48,3 +46,13 @@ text_is d written text same is told = (
       let equal : written ≡ text = is.compact ∙ sym of.compact in
       told ∙ (ap (same_name written) (sym equal) ∙ same_name_refl written),
 )
+
+-- no fault of its form stands in the text of a process
+pub process_faultless : (text : List ℕ) → IsProcessText text → IsFaultless (Stands text)
+process_faultless text p code name (input_too_long long) = absurd (omega (arith, long, p.short))
+process_faultless text p code name (graph_unreadable none) = none p.value p.is_read
+process_faultless text p code name (of_value {d} is stands) =
+    p.faultless code name (subst (λ (e : Data). StandsIn e code name) (same_value text d p.value is p.is_read) stands)
+
+pub no_fault : (text : List ℕ) (fault : Fault) → IsProcessText text → IsLeast (Stands text) fault → ⊥
+no_fault text fault p least = process_faultless text p fault.code fault.node least.stands

@@ -18,7 +18,7 @@ use Rattle.oe_jobs.specs.declared.status.Status.TheVariants.{Created, Queued, Ru
 
 -- ---- lists of jobs
 
-abbrev runs_in : List PlainJob → Option PlainJob
+abbrev pub runs_in : List PlainJob → Option PlainJob
 runs_in jobs = find (λ (job : PlainJob). is_running job.status) jobs
 
 -- the same job runs, or none
@@ -26,7 +26,7 @@ abbrev StaysOrNone : List PlainJob → List PlainJob → Type 0
 StaysOrNone before new = (runs_in new ≡ runs_in before) ⊎ (runs_in new ≡ None)
 
 -- beside a job that runs no other one does
-none_beside : (job : PlainJob) (jobs : List PlainJob) → is_running job.status ≡ true → AllByRecursion (AreApart job) jobs
+pub none_beside : (job : PlainJob) (jobs : List PlainJob) → is_running job.status ≡ true → AllByRecursion (AreApart job) jobs
     → runs_in jobs ≡ None
 none_beside job [] runs apart = refl
 none_beside job (x ∷ jobs) runs apart = rw (apart.0.one_runs runs) (none_beside job jobs runs apart.1)

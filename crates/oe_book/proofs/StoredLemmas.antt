@@ -1,8 +1,8 @@
 -- The stored processes of a valid book are such as graphs are resolved with.
-use Rattle.std.proofs.Common.{◌≡◌, ◌≢◌, ℕ, zero, suc, ◌<◌, Bool, true, false, not, List, [], ◌∷◌, length, Some, refl, ap, sym, ◌∙◌, subst, true≢false, arith}
+use Rattle.std.proofs.Common.{◌≡◌, ◌≢◌, ℕ, zero, suc, ◌<◌, true, false, not, List, [], ◌∷◌, length, Some, ap, sym, ◌∙◌, subst, true≢false, arith}
 use Rattle.std.specs.Prelude.{slice_get, slice_index_or}
 use Rattle.std.specs.List.{AllByRecursion, list_any}
-use Rattle.std.proofs.lemmas.Bool.{and_parts, or_parts}
+use Rattle.std.proofs.lemmas.Bool.{and_parts, not-true, or_parts}
 use Rattle.std.proofs.lemmas.Option.{same_Some}
 use Rattle.oe_dims.specs.Names.{same_name}
 use Rattle.oe_dims.proofs.OrderLemmas.{same_name_refl}
@@ -20,10 +20,6 @@ all_at : {X : Type 0} (P : X → Type 0) (xs : List X) (k : ℕ) (x : X) → k <
 all_at P [] k x below is all = absurd (omega arith)
 all_at P (a ∷ xs) zero x below is all = subst P is all.0
 all_at P (a ∷ xs) (suc k) x below is all = all_at P xs k x (omega arith) is all.1
-
-not_true : (b : Bool) → not b ≡ true → b ≡ false
-not_true true e = cc
-not_true false e = refl
 
 no_other : (name : List ℕ) (ps : List PlainStored) (j : ℕ) (b : PlainStored)
     → list_any (same_name name) (stored_ids ps) ≡ false → slice_get ps j ≡ Some b → name ≢ b.id
@@ -45,7 +41,7 @@ ids_apart (p ∷ ps) distinct zero zero a b below at_i at_j = absurd (omega arit
 ids_apart (p ∷ ps) distinct zero (suc j) a b below at_i at_j =
     let parts = and_parts (not (list_any (same_name p.id) (stored_ids ps))) (are_distinct (stored_ids ps)) distinct in
     let here : p ≡ a = same_Some _ _ at_i in
-    λ e. no_other p.id ps j b (not_true _ parts.0) at_j (ap (λ (q : PlainStored). q.id) here ∙ e)
+    λ e. no_other p.id ps j b (not-true _ parts.0) at_j (ap (λ (q : PlainStored). q.id) here ∙ e)
 ids_apart (p ∷ ps) distinct (suc i) zero a b below at_i at_j = absurd (omega arith)
 ids_apart (p ∷ ps) distinct (suc i) (suc j) a b below at_i at_j =
     let parts = and_parts (not (list_any (same_name p.id) (stored_ids ps))) (are_distinct (stored_ids ps)) distinct in

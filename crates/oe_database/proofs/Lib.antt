@@ -1,5 +1,4 @@
 mod Steps
 mod Asks
 mod Lists
-mod NumberLemmas
 mod InsideLemmas

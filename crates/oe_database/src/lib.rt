@@ -10,7 +10,6 @@ mod jobs;
 mod keeper;
 mod load;
 mod make;
-mod number;
 mod queries;
 mod refusal;
 mod rows;

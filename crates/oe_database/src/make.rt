@@ -8,12 +8,11 @@ ghost use Rattle.oe_database.specs.Makes.{Makes};
 ghost use Rattle.oe_database.specs.Statements.{asset_statements};
 
 use crate::held::{held_job, note};
-use crate::number::number_of;
 use crate::refusal::Refusal;
 use crate::run::run_each;
 use crate::statements::{add_asset, drop_job, drop_process, put_job, put_process};
 use oe_dims::Text;
-use oe_jobs::{Asset, Change, Job, LogEntry, Owned};
+use oe_jobs::{Asset, Change, Job, LogEntry, Owned, number_of};
 use oe_keeper::job_text;
 use sqlite::{Alter, Transaction};
 use std::alloc::Global;

@@ -2,7 +2,7 @@ mod Worked
 mod MachineLemmas
 mod ChangeLemmas
 mod RoomLemmas
-mod LineLemmas
+pub mod LineLemmas
 mod ValidLemmas
 mod KeepLemmas
 pub mod PutLemmas
@@ -12,3 +12,4 @@ mod DecideLemmas
 mod DueLemmas
 mod NumberLemmas
 mod TextLemmas
+pub mod Floats

@@ -128,7 +128,7 @@ book_more book greater more small valid = record {
 
 -- ---- a job less
 
-numbered_lower : (low lower next : ℕ) (jobs : List PlainJob) → lower ≤ low → AreNumbered low jobs next → AreNumbered lower jobs next
+pub numbered_lower : (low lower next : ℕ) (jobs : List PlainJob) → lower ≤ low → AreNumbered low jobs next → AreNumbered lower jobs next
 numbered_lower low lower next [] less n = omega arith
 numbered_lower low lower next (a ∷ jobs) less n = (n.0, n.1, omega (arith, n.2), n.3, n.4)
 

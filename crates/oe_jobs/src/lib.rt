@@ -31,6 +31,6 @@ pub use find::{count_jobs, count_processes, is_same};
 pub use job::{Asset, Job, LogEntry, Ran};
 pub use keeper::{Keeper, KeeperFail};
 pub use level::Level;
-pub use number::{job_id, read_number};
+pub use number::{job_id, number_of, read_number};
 pub use status::Status;
 pub use verdict::decide;

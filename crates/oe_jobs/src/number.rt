@@ -27,8 +27,8 @@ pub fn job_id(alloc: Global, number: u64) -> Result<Text, OutOfMemory>
     Text::of(alloc, id.as_str())
 }
 
-/// The number of the job of an id.
-fn number_of(id: &str) -> Option<u64>
+/// The number of the job of an id. None exactly where the id is that of no number.
+pub fn number_of(id: &str) -> Option<u64>
     ensures { Finds (NamesNumber id.now) result }
 {
     match id.split_once('-') {

@@ -5,7 +5,7 @@ use Rattle.std.specs.Option.{IfSome}
 use Rattle.std.proofs.lemmas.Bool.{lt-ltb}
 use Rattle.std.proofs.lemmas.Int.{ints}
 use Rattle.serde_json.specs.Data.{Data, depth, items_depth}
-use Rattle.serde_json.specs.Find.{as_i64, is_float, of_integer}
+use Rattle.serde_json.specs.Find.{as_i64, of_integer}
 use Rattle.serde_json.specs.Read.{read, max_depth}
 use Rattle.serde_json.specs.View.{items_of}
 use Rattle.serde_json.specs.Written.{has_float, items_have_float}
@@ -15,14 +15,11 @@ use Rattle.oe_graph.specs.Read.{ReadsStored}
 use Rattle.oe_graph.specs.Tree.{PlainStored}
 use Rattle.oe_jobs.specs.Plain.{PlainJob, PlainRan}
 use Rattle.oe_jobs.specs.declared.job.LogEntry.{LogEntry}
+use Rattle.oe_jobs.proofs.Floats.{integer_whole}
 use Rattle.oe_keeper.specs.Entry.{job_data, log_data, ran_data, stored_data, text_data}
 use Rattle.oe_keeper.specs.Reading.{Each, IsEntry, IsLog, IsRanOrNull, IsRestorable, IsStoredEntry, without_assets}
 
 -- ---- no number in it is a float
-
-integer_whole : (z : ℤ) → is_float (of_integer z) ≡ false
-integer_whole (pos n) = refl
-integer_whole (negsuc n) = refl
 
 text_whole : (text : Option (List ℕ)) → has_float (text_data text) ≡ false
 text_whole None = refl

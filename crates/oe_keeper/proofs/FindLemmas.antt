@@ -11,10 +11,10 @@ use Rattle.oe_graph.specs.Parameters.{StandsStored}
 use Rattle.oe_graph.specs.Read.{ReadsStored}
 use Rattle.oe_graph.specs.Tree.{PlainStored}
 use Rattle.oe_graph.specs.declared.fault.Fault.{Fault}
+use Rattle.oe_graph.proofs.ReadLemmas.{same_value}
 use Rattle.oe_jobs.specs.Plain.{PlainJob, PlainRan}
 use Rattle.oe_jobs.specs.Texts.{Finds, SpellsNumber, level_text}
 use Rattle.oe_jobs.specs.declared.level.Level.{Level}
-use Rattle.oe_jobs.specs.declared.level.Level.TheVariants as levels
 use Rattle.oe_keeper.specs.Entry.{text_data}
 use Rattle.oe_keeper.specs.Reading.{Each, HasInstant, HasList, HasRan, HasTurn, IsEntry, IsLevel, IsRanEntry, IsRanOrNull, IsStoredEntry, ReadsJob, whole_in}
 
@@ -158,10 +158,6 @@ pub stored_refused : (id text bytes : List ℕ) (fault : Fault) (p : PlainStored
     → ReadsStored id text p → ⊥
 stored_refused id text bytes fault p same least r =
     r.valid fault.code fault.node (subst (λ (t : List ℕ). StandsStored t fault.code fault.node) same least.stands)
-
--- bytes are the text of one value
-pub same_value : (bytes : List ℕ) (d e : Data) → IsReading bytes d → IsReading bytes e → d ≡ e
-same_value bytes d e first other = let both : Some d ≡ Some e = sym first.value ∙ other.value in cc
 
 -- the job of a text, by its value
 pub job_found : (id bytes : List ℕ) (d : Data) (found : Option PlainJob) → IsReading bytes d

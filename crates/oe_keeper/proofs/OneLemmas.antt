@@ -5,6 +5,7 @@ use Rattle.serde_json.specs.Data.{Data, null, string, array, Items, no_items, it
 use Rattle.serde_json.specs.Find.{get}
 use Rattle.oe_graph.specs.Read.{ReadsStored}
 use Rattle.oe_graph.proofs.ReadAgain.{ReadsStored-unique}
+use Rattle.oe_graph.proofs.ReadLemmas.{same_value}
 use Rattle.oe_graph.specs.Tree.{PlainStored}
 use Rattle.oe_jobs.specs.Plain.{PlainJob, PlainRan}
 use Rattle.oe_jobs.specs.Texts.{Finds, level_text, status_text}
@@ -14,7 +15,6 @@ use Rattle.oe_jobs.specs.declared.level.Level.{Level}
 use Rattle.oe_jobs.specs.declared.level.Level.TheVariants as levels
 use Rattle.oe_jobs.specs.declared.status.Status.{Status}
 use Rattle.oe_jobs.specs.declared.status.Status.TheVariants.{Created, Queued, Running, Canceled, Finished, Error}
-use Rattle.oe_keeper.proofs.FindLemmas.{same_value}
 use Rattle.oe_keeper.specs.Entry.{text_data}
 use Rattle.oe_keeper.specs.Reading.{Each, HasInstant, HasList, HasRan, HasTurn, IsEntry, IsLevel, IsLog, IsRanEntry, IsRanOrNull, IsStoredEntry, ReadsJob}
 

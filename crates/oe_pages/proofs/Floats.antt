@@ -1,10 +1,12 @@
 -- No number of an estimate is a fraction, and none of a page, where none of the list is.
-use Rattle.std.proofs.Common.{◌≡◌, ℕ, zero, suc, List, [], ◌∷◌, map, take, drop, Bool, true, false, ◌||◌, Option, Some, None, codes, length, refl}
+use Rattle.std.proofs.Common.{◌≡◌, ℕ, zero, suc, List, [], ◌∷◌, map, take, drop, false, Option, Some, None, codes, length, refl}
+use Rattle.std.proofs.lemmas.Bool.{or_parts}
 use Rattle.std.specs.Option.{option_map_or}
 use Rattle.std.specs.Ordering.{match_ordering, nat_cmp}
 use Rattle.std.specs.Cmp.Lexicographic.{slice_cmp}
 use Rattle.std.specs.declared.cmp.Ordering.{Ordering}
 use Rattle.std.specs.declared.cmp.Ordering.TheVariants.{Less, Equal, Greater}
+use Rattle.oe_jobs.proofs.Floats.{put_whole}
 use Rattle.serde_json.specs.Data.{Data, null, boolean, number, string, array, object, Items, no_items, item, Members, no_members, member, put}
 use Rattle.serde_json.specs.Find.{get_member}
 use Rattle.serde_json.specs.View.{items_of}
@@ -25,24 +27,6 @@ estimate_whole rows = rw (rows_whole rows) refl
 
 -- ---- members
 
-parts_false : (a b : Bool) → (a || b) ≡ false → (a ≡ false) × (b ≡ false)
-parts_false true b h = absurd cc
-parts_false false b h = (refl, h)
-
-put_step : (o : Ordering) (k : List ℕ) (d : Data) (l : List ℕ) (e : Data) (ms : Members)
-    → has_float d ≡ false → has_float e ≡ false → members_have_float ms ≡ false → members_have_float (put k d ms) ≡ false
-    → members_have_float (match_ordering o (member k d (member l e ms)) (member l d ms) (member l e (put k d ms))) ≡ false
-put_step Less k d l e ms new old rest more = rw (new, old) rest
-put_step Equal k d l e ms new old rest more = rw new rest
-put_step Greater k d l e ms new old rest more = rw old more
-
-put_whole : (k : List ℕ) (d : Data) (ms : Members) → has_float d ≡ false → members_have_float ms ≡ false
-    → members_have_float (put k d ms) ≡ false
-put_whole k d no_members new old = rw new refl
-put_whole k d (member l e ms) new old =
-    let parts = parts_false (has_float e) (members_have_float ms) old in
-    put_step (slice_cmp nat_cmp k l) k d l e ms new parts.0 parts.1 (put_whole k d ms new parts.1)
-
 -- ---- the items of a list
 
 abbrev AreWhole : List Data → Type 0
@@ -51,7 +35,7 @@ AreWhole ds = items_have_float (items_of ds) ≡ false
 items_whole : (ds : Items) → items_have_float ds ≡ false → AreWhole (item_list ds)
 items_whole no_items h = refl
 items_whole (item d ds) h =
-    let parts = parts_false (has_float d) (items_have_float ds) h in
+    let parts = or_parts (has_float d) (items_have_float ds) h in
     rw parts.0 (items_whole ds parts.1)
 
 value_whole : (d : Data) → has_float d ≡ false → AreWhole (items_at d)
@@ -73,7 +57,7 @@ members_whole : (name : List ℕ) (ms : Members) → members_have_float ms ≡ f
     → AreWhole (option_map_or items_at (get_member name ms) [])
 members_whole name no_members h = refl
 members_whole name (member l e ms) h =
-    let parts = parts_false (has_float e) (members_have_float ms) h in
+    let parts = or_parts (has_float e) (members_have_float ms) h in
     member_step name l e ms (slice_cmp nat_cmp name l) parts.0 (members_whole name ms parts.1)
 
 items_in_whole : (name : List ℕ) (body : Data) → has_float body ≡ false → AreWhole (items_in name body)
@@ -87,13 +71,13 @@ items_in_whole name (object ms) h = members_whole name ms h
 drop_whole : (n : ℕ) (ds : List Data) → AreWhole ds → AreWhole (drop n ds)
 drop_whole zero ds h = h
 drop_whole (suc n) [] h = refl
-drop_whole (suc n) (d ∷ ds) h = drop_whole n ds (parts_false (has_float d) (items_have_float (items_of ds)) h).1
+drop_whole (suc n) (d ∷ ds) h = drop_whole n ds (or_parts (has_float d) (items_have_float (items_of ds)) h).1
 
 take_whole : (n : ℕ) (ds : List Data) → AreWhole ds → AreWhole (take n ds)
 take_whole zero ds h = refl
 take_whole (suc n) [] h = refl
 take_whole (suc n) (d ∷ ds) h =
-    let parts = parts_false (has_float d) (items_have_float (items_of ds)) h in
+    let parts = or_parts (has_float d) (items_have_float (items_of ds)) h in
     rw parts.0 (take_whole n ds parts.1)
 
 -- ---- pages

@@ -1,13 +1,8 @@
 -- No number of a body is a fraction, but those of a job's process may be.
-use Rattle.std.proofs.Common.{◌≡◌, ℕ, ℤ, pos, negsuc, List, [], ◌∷◌, map, Bool, true, false, ◌||◌, Option, Some, None, codes, refl}
+use Rattle.std.proofs.Common.{◌≡◌, ℕ, ℤ, List, [], ◌∷◌, map, Bool, true, false, Option, Some, None, codes, refl}
 use Rattle.std.specs.Prelude.{◌&&◌, int_le, if◌then◌else◌}
 use Rattle.std.specs.Option.{option_map}
-use Rattle.std.specs.Ordering.{match_ordering, nat_cmp}
-use Rattle.std.specs.Cmp.Lexicographic.{slice_cmp}
-use Rattle.std.specs.declared.cmp.Ordering.{Ordering}
-use Rattle.std.specs.declared.cmp.Ordering.TheVariants.{Less, Equal, Greater}
-use Rattle.serde_json.specs.Data.{Data, null, string, object, Members, no_members, member, put}
-use Rattle.serde_json.specs.Find.{is_float, of_integer}
+use Rattle.serde_json.specs.Data.{null, string, object, Members, no_members, put}
 use Rattle.serde_json.specs.View.{items_of}
 use Rattle.serde_json.specs.Written.{has_float, items_have_float, members_have_float}
 use Rattle.oe_dims.specs.Dimensions.{Dimensions, band_names, first_instant, last_instant, label_count, number_labels}
@@ -20,17 +15,14 @@ use Rattle.oe_graph.specs.declared.fault.Fault.{Fault}
 use Rattle.oe_jobs.specs.Plain.{PlainJob}
 use Rattle.oe_jobs.specs.declared.job.Asset.{Asset}
 use Rattle.oe_jobs.specs.declared.job.LogEntry.{LogEntry}
-use Rattle.oe_replies.specs.Bodies.{PlainEndpoint, capabilities_data, endpoint_data, faults_data, validation_data}
+use Rattle.oe_jobs.proofs.Floats.{integer_whole, put_whole}
+use Rattle.oe_replies.specs.Bodies.{PlainEndpoint, capabilities_data, endpoint_data, validation_data}
 use Rattle.oe_replies.specs.Collections as collections
 use Rattle.oe_replies.specs.Jobs as jobs
 use Rattle.oe_replies.specs.Json.{member_where, moment_data, whole_data}
 use Rattle.oe_replies.specs.Logs.{log_data}
 
 -- ---- numbers, moments and texts
-
-integer_whole : (z : ℤ) → is_float (of_integer z) ≡ false
-integer_whole (pos n) = refl
-integer_whole (negsuc n) = refl
 
 in_range_whole : (b : Bool) (text : List ℕ) → has_float (if b then string text else null) ≡ false
 in_range_whole true text = refl
@@ -50,24 +42,6 @@ words_whole : (name : List ℕ) (words : Option (List ℕ)) (rest : Members) →
     → members_have_float (member_where name (option_map string words) rest) ≡ false
 words_whole name None rest whole = whole
 words_whole name (Some text) rest whole = whole
-
-put_step : (o : Ordering) (k : List ℕ) (d : Data) (l : List ℕ) (e : Data) (ms : Members)
-    → has_float d ≡ false → has_float e ≡ false → members_have_float ms ≡ false → members_have_float (put k d ms) ≡ false
-    → members_have_float (match_ordering o (member k d (member l e ms)) (member l d ms) (member l e (put k d ms))) ≡ false
-put_step Less k d l e ms new old rest more = rw (new, old) rest
-put_step Equal k d l e ms new old rest more = rw new rest
-put_step Greater k d l e ms new old rest more = rw old more
-
-parts_false : (a b : Bool) → (a || b) ≡ false → (a ≡ false) × (b ≡ false)
-parts_false true b h = absurd cc
-parts_false false b h = (refl, h)
-
-put_whole : (k : List ℕ) (d : Data) (ms : Members) → has_float d ≡ false → members_have_float ms ≡ false
-    → members_have_float (put k d ms) ≡ false
-put_whole k d no_members new old = rw new refl
-put_whole k d (member l e ms) new old =
-    let parts = parts_false (has_float e) (members_have_float ms) old in
-    put_step (slice_cmp nat_cmp k l) k d l e ms new parts.0 parts.1 (put_whole k d ms new parts.1)
 
 -- ---- bodies
 

@@ -1,8 +1,8 @@
 -- The assets of a graph: no fault stands in it where another of its nodes is the result.
-use Rattle.std.proofs.Common.{◌≡◌, ℕ, zero, suc, ◌+◌, ◌<◌, List, [], ◌∷◌, ◌++◌, length, map, take, get_or, refl, sym, ap, ◌∙◌, subst, inl, inr, arith, Result, Ok, Some, None}
+use Rattle.std.proofs.Common.{◌≡◌, ℕ, zero, suc, ◌+◌, ◌<◌, List, [], ◌∷◌, ◌++◌, length, map, take, get_or, refl, sym, ap, ◌∙◌, subst, arith, Result, Ok}
 use Rattle.std.specs.List.{AllByRecursion}
-use Rattle.std.proofs.lemmas.Bool.{cases_Bool}
-use Rattle.oe_book.specs.Assets.{asset_nodes, asset_nodes_from, makes_asset}
+use Rattle.oe_book.specs.Assets.{asset_nodes}
+use Rattle.oe_book.proofs.AssetLemmas.{nodes_below}
 use Rattle.oe_dims.specs.declared.dims.DimsRow.{DimsRow}
 use Rattle.oe_graph.specs.Faults.{IsLeast}
 use Rattle.oe_graph.specs.Printed.{node_count}
@@ -13,8 +13,8 @@ use Rattle.oe_graph.specs.declared.fault.Fault.{Fault}
 use Rattle.oe_judge.specs.Judged.{StandsWithCollections, having_result, of_cubes, of_names}
 use Rattle.oe_calls.specs.Faults as faults
 use Rattle.oe_calls.specs.Faults.{HasNode, IsWithin, StandsWithStored}
-use Rattle.oe_resolve.specs.Filled.{filled_nodes, resolved}
-use Rattle.oe_calls.specs.Rounds.{expanded, expanded_by, cleared_graph, cleared_nodes, cleared_stored, most_rounds, round_nodes, rounds}
+use Rattle.oe_resolve.specs.Filled.{filled_nodes}
+use Rattle.oe_calls.specs.Rounds.{expanded_by, cleared_graph, cleared_stored, most_rounds, round_nodes, rounds}
 use Rattle.oe_meanings.specs.Stands as cubes
 use Rattle.oe_http.specs.Plain.{PlainRequest}
 use Rattle.oe_jobs.specs.Plain.{PlainJob}
@@ -127,19 +127,6 @@ pub job_estimated : {X : Type 0} (view : X → PlainAction) (result : Result X R
 job_estimated view result s f user r job named settles = rw named settles
 
 -- ---- the nodes that make assets are nodes of the graph
-
-nodes_below : (result index : ℕ) (nodes : Nodes)
-    → AllByRecursion (λ i. i < index + node_count nodes) (asset_nodes_from result index nodes)
-nodes_below result index no_nodes = tt
-nodes_below result index (node id process_id namespace arguments rest) =
-    let same : (index + 1) + node_count rest ≡ index + suc (node_count rest) = omega arith in
-    let more : AllByRecursion (λ i. i < index + suc (node_count rest)) (asset_nodes_from result (index + 1) rest) =
-    subst (λ (n : ℕ). AllByRecursion (λ i. i < n) (asset_nodes_from result (index + 1) rest)) same
-    (nodes_below result (index + 1) rest) in
-    elim (cases_Bool (makes_asset result index process_id)) [
-      | inl t ↦ rw t (omega arith, more)
-      | inr f ↦ rw f more
-    ]
 
 pub assets_within : (g : PlainGraph) → AreWithin g (asset_nodes g)
 assets_within g =

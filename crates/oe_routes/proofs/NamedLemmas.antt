@@ -7,12 +7,8 @@ use Rattle.std.proofs.lemmas.List.{length-map}
 use Rattle.std.proofs.lemmas.Option.{same_Some}
 use Rattle.serde_json.specs.Data.{Data, null}
 use Rattle.serde_json.specs.Written.{has_float}
-use Rattle.oe_graph.specs.Form.{Stands}
-use Rattle.oe_graph.specs.Faults.{IsLeast}
-use Rattle.oe_graph.specs.Read.{IsFaultless, Reads}
+use Rattle.oe_graph.specs.Read.{Reads}
 use Rattle.oe_graph.specs.Tree.{PlainGraph}
-use Rattle.oe_graph.specs.declared.fault.Fault.{Fault}
-use Rattle.oe_graph.proofs.ReadLemmas.{bytes_valid}
 use Rattle.oe_jobs.specs.Plain.{PlainBook, PlainJob, plain_job}
 use Rattle.oe_jobs.specs.Valid.{IsBook, IsJob, IsProcessText}
 use Rattle.oe_jobs.specs.Verdicts.{is_found, job_of}
@@ -57,13 +53,6 @@ job_whole book user id job valid named = text_whole job.process (job_process boo
 pub text_graph : (text : List ℕ) (g : PlainGraph) → Reads text g → g ≡ graph_of_text text
 text_graph text g is =
     graph_is is.value g is.is_graph ∙ ap (λ (o : Option Data). graph_in (unwrap_or o null)) (sym is.is_read.value)
-
--- no fault of the form stands in it
-faultless_text : (text : List ℕ) → IsProcessText text → IsFaultless (Stands text)
-faultless_text text is = bytes_valid text is.value is.is_read (omega (arith, is.short)) is.faultless
-
-pub no_fault : (text : List ℕ) (fault : Fault) → IsProcessText text → IsLeast (Stands text) fault → ⊥
-no_fault text fault is least = faultless_text text is fault.code fault.node least.stands
 
 -- ---- a job and an asset by their indices
 

@@ -18,6 +18,7 @@ use Rattle.oe_graph.specs.Tree.{PlainStored}
 use Rattle.oe_graph.specs.declared.code.Code.{Code}
 use Rattle.oe_graph.proofs.ReadLemmas.{same_value}
 use Rattle.oe_book.specs.Laws.{IdLeavesFaults}
+use Rattle.oe_book.proofs.IdLemmas.{other_name, other_parameters}
 use Rattle.oe_graph.specs.declared.fault.Fault.{Fault}
 use Rattle.oe_graph.specs.declared.fault.Refusal as graphs
 use Rattle.oe_jobs.specs.Valid.{IsStored, most_process}
@@ -67,12 +68,6 @@ pub id_whole : (id : List ℕ) (ms : Members) → has_float (object ms) ≡ fals
 id_whole id ms h = whole_put (codes "id") id ms h
 
 -- ---- and leaves the graph and the parameters
-
-other_name : codes "process_graph" ≡ codes "id" → ⊥
-other_name e = cc
-
-other_parameters : codes "parameters" ≡ codes "id" → ⊥
-other_parameters e = cc
 
 same_nodes : (id : Data) (ms : Members) → nodes_in (object (put (codes "id") id ms)) ≡ nodes_in (object ms)
 same_nodes id ms =

@@ -197,7 +197,7 @@ fn may_queue(alloc: Global, job: &Job, user: &Text, scene: Scene) -> Result<(), 
 }
 
 /// The graph of the text of a process.
-#[tactic(auto, using(crate::proofs::NamedLemmas::text_graph, crate::proofs::NamedLemmas::no_fault))]
+#[tactic(auto, using(crate::proofs::NamedLemmas::text_graph, oe_book::proofs::ProcessLemmas::no_fault))]
 pub(crate) fn read_process(alloc: Global, text: &Text) -> Result<Graph, OutOfMemory>
     requires { IsProcessText text.now }
     ensures graph { IfOk result (λ graph. plain_graph graph ≡ spec.graph_of_text text.now) }

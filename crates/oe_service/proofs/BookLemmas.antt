@@ -7,29 +7,23 @@ use Rattle.std.proofs.lemmas.Option.{same_Some}
 use Rattle.oe_dims.specs.Names.{same_name}
 use Rattle.oe_dims.proofs.OrderLemmas.{same_name_is, same_name_refl}
 use Rattle.std.specs.Option.{option_map, option_map_or}
+use Rattle.oe_book.proofs.RunningLemmas.{none_beside, runs_in}
 use Rattle.oe_jobs.specs.Changes.{at_first, changed, is_job, put_first}
 use Rattle.oe_jobs.specs.Events.{is_first, next_queued, running_job}
 use Rattle.oe_jobs.specs.Machine as machine
 use Rattle.oe_jobs.specs.Machine.{after, is_busy, is_queued, is_running, moved, step_of, with_status}
 use Rattle.oe_jobs.specs.Plain.{PlainBook, PlainJob, PlainRan, put_job}
-use Rattle.oe_jobs.specs.Valid.{AllApart, AreApart, AreNumbered, IsBook, IsJob, IsRan}
+use Rattle.oe_jobs.specs.Valid.{AllApart, AreNumbered, IsBook, IsJob, IsRan}
 use Rattle.oe_jobs.specs.Verdicts.{job_id, last_next}
 use Rattle.oe_jobs.specs.declared.job.Asset as assets
 use Rattle.oe_jobs.specs.declared.status.Status.{Status}
 use Rattle.oe_jobs.specs.declared.status.Status.TheVariants.{Created, Queued, Running, Canceled, Finished, Error}
 use Rattle.oe_jobs.proofs.PutLemmas.{found_number, ids_differ}
+use Rattle.oe_jobs.proofs.LineLemmas.{found_passes}
 use Rattle.oe_service.specs.GoesOn.{HasRan}
 use Rattle.oe_service.specs.States.{reopened}
 
 -- ---- what is found
-
-pub found_passes : {X : Type 0} (test : X → Bool) (xs : List X) (x : X) → find test xs ≡ Some x → test x ≡ true
-found_passes test [] x e = absurd cc
-found_passes test (y ∷ xs) x e =
-    elim (cases_Bool (test y)) [
-      | inl t ↦ let same : y ≡ x = same_Some _ _ (rw t at e) in ap test (sym same) ∙ t
-      | inr f ↦ found_passes test xs x (rw f at e)
-    ]
 
 pub found_one : {X : Type 0} (P : X → Type 0) (test : X → Bool) (xs : List X) (x : X) → AllByRecursion P xs
     → find test xs ≡ Some x → P x
@@ -54,14 +48,6 @@ id_differs test low next a jobs job small numbered e =
     ]
 
 -- ---- the job that runs after a step
-
-abbrev pub runs_in : List PlainJob → Option PlainJob
-runs_in jobs = find (λ (job : PlainJob). is_running job.status) jobs
-
-none_beside : (job : PlainJob) (jobs : List PlainJob) → is_running job.status ≡ true → AllByRecursion (AreApart job) jobs
-    → runs_in jobs ≡ None
-none_beside job [] runs apart = refl
-none_beside job (x ∷ jobs) runs apart = rw (apart.0.one_runs runs) (none_beside job jobs runs apart.1)
 
 -- the one that runs has changed: it runs still, or none does
 abbrev still : PlainJob → Option PlainJob

@@ -7,6 +7,7 @@ use Rattle.std.proofs.lemmas.List.Sums.{sum_by-cons}
 use Rattle.std.proofs.lemmas.Option.{same_Some}
 use Rattle.std.proofs.Math.Nat.{eq-or-lt_of_le}
 use Rattle.oe_book.specs.Laws.{KeepsRunning}
+use Rattle.oe_book.proofs.RunningLemmas.{runs_in}
 use Rattle.oe_dims.specs.Names.{same_name}
 use Rattle.oe_dims.proofs.OrderLemmas.{same_name_refl}
 use Rattle.oe_jobs.specs.Changes.{at_first, is_job}
@@ -21,7 +22,7 @@ use Rattle.oe_jobs.specs.declared.status.Status.TheVariants.{Running, Finished}
 use Rattle.oe_service.specs.Finishes.{AssetTicks, DoNotInterrupt, IsFinishedIn, IsRoundCount, IsRunning, JobsFinishInTime, is_tick, no_asset, one_asset}
 use Rattle.oe_service.specs.Runs.{ran_of}
 use Rattle.oe_service.specs.States.{Due, Event, command, no_command, tick, refusal, reopen, Setting, State, after, asset_of as asset_in, at_book, commanded, count_assets, due_of, finish, next, plan, round, store, ticked}
-use Rattle.oe_service.proofs.BookLemmas.{asset_of, finish_of, running_found, runs_in}
+use Rattle.oe_service.proofs.BookLemmas.{asset_of, finish_of, running_found}
 use Rattle.oe_service.proofs.KeptLemmas.{commanded_some}
 use Rattle.oe_service.proofs.NamedLemmas.{changed_named, command_named, named_of}
 use Rattle.oe_service.proofs.NextLemmas.{due_running, finish_due, moved_is, plan_due, round_due, store_due, tick_is}

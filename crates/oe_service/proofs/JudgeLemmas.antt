@@ -1,5 +1,6 @@
 -- The graph of an asset as it was judged, by what was read of a job and of a catalogue.
 use Rattle.std.proofs.Common.{◌≡◌, ℕ, List, subst, refl}
+use Rattle.oe_book.proofs.ProcessLemmas.{no_fault}
 use Rattle.oe_dims.specs.declared.dims.DimsRow.{DimsRow}
 use Rattle.oe_graph.specs.Form.{Stands as StandsInText}
 use Rattle.oe_graph.specs.Read.{IsFault, IsFaultless}
@@ -14,7 +15,6 @@ use Rattle.oe_check.specs.Checked.{CheckedGraph}
 use Rattle.oe_service.specs.Causes.{JudgeRefused, Stands}
 use Rattle.oe_service.specs.Runs.{asset_graph, asset_source}
 use Rattle.oe_service.specs.declared.refusal.RunRefusal.TheVariants.{Graph}
-use Rattle.oe_service.proofs.TextLemmas.{no_fault}
 
 -- no fault of its form is refused in what a job runs
 pub no_refusal : (text bytes : List ℕ) (r : Refusal) (fault : Fault) → IsProcessText text → bytes ≡ text

@@ -19,7 +19,7 @@ use Rattle.oe_jobs.specs.Verdicts.{after_verdict, created, done, has_no_number, 
 use Rattle.oe_jobs.specs.declared.command.JobFault.TheVariants.{JobNotFound, PredefinedProcessExists, ProcessLimit, ProcessNotFound}
 use Rattle.oe_jobs.specs.declared.status.Status.{Status}
 use Rattle.oe_jobs.specs.declared.status.Status.TheVariants.{Created, Queued, Running, Canceled, Finished, Error}
-use Rattle.oe_jobs.proofs.PutLemmas.{numbered_append, put_at_end}
+use Rattle.oe_jobs.proofs.PutLemmas.{numbered_append, numbered_lower, put_at_end}
 use Rattle.oe_service.specs.Finishes.{IsCreatedIn}
 use Rattle.oe_service.proofs.BookLemmas.{found_one, id_differs}
 
@@ -181,10 +181,6 @@ numbered_put test low next (a ∷ jobs) job new numbered e same =
                 )
           ]
     ]
-
-numbered_lower : (low lower next : ℕ) (jobs : List PlainJob) → lower ≤ low → AreNumbered low jobs next → AreNumbered lower jobs next
-numbered_lower low lower next [] less n = omega (arith, less, n)
-numbered_lower low lower next (a ∷ jobs) less n = (n.0, n.1, omega (arith, less, n.2), n.3, n.4)
 
 numbered_without : (test : PlainJob → Bool) (low next : ℕ) (jobs : List PlainJob) → AreNumbered low jobs next
     → AreNumbered low (without_first test jobs) next

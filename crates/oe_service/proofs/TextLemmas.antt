@@ -1,20 +1,16 @@
 -- The text of a process is that of one graph, and no fault of its form stands in it.
-use Rattle.std.proofs.Common.{◌≡◌, ◌<◌, ℕ, ◌+◌, zero, suc, List, [], ◌∷◌, length, get_or, Some, ap, sym, ◌∙◌, subst, inl, inr, arith}
+use Rattle.std.proofs.Common.{◌≡◌, ◌<◌, ℕ, ◌+◌, zero, suc, List, [], ◌∷◌, length, get_or, ap, sym, ◌∙◌, subst, arith}
 use Rattle.std.specs.Prelude.{map, slice_index, option_and_then}
 use Rattle.std.proofs.lemmas.List.{get_or_read, length-map}
 use Rattle.std.specs.List.{AllByRecursion}
 use Rattle.std.specs.Option.{option_map_or}
-use Rattle.std.proofs.lemmas.Bool.{cases_Bool}
-use Rattle.serde_json.specs.Data.{Data}
 use Rattle.oe_graph.specs.Built.{graph_of}
-use Rattle.oe_graph.specs.Faults.{IsLeast}
-use Rattle.oe_graph.specs.Form.{IsReading, Stands, StandsIn, nodes_in, input_too_long, graph_unreadable, of_value}
-use Rattle.oe_graph.specs.Read.{IsFaultless, Reads}
-use Rattle.oe_book.specs.Assets.{asset_ids, asset_nodes, asset_nodes_from, id_at, makes_asset}
+use Rattle.oe_graph.specs.Form.{nodes_in}
+use Rattle.oe_graph.specs.Read.{Reads}
+use Rattle.oe_book.specs.Assets.{asset_ids, asset_nodes, id_at}
+use Rattle.oe_book.proofs.AssetLemmas.{nodes_below}
 use Rattle.oe_graph.specs.Printed.{node_count}
-use Rattle.oe_graph.specs.Tree.{Nodes, no_nodes, node, PlainGraph}
-use Rattle.oe_graph.specs.declared.fault.Fault.{Fault}
-use Rattle.oe_jobs.specs.Valid.{IsProcessText}
+use Rattle.oe_graph.specs.Tree.{PlainGraph}
 use Rattle.oe_service.specs.Runs.{graph_in, no_graph}
 
 pub read_graph_is : (text : List ℕ) (g : PlainGraph) → Reads text g → g ≡ graph_in text
@@ -23,32 +19,7 @@ read_graph_is text g reads =
     ∙ sym (ap (λ d. option_map_or graph_of (option_and_then nodes_in d) no_graph) reads.is_read.value
     ∙ ap (λ m. option_map_or graph_of m no_graph) reads.is_graph.is_main)
 
-same_value : (bytes : List ℕ) (d e : Data) → IsReading bytes d → IsReading bytes e → d ≡ e
-same_value bytes d e first other = let both : Some d ≡ Some e = sym first.value ∙ other.value in cc
-
-pub process_faultless : (text : List ℕ) → IsProcessText text → IsFaultless (Stands text)
-process_faultless text p code name (input_too_long long) = absurd (omega (arith, long, p.short))
-process_faultless text p code name (graph_unreadable none) = none p.value p.is_read
-process_faultless text p code name (of_value {d} is stands) =
-    p.faultless code name (subst (λ (e : Data). StandsIn e code name) (same_value text d p.value is p.is_read) stands)
-
-pub no_fault : (text : List ℕ) (fault : Fault) → IsProcessText text → IsLeast (Stands text) fault → ⊥
-no_fault text fault p least = process_faultless text p fault.code fault.node least.stands
-
 -- ---- the nodes that make assets are nodes of the graph
-
-nodes_below : (result index : ℕ) (nodes : Nodes)
-    → AllByRecursion (λ i. i < index + node_count nodes) (asset_nodes_from result index nodes)
-nodes_below result index no_nodes = tt
-nodes_below result index (node id process_id namespace arguments rest) =
-    let same : (index + 1) + node_count rest ≡ index + suc (node_count rest) = omega arith in
-    let more : AllByRecursion (λ i. i < index + suc (node_count rest)) (asset_nodes_from result (index + 1) rest) =
-    subst (λ (n : ℕ). AllByRecursion (λ i. i < n) (asset_nodes_from result (index + 1) rest)) same
-    (nodes_below result (index + 1) rest) in
-    elim (cases_Bool (makes_asset result index process_id)) [
-      | inl t ↦ rw t (omega arith, more)
-      | inr f ↦ rw f more
-    ]
 
 at_index : (n : ℕ) (xs : List ℕ) (k : ℕ) → AllByRecursion (λ i. i < n) xs → k < length xs → get_or xs k 0 < n
 at_index n [] k all within = absurd (omega (arith, within))
