@@ -18,7 +18,7 @@ dims_without : (done : List DimsRow) (rows : List Row) → put_rows done (map wi
 dims_without done [] = refl
 dims_without done (row ∷ rows) = dims_without (put_row (dims_row row) done) rows
 
-collection_without : (rows : List Row) (id : List ℕ) → collection_at (map without_counts rows) id ≡ collection_at rows id
+pub collection_without : (rows : List Row) (id : List ℕ) → collection_at (map without_counts rows) id ≡ collection_at rows id
 collection_without [] id = refl
 collection_without (row ∷ rows) id = by (same_name row.id id) (collection_without rows id)
   where

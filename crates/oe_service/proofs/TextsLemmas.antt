@@ -1,20 +1,18 @@
 -- The texts that ticks store.
-use Rattle.std.proofs.Common.{◌≡◌, ℕ, ℤ, Bool, true, false, cond, List, [], ◌∷◌, map, Some, unwrap_or, refl, sym, ap, ◌∙◌}
+use Rattle.std.proofs.Common.{◌≡◌, ℕ, ℤ, List, [], map, unwrap_or, sym, ap, ◌∙◌}
 use Rattle.std.proofs.Math.Path.{fun_ext}
-use Rattle.std.specs.Prelude.{option_and_then}
-use Rattle.oe_dims.specs.Names.{same_name}
 use Rattle.oe_dims.specs.declared.dims.DimsRow.{DimsRow}
-use Rattle.oe_steps.specs.Collections.{AreRead, without_counts}
+use Rattle.oe_steps.specs.Collections.{AreRead}
 use Rattle.oe_engine.specs.Laws.{collection_at, collection_named_by, collections_of, null_collection}
 use Rattle.oe_engine.specs.Results.{IsVisible, result_of}
 use Rattle.oe_engine.proofs.LawLemmas.{stay_after_reads}
+use Rattle.oe_engine.proofs.ReadLemmas.{collection_without}
 use Rattle.oe_jobs.specs.Plain.{PlainRan}
 use Rattle.oe_render.specs.Text.{cube_text}
 use Rattle.oe_meanings.specs.Graphs.{Collections}
 use Rattle.oe_check.specs.Laws.{meaning_of_node}
-use Rattle.oe_sources.specs.Catalogue.{Row, row_of}
+use Rattle.oe_sources.specs.Catalogue.{Row}
 use Rattle.oe_sources.specs.CatalogueDims.{dims_of}
-use Rattle.oe_sources.specs.Source.{collection_of}
 use Rattle.oe_window.specs.declared.grid.ChunkSize.{ChunkSize}
 use Rattle.oe_service.specs.Causes.{IsOfTick, Outside}
 use Rattle.oe_service.specs.Finishes.{BringsText}
@@ -38,16 +36,6 @@ brings size workers before after (store job k) now reopen visible loads is = tt
 brings size workers before after (finish job) now e visible loads is = tt
 
 -- ---- what reading leaves
-
-collection_without : (rows : List Row) (id : List ℕ) → collection_at (map without_counts rows) id ≡ collection_at rows id
-collection_without [] id = refl
-collection_without (row ∷ rows) id = by (same_name row.id id) (collection_without rows id)
-  where
-    by : (same : Bool) → collection_at (map without_counts rows) id ≡ collection_at rows id
-        → option_and_then (λ (r : Row). collection_of r.source) (cond same (Some (without_counts row)) (row_of (map without_counts rows) id))
-        ≡ option_and_then (λ (r : Row). collection_of r.source) (cond same (Some row) (row_of rows id))
-    by true same_rest = refl
-    by false same_rest = same_rest
 
 module _ (before after : List Row) (read : AreRead before after) where
   named_same : (row : DimsRow) → collection_named_by after row ≡ collection_named_by before row

@@ -2,7 +2,7 @@
 use Rattle.std.proofs.Common.{◌≡◌, ◌<◌, ◌+◌, ℕ, zero, suc, List, [], ◌∷◌, length, slice_get, Option, Some, None, IfSome, Result, Ok, Err, refl, sym, ap, ◌∙◌, subst, arith}
 use Rattle.std.specs.Prelude.{⊤}
 use Rattle.std.proofs.lemmas.List.{length-map}
-use Rattle.std.proofs.lemmas.Option.{same_Some, slice_get_within}
+use Rattle.std.proofs.lemmas.Option.{slice_get_within}
 use Rattle.oe_cell.specs.declared.cell.Cell.{Cell}
 use Rattle.oe_dims.specs.Dimensions.{Dimensions, cell_count}
 use Rattle.oe_dims.specs.Positions.{IsPosition}
@@ -17,11 +17,12 @@ use Rattle.oe_outside.specs.Input.{TakesAtMost}
 use Rattle.oe_outside.specs.Visible.{Appends, AppendsPrefix}
 use Rattle.oe_parts.specs.Head.{PartHead}
 use Rattle.oe_parts.specs.Laid.{LayStops, Lays}
-use Rattle.oe_parts.specs.Parts.{ArePartsRead, IsPartRead, PartState, heads_of}
+use Rattle.oe_parts.specs.Parts.{ArePartsRead, PartState, heads_of}
 use Rattle.oe_parts.specs.Whole.{AreWhole, Overlaps, RunOutline, SaysMisfit}
 use Rattle.oe_parts.specs.declared.laying.LayFail.TheVariants.{PartDamaged, PartFailed, SpoolFailed}
 use Rattle.oe_parts.specs.declared.whole.Misfit.{Misfit}
 use Rattle.oe_parts.specs.declared.whole.Misfit.TheVariants as misfit
+use Rattle.oe_parts.proofs.PartSteps.{parts_unread}
 use Rattle.oe_plan.specs.Figures.{shape_of_node}
 use Rattle.oe_check.specs.Checked.{CheckedGraph, outline_of_node}
 use Rattle.oe_render.specs.Rendered.{AppendsCube, AppendsCubePrefix, IsRefusalWithin}
@@ -220,24 +221,6 @@ pub refusal_named : (parts : List PartState) (index : ℕ) (name : List ℕ) (re
 refusal_named parts index name refusal_of (part, at, same) = (part, at, ap refusal_of same)
 
 -- ---- the command
-
--- parts that nothing reads stay
-pub parts_unread : (parts : List PartState) → ArePartsRead parts parts
-parts_unread parts = record {
-  many = refl;
-  each = λ index old new before after. by old new (found_same (slice_get parts index) old new before after);
-}
-  where
-    found_same : (found : Option PartState) (old new : PartState) → found ≡ Some old → found ≡ Some new → new ≡ old
-    found_same found old new before after = same_Some new old (sym after ∙ before)
-
-    by : (old new : PartState) → new ≡ old → IsPartRead old new
-    by old new same = record {
-      name = ap (λ (part : PartState). part.name) same;
-      head = ap (λ (part : PartState). part.head) same;
-      bytes = ap (λ (part : PartState). part.bytes) same;
-      faults = subst (λ (part : PartState). NeverFalls old.faults part.faults) (sym same) (NeverFalls-refl old.faults);
-    }
 
 -- the run of a graph, by what was asked of the graph
 abbrev pub run_of : List ℕ → CellKind → Dimensions → RunOutline
