@@ -24,6 +24,7 @@ use Rattle.oe_engine.specs.Loads.{IsLoadedAt}
 use Rattle.oe_steps.specs.declared.fail.RunFail.{RunFail}
 use Rattle.oe_steps.proofs.StepLoadLemmas.{loaded_all, loaded_none, next_loaded}
 use Rattle.oe_steps.proofs.StripLemmas.{rows_all}
+use Rattle.oe_steps.proofs.RowLemmas.{one_more}
 
 -- ---- the steps of one bench
 
@@ -144,9 +145,6 @@ begun_is p b begun = record {
 }
 
 -- ---- how many cells are asked for
-
-one_more : (n m : ℕ) → (n + 1) * m ≡ n * m + m
-one_more n m = omega arith
 
 pub steps_turned : (loads many largest : ℕ) → loads * (many * largest) ≡ many * (loads * largest)
 steps_turned loads many largest =

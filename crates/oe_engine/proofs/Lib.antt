@@ -1,4 +1,3 @@
-pub mod BufferLemmas
 pub mod ScheduleLemmas
 pub mod OverLemmas
 pub mod BenchLemmas

@@ -18,7 +18,8 @@ use Rattle.oe_steps.specs.Loads.{HasRead}
 use Rattle.oe_steps.specs.declared.fail.RunFail.{RunFail}
 use Rattle.oe_engine.proofs.HullLemmas.{none_if_refused}
 use Rattle.oe_steps.proofs.ReadLemmas.{AreRead-trans, has_more, has_most, has_none, has_refused}
-use Rattle.oe_steps.proofs.StepLoadLemmas.{on_ok, slice_more}
+use Rattle.oe_steps.proofs.StepLoadLemmas.{slice_more}
+use Rattle.oe_steps.proofs.Outcomes.{on_ok}
 
 -- ---- what holds of the benches of two pieces
 

@@ -1,5 +1,5 @@
 -- A run: chunks of the result, one round after another, into the records of a spool.
-use Rattle.std.specs.Prelude.{◌≡◌, ◌≢◌, ℕ, ◌+◌, ◌-◌, ◌*◌, min, List, length, map, count_by, Option, Some, None, Result, Ok, Err, ⊤}
+use Rattle.std.specs.Prelude.{◌≡◌, ◌≢◌, ℕ, ◌+◌, ◌-◌, ◌*◌, min, List, length, map, count_by, Option, Some, None, ⊤}
 use Rattle.std.specs.List.{range_with_len}
 use Rattle.oe_cell.specs.declared.cell.Cell.{Cell}
 use Rattle.oe_cell.specs.declared.cell.Cell.TheVariants.{Empty, Over}
@@ -17,8 +17,6 @@ use Rattle.oe_window.specs.declared.window.Window.{Window}
 use Rattle.oe_plan.specs.Figures.{chunks_of, shape_of_node}
 use Rattle.oe_plan.specs.Plans.{PlanOf}
 use Rattle.oe_engine.specs.Benches.{chunk_of, is_load_at}
-use Rattle.oe_steps.specs.declared.fail.RunFail.{RunFail}
-use Rattle.oe_steps.specs.declared.fail.RunFail.TheVariants.{Overflow}
 use Rattle.oe_render.specs.declared.rendering.RenderFail.{RenderFail}
 use Rattle.oe_render.specs.declared.rendering.RenderFail.TheVariants.{SpoolFailed, SpoolDamaged, SinkFailed}
 
@@ -95,11 +93,6 @@ load_count p = count_by (is_load_at p) (range_with_len 0 (length p.order.steps))
 -- a counter of evaluations after so many more, which stays at its last value
 abbrev pub evaluated_after : ℕ → ℕ → ℕ
 evaluated_after count more = min (count + more) last_count
-
--- the refusal of a result that is Over at a number, none where it is nowhere
-abbrev pub overflow_of : Option ℕ → Result (Unit {0}) RunFail
-overflow_of None = Ok tt
-overflow_of (Some number) = Err (Overflow number)
 
 -- a record that is read back is none, or that of Over, only in a store whose bytes are hidden
 abbrev pub IsHiddenDamage : Option (List ℕ) → RenderFail → Type 0

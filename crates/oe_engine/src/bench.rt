@@ -5,7 +5,7 @@ ghost use Rattle.oe_check.specs.Laws.{AreCollectionsOf};
 ghost use Rattle.oe_plan.specs.Fits.{bench_cells};
 ghost use Rattle.oe_engine.specs.Benches.{IsBenchFor, IsDone, IsLoaded, chunk_of, held_cells, IsAtChunk, is_load_at, node_at};
 ghost use Rattle.oe_steps.specs.Steps.{node_cells};
-ghost use Rattle.oe_steps.specs.Buffers.{AreOfSize, lists_of};
+ghost use Rattle.oe_steps.specs.Buffers.{lists_of};
 ghost use Rattle.oe_engine.specs.Chunks.{AreResultOf};
 ghost use Rattle.oe_engine.specs.declared.bench.State.TheVariants.{Idle, Loaded, Done};
 ghost use Rattle.oe_dims.specs.Dimensions.{cell_count};
@@ -35,8 +35,8 @@ use oe_outside::{Pending, Sink, Store};
 use oe_plan::Plan;
 use oe_render::{RenderFail, render};
 use oe_sources::Catalogue;
-use oe_steps::RunFail;
-use oe_window::{Span, Window};
+use oe_steps::{RunFail, buffers_of, no_window};
+use oe_window::Window;
 use std::alloc::Global;
 use std::marker::Model;
 
@@ -72,29 +72,6 @@ impl Model for Bench {
       buffers = lists_of b.buffers.items;
       scratch = b.scratch.items;
     } };
-}
-
-/// The window without a position.
-fn no_window() -> Window {
-    let span = Span { from: 0, to: 0 };
-    Window {
-        t: span,
-        bands: span,
-        y: span,
-        x: span,
-    }
-}
-
-/// So many buffers of so many cells each.
-#[tactic(auto, using(crate::proofs::BufferLemmas::one_more, crate::proofs::BufferLemmas::none_of_size))]
-fn buffers_of(alloc: Global, count: usize, cells: usize) -> Result<Vec<Vec<Cell>>, OutOfMemory>
-    ensures { IfOk result (λ buffers. AreOfSize (lists_of buffers.items) count cells) }
-{
-    let mut buffers = Vec::with_capacity(alloc, count)?;
-    for _ in 0..count {
-        buffers.push(vec![in alloc; Cell::Empty; cells]?)?;
-    }
-    Ok(buffers)
 }
 
 impl Bench {

@@ -55,9 +55,10 @@ impl Run {
     ghost use Rattle.oe_render.specs.declared.rendering.RenderFail.{RenderFail};
     ghost use Rattle.oe_sources.specs.CatalogueRows.{rows_of};
     ghost use Rattle.oe_steps.specs.Collections.{HasCollections};
+    ghost use Rattle.oe_steps.specs.Refusals.{overflow_of};
     ghost use Rattle.oe_engine.specs.Going as spec;
     ghost use Rattle.oe_engine.specs.Rounds.{Advances, HasCauses, ReadsChunks, WritesChunks};
-    ghost use Rattle.oe_engine.specs.Runs.{HasRunRecords, OfRun, chunk_total, overflow_of, result_shape};
+    ghost use Rattle.oe_engine.specs.Runs.{HasRunRecords, OfRun, chunk_total, result_shape};
     ghost use Rattle.oe_engine.specs.Workspaces.{AreBenchesFor};
 
     /// A run of a plan at its first chunk, whose records are to stand in a spool from byte `base` on.

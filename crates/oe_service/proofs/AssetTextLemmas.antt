@@ -8,10 +8,11 @@ use Rattle.oe_dims.specs.Dimensions.{IsShape}
 use Rattle.oe_dims.proofs.CubeLemmas.{length-tuples}
 use Rattle.oe_engine.specs.Going.{IsGoing}
 use Rattle.oe_engine.specs.Laws.{LoadsVisible, collections_of}
-use Rattle.oe_engine.specs.Runs.{HasDone, RunOf, ShowsDone, chunk_total, overflow_of, result_cube, result_shape}
+use Rattle.oe_engine.specs.Runs.{HasDone, RunOf, ShowsDone, chunk_total, result_cube, result_shape}
 use Rattle.oe_engine.specs.Results.{IsVisible, IsWithoutOver, OfMeaning, result_of}
 use Rattle.oe_steps.specs.declared.fail.RunFail.{RunFail}
 use Rattle.oe_steps.specs.declared.fail.RunFail.TheVariants as run
+use Rattle.oe_steps.specs.Refusals.{overflow_of}
 use Rattle.oe_engine.proofs.LawLemmas.{begin_and_end}
 use Rattle.oe_engine.proofs.RunResults.{shows_done}
 use Rattle.oe_jobs.specs.Valid.{most_asset}

@@ -1,14 +1,13 @@
 -- The steps of the part before a time cut.
-use Rattle.std.proofs.Common.{◌≡◌, ◌≤◌, ◌<◌, ◌*◌, ◌+◌, ◌-◌, ◌∙◌, ℕ, zero, suc, Bool, cond, true, List, ◌∷◌, length, Option, None, min, sym, ap, subst, arith}
-use Rattle.std.proofs.lemmas.List.Sums.{sum_by-cons}
+use Rattle.std.proofs.Common.{◌≡◌, ◌≤◌, ◌<◌, ◌*◌, ◌+◌, ◌-◌, ℕ, true, length, Option, None, min, sym, subst, arith}
 use Rattle.std.proofs.lemmas.Nat.{le-div}
-use Rattle.std.specs.List.{count_by, range_with_len}
 use Rattle.std.proofs.Math.Nat.{mul-le-mul}
 use Rattle.oe_order.specs.Graph.{is_load}
 use Rattle.oe_plan.specs.Schedules.{ScheduleOf, is_load_at, links_given, node_at}
 use Rattle.oe_check.specs.Checked.{CheckedGraph}
 use Rattle.oe_check.specs.Links.{links_of}
 use Rattle.oe_steps.specs.Steps.{EachLive, loads_at}
+use Rattle.oe_steps.proofs.StepLoadLemmas.{count_first}
 use Rattle.oe_window.specs.Chunks.{parts_along}
 use Rattle.oe_slab.specs.Schedules.{load_count}
 
@@ -20,17 +19,6 @@ loads_here c schedule none step loads =
 -- before the first step none is
 pub none_live : (c : CheckedGraph) (schedule : ScheduleOf) (Holds : ℕ → Type 0) → EachLive c schedule 0 Holds
 none_live c schedule Holds i below live = absurd (omega arith)
-
-count_cons : (test : ℕ → Bool) (x : ℕ) (xs : List ℕ) → test x ≡ true → count_by test (x ∷ xs) ≡ 1 + count_by test xs
-count_cons test x xs is = sum_by-cons (λ y. cond (test y) 1 0) x xs ∙ ap (λ b. cond b 1 0 + count_by test xs) is
-
-count_first : (test : ℕ → Bool) (a n m : ℕ) → n ≤ m → ((i : ℕ) → a ≤ i → i < a + n → test i ≡ true) → n ≤ count_by test (range_with_len a m)
-count_first test a zero m le each = omega arith
-count_first test a (suc n) zero le each = absurd (omega arith)
-count_first test a (suc n) (suc m) le each =
-    let rest = count_first test (a + 1) n m (omega arith) (λ i from to. each i (omega arith) (omega arith)) in
-    let one = count_cons test a (range_with_len (a + 1) m) (each a (omega arith) (omega arith)) in
-    omega arith
 
 -- loads stand first, so that there are as many at least as steps before one that is none
 pub loads_counted : (c : CheckedGraph) (schedule : ScheduleOf) (count : ℕ) → count ≤ length schedule.order.steps

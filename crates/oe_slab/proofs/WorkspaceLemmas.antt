@@ -1,21 +1,11 @@
 -- What a workspace holds.
-use Rattle.std.proofs.Common.{◌≡◌, ℕ, ◌+◌, List, [], ◌∷◌, ◌++◌, length, refl, Vec}
-use Rattle.std.specs.declared.alloc.Global.{Global}
-use Rattle.oe_cell.specs.declared.cell.Cell.{Cell}
+use Rattle.std.proofs.Common.{◌≡◌, ℕ, [], length, refl}
 use Rattle.oe_plan.specs.Figures.{scratch_of}
-use Rattle.oe_steps.specs.Buffers.{AreOfSize, lists_of}
-use Rattle.oe_steps.proofs.BufferLemmas.{none_of_size, one_more, sum_of_size}
+use Rattle.oe_steps.specs.Buffers.{AreOfSize}
+use Rattle.oe_steps.proofs.BufferLemmas.{sum_of_size}
 use Rattle.oe_slab.specs.Figures.{largest_plane, largest_slab, slab_bound, width_before, width_behind}
 use Rattle.oe_slab.specs.Plans.{SlabPlanOf}
 use Rattle.oe_slab.specs.Workspaces.{SlabWorkspaceOf, held_cells}
-
--- buffers that are made one by one
-pub no_buffer : (cells : ℕ) → AreOfSize (lists_of []) 0 cells
-no_buffer cells = none_of_size cells
-
-pub buffer_more : (buffers : List (Vec Cell Global)) (v : Vec Cell Global) (count cells : ℕ) → AreOfSize (lists_of buffers) count cells
-    → length v.items ≡ cells → AreOfSize (lists_of (buffers ++ v ∷ [])) (count + 1) cells
-buffer_more buffers v count cells are long = one_more buffers v count cells are long
 
 -- parts of these sizes have as many cells as the bound
 pub held_parts : (p : SlabPlanOf) (w : SlabWorkspaceOf) (before behind slab plane scratch : ℕ) → AreOfSize w.before before slab

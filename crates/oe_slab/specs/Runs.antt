@@ -1,5 +1,5 @@
 -- A run that is folded slab by slab: chunks of the result, one a round, into the records of a spool.
-use Rattle.std.specs.Prelude.{◌≡◌, ◌≢◌, ℕ, ◌-◌, min, List, map, Option, Some, None, Result, Ok, Err}
+use Rattle.std.specs.Prelude.{◌≡◌, ◌≢◌, ℕ, ◌-◌, min, List, map, Option, Some, None}
 use Rattle.std.specs.List.{range_with_len}
 use Rattle.oe_cell.specs.Cells.{IsCell}
 use Rattle.oe_cell.specs.declared.cell.Cell.{Cell}
@@ -12,8 +12,6 @@ use Rattle.oe_meanings.specs.Graphs.{Collections}
 use Rattle.oe_check.specs.Laws.{AreCollectionsOf, meaning_of_node}
 use Rattle.oe_spool.specs.Least.{IsLeastOver}
 use Rattle.oe_spool.specs.Spooled.{HoldsRecord, HoldsRecords, IsInSome}
-use Rattle.oe_steps.specs.declared.fail.RunFail.{RunFail}
-use Rattle.oe_steps.specs.declared.fail.RunFail.TheVariants.{Overflow}
 use Rattle.oe_window.specs.Cells.{cell_at}
 use Rattle.oe_window.specs.Chunks.{chunk_window, tiling_of}
 use Rattle.oe_window.specs.declared.window.Window.{Window}
@@ -76,8 +74,3 @@ pub record HasSome (r : SlabRunOf) (store : Option (List ℕ)) (p : Position) : 
 
 abbrev pub HasRunRecords : SlabRunOf → Option (List ℕ) → Type 0
 HasRunRecords r store = (p : Position) → IsInSome (chunks_from r.plan 0 r.done) p → HasSome r store p
-
--- the refusal of a result that is Over at a number, none where it is nowhere
-abbrev pub overflow_of : Option ℕ → Result (Unit {0}) RunFail
-overflow_of None = Ok tt
-overflow_of (Some number) = Err (Overflow number)

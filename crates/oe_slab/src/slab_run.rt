@@ -71,9 +71,10 @@ impl SlabRun {
     ghost use Rattle.oe_render.specs.declared.rendering.RenderFail.{RenderFail};
     ghost use Rattle.oe_sources.specs.CatalogueRows.{rows_of};
     ghost use Rattle.oe_steps.specs.Collections.{HasCollections};
+    ghost use Rattle.oe_steps.specs.Refusals.{overflow_of};
     ghost use Rattle.oe_slab.specs.Figures.{slab_bound};
     ghost use Rattle.oe_slab.specs.Rounds.{Advances, HasCauses, ReadsChunk, WritesChunk};
-    ghost use Rattle.oe_slab.specs.Runs.{HasRunRecords, OfRun, chunk_total, overflow_of, result_shape};
+    ghost use Rattle.oe_slab.specs.Runs.{HasRunRecords, OfRun, chunk_total, result_shape};
     ghost use Rattle.oe_slab.specs.Workspaces.{IsWorkspaceFor};
 
     /// A run of a plan at its first chunk, whose records are to stand in a spool from byte `base` on.

@@ -11,7 +11,7 @@ ghost use Rattle.oe_render.specs.declared.rendering.RenderFail.{RenderFail};
 ghost use Rattle.oe_meanings.specs.Graphs.{Collections};
 ghost use Rattle.oe_check.specs.Laws.{AreCollectionsOf};
 ghost use Rattle.oe_sources.specs.CatalogueRows.{rows_of};
-ghost use Rattle.oe_steps.specs.Buffers.{AreOfSize, lists_of};
+ghost use Rattle.oe_steps.specs.Buffers.{lists_of};
 ghost use Rattle.oe_steps.specs.Collections.{HasCollections, Shows};
 ghost use Rattle.oe_steps.specs.Loads.{HasRead};
 ghost use Rattle.oe_window.specs.Cells.{cells_on};
@@ -34,8 +34,8 @@ use oe_memory::OutOfMemory;
 use oe_outside::{Pending, Sink, Store};
 use oe_render::{RenderFail, render};
 use oe_sources::Catalogue;
-use oe_steps::{RunFail, evaluate_steps, front, step_of_last};
-use oe_window::{Span, Window};
+use oe_steps::{RunFail, buffers_of, evaluate_steps, front, no_window, step_of_last};
+use oe_window::Window;
 use std::alloc::Global;
 use std::marker::Model;
 
@@ -79,29 +79,6 @@ impl Model for SlabWorkspace {
       windows_before = w.windows_before.items;
       windows_behind = w.windows_behind.items;
     }) };
-}
-
-/// The window without a position.
-fn no_window() -> Window {
-    let span = Span { from: 0, to: 0 };
-    Window {
-        t: span,
-        bands: span,
-        y: span,
-        x: span,
-    }
-}
-
-/// So many buffers of so many cells each.
-#[tactic(auto, using(crate::proofs::WorkspaceLemmas::buffer_more, crate::proofs::WorkspaceLemmas::no_buffer))]
-fn buffers_of(alloc: Global, count: usize, cells: usize) -> Result<Vec<Vec<Cell>>, OutOfMemory>
-    ensures { IfOk result (λ buffers. AreOfSize (lists_of buffers.items) count cells) }
-{
-    let mut buffers = Vec::with_capacity(alloc, count)?;
-    for _ in 0..count {
-        buffers.push(vec![in alloc; Cell::Empty; cells]?)?;
-    }
-    Ok(buffers)
 }
 
 /// So many copies of a value.

@@ -14,3 +14,4 @@ pub mod StripLemmas
 pub mod RowLemmas
 pub mod RunLemmas
 pub mod MountLemmas
+pub mod Outcomes

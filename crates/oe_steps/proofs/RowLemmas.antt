@@ -39,7 +39,7 @@ part_loaded c rows node hull window s n row loaded =
       kinds = All-take (IsOfKind (outline_of_node c node).kind) _ _ (All-drop (IsOfKind (outline_of_node c node).kind) start row loaded.kinds);
     }
 
-one_more : (n m : ℕ) → (n + 1) * m ≡ n * m + m
+pub one_more : (n m : ℕ) → (n + 1) * m ≡ n * m + m
 one_more n m = omega arith
 
 -- one row more behind those that are loaded

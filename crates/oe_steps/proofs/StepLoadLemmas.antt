@@ -1,9 +1,10 @@
 -- The planes of what a node loads, one behind the other, and the steps that load, one after the other.
-use Rattle.std.proofs.Common.{◌≡◌, ◌≢◌, ℕ, zero, suc, ◌+◌, ◌-◌, ◌*◌, ◌<◌, ◌≤◌, List, [], ◌∷◌, ◌++◌, length, get_or, take, drop, set, Some, refl, sym, ap, ◌∙◌, subst, arith, Vec, Result, Ok, Err, OnOk}
+use Rattle.std.proofs.Common.{◌≡◌, ◌≢◌, ℕ, zero, suc, ◌+◌, ◌-◌, ◌*◌, ◌<◌, ◌≤◌, List, [], ◌∷◌, ◌++◌, length, get_or, take, drop, set, Some, refl, sym, ap, ◌∙◌, subst, arith, Vec, Bool, cond, true}
 use Rattle.std.proofs.lemmas.List.{length-set, take_all}
 use Rattle.std.proofs.lemmas.Option.{same_Some}
 use Rattle.std.proofs.lemmas.List.Elements.{All-append}
-use Rattle.std.specs.List.{All, slice_range}
+use Rattle.std.proofs.lemmas.List.Sums.{sum_by-cons}
+use Rattle.std.specs.List.{All, count_by, range_with_len, slice_range}
 use Rattle.std.specs.Vec.{with_items}
 use Rattle.std.specs.declared.alloc.Global.{Global}
 use Rattle.oe_cell.specs.declared.cell.Cell.TheVariants.{Empty}
@@ -167,8 +168,16 @@ module _ (graph : CheckedGraph) (schedule : ScheduleOf) (is : IsSchedule graph s
       (sym (ap (take (position_count (window_at windows i))) (others (get_or schedule.order.slots i 0) apart))) loaded)
       own before
 
--- ---- what holds unless it is refused
+count_cons : (test : ℕ → Bool) (x : ℕ) (xs : List ℕ) → test x ≡ true → count_by test (x ∷ xs) ≡ 1 + count_by test xs
+count_cons test x xs is =
+    sum_by-cons (λ y. cond (test y) 1 0) x xs ∙ ap (λ b. cond b 1 0 + count_by test xs) is
 
-pub on_ok : {T E : Type 0} (X Y : Type 0) (r : Result T E) → (X → Y) → OnOk r X → OnOk r Y
-on_ok X Y (Ok x) f h = f h
-on_ok X Y (Err x) f h = h
+-- so many at least pass a test as numbers that pass it stand first
+pub count_first : (test : ℕ → Bool) (a n m : ℕ) → n ≤ m → ((i : ℕ) → a ≤ i → i < a + n → test i ≡ true)
+    → n ≤ count_by test (range_with_len a m)
+count_first test a zero m le each = omega arith
+count_first test a (suc n) zero le each = absurd (omega arith)
+count_first test a (suc n) (suc m) le each =
+    let rest = count_first test (a + 1) n m (omega arith) (λ i from to. each i (omega arith) (omega arith)) in
+    let one = count_cons test a (range_with_len (a + 1) m) (each a (omega arith) (omega arith)) in
+    omega arith

@@ -1,5 +1,5 @@
 -- What a refusal of a run says.
-use Rattle.std.specs.Prelude.{◌≡◌, ⊤, ℕ, List, Contains, slice_index, IfSome}
+use Rattle.std.specs.Prelude.{◌≡◌, ⊤, ℕ, List, Contains, slice_index, IfSome, Option, Some, None, Result, Ok, Err}
 use Rattle.oe_dims.specs.Positions.{IsPosition, Position, number_of}
 use Rattle.oe_ops.specs.Needs.{HasLabelsOf}
 use Rattle.oe_plan.specs.Figures.{shape_of_node, steps_of}
@@ -38,3 +38,8 @@ IsOfSource SourceFailed = ⊤
 IsOfSource (SourceDamaged load number) = ⊤
 IsOfSource SpoolFailed = ⊥
 IsOfSource (Overflow number) = ⊥
+
+-- the refusal of a result that is Over at a number, none where it is nowhere
+abbrev pub overflow_of : Option ℕ → Result (Unit {0}) RunFail
+overflow_of None = Ok tt
+overflow_of (Some number) = Err (Overflow number)

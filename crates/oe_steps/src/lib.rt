@@ -8,6 +8,7 @@
 //! loaded or given.
 #![tactic(auto)]
 
+mod buffers;
 mod fail;
 mod laws;
 mod loading;
@@ -15,6 +16,7 @@ mod run;
 mod step;
 mod strips;
 
+pub use buffers::{buffers_of, no_window};
 pub use fail::RunFail;
 pub use laws::loads_are_mounted;
 pub use loading::{load_front, load_slot, place_of};

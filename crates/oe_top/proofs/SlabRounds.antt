@@ -10,11 +10,11 @@ use Rattle.oe_check.specs.Laws.{AreCollectionsOf}
 use Rattle.oe_slab.specs.Laws.{BeginAndEnd}
 use Rattle.oe_slab.specs.Plans.{SlabPlanOf, most_asked}
 use Rattle.oe_slab.specs.Rounds.{Advances, HasCauses, ReadsChunk, WritesChunk}
-use Rattle.oe_slab.specs.Runs.{HasDone, SlabRunOf, chunk_total, chunks_in_round, overflow_of, result_cube}
+use Rattle.oe_slab.specs.Runs.{HasDone, SlabRunOf, chunk_total, chunks_in_round, result_cube}
 use Rattle.oe_slab.specs.declared.slab_run.SlabProgress.{SlabProgress}
 use Rattle.oe_sources.specs.Catalogue.{Row, cells_asked}
 use Rattle.oe_steps.specs.Collections.{AreRead, HasCollections, LoadRose, Shows}
-use Rattle.oe_steps.specs.Refusals.{RefusalSays}
+use Rattle.oe_steps.specs.Refusals.{RefusalSays, overflow_of}
 use Rattle.oe_steps.specs.declared.fail.RunFail.{RunFail}
 use Rattle.oe_steps.specs.declared.fail.RunFail.TheVariants as run
 use Rattle.oe_top.specs.SlabEvaluated.{CompletesSlabs, FoldsThrough, GoesBySlabs, IsSlabBegun, ReadsForSlabPlan}

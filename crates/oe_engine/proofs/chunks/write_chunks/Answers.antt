@@ -1,11 +1,12 @@
-use Rattle.std.proofs.Common.{◌≡◌, ℕ, ◌+◌, ◌<◌, ◌≤◌, false, length, Result, Ok, Err, OnOk, is_err, refl, sym, ap, ◌∙◌, subst, arith}
+use Rattle.std.proofs.Common.{◌≡◌, ◌+◌, ◌≤◌, false, length, is_err, refl, sym, ap, ◌∙◌, subst, arith}
 use Rattle.std.proofs.lemmas.Option.{slice_get_read}
+use Rattle.oe_steps.proofs.Outcomes.{ok_holds}
 use Rattle.oe_cell.specs.declared.cell.Cell.{Cell}
 use Rattle.oe_cell.specs.declared.cell.Cell.TheVariants.{Empty}
 use Rattle.oe_dims.specs.Cube.{Cube}
 use Rattle.oe_dims.specs.Dimensions.{Dimensions}
 use Rattle.oe_outside.proofs.Causes.{NeverFalls-trans, then-Rose}
-use Rattle.oe_spool.specs.Spooled.{ChangesOnly, HoldsWindow, IsInSome}
+use Rattle.oe_spool.specs.Spooled.{ChangesOnly, HoldsWindow}
 use Rattle.oe_window.specs.Cells.{cells_on}
 use Rattle.oe_window.specs.Windows.{IsIn, position_count}
 use Rattle.oe_window.specs.declared.window.Window.{Window}
@@ -16,10 +17,6 @@ use Rattle.oe_engine.proofs.ChunkLemmas.{each_all, each_more}
 use Rattle.oe_engine.proofs.DoneLemmas.{cells_counted}
 use Rattle.oe_engine.proofs.NextChunkLemmas.{changes_among, changes_more, records_before, records_here, valid_here}
 use Rattle.oe_engine.proofs.chunks.write_chunks.Goals as goal
-
-on_ok : {T E : Type 0} (X : Type 0) (r : Result T E) → is_err r ≡ false → OnOk r X → X
-on_ok X (Ok x) e h = h
-on_ok X (Err x) e h = absurd cc
 
 pub result_cells-cells-requires : goal.result_cells-cells-requires
 result_cells-cells-requires g c =
@@ -83,7 +80,7 @@ loop-index-preserved g c =
     (subst (λ (w : Window). ChangesOnly base c.shape.result.now (IsIn w) old new) window_is c.write_window.ensures.kept) in
     let written : (cube : Cube Cell) → cube.shape ≡ c.shape.result.now → cells_on Empty cube c.chunk-window.result ≡ cells
     → HoldsWindow new base cube c.chunk-window.result =
-    on_ok ((cube : Cube Cell) → cube.shape ≡ c.shape.result.now → cells_on Empty cube c.chunk-window.result ≡ cells
+    ok_holds ((cube : Cube Cell) → cube.shape ≡ c.shape.result.now → cells_on Empty cube c.chunk-window.result ≡ cells
     → HoldsWindow new base cube c.chunk-window.result) c.write_window.result (sym c.is_err.ensures.value ∙ c.if-is_err.false)
     c.write_window.ensures.written in
     let writes : (cube : Cube Cell) → cube.shape ≡ result_shape p → cells_on Empty cube (chunk_of p (first + n)) ≡ cells

@@ -7,8 +7,8 @@ use Rattle.oe_steps.specs.Loads.{HasRead}
 use Rattle.oe_engine.specs.Loads.{LoadsBench}
 use Rattle.oe_engine.specs.Runs.{load_count}
 use Rattle.oe_steps.proofs.BufferLemmas.{take_front}
+use Rattle.oe_steps.proofs.Outcomes.{on_ok}
 use Rattle.oe_engine.proofs.RoundLemmas.{each_after, each_before, front_long}
-use Rattle.oe_steps.proofs.StepLoadLemmas.{on_ok}
 use Rattle.oe_engine.proofs.taken.load_taken.Goals as goal
 
 pub load_chunks-requires-clause-benches : goal.load_chunks-requires-clause-benches

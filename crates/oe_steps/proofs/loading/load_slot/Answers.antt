@@ -8,10 +8,11 @@ use Rattle.oe_steps.proofs.BufferLemmas.{at_items, length-lists}
 use Rattle.oe_steps.proofs.EvalLemmas.{inside_at}
 use Rattle.oe_steps.proofs.ScheduleLemmas.{few, few_positions, step_of_windows}
 use Rattle.oe_steps.proofs.ReadLemmas.{has_most}
-use Rattle.oe_steps.proofs.StepLoadLemmas.{on_ok, loaded_before, next_loaded, set_other, sizes_stay, slot_written}
+use Rattle.oe_steps.proofs.StepLoadLemmas.{loaded_before, next_loaded, set_other, sizes_stay, slot_written}
 use Rattle.oe_steps.specs.Buffers.{buffer_at, lists_of}
 use Rattle.oe_steps.specs.Loads.{AreLoaded}
 use Rattle.oe_steps.proofs.loading.load_slot.Goals as goal
+use Rattle.oe_steps.proofs.Outcomes.{on_ok}
 
 pub bounds-windows-step : goal.bounds-windows-step
 bounds-windows-step g c =

@@ -8,7 +8,7 @@ use Rattle.oe_engine.specs.Hulls.{HasLoadedSteps, IsBegun}
 use Rattle.oe_engine.specs.Loads.{IsLoadedAt}
 use Rattle.oe_engine.proofs.BenchLemmas.{bench}
 use Rattle.oe_steps.proofs.BufferLemmas.{with_items_is}
-use Rattle.oe_steps.proofs.StepLoadLemmas.{on_ok}
+use Rattle.oe_steps.proofs.Outcomes.{on_ok}
 use Rattle.oe_engine.proofs.bench.Bench.load_step.Goals as goal
 
 pub load_slot-requires-clause-windows : goal.load_slot-requires-clause-windows

@@ -1,4 +1,5 @@
-use Rattle.std.proofs.Common.{◌≡◌, ℕ, Result, Ok, Err, IfErr, OnOk, OnErr, refl, sym, ap, ◌∙◌, subst}
+use Rattle.std.proofs.Common.{◌≡◌, ℕ, IfErr, OnOk, refl, sym, ap, ◌∙◌, subst}
+use Rattle.oe_steps.proofs.Outcomes.{on_err, on_ok}
 use Rattle.oe_dims.specs.Dimensions.{cell_count}
 use Rattle.oe_plan.specs.Plans.{IsPlan, PlanOf}
 use Rattle.oe_render.specs.Rendered.{AppendsCube, AppendsCubePrefix, CountsCube, CountsCubePrefix, IsRefusalWithin}
@@ -7,14 +8,6 @@ use Rattle.oe_engine.specs.Parts.{IsWhole}
 use Rattle.oe_engine.specs.Runs.{RunOf, chunk_total, result_cube, result_shape}
 use Rattle.oe_engine.proofs.RenderLemmas.{count_is, has_cells, part_count_is, prefix_is, result_shape_is, result_whole, text_is}
 use Rattle.oe_engine.proofs.rounds.Run.render.Goals as goal
-
-on_ok : {T E : Type 0} (X Y : Type 0) (r : Result T E) → (X → Y) → OnOk r X → OnOk r Y
-on_ok X Y (Ok x) f h = f h
-on_ok X Y (Err x) f h = h
-
-on_err : {T E : Type 0} (X Y : Type 0) (r : Result T E) → (X → Y) → OnErr r X → OnErr r Y
-on_err X Y (Ok x) f h = h
-on_err X Y (Err x) f h = f h
 
 pub render-requires : goal.render-requires
 render-requires g c =
