@@ -2,7 +2,7 @@
 use Rattle.std.proofs.Common.{◌≡◌, ◌⊎◌, inl, inr, ℕ, zero, suc, ◌+◌, ◌<◌, Bool, true, false, ◌||◌, ◌&&◌, List, [], ◌∷◌, map, length, slice_get, Contains, Option, Some, None, option_map, if◌then◌else◌, is_some, is_none, refl, sym, ap, ◌∙◌, subst, arith, true≢false}
 use Rattle.std.specs.Prelude.{nat_lt}
 use Rattle.std.proofs.lemmas.Option.{get_or_from_slice_get, same_Some, slice_get_within}
-use Rattle.std.proofs.lemmas.List.{get_or-map}
+use Rattle.std.proofs.lemmas.List.{get_or-map, length-map}
 use Rattle.std.specs.Option.{option_and_then, option_map_or}
 use Rattle.oe_dims.specs.Dimensions.{Dimensions}
 use Rattle.oe_dims.specs.declared.dims.DimsRow.{DimsRow}
@@ -58,7 +58,7 @@ none_of (row ∷ rows) e k code b at = by row.1 refl e k at (none_of rows)
 no_fault : (rows : List DimsRow) (nodes : Nodes) (name : List ℕ) (n : PlainNode) → IsSound rows nodes name → node_named name nodes ≡ Some n → HasNoFault rows (outline_at rows nodes) n
 no_fault rows nodes name n (sound {n = m} is below none) named = let same : m ≡ n = cc in subst (HasNoFault rows (outline_at rows nodes)) same none
 
-no_early_fault : (rows : List DimsRow) (at : List ℕ → Outline) (n : PlainNode) (r : CubeRequest) → cube_request_at n ≡ Some r → HasNoFault rows at n → first_row (early_rows rows r (cubes_of rows at r)) ≡ None
+pub no_early_fault : (rows : List DimsRow) (at : List ℕ → Outline) (n : PlainNode) (r : CubeRequest) → cube_request_at n ≡ Some r → HasNoFault rows at n → first_row (early_rows rows r (cubes_of rows at r)) ≡ None
 no_early_fault rows at n r asks none = by (first_row (early_rows rows r (cubes_of rows at r))) refl
   where
     by : (o : Option Code) → first_row (early_rows rows r (cubes_of rows at r)) ≡ o → o ≡ None
@@ -66,7 +66,7 @@ no_early_fault rows at n r asks none = by (first_row (early_rows rows r (cubes_o
     by (Some code) is = absurd (none code n.id (early asks is))
 
 -- it asks for something
-some_request : (rows : List DimsRow) (at : List ℕ → Outline) (n : PlainNode) → HasNoFault rows at n → (r : CubeRequest) × (cube_request_at n ≡ Some r)
+pub some_request : (rows : List DimsRow) (at : List ℕ → Outline) (n : PlainNode) → HasNoFault rows at n → (r : CubeRequest) × (cube_request_at n ≡ Some r)
 some_request rows at n none = by (cube_request_at n) refl
   where
     by : (o : Option CubeRequest) → cube_request_at n ≡ o → (r : CubeRequest) × (cube_request_at n ≡ Some r)
@@ -206,10 +206,6 @@ map_map : {A B C : Type 0} (g : B → C) (f : A → B) (xs : List A) → map g (
 map_map g f [] = refl
 map_map g f (x ∷ xs) = ap (λ ys. g (f x) ∷ ys) (map_map g f xs)
 
-map_length : {A B : Type 0} (f : A → B) (xs : List A) → length (map f xs) ≡ length xs
-map_length f [] = refl
-map_length f (x ∷ xs) = ap suc (map_length f xs)
-
 -- what a request works on that loads no collection
 no_load : {A : Type 0} (collection at : List ℕ → A) (r : CubeRequest) → loaded_by r ≡ None → request_inputs collection at r ≡ map at (cube_ids r)
 no_load collection at (load_collection id box time bands) none = absurd cc
@@ -314,7 +310,7 @@ module _ (c : CheckedGraph) (f : AreFaultless c) (index : ℕ) (below : index < 
             ap (λ o. option_map (λ q. shapes_of (input_outlines c.rows c.nodes q)) (option_and_then cube_request_at o)) there.is_there
             ∙ (ap (option_map (λ q. shapes_of (input_outlines c.rows c.nodes q))) asks ∙ ap Some shapes_here);
         taken_so = λ number under.
-            let count : length (arguments_of_node c index) ≡ length (cube_ids r) = ap length (arguments_are r asks) ∙ map_length (index_referred c.nodes) (cube_ids r) in
+            let count : length (arguments_of_node c index) ≡ length (cube_ids r) = ap length (arguments_are r asks) ∙ length-map (cube_ids r) (index_referred c.nodes) in
             subst (λ shapes. IsTaken op shapes number) shapes_here
             (taken r (input_outlines c.rows c.nodes r) op (loads_none r asks) gives mask_fits number (omega arith));
       }

@@ -40,7 +40,7 @@ use Rattle.oe_plan.proofs.NodeLemmas.{IsSeen, argument_below, argument_shape_is,
 
 -- ---- lists of steps
 
-largest_at : (g : ℕ → ℕ) (xs : List ℕ) (i : ℕ) → i < length xs → g (get_or xs i 0) ≤ largest (map g xs)
+pub largest_at : (g : ℕ → ℕ) (xs : List ℕ) (i : ℕ) → i < length xs → g (get_or xs i 0) ≤ largest (map g xs)
 largest_at g [] i below = absurd (omega arith)
 largest_at g (x ∷ xs) zero below = omega arith
 largest_at g (x ∷ xs) (suc i) below = let rest = largest_at g xs i (omega arith) in omega arith

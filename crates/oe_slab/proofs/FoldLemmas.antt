@@ -1,6 +1,7 @@
 -- The cube that a reduction takes.
-use Rattle.std.proofs.Common.{◌≡◌, ℕ, suc, ◌+◌, ◌*◌, ◌<◌, Bool, List, [], ◌∷◌, length, map, Some, slice_get, refl, sym, ap, ◌∙◌, subst}
+use Rattle.std.proofs.Common.{◌≡◌, ℕ, ◌+◌, ◌*◌, ◌<◌, Bool, List, [], length, map, Some, slice_get, refl, sym, ap, ◌∙◌, subst}
 use Rattle.std.proofs.lemmas.Option.{get_or_from_slice_get}
+use Rattle.std.proofs.lemmas.List.{length-map}
 use Rattle.std.specs.Option.{option_and_then}
 use Rattle.std.specs.Prelude.{IfOk, Result, Ok, Err}
 use Rattle.oe_dims.specs.declared.kind.Kind.TheVariants.{Time, Bands, Y, X}
@@ -58,10 +59,6 @@ reduces_one (merge_cubes one two resolver) cubes callback e = absurd cc
 reduces_one (mask data_id mask_id replacement) cubes callback e = absurd cc
 reduces_one (save_result data_id format) cubes callback e = refl
 
-map_length : {A B : Type 0} (f : A → B) (xs : List A) → length (map f xs) ≡ length xs
-map_length f [] = refl
-map_length f (x ∷ xs) = ap suc (map_length f xs)
-
 pub fold_takes : (c : CheckedGraph) → AreFaultless c → (node : ℕ) → node < node_count c.nodes → (x : Reducer × Bool)
     → time_fold_of_node c node ≡ Some x → length (arguments_of_node c node) ≡ 1
 fold_takes c f node below x folds =
@@ -75,7 +72,7 @@ fold_takes c f node below x folds =
     let arguments_are : arguments_of_node c node ≡ map (index_referred c.nodes) (cube_ids r.0) =
     links_arguments c.nodes node there.node there.is_there
     ∙ ap (map (index_referred c.nodes)) (refer c.nodes f.resolved there.node (contains_node c.nodes node there.node there.is_there) r.0 r.1) in
-    ap length arguments_are ∙ (map_length (index_referred c.nodes) (cube_ids r.0) ∙ one)
+    ap length arguments_are ∙ (length-map (cube_ids r.0) (index_referred c.nodes) ∙ one)
 
 -- what an order is of the cube that is taken, by the name that the code has for it
 pub of_taken : {E : Type 0} (c : CheckedGraph) (fold taken : ℕ) (r : Result Steps E) → slice_get (arguments_of_node c fold) 0 ≡ Some taken

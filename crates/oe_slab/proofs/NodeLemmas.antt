@@ -1,9 +1,10 @@
 -- The nodes of a graph without a fault, as far as a time cut goes.
 use Rattle.std.proofs.Common.{◌≡◌, ◌<◌, ℕ, zero, suc, true, inl, inr, List, [], ◌∷◌, length, map, Option, Some, None, refl, sym, ap, ◌∙◌, subst, arith}
 use Rattle.std.proofs.lemmas.Option.{same_Some}
+use Rattle.std.proofs.lemmas.List.{length-map}
 use Rattle.std.specs.Option.{option_and_then, option_map}
 use Rattle.std.specs.Prelude.{Contains, codes, is_some, slice_get}
-use Rattle.oe_dims.specs.declared.dims.DimsRow.{DimsRow}
+use Rattle.oe_plan.proofs.NodeLemmas.{no_early_fault, some_request}
 use Rattle.oe_dims.specs.declared.kind.Kind.{Kind}
 use Rattle.oe_dims.specs.declared.kind.Kind.TheVariants.{Time}
 use Rattle.oe_expr.specs.Callback.{Callback}
@@ -15,8 +16,6 @@ use Rattle.oe_graph.specs.Printed.{node_count}
 use Rattle.oe_graph.specs.References.{each_node, references_named}
 use Rattle.oe_graph.specs.Resolved.{IsResolvedUnder}
 use Rattle.oe_graph.specs.Tree.{PlainNode}
-use Rattle.oe_graph.specs.declared.code.Code.{Code}
-use Rattle.oe_graph.specs.declared.code.Code.TheVariants.{ProcessParameterInvalid}
 use Rattle.oe_graph.proofs.SearchLemmas.{each_count}
 use Rattle.oe_order.specs.Graph.{Reaches, arguments, is_load}
 use Rattle.oe_order.proofs.Reach.{IsInRun-within}
@@ -28,7 +27,7 @@ use Rattle.oe_requests.specs.Operations.{Outline, aggregate, callback_under, dim
 use Rattle.oe_requests.specs.declared.extent.Interval.{Interval}
 use Rattle.oe_requests.specs.Requests.{Called, CubeRequest, aggregate_temporal, aggregate_temporal_period, apply_dimension, apply, apply_kernel, cube_ids, filter_bands, filter_bbox, filter_temporal, load_collection, mask, merge_cubes, reduce_dimension, cube_request_at, save_result}
 use Rattle.oe_meanings.specs.SoundNodes.{input_outlines}
-use Rattle.oe_meanings.specs.Stands.{HasNoFault, IsSound, asks_for_nothing, callback_in, cubes_of, early, early_rows, sound}
+use Rattle.oe_meanings.specs.Stands.{HasNoFault, IsSound, callback_in, early_rows, sound}
 use Rattle.oe_expr.specs.Rows.{first_row}
 use Rattle.oe_check.proofs.BuildableLemmas.{buildable, none_holds}
 use Rattle.oe_check.proofs.CheckedLemmas.{refer}
@@ -38,22 +37,6 @@ use Rattle.oe_meanings.proofs.RequestLemmas.{found}
 use Rattle.oe_slab.proofs.ApartLemmas.{ComesFrom, onwards_from}
 
 -- ---- what a node asks for
-
-some_request : (rows : List DimsRow) (at : List ℕ → Outline) (n : PlainNode) → HasNoFault rows at n
-    → (r : CubeRequest) × (cube_request_at n ≡ Some r)
-some_request rows at n none = by (cube_request_at n) refl
-  where
-    by : (o : Option CubeRequest) → cube_request_at n ≡ o → (r : CubeRequest) × (cube_request_at n ≡ Some r)
-    by None is = absurd (none ProcessParameterInvalid n.id (asks_for_nothing is))
-    by (Some r) is = (r, is)
-
-no_early_fault : (rows : List DimsRow) (at : List ℕ → Outline) (n : PlainNode) (r : CubeRequest) → cube_request_at n ≡ Some r
-    → HasNoFault rows at n → first_row (early_rows rows r (cubes_of rows at r)) ≡ None
-no_early_fault rows at n r asks none = by (first_row (early_rows rows r (cubes_of rows at r))) refl
-  where
-    by : (o : Option Code) → first_row (early_rows rows r (cubes_of rows at r)) ≡ o → o ≡ None
-    by None is = refl
-    by (Some code) is = absurd (none code n.id (early asks is))
 
 -- an aggregation is no reduction
 not_reduced : (intervals : List Interval) (c callback : Callback) → Some (aggregate intervals c) ≡ Some (reduce Time callback) → ⊥
@@ -144,11 +127,7 @@ module _ (c : CheckedGraph) (f : AreFaultless c) where
       (named_at c.nodes f.resolved index there.node there.is_there)
 
   counted : length (links_of c.nodes) ≡ node_count c.nodes
-  counted = map_length (link_of c.nodes) (each_node c.nodes) ∙ each_count c.nodes
-    where
-      map_length : {A B : Type 0} (g : A → B) (xs : List A) → length (map g xs) ≡ length xs
-      map_length g [] = refl
-      map_length g (x ∷ xs) = ap suc (map_length g xs)
+  counted = length-map (each_node c.nodes) (link_of c.nodes) ∙ each_count c.nodes
 
   -- what a node reaches is a node
   pub reached_below : (a n : ℕ) → a < node_count c.nodes → Reaches (links_of c.nodes) a n → n < node_count c.nodes

@@ -1,6 +1,6 @@
 -- The windows of a slab in the part before a time cut: what lies in those of the slab with all bands and, at each node, in
 -- that of the whole run. They have no more dates than a slab, and fit its buffers.
-use Rattle.std.proofs.Common.{◌≡◌, ◌≢◌, ◌<◌, ◌≤◌, ◌+◌, ◌*◌, ℕ, zero, suc, Bool, true, false, List, [], ◌∷◌, length, map, set, Contains, Option, Some, None, get_or, inl, inr, refl, sym, ap, ◌∙◌, subst, arith}
+use Rattle.std.proofs.Common.{◌≡◌, ◌≢◌, ◌<◌, ◌≤◌, ◌+◌, ◌*◌, ℕ, suc, Bool, true, false, List, [], ◌∷◌, length, map, set, Contains, Option, Some, None, get_or, inl, inr, refl, sym, ap, ◌∙◌, subst, arith}
 use Rattle.std.proofs.lemmas.Bool.{cases_eq}
 use Rattle.std.proofs.lemmas.List.{get_or_default, get_or-set_other, get_or-set_same}
 use Rattle.std.proofs.lemmas.List.Elements.{Contains-get_or}
@@ -23,6 +23,7 @@ use Rattle.oe_plan.specs.Windows.{AreWindows, span_along, window_at}
 use Rattle.oe_plan.proofs.HaloLemmas.{none_in_time}
 use Rattle.oe_plan.proofs.RunLemmas.{argument_before, only_step}
 use Rattle.oe_plan.proofs.ScheduleLemmas.{schedules_serve, works_along}
+use Rattle.oe_plan.proofs.SideLemmas.{largest_at}
 use Rattle.oe_check.specs.Checked.{AreFaultless, CheckedGraph}
 use Rattle.oe_check.specs.Links.{links_of}
 use Rattle.oe_check.specs.Reach.{whole_of_node}
@@ -42,11 +43,6 @@ use Rattle.oe_slab.proofs.LawLemmas.{takes_one}
 use Rattle.oe_slab.proofs.ScheduleLemmas.{taken_of_run}
 
 -- ---- the largest of some numbers
-
-largest_at : (g : ℕ → ℕ) (xs : List ℕ) (i : ℕ) → i < length xs → g (get_or xs i 0) ≤ largest (map g xs)
-largest_at g [] i below = absurd (omega arith)
-largest_at g (x ∷ xs) zero below = omega arith
-largest_at g (x ∷ xs) (suc i) below = let rest = largest_at g xs i (omega arith) in omega arith
 
 largest_most : (g : ℕ → ℕ) (xs : List ℕ) (most : ℕ) → ((i : ℕ) → i < length xs → g (get_or xs i 0) ≤ most) → largest (map g xs) ≤ most
 largest_most g [] most h = omega arith
