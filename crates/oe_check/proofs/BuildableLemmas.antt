@@ -37,7 +37,7 @@ use Rattle.oe_requests.specs.RunningSums.{IsWellFormed}
 
 -- ---- rows that do not hold
 
-none_of : (rows : List JudgedRow) → first_row rows ≡ None → (k : ℕ) (code : Code) (b : Bool) → slice_get rows k ≡ Some (code, b) → b ≡ false
+pub none_of : (rows : List JudgedRow) → first_row rows ≡ None → (k : ℕ) (code : Code) (b : Bool) → slice_get rows k ≡ Some (code, b) → b ≡ false
 none_of [] e k code b at = absurd cc
 none_of (row ∷ rows) e k code b at = by row.1 refl e k at (none_of rows)
   where

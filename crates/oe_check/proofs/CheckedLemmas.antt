@@ -34,7 +34,7 @@ refer_to_cubes = record { each = refer }
 
 -- ---- the inputs of a node by their indices
 
-map_twice : {A : Type 0} (f : ℕ → A) (g : List ℕ → ℕ) (h : List ℕ → A) (names : List (List ℕ))
+pub map_twice : {A : Type 0} (f : ℕ → A) (g : List ℕ → ℕ) (h : List ℕ → A) (names : List (List ℕ))
     → ((name : List ℕ) → Contains names name → f (g name) ≡ h name) → map f (map g names) ≡ map h names
 map_twice f g h [] same = refl
 map_twice f g h (name ∷ names) same =
@@ -43,7 +43,7 @@ map_twice f g h (name ∷ names) same =
     rw (first, rest) refl
 
 -- what a request works on that loads no collection
-no_load : {A : Type 0} (collection at : List ℕ → A) (r : CubeRequest) → loaded_by r ≡ None → request_inputs collection at r ≡ map at (cube_ids r)
+pub no_load : {A : Type 0} (collection at : List ℕ → A) (r : CubeRequest) → loaded_by r ≡ None → request_inputs collection at r ≡ map at (cube_ids r)
 no_load collection at (load_collection id box time bands) none = absurd cc
 no_load collection at (filter_bbox data_id box) none = refl
 no_load collection at (filter_temporal data_id time name) none = refl

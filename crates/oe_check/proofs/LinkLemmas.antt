@@ -12,7 +12,7 @@ use Rattle.std.proofs.lemmas.Bool.{cases_lt}
 use Rattle.std.proofs.lemmas.Cmp.{nat_list_cmp_total, tied_itself}
 use Rattle.std.proofs.lemmas.List.{length-map, get_or-map, map-append, get_or_default}
 use Rattle.std.proofs.lemmas.List.Sorted.{searchable_from_sorted}
-use Rattle.std.proofs.lemmas.Option.{slice_get-get_or, slice_get-map}
+use Rattle.std.proofs.lemmas.Option.{slice_get-get_or, slice_get-map, slice_get_within}
 use Rattle.oe_dims.proofs.IndexLemmas.{index_where_none}
 use Rattle.oe_dims.proofs.OrderLemmas.{same_name_is}
 use Rattle.oe_dims.specs.Indices.{index_where}
@@ -36,10 +36,11 @@ use Rattle.oe_order.specs.Graph as order
 use Rattle.oe_order.specs.Graph.{graph_of, arguments, RefersWithin, Reaches, IsAcyclic}
 use Rattle.oe_order.specs.declared.Links.{Links}
 use Rattle.oe_order.proofs.Graphs.{length-graph_of, arguments-graph_of}
-use Rattle.oe_check.specs.Links.{index_named, index_referred, link_of, links_of, AreNamed}
+use Rattle.oe_check.specs.Links.{index_named, index_referred, link_of, links_of, AreNamed, loaded_collection}
 use Rattle.oe_check.specs.Walked.{AreResolved, AreSeenBelow, IsNodeAt, IsNodeOf, state_at}
 use Rattle.oe_check.specs.declared.checked.State.{State}
 use Rattle.oe_check.specs.declared.checked.State.TheVariants.{Unseen}
+use Rattle.oe_check.specs.Checked.{CheckedGraph, collection_of_node}
 use Rattle.oe_memory.proofs.Lists.{first_of, later_of, take_next}
 use Rattle.oe_graph.proofs.ElementLemmas.{index_there}
 
@@ -393,3 +394,11 @@ module _ (nodes : Nodes) (is : AreResolved nodes) where
       ap (λ xs. arguments xs k) (sym all) ∙ arguments-graph_of links k link within read in
       let has : Contains indices b = (j, below, get_or_default indices j b 0 below) in
       subst (λ c. b < c) (reference_count nodes) (reference_within nodes k b (subst (λ xs. Contains xs b) (sym same) has))
+
+-- a node that loads a collection is one of the graph
+pub node_there : (c : CheckedGraph) (index : ℕ) (id : List ℕ) → collection_of_node c index ≡ Some id → index < node_count c.nodes
+node_there c index id loads = by (slice_get (each_node c.nodes) index) refl loads
+  where
+    by : (o : Option PlainNode) → slice_get (each_node c.nodes) index ≡ o → option_and_then loaded_collection o ≡ Some id → index < node_count c.nodes
+    by None is e = absurd cc
+    by (Some n) is e = subst (λ (count : ℕ). index < count) (each_count c.nodes) (slice_get_within (each_node c.nodes) index n is)

@@ -1,5 +1,5 @@
 -- The nodes of a graph without a fault by their indices: the shapes of their arguments, and what a check has seen of them.
-use Rattle.std.proofs.Common.{◌≡◌, ◌⊎◌, inl, inr, ℕ, zero, suc, ◌+◌, ◌<◌, Bool, true, false, ◌||◌, ◌&&◌, List, [], ◌∷◌, map, length, slice_get, Contains, Option, Some, None, option_map, if◌then◌else◌, is_some, is_none, refl, sym, ap, ◌∙◌, subst, arith, true≢false}
+use Rattle.std.proofs.Common.{◌≡◌, ◌⊎◌, inl, inr, ℕ, zero, suc, ◌+◌, ◌<◌, Bool, true, false, ◌||◌, ◌&&◌, List, [], ◌∷◌, map, length, slice_get, Contains, Option, Some, None, option_map, is_some, is_none, refl, sym, ap, ◌∙◌, subst, arith, true≢false}
 use Rattle.std.specs.Prelude.{nat_lt}
 use Rattle.std.proofs.lemmas.Option.{get_or_from_slice_get, same_Some, slice_get_within}
 use Rattle.std.proofs.lemmas.List.{get_or-map, length-map}
@@ -18,10 +18,10 @@ use Rattle.oe_order.specs.Graph as order
 use Rattle.oe_expr.specs.Callback.{Callback}
 use Rattle.oe_expr.specs.Nodes.{id_at, node_named}
 use Rattle.oe_expr.specs.Requests.{with_both}
-use Rattle.oe_expr.specs.Rows.{JudgedRow, first_row}
+use Rattle.oe_expr.specs.Rows.{first_row}
 use Rattle.oe_expr.proofs.NodeLemmas.{contains_node, id_at_is}
 use Rattle.oe_check.specs.Checked.{AreFaultless, CheckedGraph, collection_of_node, operation_of_node, outline_of_node}
-use Rattle.oe_meanings.specs.Graphs.{request_inputs, operation_at, outline_at, outline_named, request_outline}
+use Rattle.oe_meanings.specs.Graphs.{operation_at, outline_at, outline_named, request_outline}
 use Rattle.oe_requests.specs.Labels.{differ_along, differing, one_if}
 use Rattle.oe_check.specs.Links.{loaded_collection, index_referred, links_of, loaded_by}
 use Rattle.oe_requests.specs.Operations.{Operation, Outline, dimension_named, first_or, no_dimensions, no_outline, operation_of, outline_of, second_or, shape_of}
@@ -32,8 +32,8 @@ use Rattle.oe_meanings.specs.Rows.{differs_from_data, dimension_not_available, f
 use Rattle.oe_meanings.specs.SoundNodes.{input_outlines}
 use Rattle.oe_meanings.specs.Stands.{HasNoFault, IsSound, asks_for_nothing, cubes_of, early, early_rows, sound}
 use Rattle.oe_meanings.specs.Words.{codes_differ, has_another, lacks_named}
-use Rattle.oe_check.proofs.BuildableLemmas.{none_holds}
-use Rattle.oe_check.proofs.CheckedLemmas.{refer}
+use Rattle.oe_check.proofs.BuildableLemmas.{none_holds, none_of}
+use Rattle.oe_check.proofs.CheckedLemmas.{map_twice, no_load, refer}
 use Rattle.oe_meanings.proofs.GraphLemmas.{unfold_at_nodes}
 use Rattle.oe_check.proofs.LinkLemmas.{index_is, links_arguments, named_at, object, referred}
 use Rattle.oe_check.proofs.LoadLemmas.{loads_where}
@@ -44,16 +44,6 @@ use Rattle.oe_plan.specs.Steps.{argument_shapes, arguments_of_node}
 use Rattle.oe_plan.proofs.FollowLemmas.{IsMaskOf, IsTaken}
 
 -- ---- the rows of faults
-
-none_of : (rows : List JudgedRow) → first_row rows ≡ None → (k : ℕ) (code : Code) (b : Bool) → slice_get rows k ≡ Some (code, b) → b ≡ false
-none_of [] e k code b at = absurd cc
-none_of (row ∷ rows) e k code b at = by row.1 refl e k at (none_of rows)
-  where
-    by : (t : Bool) → row.1 ≡ t → (if t then Some row.0 else first_row rows) ≡ None → (k : ℕ) → slice_get (row ∷ rows) k ≡ Some (code, b)
-        → (first_row rows ≡ None → (j : ℕ) (code : Code) (b : Bool) → slice_get rows j ≡ Some (code, b) → b ≡ false) → b ≡ false
-    by true is e k at later = absurd cc
-    by false is e zero at later = let same : row ≡ (code, b) = cc in sym (ap (λ (x : JudgedRow). x.1) same) ∙ is
-    by false is e (suc j) at later = later e j code b at
 
 no_fault : (rows : List DimsRow) (nodes : Nodes) (name : List ℕ) (n : PlainNode) → IsSound rows nodes name → node_named name nodes ≡ Some n → HasNoFault rows (outline_at rows nodes) n
 no_fault rows nodes name n (sound {n = m} is below none) named = let same : m ≡ n = cc in subst (HasNoFault rows (outline_at rows nodes)) same none
@@ -194,33 +184,9 @@ taken (save_result data_id format) cubes op none is fits number below = subst (�
 
 -- ---- the inputs of a node by their indices
 
-map_twice : {A : Type 0} (f : ℕ → A) (g : List ℕ → ℕ) (h : List ℕ → A) (names : List (List ℕ))
-    → ((name : List ℕ) → Contains names name → f (g name) ≡ h name) → map f (map g names) ≡ map h names
-map_twice f g h [] same = refl
-map_twice f g h (name ∷ names) same =
-    let first : f (g name) ≡ h name = same name (0, omega arith, refl) in
-    let rest = map_twice f g h names (λ other has. let below = has.1 in same other (suc has.0, omega arith, has.2)) in
-    rw (first, rest) refl
-
 map_map : {A B C : Type 0} (g : B → C) (f : A → B) (xs : List A) → map g (map f xs) ≡ map (λ x. g (f x)) xs
 map_map g f [] = refl
 map_map g f (x ∷ xs) = ap (λ ys. g (f x) ∷ ys) (map_map g f xs)
-
--- what a request works on that loads no collection
-no_load : {A : Type 0} (collection at : List ℕ → A) (r : CubeRequest) → loaded_by r ≡ None → request_inputs collection at r ≡ map at (cube_ids r)
-no_load collection at (load_collection id box time bands) none = absurd cc
-no_load collection at (filter_bbox data_id box) none = refl
-no_load collection at (filter_temporal data_id time name) none = refl
-no_load collection at (filter_bands data_id bands) none = refl
-no_load collection at (apply data_id c) none = refl
-no_load collection at (apply_kernel data_id kernel factor border replace) none = refl
-no_load collection at (reduce_dimension data_id name c) none = refl
-no_load collection at (aggregate_temporal data_id intervals name c) none = refl
-no_load collection at (aggregate_temporal_period data_id period name c) none = refl
-no_load collection at (apply_dimension data_id callback) none = refl
-no_load collection at (merge_cubes one two resolver) none = refl
-no_load collection at (mask data_id mask_id replacement) none = refl
-no_load collection at (save_result data_id format) none = refl
 
 -- what a check has seen of a node that takes arguments
 pub record IsSeen (c : CheckedGraph) (node : ℕ) (op : Operation) : Type 0 where

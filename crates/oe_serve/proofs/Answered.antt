@@ -1,12 +1,8 @@
 -- How a graph is answered whose run was begun.
-use Rattle.std.proofs.Common.{◌≡◌, ◌⊎◌, ◌<◌, ◌++◌, ℕ, List, take, Option, Some, None, Ok, Err, inl, inr, refl, ap, ◌∙◌, subst}
+use Rattle.std.proofs.Common.{◌≡◌, ◌⊎◌, ◌++◌, ℕ, List, take, Option, Some, None, Ok, Err, inl, inr, refl, ap, ◌∙◌, subst}
 use Rattle.oe_engine.specs.Going.{IsGoing}
 use Rattle.oe_engine.specs.Runs.{RunOf}
 use Rattle.oe_engine.specs.Results.{result_of}
-use Rattle.oe_graph.specs.Printed.{node_count}
-use Rattle.oe_graph.specs.References.{each_node}
-use Rattle.oe_graph.specs.Tree.{PlainNode}
-use Rattle.oe_graph.proofs.SearchLemmas.{each_count}
 use Rattle.oe_jobs.specs.Kept.{Kept}
 use Rattle.oe_outside.specs.Faults.{Rose}
 use Rattle.oe_outside.specs.Visible.{Appends, AppendsPrefix}
@@ -15,11 +11,8 @@ use Rattle.oe_plan.specs.Plans.{PlanOf}
 use Rattle.oe_render.specs.Text.{cube_text}
 use Rattle.oe_service.specs.Causes.{Outside, outside}
 use Rattle.oe_check.specs.Checked.{CheckedGraph, collection_of_node}
-use Rattle.oe_check.specs.Links.{loaded_collection}
+use Rattle.oe_check.proofs.LinkLemmas.{node_there}
 use Rattle.oe_sources.specs.Catalogue.{Row}
-use Rattle.std.proofs.lemmas.Option.{slice_get_within}
-use Rattle.std.specs.List.{slice_get}
-use Rattle.std.specs.Option.{option_and_then}
 use Rattle.oe_serve.specs.Evaluations.{CanBeNamed, Completes, SendsRunText}
 use Rattle.oe_serve.specs.Links.{LinkOf, SendsCode}
 use Rattle.oe_serve.specs.Results.{AnswersResult, IsRun, ResultRefused, RunRefused, code_of, detail_of, result_head, with_refusal, with_result, without_memory}
@@ -117,14 +110,6 @@ module _ (r after : RunOf) (rows rows_after : List Row) (store store_after store
         (is ∙ ap (λ (p : PlanOf). p.graph) c.goes.plan) sends)
 
 -- ---- what can be named
-
--- a node that loads a collection is one of the graph
-node_there : (c : CheckedGraph) (node : ℕ) (id : List ℕ) → collection_of_node c node ≡ Some id → node < node_count c.nodes
-node_there c node id loads = by (slice_get (each_node c.nodes) node) refl loads
-  where
-    by : (o : Option PlainNode) → slice_get (each_node c.nodes) node ≡ o → option_and_then loaded_collection o ≡ Some id → node < node_count c.nodes
-    by None is e = absurd cc
-    by (Some n) is e = subst (λ (count : ℕ). node < count) (each_count c.nodes) (slice_get_within (each_node c.nodes) node n is)
 
 pub can_be_named : (c : CheckedGraph) (rows rows_after : List Row) (store : Option (List ℕ)) (faults faults_after : ℕ)
     (refusal : ResultRefusal) → RunRefused c rows rows_after store faults faults_after refusal → CanBeNamed c refusal

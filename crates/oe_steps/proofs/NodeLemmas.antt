@@ -1,5 +1,5 @@
 -- What the nodes of a graph without a fault work on: their operations, on the outlines of the nodes that they refer to.
-use Rattle.std.proofs.Common.{◌≡◌, ℕ, suc, ◌<◌, List, [], ◌∷◌, length, map, Contains, Option, Some, None, refl, sym, ap, ◌∙◌, subst, arith}
+use Rattle.std.proofs.Common.{◌≡◌, ℕ, ◌<◌, List, [], length, map, Contains, Option, Some, None, sym, ap, ◌∙◌, subst, arith}
 use Rattle.oe_requests.specs.Requests as request
 use Rattle.std.specs.Option.{option_and_then, option_map, option_map_or}
 use Rattle.std.proofs.lemmas.List.{length-map}
@@ -11,13 +11,13 @@ use Rattle.oe_graph.proofs.ResolvedLemmas.{SomeNode, node_below}
 use Rattle.oe_graph.specs.Printed.{node_count}
 use Rattle.oe_graph.specs.References.{references_named}
 use Rattle.oe_plan.specs.Steps.{arguments_of_node}
-use Rattle.oe_check.proofs.CheckedLemmas.{refer}
+use Rattle.oe_check.proofs.CheckedLemmas.{map_twice, no_load, refer}
 use Rattle.oe_meanings.proofs.GraphLemmas.{unfold_at_nodes}
 use Rattle.oe_check.proofs.LinkLemmas.{object, named_at, referred, index_is, links_arguments}
 use Rattle.oe_meanings.proofs.RequestLemmas.{found}
 use Rattle.oe_meanings.specs.CellKinds.{IsSoundOn}
 use Rattle.oe_check.specs.Checked.{CheckedGraph, AreFaultless, operation_of_node, collection_of_node, outline_of_node}
-use Rattle.oe_meanings.specs.Graphs.{request_inputs, outline_named, outline_at, request_outline, operation_at}
+use Rattle.oe_meanings.specs.Graphs.{outline_named, outline_at, request_outline, operation_at}
 use Rattle.oe_check.specs.Links.{index_referred, loaded_by, loaded_collection}
 use Rattle.oe_requests.specs.Operations.{Operation, keep, each_cell, convolve, reduce, aggregate, accumulate, merge, cover, give_back, Outline, callback_under, dimension_named, first_or, no_outline, operation_of, outline_of, reduction_scope}
 use Rattle.oe_requests.specs.Requests.{CubeRequest, cube_ids, cube_request_at}
@@ -40,30 +40,6 @@ pub record WorksOn (c : CheckedGraph) (node : ℕ) (operation : Operation) : Typ
   pub sound : IsSoundOn operation (map (outline_of_node c) (arguments_of_node c node))
   pub outline_is : outline_of_node c node ≡ outline_of operation (map (outline_of_node c) (arguments_of_node c node))
   pub as_many : length (arguments_of_node c node) ≡ cube_count operation
-
-map_twice : {A : Type 0} (f : ℕ → A) (g : List ℕ → ℕ) (h : List ℕ → A) (names : List (List ℕ))
-    → ((name : List ℕ) → Contains names name → f (g name) ≡ h name) → map f (map g names) ≡ map h names
-map_twice f g h [] same = refl
-map_twice f g h (name ∷ names) same =
-    let first : f (g name) ≡ h name = same name (0, omega arith, refl) in
-    let rest = map_twice f g h names (λ other has. let below = has.1 in same other (suc has.0, omega arith, has.2)) in
-    rw (first, rest) refl
-
--- a request that loads no collection works on the cubes that it names
-no_load : (collection at : List ℕ → Outline) (r : CubeRequest) → loaded_by r ≡ None → request_inputs collection at r ≡ map at (cube_ids r)
-no_load collection at (request.load_collection id box time bands) none = absurd cc
-no_load collection at (request.filter_bbox data_id box) none = refl
-no_load collection at (request.filter_temporal data_id time name) none = refl
-no_load collection at (request.filter_bands data_id bands) none = refl
-no_load collection at (request.apply data_id c) none = refl
-no_load collection at (request.apply_kernel data_id kernel factor border replace) none = refl
-no_load collection at (request.reduce_dimension data_id name c) none = refl
-no_load collection at (request.aggregate_temporal data_id intervals name c) none = refl
-no_load collection at (request.aggregate_temporal_period data_id period name c) none = refl
-no_load collection at (request.apply_dimension data_id callback) none = refl
-no_load collection at (request.merge_cubes one two resolver) none = refl
-no_load collection at (request.mask data_id mask_id replacement) none = refl
-no_load collection at (request.save_result data_id format) none = refl
 
 same_count : (a b : Operation) → Some a ≡ Some b → cube_count a ≡ cube_count b
 same_count a b e = let is : a ≡ b = cc in ap cube_count is

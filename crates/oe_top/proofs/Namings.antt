@@ -1,19 +1,13 @@
 -- Refusals that name a position of a collection.
-use Rattle.std.proofs.Common.{◌≡◌, ℕ, ◌<◌, ◌≤◌, ◌&&◌, nat_le, true, List, length, slice_get, Option, Some, None, refl, sym, ap, subst}
+use Rattle.std.proofs.Common.{◌≡◌, ℕ, ◌≤◌, ◌&&◌, nat_le, true, List, length, Some, refl, sym, ap, subst}
 use Rattle.std.proofs.lemmas.Bool.{and_parts, leb-true}
-use Rattle.std.proofs.lemmas.Option.{slice_get_within}
 use Rattle.std.specs.List.{list_all}
-use Rattle.std.specs.Option.{option_and_then}
 use Rattle.oe_dims.specs.Names.{is_name, is_name_byte}
 use Rattle.oe_steps.specs.Refusals.{KeepsDamage}
 use Rattle.oe_steps.specs.declared.fail.RunFail.{RunFail}
 use Rattle.oe_steps.specs.declared.fail.RunFail.TheVariants as run
-use Rattle.oe_graph.specs.Printed.{node_count}
-use Rattle.oe_graph.specs.References.{each_node}
-use Rattle.oe_graph.specs.Tree.{PlainNode}
-use Rattle.oe_graph.proofs.SearchLemmas.{each_count}
 use Rattle.oe_check.specs.Checked.{CheckedGraph, collection_of_node}
-use Rattle.oe_check.specs.Links.{loaded_collection}
+use Rattle.oe_check.proofs.LinkLemmas.{node_there}
 use Rattle.oe_sources.specs.Catalogue.{Row}
 use Rattle.oe_sources.specs.CatalogueLaws.{HaveValidIds}
 use Rattle.oe_top.specs.Evaluated.{CanBeNamed, IsFailOfRun}
@@ -33,14 +27,6 @@ short_name id valid =
     let parts = and_parts (nat_le 1 (length id) && nat_le (length id) 64) (list_all is_name_byte id) valid in
     let sizes = and_parts (nat_le 1 (length id)) (nat_le (length id) 64) parts.0 in
     leb-true (length id) 64 sizes.1
-
--- a node that loads a collection is one of the graph
-node_there : (c : CheckedGraph) (node : ℕ) (id : List ℕ) → collection_of_node c node ≡ Some id → node < node_count c.nodes
-node_there c node id loads = by (slice_get (each_node c.nodes) node) refl loads
-  where
-    by : (o : Option PlainNode) → slice_get (each_node c.nodes) node ≡ o → option_and_then loaded_collection o ≡ Some id → node < node_count c.nodes
-    by None is e = absurd cc
-    by (Some n) is e = subst (λ (count : ℕ). node < count) (each_count c.nodes) (slice_get_within (each_node c.nodes) node n is)
 
 -- a damaged position that a node keeps is one of a collection whose id fits a line
 pub can_be_named : (c : CheckedGraph) (rows : List Row) → HaveValidIds rows → (fail : RunFail)
