@@ -39,11 +39,11 @@ use Rattle.oe_requests.specs.Operations.{labels_along, without_dimension}
 abbrev pub AllOfKind : CellKind → Cube Cell → Type 0
 AllOfKind kind cube = All (IsOfKind kind) cube.cells
 
-null_fits : (kind : CellKind) → IsOfKind kind Empty
+pub null_fits : (kind : CellKind) → IsOfKind kind Empty
 null_fits Numbers = tt
 null_fits Flags = tt
 
-over_fits : (kind : CellKind) → IsOfKind kind Over
+pub over_fits : (kind : CellKind) → IsOfKind kind Over
 over_fits Numbers = tt
 over_fits Flags = tt
 
@@ -155,7 +155,7 @@ chosen_fits : (kind : CellKind) (b : Bool) (x y : Cell) → IsOfKind kind x → 
 chosen_fits kind true x y h k = h
 chosen_fits kind false x y h k = k
 
-covered_by_fits : (kind : CellKind) (replacement mask c : Cell) → IsOfKind kind replacement → IsOfKind kind c → IsOfKind kind (covered_by replacement mask c)
+pub covered_by_fits : (kind : CellKind) (replacement mask c : Cell) → IsOfKind kind replacement → IsOfKind kind c → IsOfKind kind (covered_by replacement mask c)
 covered_by_fits kind replacement Over c h k = over_fits kind
 covered_by_fits kind replacement Empty c h k = k
 covered_by_fits kind replacement (Flag b) c h k = chosen_fits kind b replacement c h k

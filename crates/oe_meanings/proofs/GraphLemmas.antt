@@ -98,7 +98,7 @@ cell_of_kind Flags (Number q) h = absurd cc
 cell_of_kind Numbers Over h = absurd cc
 cell_of_kind Flags Over h = absurd cc
 
-cells_of_kind : (kind : CellKind) (cells : List Cell) → list_all (is_null_or_of kind) cells ≡ true → All (IsOfKind kind) cells
+pub cells_of_kind : (kind : CellKind) (cells : List Cell) → list_all (is_null_or_of kind) cells ≡ true → All (IsOfKind kind) cells
 cells_of_kind kind [] h k d l = absurd (omega arith)
 cells_of_kind kind (c ∷ cells) h k d l = by k l (cells_of_kind kind cells (right_of (is_null_or_of kind c) _ h))
   where

@@ -16,6 +16,7 @@ use Rattle.oe_expr.specs.Scope.{PlainScope, IsEnvironmentOf, IsListNumber, list_
 use Rattle.oe_expr.specs.declared.row.EnvRow.{EnvRow}
 use Rattle.oe_requests.specs.Labels.{merged_shape, restrict}
 use Rattle.oe_meanings.specs.Meaning.{joined, merged, value_on_cells}
+use Rattle.oe_meanings.proofs.CellKindLemmas.{null_fits}
 use Rattle.oe_window.specs.Cells.{cells_on}
 use Rattle.oe_window.specs.Windows.{Holds, positions, whole_window}
 use Rattle.oe_window.specs.declared.window.Window.{Window}
@@ -105,9 +106,6 @@ row_fits kind slice row index cells is h =
 
 abbrev FitsIfThere : CellKind → Option Cell → Type 0
 FitsIfThere kind o = IfSome o (IsOfKind kind)
-
-null_fits : (kind : CellKind) → IsOfKind kind Empty
-null_fits kind = fits_at kind [] 0 (λ n other lt. absurd (omega arith))
 
 value_fits : (kind k : CellKind) (c : Callback) (a b : Cell) → c.scope ≡ merge k → KeepsKind c → callback_kind c ≡ kind → IsOfKind k a → IsOfKind k b → IsOfKind kind (value_on_cells c a b)
 value_fits kind k c a b is keeps same fits_a fits_b =

@@ -1,26 +1,26 @@
 -- The values of a callback on the lists along a dimension of a cube, at the positions of a window.
 use Rattle.std.proofs.Common.{◌≡◌, ℕ, suc, ◌+◌, ◌-◌, ◌<◌, ℤ, List, [], ◌∷◌, length, map, refl, sym, ap, ◌∙◌, subst, arith, Option, Some, None}
-use Rattle.std.specs.List.{range_with_len, slice_get, slice_index_or, slice_range}
+use Rattle.std.specs.List.{range_with_len, slice_get, slice_index_or}
 use Rattle.std.specs.Option.{unwrap_or}
-use Rattle.std.proofs.Math.Seq.{take-length}
 use Rattle.std.proofs.lemmas.Option.{slice_get_within}
 use Rattle.oe_cell.specs.declared.cell.Cell.{Cell}
 use Rattle.oe_cell.specs.declared.cell.Cell.TheVariants.{Empty}
 use Rattle.oe_dims.specs.Cube.{Cube, IsCube, Tuple}
 use Rattle.oe_dims.specs.Dimensions.{Dimensions, IsShape, band_names, extent, number_labels}
-use Rattle.oe_dims.specs.Plain.{PlainLabels, plain_coordinates, plain_instants, plain_names}
+use Rattle.oe_dims.specs.Plain.{PlainLabels}
 use Rattle.oe_dims.specs.Positions.{Position, IsPosition, label_of, tuple_of}
 use Rattle.oe_dims.specs.declared.kind.Kind.{Kind}
 use Rattle.oe_dims.specs.declared.kind.Kind.TheVariants.{Time, Bands, Y, X}
 use Rattle.oe_dims.proofs.CubeLemmas.{length-tuples}
 use Rattle.oe_expr.specs.Callback.{Callback, callback_value}
-use Rattle.oe_expr.specs.Scope.{count_labels, labels_in, list_labels, no_labels}
+use Rattle.oe_expr.specs.Scope.{count_labels, list_labels, no_labels}
 use Rattle.oe_window.specs.Cells.{cells_on}
 use Rattle.oe_window.specs.Windows.{Holds, IsIn, positions, whole_window}
 use Rattle.oe_window.specs.declared.window.Window.{Window}
 use Rattle.oe_window.proofs.CellLemmas.{cell_at-at, cells_on-tabulate}
 use Rattle.oe_window.proofs.WholeLemmas.{position_in}
 use Rattle.oe_meanings.specs.Meaning.{cell, cells_along, reduced, value_on_list}
+use Rattle.oe_meanings.proofs.CellKindLemmas.{all_labels}
 use Rattle.oe_requests.specs.Operations.{labels_along, without_dimension}
 use Rattle.oe_ops.specs.Lists.{TakesList, TakesLists, list_from, value_of_list, with_index}
 use Rattle.oe_ops.specs.Needs.{HasLabelsBeside, HoldsNeed}
@@ -119,14 +119,6 @@ module _ (cube : Cube Cell) (slice : Slice) (valid : IsShape cube.shape) (whole 
       ∙ ap (λ (o : Option ℤ). cell cube (record (tuple_of (without_dimension X cube.shape) p) { x = o })) (label_there cube.shape.x i l e))
 
 -- ---- the callback
-
-all_of_list : {A : Type 0} (xs : List A) → slice_range xs 0 (length xs) ≡ xs
-all_of_list xs = let all : length xs - 0 ≡ length xs = omega arith in rw all (take-length xs)
-
-all_labels : (labels : PlainLabels) → labels_in labels (record { from = 0; to = count_labels labels }) ≡ labels
-all_labels (plain_instants labels) = ap plain_instants (all_of_list labels)
-all_labels (plain_names labels) = ap plain_names (all_of_list labels)
-all_labels (plain_coordinates labels) = ap plain_coordinates (all_of_list labels)
 
 -- the callback of a reduction takes its one list
 pub takes_list : (c : Callback) (along : Kind) (d : Dimensions) (cells : List Cell) → TakesLists c along d cells → TakesList c 0 (count_along along d) cells

@@ -1,12 +1,11 @@
 -- One plane of what a node loads, from a box of its collection.
-use Rattle.std.proofs.Common.{◌≡◌, ℕ, zero, suc, ◌<◌, Bool, true, false, ◌&&◌, List, [], ◌∷◌, length, get_or, replicate, Option, Some, None, IfSome, refl, sym, ap, ◌∙◌, subst, arith, Result, Ok, Err, OnOk}
+use Rattle.std.proofs.Common.{◌≡◌, ℕ, zero, suc, ◌<◌, true, List, [], ◌∷◌, length, get_or, replicate, Option, Some, None, IfSome, refl, sym, ap, ◌∙◌, subst, arith, Result, Ok, Err, OnOk}
 use Rattle.std.specs.List.{All, list_all}
 use Rattle.std.specs.Option.{option_map}
 use Rattle.std.specs.Result.{IfErr, IsErrOf}
 use Rattle.std.proofs.lemmas.List.{get_or_default}
-use Rattle.std.proofs.lemmas.List.Elements.{All-cons, All-nil}
 use Rattle.std.proofs.lemmas.Option.{same_Some}
-use Rattle.oe_cell.specs.declared.cell.Cell.TheVariants.{Empty, Flag, Number, Over}
+use Rattle.oe_cell.specs.declared.cell.Cell.TheVariants.{Empty}
 use Rattle.oe_cell.specs.declared.cell.Cell.{Cell}
 use Rattle.oe_cube.specs.Collections.{Collection, IsCollection}
 use Rattle.oe_cube.specs.Kinds.{IsOfKind, is_null_or_of}
@@ -24,6 +23,7 @@ use Rattle.oe_requests.specs.Extents.{kept_shape, Restriction}
 use Rattle.oe_meanings.specs.Graphs.{Collections, collection_named, datacube_of}
 use Rattle.oe_check.specs.Laws.{AreCollectionsOf}
 use Rattle.oe_meanings.specs.Meaning.{Datacube, restricted_cube, operated}
+use Rattle.oe_meanings.proofs.GraphLemmas.{cells_of_kind}
 use Rattle.oe_requests.specs.Operations.{Outline, keep}
 use Rattle.oe_sources.proofs.CatalogueLawLemmas.{ask_no_more}
 use Rattle.oe_sources.specs.Catalogue.{ReadsRow, Row, row_index, source_at}
@@ -45,26 +45,6 @@ use Rattle.oe_steps.specs.declared.fail.RunFail.TheVariants.{SourceFailed}
 use Rattle.oe_steps.specs.declared.fail.RunFail.{RunFail}
 
 -- ---- kinds of cells
-
-cell_of_kind : (kind : CellKind) (c : Cell) → is_null_or_of kind c ≡ true → IsOfKind kind c
-cell_of_kind Numbers Empty h = tt
-cell_of_kind Flags Empty h = tt
-cell_of_kind Numbers (Flag b) h = absurd cc
-cell_of_kind Numbers (Number q) h = tt
-cell_of_kind Flags (Flag b) h = tt
-cell_of_kind Flags (Number q) h = absurd cc
-cell_of_kind Numbers Over h = absurd cc
-cell_of_kind Flags Over h = absurd cc
-
-both : (a b : Bool) → (a && b) ≡ true → (a ≡ true) × (b ≡ true)
-both true b h = (refl, h)
-both false b h = absurd cc
-
-cells_of_kind : (kind : CellKind) (cells : List Cell) → list_all (is_null_or_of kind) cells ≡ true → All (IsOfKind kind) cells
-cells_of_kind kind [] h = All-nil (IsOfKind kind)
-cells_of_kind kind (c ∷ cells) h =
-    let two = both (is_null_or_of kind c) (list_all (is_null_or_of kind) cells) h in
-    All-cons (IsOfKind kind) c cells (cell_of_kind kind c two.0) (cells_of_kind kind cells two.1)
 
 nulls_of_kind : (kind : CellKind) (n : ℕ) → All (IsOfKind kind) (replicate n Empty)
 nulls_of_kind kind zero k d l = absurd (omega arith)

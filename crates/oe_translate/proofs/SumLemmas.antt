@@ -1,5 +1,5 @@
 -- The merge of the sums up to each label with the data is the cube of running sums.
-use Rattle.std.proofs.Common.{◌≡◌, inl, inr, ℕ, suc, ◌==◌, Bool, true, false, not, ◌&&◌, List, [], ◌∷◌, ◌++◌, map, filter, find, refl, sym, ap, ◌∙◌, subst, arith, Option, Some, None, ℤ, int_lt, slice_get, true≢false, Contains}
+use Rattle.std.proofs.Common.{◌≡◌, inl, inr, ℕ, ◌==◌, Bool, true, false, not, ◌&&◌, List, [], ◌∷◌, ◌++◌, map, filter, find, refl, sym, ap, ◌∙◌, subst, arith, Option, Some, None, ℤ, int_lt, slice_get, true≢false, Contains}
 use Rattle.std.specs.Prelude.{int_le, unwrap_or}
 use Rattle.std.specs.List.{AllByRecursion, list_all}
 use Rattle.std.specs.Option.{option_map_or}
@@ -39,6 +39,7 @@ use Rattle.oe_requests.specs.declared.extent.Interval.{Interval}
 use Rattle.oe_requests.specs.declared.extent.TemporalExtent.{TemporalExtent}
 use Rattle.oe_meanings.proofs.OrderedLemmas.{left_of, right_of, rises_stand, stand_in_order, turned}
 use Rattle.oe_meanings.proofs.SameLemmas.{all_stay, same_stay}
+use Rattle.oe_meanings.proofs.PeriodLemmas.{map_same}
 use Rattle.oe_translate.specs.Written.{growing_intervals, interval_up_to, intervals_from, sum_callback, sum_where_number}
 use Rattle.oe_translate.proofs.ValueLemmas.{IsSummand, running_sum_is, zero_cell}
 
@@ -233,10 +234,6 @@ only_there (Some ls) label h = refl
 restrict_itself : (d : Dimensions) (tuple : Tuple) → IsTuple d tuple → restrict d tuple ≡ tuple
 restrict_itself d tuple is =
     rw (only_there d.t tuple.t is.t, only_there d.bands tuple.band is.band, only_there d.y tuple.y is.y, only_there d.x tuple.x is.x) refl
-
-map_same : {X Y : Type 0} (f g : X → Y) (xs : List X) → ((k : ℕ) (x : X) → slice_get xs k ≡ Some x → f x ≡ g x) → map f xs ≡ map g xs
-map_same f g [] same = refl
-map_same f g (x ∷ xs) same = ap (λ y. y ∷ map f xs) (same 0 x refl) ∙ ap (λ ys. g x ∷ ys) (map_same f g xs (λ k y e. same (suc k) y e))
 
 -- with one label of t for each of the intervals it stays as it is
 pub growing_shape : (shape : Dimensions) → IsShape shape → (labels : List ℤ) → shape.t ≡ Some labels

@@ -2,13 +2,14 @@ use Rattle.std.proofs.Common.{◌∙◌}
 use Rattle.std.specs.Option.{unwrap_or}
 use Rattle.oe_cell.specs.declared.cell.Cell.TheVariants.{Empty}
 use Rattle.oe_meanings.specs.Meaning.{covered_by}
+use Rattle.oe_meanings.proofs.CellKindLemmas.{covered_by_fits}
 use Rattle.oe_window.specs.Windows.{number_in, positions}
 use Rattle.oe_window.proofs.WholeLemmas.{position_in}
 use Rattle.oe_ops.specs.Indices.{found_in}
 use Rattle.oe_ops.specs.Slices.{cell_of}
 use Rattle.oe_ops.proofs.KeepLemmas.{are_held}
 use Rattle.oe_ops.proofs.CoverLemmas.{own_inside, covered_is}
-use Rattle.oe_ops.proofs.KindLemmas.{all_fit, covered_by_fits, fits_at}
+use Rattle.oe_ops.proofs.KindLemmas.{all_fit, fits_at}
 use Rattle.oe_ops.proofs.cover.eval_cover.Goals as goal
 
 pub fill_planes-requires-clause-serves : goal.fill_planes-requires-clause-serves
