@@ -10,8 +10,9 @@ use Rattle.oe_graph.specs.References.{references_named}
 use Rattle.oe_graph.specs.Tree.{Nodes, PlainNode}
 use Rattle.oe_graph.proofs.ResolvedLemmas.{NodeAt}
 use Rattle.oe_expr.specs.Requests.{with_both}
+use Rattle.oe_expr.proofs.StateLemmas.{within_nodes}
 use Rattle.oe_meanings.proofs.RequestLemmas.{EachOf, of_node_request}
-use Rattle.oe_check.proofs.LinkLemmas.{within_nodes, index_is, object}
+use Rattle.oe_check.proofs.LinkLemmas.{index_is, object}
 use Rattle.oe_meanings.specs.Graphs.{row_outline, outline_named}
 use Rattle.oe_check.specs.Inputs.{AreNamed, outline_sound, WorksOn, AreInputs}
 use Rattle.oe_check.specs.Links.{index_referred}

@@ -1,5 +1,5 @@
 -- The nodes of a graph by the indices of their names, and the links between them as the graph of a run.
-use Rattle.std.proofs.Common.{◌≡◌, ◌≢◌, inl, inr, ℕ, zero, suc, ◌+◌, ◌<◌, ◌^◌, Bool, true, false, cond, if◌then◌else◌, List, [], ◌∷◌, ◌++◌, take, map, length, get_or, slice_get, slice_index_or, Contains, Option, Some, None, option_map, Ok, Err, refl, sym, ap, ◌∙◌, subst, arith, add-one, codes}
+use Rattle.std.proofs.Common.{◌≡◌, ◌≢◌, inl, inr, ℕ, zero, suc, ◌+◌, ◌<◌, ◌^◌, Bool, true, false, cond, if◌then◌else◌, List, [], ◌∷◌, ◌++◌, take, map, length, get_or, slice_get, slice_index_or, Contains, Option, Some, None, option_map, Ok, Err, refl, sym, ap, ◌∙◌, subst, arith, codes}
 use Rattle.std.specs.Cmp.Lexicographic.{slice_cmp}
 use Rattle.std.specs.FinMap.{slice_cmp-IsAntisymmetric, nat_cmp-IsAntisymmetric}
 use Rattle.std.specs.List.Sorted.{IsSortedBy, IsBinarySearchResult}
@@ -31,7 +31,7 @@ use Rattle.oe_graph.specs.Tree.{Nodes, no_nodes, node, PlainNode}
 use Rattle.oe_graph.specs.declared.tree.Node.{Node}
 use Rattle.oe_expr.specs.Nodes.{node_named}
 use Rattle.oe_expr.proofs.NodeLemmas.{contains_node}
-use Rattle.oe_expr.proofs.StateLemmas.{plain_id, each_plain, count_plain, node_at_index}
+use Rattle.oe_expr.proofs.StateLemmas.{plain_id, each_plain, count_plain, node_at_index, within_nodes, shift}
 use Rattle.oe_order.specs.Graph as order
 use Rattle.oe_order.specs.Graph.{graph_of, arguments, RefersWithin, Reaches, IsAcyclic}
 use Rattle.oe_order.specs.declared.Links.{Links}
@@ -51,11 +51,6 @@ ids_plain [] = refl
 ids_plain (n ∷ nodes) =
     ap (λ (id : List ℕ). id ∷ ids_of (plain_nodes nodes)) (plain_id n)
     ∙ ap (λ (ids : List (List ℕ)). n.id ∷ ids) (ids_plain nodes)
-
-pub within_nodes : (ns : Nodes) (k : ℕ) (n : PlainNode) → IsNodeAt ns k n → k < node_count ns
-within_nodes no_nodes k n is = absurd cc
-within_nodes (node id p s args rest) zero n is = omega arith
-within_nodes (node id p s args rest) (suc k) n is = let below = within_nodes rest k n is in omega arith
 
 -- the index of a node among nodes whose ids rise
 pub index_of_node : (nodes : Nodes) (k : ℕ) (n : PlainNode) → names_rise (ids_of nodes) ≡ true → IsNodeAt nodes k n
@@ -143,11 +138,6 @@ referred_within nodes name rise has =
     omega arith
 
 -- ---- nodes by their names
-
-shift : (p : PlainNode) (rest : List PlainNode) (o : Option ℕ)
-    → option_and_then (slice_get (p ∷ rest)) (option_map (λ n. n + 1) o) ≡ option_and_then (slice_get rest) o
-shift p rest None = refl
-shift p rest (Some k) = ap (slice_get (p ∷ rest)) (add-one k)
 
 found_node : (nodes : Nodes) (name : List ℕ)
     → node_named name nodes ≡ option_and_then (slice_get (each_node nodes)) (index_named nodes name)

@@ -4,6 +4,7 @@ use Rattle.std.specs.Prelude.{slice_index}
 use Rattle.std.proofs.lemmas.Bool.{cases_eq}
 use Rattle.std.proofs.lemmas.Grind.{get_or_default_zero}
 use Rattle.std.proofs.lemmas.List.Elements.{Contains-get_or}
+use Rattle.oe_expr.proofs.StateLemmas.{within_nodes}
 use Rattle.oe_dims.specs.declared.dims.DimsRow.{DimsRow}
 use Rattle.oe_graph.specs.Indices.{AreNodesSorted, reference_graph}
 use Rattle.oe_graph.specs.Printed.{node_count}
@@ -13,7 +14,6 @@ use Rattle.oe_graph.proofs.ReferenceGraphLemmas.{reference_count}
 use Rattle.oe_check.specs.Walked.{AreSeenBelow, IsNodeAt, IsStep, IsWalked, state_at}
 use Rattle.oe_check.specs.declared.checked.State.{State}
 use Rattle.oe_check.specs.declared.checked.State.TheVariants.{Unseen}
-use Rattle.oe_check.proofs.LinkLemmas.{within_nodes}
 
 -- the walk has come to a step: the nodes before it were judged, and the others were not
 pub record IsWalkedTo (rows : List DimsRow) (nodes : Nodes) (indices : List ℕ) (step : ℕ) (states : List State) (found : Option Fault) : Type 0 where

@@ -17,6 +17,7 @@ use Rattle.oe_order.specs.Graph.{graph_of}
 use Rattle.oe_order.specs.declared.Links.{Links}
 use Rattle.oe_graph.proofs.LeastLemmas.{IsLeastOf, IsLeastOf-iff, IsLeastOf-least, Either}
 use Rattle.oe_expr.proofs.NodeLemmas.{node_is, index_of_node}
+use Rattle.oe_expr.proofs.StateLemmas.{within_nodes}
 use Rattle.oe_meanings.specs.Graphs.{outline_at, operation_at}
 use Rattle.oe_check.specs.Links.{index_referred, loaded_collection}
 use Rattle.oe_requests.specs.Operations.{Outline}
@@ -30,7 +31,7 @@ use Rattle.oe_check.specs.declared.checked.State.TheVariants.{Unseen, Faulty, So
 use Rattle.oe_check.specs.declared.walk.Verdict.{Verdict}
 use Rattle.oe_check.proofs.BelowLemmas.{OneFaulty, sound_below}
 use Rattle.oe_meanings.proofs.GraphLemmas.{unfold_at_nodes}
-use Rattle.oe_check.proofs.LinkLemmas.{object, referred, named_at, index_is, one_node, within_nodes, references_at}
+use Rattle.oe_check.proofs.LinkLemmas.{object, referred, named_at, index_is, one_node, references_at}
 
 -- ---- states
 

@@ -20,7 +20,7 @@ use Rattle.oe_graph.proofs.ReferenceGraphLemmas.{arguments_of, indices_to, refer
 use Rattle.oe_graph.proofs.SearchLemmas.{found_at, id_there}
 use Rattle.oe_order.specs.Graph.{arguments, graph_of}
 use Rattle.oe_order.specs.declared.Links.{Links}
-use Rattle.oe_order.proofs.Graphs.{arguments-graph_of}
+use Rattle.oe_order.proofs.Graphs.{arguments-graph_of, length-graph_of}
 use Rattle.oe_expr.specs.Nodes.{node_named}
 use Rattle.oe_expr.specs.States.{index_named, state_named}
 use Rattle.oe_expr.specs.Walked.{AreResolved, AreSeenBelow, IsNodeAt, are_sound, is_sound, state_at}
@@ -47,7 +47,7 @@ pub node_at_index : (nodes : List Node) (k : ℕ) (n : Node) → slice_get nodes
 node_at_index nodes k n is =
     ap (λ ns. slice_get ns k) (each_plain nodes) ∙ (slice_get-map plain_node nodes k ∙ ap (option_map plain_node) is)
 
-within_nodes : (ns : Nodes) (k : ℕ) (n : PlainNode) → slice_get (each_node ns) k ≡ Some n → k < node_count ns
+pub within_nodes : (ns : Nodes) (k : ℕ) (n : PlainNode) → slice_get (each_node ns) k ≡ Some n → k < node_count ns
 within_nodes no_nodes k n is = absurd cc
 within_nodes (node id p s args rest) zero n is = omega arith
 within_nodes (node id p s args rest) (suc k) n is = let below = within_nodes rest k n is in omega arith
@@ -57,7 +57,7 @@ node_within nodes k n is = subst (λ c. k < c) (count_plain nodes) (within_nodes
 
 -- ---- nodes by their names
 
-shift : (p : PlainNode) (rest : List PlainNode) (o : Option ℕ)
+pub shift : (p : PlainNode) (rest : List PlainNode) (o : Option ℕ)
     → option_and_then (slice_get (p ∷ rest)) (option_map (λ n. n + 1) o) ≡ option_and_then (slice_get rest) o
 shift p rest None = refl
 shift p rest (Some k) = ap (slice_get (p ∷ rest)) (add-one k)
@@ -263,3 +263,12 @@ module _ (scope : PlainScope) (nodes : List Node) (is : AreResolved scope nodes)
   pub index_same : (name : List ℕ) (k : ℕ) → graph.index_named (plain_nodes nodes) name ≡ Some k → (there : NodeAt (plain_nodes nodes) name)
       → there.index ≡ k
   index_same name k at there = same_some there.index k (graph.index_named (plain_nodes nodes) name) (named_index name there) at
+
+-- the node of an index has its references at the same index
+pub within_links : (nodes : List Node) (links : List Links) (index : ℕ) → graph_of links ≡ reference_graph (plain_nodes nodes)
+    → index < length nodes → index < length links
+within_links nodes links index is within =
+    let long = length-graph_of links in
+    let count = reference_count (plain_nodes nodes) in
+    let plain = count_plain nodes in
+    omega (arith, ap length is)

@@ -10,6 +10,7 @@ use Rattle.oe_dims.specs.declared.kind.Kind.{Kind}
 use Rattle.oe_dims.specs.declared.kind.Kind.TheVariants.{Time, Bands, Y, X}
 use Rattle.oe_expr.specs.Nodes.{node_named}
 use Rattle.oe_expr.proofs.NodeLemmas.{contains_node}
+use Rattle.oe_expr.proofs.StateLemmas.{within_nodes}
 use Rattle.oe_fold.specs.declared.reducer.Reducer.{Reducer}
 use Rattle.oe_graph.proofs.ResolvedLemmas.{node_below}
 use Rattle.oe_graph.specs.Printed.{node_count}
@@ -26,7 +27,7 @@ use Rattle.oe_requests.specs.declared.extent.TemporalExtent.{TemporalExtent}
 use Rattle.oe_requests.specs.Operations.{Operation, keep, each_cell, convolve, reduce, aggregate, accumulate, merge, cover, give_back, first_or, no_dimensions, second_or, shape_of}
 use Rattle.oe_check.specs.Reach.{needs_whole, time_fold, time_fold_of_node}
 use Rattle.oe_meanings.specs.Stands.{IsSound, sound}
-use Rattle.oe_check.proofs.LinkLemmas.{index_is, links_arguments, named_at, referred, within_nodes}
+use Rattle.oe_check.proofs.LinkLemmas.{index_is, links_arguments, named_at, referred}
 use Rattle.oe_window.specs.Windows.{Holds, position_count, span_length, whole_window}
 use Rattle.oe_window.specs.declared.grid.ChunkSize.{ChunkSize}
 use Rattle.oe_window.specs.declared.window.Window.{Window}

@@ -11,6 +11,7 @@ use Rattle.oe_expr.specs.Callback.{Callback}
 use Rattle.oe_expr.specs.Nodes.{node_named}
 use Rattle.oe_expr.specs.Scope.{scope_parameters}
 use Rattle.oe_expr.proofs.NodeLemmas.{contains_node}
+use Rattle.oe_expr.proofs.StateLemmas.{within_nodes}
 use Rattle.oe_graph.proofs.ResolvedLemmas.{node_below}
 use Rattle.oe_graph.specs.Printed.{node_count}
 use Rattle.oe_graph.specs.References.{each_node, references_named}
@@ -31,7 +32,7 @@ use Rattle.oe_meanings.specs.Stands.{HasNoFault, IsSound, callback_in, early_row
 use Rattle.oe_expr.specs.Rows.{first_row}
 use Rattle.oe_check.proofs.BuildableLemmas.{buildable, none_holds}
 use Rattle.oe_check.proofs.CheckedLemmas.{refer}
-use Rattle.oe_check.proofs.LinkLemmas.{index_is, links_arguments, named_at, referred, within_nodes, refers_within}
+use Rattle.oe_check.proofs.LinkLemmas.{index_is, links_arguments, named_at, referred, refers_within}
 use Rattle.oe_check.proofs.LoadLemmas.{loads_where}
 use Rattle.oe_meanings.proofs.RequestLemmas.{found}
 use Rattle.oe_slab.proofs.ApartLemmas.{ComesFrom, onwards_from}

@@ -1,14 +1,11 @@
 use Rattle.std.proofs.Common.{◌≡◌, ◌<◌, ℕ, true, false, List, Some, length, get_or, sym, ap, ◌∙◌, subst, arith, rules}
 use Rattle.oe_dims.specs.Plain.{plain_rows}
-use Rattle.oe_expr.proofs.StateLemmas.{count_plain}
+use Rattle.oe_expr.proofs.StateLemmas.{count_plain, within_links}
 use Rattle.oe_graph.proofs.ResolvedLemmas.{SomeNode, node_below}
 use Rattle.oe_graph.specs.Faults.{least}
-use Rattle.oe_graph.specs.Indices.{reference_graph}
 use Rattle.oe_graph.specs.Plain.{plain_node, plain_nodes}
 use Rattle.oe_graph.specs.References.{references_named}
 use Rattle.oe_graph.specs.declared.tree.Node.{Node}
-use Rattle.oe_order.specs.Graph.{graph_of}
-use Rattle.oe_order.specs.declared.Links.{Links}
 use Rattle.oe_check.specs.Links.{index_referred}
 use Rattle.oe_meanings.specs.Graphs.{outline_at}
 use Rattle.oe_check.specs.Walked.{IsStep, IsWalked}
@@ -16,15 +13,9 @@ use Rattle.oe_check.specs.declared.checked.State.{State}
 use Rattle.oe_check.specs.declared.checked.State.TheVariants.{Faulty, Sound}
 use Rattle.oe_check.specs.declared.walk.Verdict.TheVariants as verdict
 use Rattle.oe_check.proofs.BelowLemmas.{faulty_below}
-use Rattle.oe_check.proofs.LinkLemmas.{link_within, node_item, node_read, references_length, seen_below}
+use Rattle.oe_check.proofs.LinkLemmas.{link_within, node_item, node_read, seen_below}
 use Rattle.oe_check.proofs.WalkLemmas.{all_known, faulty_known, one_changes, read_sound, read_verdict, sound_known, walked_below, walked_faulty, walked_sound}
 use Rattle.oe_check.proofs.walk.visit.Goals as goal
-
-within_links : (nodes : List Node) (links : List Links) (index : ℕ) → graph_of links ≡ reference_graph (plain_nodes nodes)
-    → index < length nodes → index < length links
-within_links nodes links index is within =
-    let long = references_length nodes links is in
-    omega arith
 
 node_here : (nodes : List Node) (index : ℕ) → index < length nodes → SomeNode (plain_nodes nodes) index
 node_here nodes index within = node_below (plain_nodes nodes) index (let count = count_plain nodes in omega arith)

@@ -1,22 +1,18 @@
 use Rattle.std.proofs.Common.{◌≡◌, ◌<◌, ℕ, true, false, List, Some, length, set, get_or, refl, sym, ap, subst, ◌∙◌, arith, rules}
 use Rattle.std.proofs.lemmas.Option.{slice_get_read}
 use Rattle.oe_graph.specs.Form.{node_name}
-use Rattle.oe_graph.specs.Indices.{indices_named, reference_graph}
+use Rattle.oe_graph.specs.Indices.{indices_named}
 use Rattle.oe_graph.specs.Plain.{plain_node, plain_nodes}
 use Rattle.oe_graph.specs.References.{references_named}
 use Rattle.oe_graph.specs.declared.fault.Fault.{Fault}
 use Rattle.oe_graph.specs.declared.tree.Node.{Node}
-use Rattle.oe_graph.proofs.ReferenceGraphLemmas.{reference_count}
 use Rattle.oe_graph.proofs.ResolvedLemmas.{node_below}
-use Rattle.oe_order.specs.Graph.{graph_of}
-use Rattle.oe_order.specs.declared.Links.{Links}
-use Rattle.oe_order.proofs.Graphs.{length-graph_of}
 use Rattle.oe_expr.specs.Scope.{plain_scope}
 use Rattle.oe_expr.specs.Walked.{IsNodeAt, IsWalked, are_sound}
 use Rattle.oe_expr.specs.declared.state.State.TheVariants.{Faulty, Sound}
 use Rattle.oe_expr.specs.declared.walk.Judged.{Judged}
 use Rattle.oe_expr.specs.declared.walk.Verdict.TheVariants as verdict
-use Rattle.oe_expr.proofs.StateLemmas.{count_plain, faulty_among, link_within, node_at_index, plain_id, read_sound, seen_below}
+use Rattle.oe_expr.proofs.StateLemmas.{count_plain, faulty_among, link_within, node_at_index, plain_id, read_sound, seen_below, within_links}
 use Rattle.oe_expr.proofs.VerdictLemmas.{moved_verdict}
 use Rattle.oe_expr.proofs.WalkLemmas.{faulty_known, one_changes, walked_below, walked_faulty, walked_sound}
 use Rattle.oe_expr.proofs.walk.visit.Goals as goal
@@ -24,14 +20,6 @@ use Rattle.oe_expr.proofs.walk.visit.Goals as goal
 -- the node at the index
 at_index : (nodes : List Node) (index : ℕ) (node : Node) → index < length nodes → node ≡ get_or nodes index node → IsNodeAt nodes index (plain_node node)
 at_index nodes index node within is = node_at_index nodes index node (slice_get_read nodes (length nodes) index node refl within is)
-
-within_links : (nodes : List Node) (links : List Links) (index : ℕ) → graph_of links ≡ reference_graph (plain_nodes nodes)
-    → index < length nodes → index < length links
-within_links nodes links index is within =
-    let long = length-graph_of links in
-    let count = reference_count (plain_nodes nodes) in
-    let plain = count_plain nodes in
-    omega (arith, ap length is)
 
 pub index-requires : goal.index-requires
 index-requires c =
