@@ -1,11 +1,9 @@
 -- The cells of the result that a bench holds once it is done, and cubes that have them on its chunk.
 use Rattle.std.proofs.Common.{◌≡◌, ℕ, ◌<◌, List, length, get_or, inl, refl, sym, ap, ◌∙◌, subst, arith}
-use Rattle.std.specs.List.{All}
 use Rattle.std.proofs.lemmas.List.{get_or_default}
 use Rattle.oe_cell.specs.declared.cell.Cell.{Cell}
 use Rattle.oe_cell.specs.declared.cell.Cell.TheVariants.{Empty}
 use Rattle.oe_dims.specs.Cube.{Cube}
-use Rattle.oe_dims.specs.Positions.{Position}
 use Rattle.oe_plan.specs.Plans.{IsPlan, PlanOf, schedule_of}
 use Rattle.oe_plan.specs.Windows.{window_at}
 use Rattle.oe_plan.proofs.RunLemmas.{only_step}
@@ -14,27 +12,18 @@ use Rattle.oe_meanings.specs.Graphs.{Collections}
 use Rattle.oe_check.specs.Laws.{AreCollectionsOf}
 use Rattle.oe_requests.specs.Operations.{Outline}
 use Rattle.oe_check.proofs.CheckedLemmas.{give_cubes}
-use Rattle.oe_window.specs.Cells.{cell_at, cells_on}
-use Rattle.oe_window.specs.Windows.{Holds, IsIn, number_in, position_count, whole_window}
-use Rattle.oe_window.specs.declared.window.Window.{Window}
-use Rattle.oe_window.proofs.CellLemmas.{cells_on-get, length-cells_on}
-use Rattle.oe_window.proofs.WholeLemmas.{in_whole, number_in_below}
+use Rattle.oe_window.specs.Cells.{cells_on}
+use Rattle.oe_window.specs.Windows.{Holds, position_count, whole_window}
+use Rattle.oe_window.proofs.WholeLemmas.{in_whole}
 use Rattle.oe_engine.specs.Benches.{BenchOf, IsDone, KeepsState, buffer_cells_at, chunk_of, node_at}
 use Rattle.oe_engine.specs.Chunks.{AreResultOf, HasOnChunk, IsAtDone}
 use Rattle.oe_steps.specs.Inputs.{IsInput}
 use Rattle.oe_engine.specs.Runs.{result_cube, result_shape}
 use Rattle.oe_engine.specs.declared.bench.State.TheVariants.{Done}
-use Rattle.oe_engine.proofs.GridLemmas.{chunk_inside}
+use Rattle.oe_engine.proofs.GridLemmas.{has_sides}
 use Rattle.oe_steps.proofs.ScheduleLemmas.{is_input}
 use Rattle.oe_spool.proofs.CubeLemmas.{given_cube}
-
--- what holds of each cell on a window holds of the cell at a position of it
-pub cell_of_window : (P : Cell → Type 0) (cube : Cube Cell) (w : Window) (q : Position) → IsIn w q → All P (cells_on Empty cube w)
-    → P (cell_at Empty cube q)
-cell_of_window P cube w q h each =
-    let below = number_in_below w q h in
-    let many = length-cells_on Empty cube w in
-    subst P (cells_on-get Empty cube w q Empty h) (each (number_in w q) Empty (omega arith))
+use Rattle.oe_spool.proofs.ChunkLists.{chunk_inside}
 
 module _ (p : PlanOf) (is : IsPlan p) where
   -- the step of the result
@@ -45,7 +34,7 @@ module _ (p : PlanOf) (is : IsPlan p) where
       (has.0, has.1, get_or_default p.order.steps has.0 0 p.graph.result below ∙ has.2)
 
   pub chunk_within : (k : ℕ) → Holds (whole_window (result_shape p)) (chunk_of p k)
-  chunk_within k q h = in_whole (result_shape p) q (chunk_inside p is k q h)
+  chunk_within k q h = in_whole (result_shape p) q (chunk_inside (result_shape p) p.size (has_sides p is) k q h)
 
   module _ (k : ℕ) (b : BenchOf) where
     pub same_on_chunk : (cube : Cube Cell) → HasOnChunk p cube k b → (cells : List Cell) → AreResultOf p b cells

@@ -14,6 +14,7 @@ use Rattle.oe_sources.specs.Catalogue.{Row}
 use Rattle.oe_sources.specs.CatalogueDims.{dims_of}
 use Rattle.oe_spool.specs.Spooled.{IsInSome, IsRecordByte, record_offset}
 use Rattle.oe_spool.proofs.KeptLemmas.{bytes_kept, change_of_more, kept_then, records_kept, store_piece_kept}
+use Rattle.oe_spool.proofs.ChunkLists.{chunks_inside}
 use Rattle.oe_steps.specs.Collections.{AreRead, HasCollections, Shows}
 use Rattle.oe_engine.specs.Going.{ChangesOwnRecords, IsGoing, RunsGoOn, RunsStayApart, StandsBehind}
 use Rattle.oe_engine.specs.Laws.{GivesCollections}
@@ -21,11 +22,11 @@ use Rattle.oe_engine.specs.Rounds.{Advances, ReadsChunks, WritesChunks}
 use Rattle.oe_engine.specs.Runs.{HasDone, HasRunRecords, RunOf, chunk_total, chunks_from, chunks_in_round, result_cube, result_shape}
 use Rattle.oe_engine.specs.declared.rounds.Progress.{Progress}
 use Rattle.oe_steps.specs.declared.fail.RunFail.{RunFail}
-use Rattle.oe_engine.proofs.GridLemmas.{chunks_inside}
 use Rattle.oe_engine.proofs.LawLemmas.{begin_and_end}
 use Rattle.oe_engine.proofs.ReadLemmas.{dims_same, given_same}
 use Rattle.oe_steps.proofs.ReadLemmas.{has_same, shows_same}
 use Rattle.oe_engine.proofs.RenderLemmas.{result_shape_is}
+use Rattle.oe_engine.proofs.GridLemmas.{has_sides}
 
 -- ---- records behind those of a run
 
@@ -49,7 +50,7 @@ module _ (r other : RunOf) (is : IsPlan r.plan) (apart : StandsBehind r other) (
         valid = some.valid;
         held = store_piece_kept (IsRecordByte other.base (result_shape other.plan) (IsPosition (result_shape other.plan))) store store_after
             (record_offset r.base (number_of (result_shape r.plan) q)) (record_of some.cell) changes
-            (λ k low high. behind r other apart (result_shape r.plan) refl q (chunks_inside r.plan is 0 r.done q h) k (omega (arith, length-record_of some.cell)))
+            (λ k low high. behind r other apart (result_shape r.plan) refl q (chunks_inside (result_shape r.plan) r.plan.size (has_sides r.plan is) 0 r.done q h) k (omega (arith, length-record_of some.cell)))
             some.held;
         numbered = some.numbered;
       }
@@ -58,7 +59,7 @@ module _ (r other : RunOf) (is : IsPlan r.plan) (apart : StandsBehind r other) (
   cube_apart cube of_shape done = record {
     records = records_kept (IsRecordByte other.base (result_shape other.plan) (IsPosition (result_shape other.plan))) store store_after r.base cube
         (IsInSome (chunks_from r.plan 0 r.done))
-        (λ k byte. behind r other apart cube.shape of_shape byte.p (chunks_inside r.plan is 0 r.done byte.p byte.inside) k byte.before) changes done.records;
+        (λ k byte. behind r other apart cube.shape of_shape byte.p (chunks_inside (result_shape r.plan) r.plan.size (has_sides r.plan is) 0 r.done byte.p byte.inside) k byte.before) changes done.records;
     valid = done.valid;
     least = done.least;
   }
@@ -86,7 +87,7 @@ round_changes : (before after : RunOf) (rows : List Row) (store store_after : Op
     → WritesChunks before rows store after store_after → ChangesOwnRecords before store store_after
 round_changes before after rows store store_after is writes =
     change_of_more before.base (result_shape before.plan) (IsInSome (chunks_from before.plan before.done (chunks_in_round before)))
-    (IsPosition (result_shape before.plan)) store store_after (chunks_inside before.plan is before.done (chunks_in_round before)) writes.changes
+    (IsPosition (result_shape before.plan)) store store_after (chunks_inside (result_shape before.plan) before.plan.size (has_sides before.plan is) before.done (chunks_in_round before)) writes.changes
 
 pub runs_stay_apart : RunsStayApart
 runs_stay_apart = record {

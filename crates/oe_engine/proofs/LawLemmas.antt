@@ -1,24 +1,24 @@
 -- What the layers above rely on.
-use Rattle.std.proofs.Common.{◌≡◌, ℕ, ◌<◌, List, [], ◌∷◌, length, map, get_or, refl, sym, ap, ◌∙◌, subst}
+use Rattle.std.proofs.Common.{◌≡◌, ℕ, List, [], ◌∷◌, map, refl, sym, ap, ◌∙◌, subst}
 use Rattle.std.specs.Option.{option_map_or}
 use Rattle.oe_cube.specs.Collections.{Collection}
 use Rattle.oe_dims.specs.Positions.{IsPosition, Position}
-use Rattle.oe_graph.specs.Printed.{node_count}
 use Rattle.oe_meanings.specs.Graphs.{Collections}
 use Rattle.oe_sources.specs.Catalogue.{Row, collections_shown}
 use Rattle.oe_sources.specs.Source.{collection_of}
 use Rattle.oe_spool.specs.Least.{IsLeastOver}
 use Rattle.oe_spool.specs.Spooled.{IsInSome}
 use Rattle.oe_spool.proofs.LeastLemmas.{least_of_windows}
+use Rattle.oe_spool.proofs.ChunkLists.{all_inside, chunks_inside}
 use Rattle.oe_steps.specs.Collections.{without_counts}
 use Rattle.oe_engine.specs.Laws.{AreMounted, AreShown, BeginAndEnd, StayAfterReads}
-use Rattle.oe_engine.specs.Runs.{RunOf, chunks_from, result_cube}
+use Rattle.oe_engine.specs.Runs.{RunOf, chunks_from, result_cube, result_shape}
 use Rattle.oe_engine.proofs.CatalogueLemmas.{same_meaning, visible_at}
-use Rattle.oe_engine.proofs.GridLemmas.{all_inside, chunks_inside}
 use Rattle.oe_steps.proofs.MountLemmas.{has_collections}
 use Rattle.oe_steps.proofs.ReadLemmas.{AreRead-refl, AreRead-trans, has_same, rose_first, rose_later, says_same, shows_same}
 use Rattle.oe_engine.proofs.ReadLemmas.{dims_same, given_same}
 use Rattle.oe_engine.proofs.RenderLemmas.{result_shape_is, result_whole}
+use Rattle.oe_engine.proofs.GridLemmas.{has_sides}
 
 pub are_mounted : AreMounted
 are_mounted p rows is are = has_collections p.graph is.faultless rows are
@@ -70,7 +70,7 @@ begin_and_end = record {
       let cube = result_cube collections p in
       let of_shape = result_shape_is p is collections has in
       least_of_windows cube (chunks_from p 0 r.done) r.over (result_whole p is collections has)
-      (λ q h. subst (λ d. IsPosition d q) (sym of_shape) (chunks_inside p is 0 r.done q h))
-      (λ q h. subst (λ (n : ℕ). IsInSome (chunks_from p 0 n) q) (sym complete) (all_inside p is q (subst (λ d. IsPosition d q) of_shape h)))
+      (λ q h. subst (λ d. IsPosition d q) (sym of_shape) (chunks_inside (result_shape p) p.size (has_sides p is) 0 r.done q h))
+      (λ q h. subst (λ (n : ℕ). IsInSome (chunks_from p 0 n) q) (sym complete) (all_inside (result_shape p) p.size (has_sides p is) q (subst (λ d. IsPosition d q) of_shape h)))
       done.least;
 }

@@ -1,5 +1,5 @@
 -- One chunk more, of a bench that is done: what is written of it, and its least number of a cell that is Over.
-use Rattle.std.proofs.Common.{◌≡◌, ◌≢◌, ℕ, ◌+◌, ◌<◌, ◌≤◌, List, [], ◌∷◌, get_or, Option, None, refl, sym, ap, ◌∙◌, subst, arith}
+use Rattle.std.proofs.Common.{◌≡◌, ◌≢◌, ℕ, ◌+◌, ◌≤◌, List, [], ◌∷◌, get_or, Option, None, sym, subst, arith}
 use Rattle.std.specs.List.{All}
 use Rattle.std.proofs.lemmas.List.Elements.{All-map}
 use Rattle.std.proofs.lemmas.Option.{slice_get-get_or}
@@ -13,16 +13,18 @@ use Rattle.oe_spool.specs.Least.{IsLeastOver, lesser_of}
 use Rattle.oe_spool.specs.Spooled.{ChangesOnly, HoldsWindow, IsInSome}
 use Rattle.oe_spool.proofs.KeptLemmas.{change_of_both, change_of_more, change_of_one, window_stays}
 use Rattle.oe_spool.proofs.LeastLemmas.{least_of_lists, least_of_one}
+use Rattle.oe_spool.proofs.ChunkLists.{chunk_apart, chunk_inside, chunks_more, in_one, in_some}
 use Rattle.oe_window.specs.Cells.{cell_at, cells_on}
 use Rattle.oe_window.specs.Windows.{IsIn, positions}
 use Rattle.oe_window.specs.declared.window.Window.{Window}
+use Rattle.oe_window.specs.Chunks.{tiling_of}
 use Rattle.oe_window.proofs.WindowLemmas.{position_number}
 use Rattle.oe_engine.specs.Benches.{BenchOf, chunk_of}
 use Rattle.oe_engine.specs.Chunks.{AreResultOf, HasNoOver, HasOnChunk, HasRecordsOf, HasValidCells, IsAtDone}
 use Rattle.oe_engine.specs.Runs.{chunks_from, result_shape}
 use Rattle.oe_engine.proofs.ChunkLemmas.{EachBefore}
 use Rattle.oe_engine.proofs.DoneLemmas.{given_on, same_on_chunk, same_result}
-use Rattle.oe_engine.proofs.GridLemmas.{chunk_apart, chunk_inside, chunks_more, in_one, in_some}
+use Rattle.oe_engine.proofs.GridLemmas.{has_sides}
 
 -- where no cell at a position of a window is Over, none of its cells is
 none_on : (cube : Cube Cell) (w : Window) → ((q : Position) → IsIn w q → cell_at Empty cube q ≢ Over)
@@ -38,16 +40,16 @@ pub changes_among : (p : PlanOf) (base first n m : ℕ) (old new : Option (List 
 changes_among p base first n m old new most changes =
     change_of_more base (result_shape p) (IsInSome (chunks_from p first n)) (IsInSome (chunks_from p first m)) old new
     (λ q h.
-    (let one = in_one p first n q h in
+    (let one = in_one (tiling_of (result_shape p) p.size) first n q h in
     let before = one.most in
-    in_some p first m q (record { chunk = one.chunk; least = one.least; most = omega arith; inside = one.inside }))) changes
+    in_some (tiling_of (result_shape p) p.size) first m q (record { chunk = one.chunk; least = one.least; most = omega arith; inside = one.inside }))) changes
 
 pub changes_more : (p : PlanOf) (base first n : ℕ) (start old new : Option (List ℕ))
     → ChangesOnly base (result_shape p) (IsInSome (chunks_from p first n)) start old
     → ChangesOnly base (result_shape p) (IsIn (chunk_of p (first + n))) old new
     → ChangesOnly base (result_shape p) (IsInSome (chunks_from p first (n + 1))) start new
 changes_more p base first n start old new before here =
-    subst (λ ws. ChangesOnly base (result_shape p) (IsInSome ws) start new) (sym (chunks_more p first n))
+    subst (λ ws. ChangesOnly base (result_shape p) (IsInSome ws) start new) (sym (chunks_more (tiling_of (result_shape p) p.size) first n))
     (change_of_both base (result_shape p) (chunks_from p first n) (chunk_of p (first + n) ∷ []) start old new before
     (change_of_one base (result_shape p) (chunk_of p (first + n)) old new here))
 
@@ -58,9 +60,9 @@ module _ (p : PlanOf) (is : IsPlan p) (first n : ℕ) where
       → EachBefore first n (HasRecordsOf p old base) benches → EachBefore first n (HasRecordsOf p new base) benches
   records_before base old new benches kept each i x before at cube on =
       window_stays old new base cube (chunk_of p (first + i)) (chunk_of p (first + n))
-      (λ q h. subst (λ d. IsPosition d q) (sym on.shape) (chunk_inside p is (first + i) q h))
-      (λ q h. subst (λ d. IsPosition d q) (sym on.shape) (chunk_inside p is (first + n) q h))
-      (chunk_apart p is (first + i) (first + n) (omega arith))
+      (λ q h. subst (λ d. IsPosition d q) (sym on.shape) (chunk_inside (result_shape p) p.size (has_sides p is) (first + i) q h))
+      (λ q h. subst (λ d. IsPosition d q) (sym on.shape) (chunk_inside (result_shape p) p.size (has_sides p is) (first + n) q h))
+      (chunk_apart (result_shape p) p.size (has_sides p is) (first + i) (first + n) (omega arith))
       (subst (λ d. ChangesOnly base d (IsIn (chunk_of p (first + n))) old new) (sym on.shape) kept)
       (each i x before at cube on)
 
@@ -82,7 +84,7 @@ module _ (p : PlanOf) (is : IsPlan p) (first n : ℕ) where
           → IsLeastOver cube (IsInSome (chunks_from p first n)) least
           → IsLeastOver cube (IsInSome (chunks_from p first (n + 1))) (lesser_of least found)
       least_more cube on least before =
-          subst (λ ws. IsLeastOver cube (IsInSome ws) (lesser_of least found)) (sym (chunks_more p first n))
+          subst (λ ws. IsLeastOver cube (IsInSome ws) (lesser_of least found)) (sym (chunks_more (tiling_of (result_shape p) p.size) first n))
           (least_of_lists cube (chunks_from p first n) (chunk_of p (first + n) ∷ []) least found before
           (least_of_one cube (chunk_of p (first + n)) found
           (finds cube on.shape (same_on_chunk p is (first + n) b cube on cells are))))

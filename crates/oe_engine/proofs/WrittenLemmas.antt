@@ -16,14 +16,17 @@ use Rattle.oe_check.proofs.CheckedLemmas.{give_cubes}
 use Rattle.oe_spool.specs.Least.{IsLeastOver, lesser_of}
 use Rattle.oe_spool.specs.Spooled.{ChangesOnly, HoldsRecord, HoldsRecords, IsInSome, IsRecordByte, record_offset}
 use Rattle.oe_spool.proofs.KeptLemmas.{in_either, no_common_byte, others_kept, store_piece_kept}
-use Rattle.oe_spool.proofs.LeastLemmas.{least_of_lists}
+use Rattle.oe_spool.proofs.LeastLemmas.{least_of_lists, none_first, none_second}
+use Rattle.oe_spool.proofs.ChunkLists.{IsInOne, chunks_apart, chunks_both, chunks_inside, in_one}
+use Rattle.oe_spool.proofs.CubeLemmas.{cell_of_window}
 use Rattle.oe_window.specs.Cells.{cell_at, cells_on}
+use Rattle.oe_window.specs.Chunks.{tiling_of}
 use Rattle.oe_engine.specs.Benches.{BenchOf, IsDone, chunk_of}
 use Rattle.oe_engine.specs.Chunks.{EachBench, HasNoOver, HasOnChunk, HasRecordsOf, HasValidCells, IsAtDone, IsLeastOf}
 use Rattle.oe_engine.specs.Parts.{HasPartDone, HasPartRecords, run_of}
 use Rattle.oe_engine.specs.Runs.{HasSome, PartRunOf, chunks_from, result_cube, result_shape}
-use Rattle.oe_engine.proofs.DoneLemmas.{cell_of_window, given_on, on_result}
-use Rattle.oe_engine.proofs.GridLemmas.{IsInOne, chunks_apart, chunks_both, chunks_inside, in_one}
+use Rattle.oe_engine.proofs.DoneLemmas.{given_on, on_result}
+use Rattle.oe_engine.proofs.GridLemmas.{has_sides}
 
 abbrev pub part : PlanOf → ℕ → ℕ → ℕ → ℕ → ℕ → Option ℕ → PartRunOf
 part p base first total done evaluations over = record {
@@ -35,16 +38,6 @@ part p base first total done evaluations over = record {
   evaluations = evaluations;
   over = over;
 }
-
-pub none_first : (a b : Option ℕ) → lesser_of a b ≡ None → a ≡ None
-none_first None b e = refl
-none_first (Some a) None e = cc
-none_first (Some a) (Some b) e = cc
-
-pub none_second : (a b : Option ℕ) → lesser_of a b ≡ None → b ≡ None
-none_second None b e = e
-none_second (Some a) None e = cc
-none_second (Some a) (Some b) e = cc
 
 some_at : (benches : List BenchOf) (i : ℕ) → i < length benches → (b : BenchOf) × (slice_get benches i ≡ Some b)
 some_at [] i h = absurd (omega arith)
@@ -79,9 +72,9 @@ module _ (p : PlanOf) (is : IsPlan p) (base first total done before after count 
       → HoldsRecords new base cube (IsInSome (chunks_from p first done))
   records_left cube of_shape held =
       others_kept old new base cube (IsInSome (chunks_from p first done)) (IsInSome (chunks_from p (first + done) count))
-      (λ q h. subst (λ d. IsPosition d q) (sym of_shape) (chunks_inside p is first done q h))
-      (λ q h. subst (λ d. IsPosition d q) (sym of_shape) (chunks_inside p is (first + done) count q h))
-      (chunks_apart p is first done (first + done) count none_more)
+      (λ q h. subst (λ d. IsPosition d q) (sym of_shape) (chunks_inside (result_shape p) p.size (has_sides p is) first done q h))
+      (λ q h. subst (λ d. IsPosition d q) (sym of_shape) (chunks_inside (result_shape p) p.size (has_sides p is) (first + done) count q h))
+      (chunks_apart (result_shape p) p.size (has_sides p is) first done (first + done) count none_more)
       (subst (λ d. ChangesOnly base d (IsInSome (chunks_from p (first + done) count)) old new) (sym of_shape) changes) held
 
   some_left : (least : Option ℕ) (q : Position) → (least ≡ None → over ≡ None) → (later : ℕ) → IsInSome (chunks_from p first done) q
@@ -92,7 +85,7 @@ module _ (p : PlanOf) (is : IsPlan p) (base first total done before after count 
     held = store_piece_kept (IsRecordByte base (result_shape p) (IsInSome (chunks_from p (first + done) count))) old new
         (record_offset base (number_of (result_shape p) q)) (record_of some.cell) changes
         (λ k low high. no_common_byte base (result_shape p) (IsInSome (chunks_from p first done)) (IsInSome (chunks_from p (first + done) count))
-        (chunks_inside p is first done) (chunks_inside p is (first + done) count) (chunks_apart p is first done (first + done) count none_more) k
+        (chunks_inside (result_shape p) p.size (has_sides p is) first done) (chunks_inside (result_shape p) p.size (has_sides p is) (first + done) count) (chunks_apart (result_shape p) p.size (has_sides p is) first done (first + done) count none_more) k
         (record { p = q; inside = h; begun = low; before = omega (arith, length-record_of some.cell) })) some.held;
     numbered = λ e. some.numbered (none e);
   }
@@ -109,7 +102,7 @@ module _ (p : PlanOf) (is : IsPlan p) (base first total done before after count 
   -- ---- the records of one round more
 
   all_chunks : chunks_from p first (done + count) ≡ chunks_from p first done ++ chunks_from p (first + done) count
-  all_chunks = chunks_both p first done count
+  all_chunks = chunks_both (tiling_of (result_shape p) p.size) first done count
 
   module _ (benches : List BenchOf) (many : length benches ≡ count)
       (written : EachBench (first + done) (HasRecordsOf p new base) benches) (valid : EachBench (first + done) (HasValidCells p) benches)
@@ -124,7 +117,7 @@ module _ (p : PlanOf) (is : IsPlan p) (base first total done before after count 
       records = λ q among. elim (in_either (chunks_from p first done) (chunks_from p (first + done) count) q (subst (λ ws. IsInSome ws q) all_chunks among)) [
         | inl earlier ↦ records_left cube of_shape h.records q earlier
         | inr later ↦
-            let one = in_one p (first + done) count q later in
+            let one = in_one (tiling_of (result_shape p) p.size) (first + done) count q later in
             let most = one.most in
             let long = many in
             let b = bench_of (first + done) (λ k b. HasWritten p new base k b × HasOnChunk p cube k b) benches
@@ -134,7 +127,7 @@ module _ (p : PlanOf) (is : IsPlan p) (base first total done before after count 
       valid = λ q among. elim (in_either (chunks_from p first done) (chunks_from p (first + done) count) q (subst (λ ws. IsInSome ws q) all_chunks among)) [
         | inl earlier ↦ h.valid q earlier
         | inr later ↦
-            let one = in_one p (first + done) count q later in
+            let one = in_one (tiling_of (result_shape p) p.size) (first + done) count q later in
             let most = one.most in
             let long = many in
             let b = bench_of (first + done) (λ k b. HasWritten p new base k b × HasOnChunk p cube k b) benches
@@ -158,7 +151,7 @@ module _ (p : PlanOf) (is : IsPlan p) (base first total done before after count 
         (λ i b at. on_result p is (first + done + i) b collections has (each i b at)) h
 
     -- of some cells
-    some_more : EachBench (first + done) (IsAtDone p) benches → (q : Position) → IsInOne p (first + done) count q
+    some_more : EachBench (first + done) (IsAtDone p) benches → (q : Position) → IsInOne (tiling_of (result_shape p) p.size) (first + done) count q
         → HasSome (run_of (part p base first total (done + count) after (lesser_of over least))) new q
     some_more each q one =
         let most = one.most in
@@ -182,5 +175,5 @@ module _ (p : PlanOf) (is : IsPlan p) (base first total done before after count 
     records_more each records q among =
         elim (in_either (chunks_from p first done) (chunks_from p (first + done) count) q (subst (λ ws. IsInSome ws q) all_chunks among)) [
           | inl earlier ↦ some_left (lesser_of over least) q (none_first over least) (done + count) earlier (records q earlier)
-          | inr later ↦ some_more each q (in_one p (first + done) count q later)
+          | inr later ↦ some_more each q (in_one (tiling_of (result_shape p) p.size) (first + done) count q later)
         ]

@@ -19,16 +19,13 @@ use Rattle.oe_window.specs.Windows.{Holds, IsAlong, position_count, span_at, spa
 use Rattle.oe_window.specs.declared.window.Span.{Span}
 use Rattle.oe_window.specs.declared.window.Window.{Window}
 use Rattle.oe_window.proofs.CellLemmas.{cells_on-part}
-use Rattle.oe_window.proofs.PartLemmas.{part_from}
+use Rattle.oe_window.proofs.PartLemmas.{at_one, part_from}
 use Rattle.oe_ops.specs.Lists.{stride_along}
 use Rattle.oe_ops.specs.Needs.{HoldsNeed, part_at_time}
 use Rattle.oe_ops.proofs.ColumnLemmas.{stride_some}
 use Rattle.oe_ops.proofs.NumberLemmas.{are_some}
 
 -- ---- the part at an index of t
-
-at_one : (i p : ℕ) → IsAlong (span_at i) p → p ≡ i
-at_one i p h = let begun = h.begun in let before = h.before in omega arith
 
 in_span : (s : Span) (n p : ℕ) → n < span_length s → IsAlong (span_at (s.from + n)) p → IsAlong s p
 in_span s n p h a = let at = at_one (s.from + n) p a in record { begun = omega arith; before = omega arith }

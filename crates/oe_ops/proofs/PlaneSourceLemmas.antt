@@ -11,11 +11,11 @@ use Rattle.oe_dims.specs.Positions.{IsPosition, Position, tuple_of}
 use Rattle.oe_dims.specs.declared.kind.Kind.TheVariants.{Time, Bands, Y, X}
 use Rattle.oe_dims.proofs.ShapeLemmas.{x_rises, y_falls}
 use Rattle.oe_window.specs.Cells.{cell_at, cells_on}
-use Rattle.oe_window.specs.Windows.{Holds, IsAlong, IsEmpty, IsIn, number_in, position_count, positions, span_at, span_length, whole_window}
+use Rattle.oe_window.specs.Windows.{Holds, IsAlong, IsEmpty, IsIn, first_position, number_in, position_count, positions, span_at, span_length, whole_window}
 use Rattle.oe_window.specs.declared.window.Span.{Span}
 use Rattle.oe_window.specs.declared.window.Window.{Window}
 use Rattle.oe_window.proofs.CellLemmas.{cell_at-tabulate, cells_on-at, cells_on-tabulate, is_cells_on, length-cells_on}
-use Rattle.oe_window.proofs.WindowLemmas.{AreWithin, IsWithin, filled_by, filled_unless_empty, first_in, first_position, length-positions, within_from_holds}
+use Rattle.oe_window.proofs.WindowLemmas.{AreWithin, IsWithin, filled_by, filled_unless_empty, first_in, length-positions, within_from_holds}
 use Rattle.oe_window.proofs.WholeLemmas.{position_in as inside_shape}
 use Rattle.oe_requests.specs.Extents.{Restriction, is_across, is_up, kept_shape}
 use Rattle.oe_meanings.specs.Meaning.{cell, restricted_cube}

@@ -17,6 +17,7 @@ use Rattle.oe_spool.specs.Least.{IsLeastOver, least_over_of}
 use Rattle.oe_spool.specs.Spooled.{ChangesOnly, HoldsRecords, IsRecordByte}
 use Rattle.oe_spool.proofs.KeptLemmas.{kept_outside}
 use Rattle.oe_spool.proofs.LeastOnWindow.{first_on_window, none_on_window, over_within}
+use Rattle.oe_spool.proofs.RunRecords.{store_record_within}
 use Rattle.oe_window.specs.Cells.{cell_at, cells_on}
 use Rattle.oe_window.specs.Parts.{row_count, row_of}
 use Rattle.oe_window.specs.Runs.{AreRising, window_numbers}
@@ -33,7 +34,6 @@ use Rattle.oe_parts.specs.Laid.{AreLaid, HaveRecords, IsInFirst}
 use Rattle.oe_parts.specs.Rows.{HasNumbersFrom}
 use Rattle.oe_parts.proofs.LaidLemmas.{AreApart}
 use Rattle.oe_parts.proofs.ShownLemmas.{position_of}
-use Rattle.oe_parts.proofs.SoundLemmas.{store_record}
 
 -- ---- the numbers of a row
 
@@ -56,7 +56,7 @@ row_held store base first cube w cells numbers same held p inside =
     let i = number_in w p in
     let cell : slice_get cells i ≡ Some (cell_at Empty cube p) = ap (λ (cs : List Cell). slice_get cs i) (sym same) ∙ cells_on-at Empty cube w p inside in
     subst (λ (n : ℕ). StoreHolds store n (record_of (cell_at Empty cube p))) (place base (number_of cube.shape p) first i (number_is cube.shape w first p numbers inside))
-    (store_record store (base + 17 * first) cells i (cell_at Empty cube p) cell held)
+    (store_record_within store (base + 17 * first) cells i (cell_at Empty cube p) cell held)
 
 row_cells : (cube : Cube Cell) (w : Window) (cells : List Cell) → cells_on Empty cube w ≡ cells → All IsCell cells → (p : Position) → IsIn w p → IsCell (cell_at Empty cube p)
 row_cells cube w cells same valid p inside =

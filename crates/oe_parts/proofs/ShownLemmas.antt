@@ -1,5 +1,5 @@
 -- The records of a row's cells, from those of its positions.
-use Rattle.std.proofs.Common.{◌≡◌, ℕ, suc, ◌+◌, ◌-◌, ◌*◌, ◌<◌, ◌≤◌, inl, inr, List, [], ◌∷◌, ◌++◌, length, get_or, take, drop, Option, Some, refl, sym, ap, ◌∙◌, subst, arith}
+use Rattle.std.proofs.Common.{◌≡◌, ℕ, ◌+◌, ◌-◌, ◌*◌, ◌<◌, ◌≤◌, inl, inr, List, [], ◌∷◌, ◌++◌, length, get_or, take, drop, Option, Some, refl, sym, ap, ◌∙◌, subst, arith}
 use Rattle.std.specs.List.{All, slice_get}
 use Rattle.std.specs.Option.{option_map}
 use Rattle.std.proofs.Math.Seq.{take-add}
@@ -11,14 +11,13 @@ use Rattle.oe_cell.specs.Cells.{IsCell}
 use Rattle.oe_cell.specs.Record.{record_of, records_of}
 use Rattle.oe_cell.specs.declared.cell.Cell.{Cell}
 use Rattle.oe_cell.specs.declared.cell.Cell.TheVariants.{Empty}
-use Rattle.oe_cell.proofs.RecordLemmas.{length-record_of}
 use Rattle.oe_dims.specs.Cube.{Cube}
 use Rattle.oe_dims.specs.Dimensions.{Dimensions, cell_count}
 use Rattle.oe_dims.specs.Positions.{Position, number_of}
 use Rattle.oe_dims.proofs.CubeLemmas.{number_below}
 use Rattle.oe_outside.specs.Stored.{HoldsAt, StoreHolds}
-use Rattle.oe_outside.proofs.Stores.{HoldsAt-both}
 use Rattle.oe_spool.specs.Spooled.{IsInSome}
+use Rattle.oe_spool.proofs.CubeRecords.{records_held}
 use Rattle.oe_window.specs.Cells.{cell_at, cells_on}
 use Rattle.oe_window.specs.Parts.{row_count, row_of}
 use Rattle.oe_window.specs.Runs.{window_numbers}
@@ -65,20 +64,6 @@ pub cell_is : (cube : Cube Cell) (w : Window) (first k : ℕ) (p : Position) →
 cell_is cube w first k p at = slice_get-map (cell_at Empty cube) (positions w) k ∙ ap (option_map (cell_at Empty cube)) at.at
 
 -- ---- records one behind the other
-
-later_record : (all : List ℕ) (base : ℕ) (c : Cell) (cs : List Cell) (k : ℕ) → HoldsAt all (base + 17 * suc k) (record_of (get_or (c ∷ cs) (suc k) Empty)) → HoldsAt all (base + 17 + 17 * k) (record_of (get_or cs k Empty))
-later_record all base c cs k held =
-    let later : base + 17 * suc k ≡ base + 17 + 17 * k = omega arith in
-    subst (λ n. HoldsAt all n (record_of (get_or cs k Empty))) later held
-
-records_held : (all : List ℕ) (base : ℕ) (cells : List Cell) → ((k : ℕ) → k < length cells → HoldsAt all (base + 17 * k) (record_of (get_or cells k Empty))) → HoldsAt all base (records_of cells)
-records_held all base [] each = refl
-records_held all base (c ∷ cs) each =
-    let start : base + 17 * 0 ≡ base = omega arith in
-    let next : base + 17 ≡ base + length (record_of c) = omega (arith, length-record_of c) in
-    HoldsAt-both all base (record_of c) (records_of cs)
-    (subst (λ n. HoldsAt all n (record_of c)) start (each 0 (omega arith)))
-    (subst (λ n. HoldsAt all n (records_of cs)) next (records_held all (base + 17) cs (λ k h. later_record all base c cs k (each (suc k) (omega arith)))))
 
 held_there : (store : Option (List ℕ)) (all : List ℕ) (at : ℕ) (bytes : List ℕ) → store ≡ Some all → StoreHolds store at bytes → HoldsAt all at bytes
 held_there store all at bytes is held = subst (λ (o : Option (List ℕ)). StoreHolds o at bytes) is held

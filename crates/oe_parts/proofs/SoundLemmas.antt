@@ -1,33 +1,18 @@
 -- Records that stand one behind the other, one by one.
-use Rattle.std.proofs.Common.{◌≡◌, ℕ, zero, suc, ◌+◌, ◌-◌, ◌*◌, ◌<◌, inl, inr, List, [], ◌∷◌, length, get_or, take, drop, Option, Some, None, sym, ap, ◌∙◌, subst, arith}
-use Rattle.std.specs.List.{All, slice_get}
+use Rattle.std.proofs.Common.{◌≡◌, ℕ, ◌+◌, ◌-◌, ◌*◌, ◌<◌, inl, inr, List, [], length, get_or, take, drop, Option, Some, None, sym, ap, ◌∙◌, subst, arith}
+use Rattle.std.specs.List.{All}
 use Rattle.std.proofs.lemmas.Bool.{cases_lt}
-use Rattle.std.proofs.lemmas.Option.{same_Some, slice_get-get_or}
+use Rattle.std.proofs.lemmas.Option.{slice_get-get_or}
+use Rattle.oe_spool.proofs.RunRecords.{record_within}
 use Rattle.oe_cell.specs.Cells.{IsCell}
-use Rattle.oe_cell.specs.Record.{IsRecord, record_of, records_of}
+use Rattle.oe_cell.specs.Record.{IsRecord, records_of}
 use Rattle.oe_cell.specs.declared.cell.Cell.{Cell}
 use Rattle.oe_cell.specs.declared.cell.Cell.TheVariants.{Empty}
 use Rattle.oe_cell.proofs.RecordLemmas.{length-record_of}
 use Rattle.oe_outside.specs.Stored.{HoldsAt, StoreHolds}
-use Rattle.oe_outside.proofs.Stores.{HoldsAt-first, HoldsAt-second}
 use Rattle.oe_parts.specs.Rows.{HasRecordAt, HaveRecordsAt}
 
 -- ---- one record out of several
-
-record_within : (all : List ℕ) (at : ℕ) (cells : List Cell) (j : ℕ) (c : Cell) → slice_get cells j ≡ Some c → HoldsAt all at (records_of cells) → HoldsAt all (at + 17 * j) (record_of c)
-record_within all at [] j c e held = cc
-record_within all at (x ∷ xs) zero c e held =
-    let same : at + 17 * 0 ≡ at = omega arith in
-    subst (λ (n : ℕ). HoldsAt all n (record_of c)) (sym same)
-    (subst (λ (cell : Cell). HoldsAt all at (record_of cell)) (same_Some x c e) (HoldsAt-first all at (record_of x) (records_of xs) held))
-record_within all at (x ∷ xs) (suc j) c e held =
-    let next : at + length (record_of x) + 17 * j ≡ at + 17 * suc j = omega (arith, length-record_of x) in
-    subst (λ (n : ℕ). HoldsAt all n (record_of c)) next
-    (record_within all (at + length (record_of x)) xs j c e (HoldsAt-second all at (record_of x) (records_of xs) held))
-
-pub store_record : (store : Option (List ℕ)) (at : ℕ) (cells : List Cell) (j : ℕ) (c : Cell) → slice_get cells j ≡ Some c → StoreHolds store at (records_of cells) → StoreHolds store (at + 17 * j) (record_of c)
-store_record None at cells j c e held = tt
-store_record (Some all) at cells j c e held = record_within all at cells j c e held
 
 -- ---- each of them is one of a cell
 

@@ -10,8 +10,8 @@ use Rattle.oe_dims.specs.Dimensions.{IsShape}
 use Rattle.oe_dims.specs.Positions.{IsPosition, Position}
 use Rattle.oe_dims.proofs.CubeLemmas.{position_there}
 use Rattle.oe_engine.specs.Runs.{HasDone, OfRun, RunOf, ShowsDone, chunk_total, chunks_from, result_cube, result_shape}
-use Rattle.oe_engine.proofs.GridLemmas.{all_inside}
 use Rattle.oe_engine.proofs.RenderLemmas.{result_shape_is, result_whole}
+use Rattle.oe_engine.proofs.GridLemmas.{has_sides}
 use Rattle.oe_outside.specs.Faults.{last_count}
 use Rattle.oe_outside.specs.Visible.{AddsBytes}
 use Rattle.oe_plan.specs.Plans.{IsPlan}
@@ -24,6 +24,7 @@ use Rattle.oe_check.proofs.CheckedLemmas.{give_cubes}
 use Rattle.oe_spool.specs.Least.{IsLeastOver}
 use Rattle.oe_spool.specs.Spooled.{IsInSome}
 use Rattle.oe_spool.proofs.CubeRecords.{cells_counted}
+use Rattle.oe_spool.proofs.ChunkLists.{all_inside}
 use Rattle.oe_window.specs.Cells.{cell_at}
 
 -- what is said of bytes that are visible holds of them
@@ -33,7 +34,7 @@ done_shown r (Some bytes) cube shows = shows
 
 module _ (r : RunOf) (is : IsPlan r.plan) (complete : r.done ≡ chunk_total r.plan) (none : r.over ≡ None) where
   all_done : (q : Position) → IsPosition (result_shape r.plan) q → IsInSome (chunks_from r.plan 0 r.done) q
-  all_done q h = subst (λ (n : ℕ). IsInSome (chunks_from r.plan 0 n) q) (sym complete) (all_inside r.plan is q h)
+  all_done q h = subst (λ (n : ℕ). IsInSome (chunks_from r.plan 0 n) q) (sym complete) (all_inside (result_shape r.plan) r.plan.size (has_sides r.plan is) q h)
 
   module _ (collections : Collections) (are : AreCollectionsOf r.plan.graph collections) (store : Option (List ℕ))
       (done : HasDone r store (result_cube collections r.plan)) where

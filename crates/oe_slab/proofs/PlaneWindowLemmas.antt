@@ -20,11 +20,11 @@ use Rattle.oe_check.specs.Links.{links_of}
 use Rattle.oe_requests.specs.Operations.{reduce, shape_of, without_dimension}
 use Rattle.oe_check.specs.Reach.{time_fold}
 use Rattle.oe_meanings.proofs.RequestLemmas.{found}
-use Rattle.oe_window.specs.Windows.{Holds, IsEmpty, IsIn, whole_window}
+use Rattle.oe_window.specs.Windows.{Holds, IsEmpty, IsIn, first_position, whole_window}
 use Rattle.oe_window.specs.declared.grid.ChunkSize.{ChunkSize}
 use Rattle.oe_window.specs.declared.window.Window.{Window}
 use Rattle.oe_window.proofs.WholeLemmas.{position_in}
-use Rattle.oe_window.proofs.WindowLemmas.{IsFilled, filled_unless_empty, first_in, first_position, within_from_holds}
+use Rattle.oe_window.proofs.WindowLemmas.{IsFilled, filled_unless_empty, first_in, within_from_holds}
 use Rattle.oe_slab.specs.Cuts.{IsTimeCut}
 use Rattle.oe_slab.specs.Figures.{taken_by}
 use Rattle.oe_slab.specs.Schedules.{IsPlaneOf, IsSlabOf}

@@ -1,5 +1,5 @@
 -- The records of a run that is complete: those of all cells, which rendering reads.
-use Rattle.std.proofs.Common.{◌≡◌, ◌≢◌, ℕ, zero, suc, ◌*◌, ◌<◌, List, [], ◌∷◌, length, take, drop, get_or, Option, Some, None, IfSome, refl, sym, ap, ◌∙◌, subst, arith}
+use Rattle.std.proofs.Common.{◌≡◌, ◌≢◌, ℕ, ◌*◌, ◌<◌, List, [], length, take, drop, get_or, Option, Some, None, sym, ap, ◌∙◌, subst, arith}
 use Rattle.std.specs.List.{All}
 use Rattle.std.proofs.lemmas.List.Elements.{All-from_get_or}
 use Rattle.oe_cell.specs.Cells.{IsCell}
@@ -21,39 +21,12 @@ use Rattle.oe_check.specs.Laws.{AreCollectionsOf}
 use Rattle.oe_requests.specs.Operations.{Outline}
 use Rattle.oe_check.proofs.CheckedLemmas.{give_cubes}
 use Rattle.oe_spool.specs.Spooled.{HoldsRecord, IsInSome}
-use Rattle.oe_spool.proofs.CubeRecords.{cells_counted, cube_from_positions, cube_from_windows}
+use Rattle.oe_spool.proofs.CubeRecords.{IsStoredCell, cells_counted, cube_from_positions, cube_from_windows, if_some, list_of}
+use Rattle.oe_spool.proofs.ChunkLists.{all_inside}
 use Rattle.oe_slab.specs.Runs.{HasDone, HasRunRecords, SlabRunOf, ShowsDone, chunk_total, chunks_from, result_cube, result_shape}
-use Rattle.oe_slab.proofs.GridLemmas.{all_inside}
+use Rattle.oe_slab.proofs.GridLemmas.{has_sides}
 
 -- ---- lists of cells
-
--- a list with an element for each index below an end
-record Listed (P : ℕ → Cell → Type 0) (n : ℕ) : Type 0 where
-  cells : List Cell
-  counted : length cells ≡ n
-  each : (k : ℕ) → k < n → P k (get_or cells k Empty)
-
-list_of : (P : ℕ → Cell → Type 0) (n : ℕ) → ((k : ℕ) → k < n → (c : Cell) × P k c) → Listed P n
-list_of P zero found = record { cells = []; counted = refl; each = λ k h. absurd (omega arith) }
-list_of P (suc n) found =
-    let first = found 0 (omega arith) in
-    let rest = list_of (λ k c. P (suc k) c) n (λ k h. found (suc k) (omega arith)) in
-    record { cells = first.0 ∷ rest.cells; counted = ap suc rest.counted; each = by first.0 first.1 rest.cells rest.each }
-  where
-    by : (c : Cell) → P 0 c → (cells : List Cell) → ((k : ℕ) → k < n → P (suc k) (get_or cells k Empty))
-        → (k : ℕ) → k < suc n → P k (get_or (c ∷ cells) k Empty)
-    by c one cells each zero h = one
-    by c one cells each (suc k) h = each k (omega arith)
-
-if_some : (X : Type 0) (store : Option (List ℕ)) → X → IfSome store (λ _. X)
-if_some X None x = tt
-if_some X (Some bytes) x = x
-
--- the record of a valid cell, that is not Over, stands at its number
-record IsStoredCell (store : Option (List ℕ)) (base k : ℕ) (c : Cell) : Type 0 where
-  valid : IsCell c
-  held : HoldsRecord store base k c
-  numbered : c ≢ Over
 
 -- ---- a run that is complete
 
@@ -61,7 +34,7 @@ module _ (p : SlabPlanOf) (is : IsSlabPlan p) (r : SlabRunOf) (plan_is : r.plan 
   all_done : (q : Position) → IsPosition (result_shape p) q → IsInSome (chunks_from r.plan 0 r.done) q
   all_done q h =
       subst (λ plan. IsInSome (chunks_from plan 0 r.done) q) (sym plan_is)
-      (subst (λ n. IsInSome (chunks_from p 0 n) q) (sym complete) (all_inside p is q h))
+      (subst (λ n. IsInSome (chunks_from p 0 n) q) (sym complete) (all_inside (result_shape p) p.size (has_sides p is) q h))
 
   stored_cell : (store : Option (List ℕ)) → r.over ≡ None → HasRunRecords r store → (k : ℕ) → k < cell_count (result_shape p)
       → (c : Cell) × IsStoredCell store r.base k c

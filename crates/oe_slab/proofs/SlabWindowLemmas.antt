@@ -29,11 +29,11 @@ use Rattle.oe_check.specs.Links.{links_of}
 use Rattle.oe_check.specs.Reach.{whole_of_node}
 use Rattle.oe_check.proofs.LinkLemmas.{is_acyclic}
 use Rattle.oe_window.specs.Chunks.{FitsSides, tiling_of}
-use Rattle.oe_window.specs.Windows.{Holds, IsEmpty, IsIn, extent_along, position_count, span_length, whole_window}
+use Rattle.oe_window.specs.Windows.{Holds, IsEmpty, IsIn, extent_along, first_position, position_count, span_length, whole_window}
 use Rattle.oe_window.specs.declared.grid.ChunkSize.{ChunkSize}
 use Rattle.oe_window.specs.declared.window.Span.{Span}
 use Rattle.oe_window.specs.declared.window.Window.{Window}
-use Rattle.oe_window.proofs.WindowLemmas.{IsWithin, count_zero, filled_or_not, filled_unless_empty, first_in, first_position, within_from_holds}
+use Rattle.oe_window.proofs.WindowLemmas.{IsWithin, count_zero, filled_or_not, filled_unless_empty, first_in, within_from_holds}
 use Rattle.oe_slab.specs.Cuts.{IsOfRun, IsTimeCut, links_behind}
 use Rattle.oe_slab.specs.Figures.{largest_plane, largest_slab, taken_by}
 use Rattle.oe_slab.specs.Schedules.{AreMet, AreSchedules, IsSlabOf}

@@ -1,5 +1,5 @@
 -- What a run has written: the records of the chunks that are done, and of one chunk more.
-use Rattle.std.proofs.Common.{◌≡◌, ℕ, ◌+◌, ◌≤◌, List, [], ◌∷◌, ◌++◌, length, Option, Some, None, inl, inr, refl, sym, ap, ◌∙◌, subst, arith}
+use Rattle.std.proofs.Common.{◌≡◌, ℕ, ◌+◌, ◌≤◌, List, [], ◌∷◌, ◌++◌, length, Option, None, inl, inr, sym, ap, ◌∙◌, subst, arith}
 use Rattle.std.specs.List.{All}
 use Rattle.oe_cell.specs.Cells.{IsCell}
 use Rattle.oe_cell.specs.Record.{record_of}
@@ -11,42 +11,24 @@ use Rattle.oe_dims.specs.Positions.{IsPosition, Position, number_of}
 use Rattle.oe_spool.specs.Least.{IsLeastOver, lesser_of}
 use Rattle.oe_spool.specs.Spooled.{ChangesOnly, HoldsRecord, HoldsRecords, IsInSome, IsRecordByte, record_offset}
 use Rattle.oe_spool.proofs.KeptLemmas.{change_of_one, in_either, no_common_byte, others_kept, store_piece_kept}
-use Rattle.oe_spool.proofs.LeastLemmas.{least_of_lists, least_of_one}
-use Rattle.oe_spool.proofs.CubeLemmas.{given_cube}
+use Rattle.oe_spool.proofs.LeastLemmas.{least_of_lists, least_of_one, none_first, none_second}
+use Rattle.oe_spool.proofs.CubeLemmas.{cell_of_window, given_cube}
+use Rattle.oe_spool.proofs.ChunkLists.{chunk_inside, chunks_apart, chunks_inside, chunks_more}
 use Rattle.oe_window.specs.Cells.{cell_at, cells_on}
-use Rattle.oe_window.specs.Windows.{Holds, IsIn, number_in, position_count, whole_window}
-use Rattle.oe_window.specs.declared.window.Window.{Window}
-use Rattle.oe_window.proofs.CellLemmas.{cells_on-get, length-cells_on}
-use Rattle.oe_window.proofs.WholeLemmas.{in_whole, number_in_below}
+use Rattle.oe_window.specs.Windows.{Holds, IsIn, position_count, whole_window}
+use Rattle.oe_window.specs.Chunks.{tiling_of}
+use Rattle.oe_window.proofs.WholeLemmas.{in_whole}
 use Rattle.oe_slab.specs.Plans.{IsSlabPlan, SlabPlanOf}
 use Rattle.oe_slab.specs.Results.{AreWritten}
 use Rattle.oe_slab.specs.Runs.{HasDone, HasRunRecords, HasSome, SlabRunOf, chunk_of, chunks_from, result_shape}
-use Rattle.oe_slab.proofs.GridLemmas.{chunk_inside, chunks_apart, chunks_inside, chunks_more}
+use Rattle.oe_slab.proofs.GridLemmas.{has_sides}
 
 abbrev pub run : SlabPlanOf → ℕ → ℕ → Option ℕ → SlabRunOf
 run p base done over = record { plan = p; base = base; done = done; over = over }
 
-none_first : (a b : Option ℕ) → lesser_of a b ≡ None → a ≡ None
-none_first None b e = refl
-none_first (Some a) None e = cc
-none_first (Some a) (Some b) e = cc
-
-none_second : (a b : Option ℕ) → lesser_of a b ≡ None → b ≡ None
-none_second None b e = e
-none_second (Some a) None e = cc
-none_second (Some a) (Some b) e = cc
-
--- what holds of each cell on a window holds of the cell at a position of it
-cell_of_window : (P : Cell → Type 0) (cube : Cube Cell) (w : Window) (q : Position) → IsIn w q → All P (cells_on Empty cube w)
-    → P (cell_at Empty cube q)
-cell_of_window P cube w q h each =
-    let below = number_in_below w q h in
-    let many = length-cells_on Empty cube w in
-    subst P (cells_on-get Empty cube w q Empty h) (each (number_in w q) Empty (omega arith))
-
 module _ (p : SlabPlanOf) (is : IsSlabPlan p) where
   pub chunk_within : (k : ℕ) → Holds (whole_window (result_shape p)) (chunk_of p k)
-  chunk_within k q h = in_whole (result_shape p) q (chunk_inside p is k q h)
+  chunk_within k q h = in_whole (result_shape p) q (chunk_inside (result_shape p) p.size (has_sides p is) k q h)
 
   module _ (base done : ℕ) (over : Option ℕ) (old new : Option (List ℕ))
       (changed : ChangesOnly base (result_shape p) (IsIn (chunk_of p done)) old new) where
@@ -62,9 +44,9 @@ module _ (p : SlabPlanOf) (is : IsSlabPlan p) where
         → HoldsRecords new base cube (IsInSome (chunks_from p 0 done))
     records_left cube of_shape held =
         others_kept old new base cube (IsInSome (chunks_from p 0 done)) (IsInSome (chunks_from p done 1))
-        (λ q h. subst (λ d. IsPosition d q) (sym of_shape) (chunks_inside p is 0 done q h))
-        (λ q h. subst (λ d. IsPosition d q) (sym of_shape) (chunks_inside p is done 1 q h))
-        (chunks_apart p is 0 done done 1 none_more)
+        (λ q h. subst (λ d. IsPosition d q) (sym of_shape) (chunks_inside (result_shape p) p.size (has_sides p is) 0 done q h))
+        (λ q h. subst (λ d. IsPosition d q) (sym of_shape) (chunks_inside (result_shape p) p.size (has_sides p is) done 1 q h))
+        (chunks_apart (result_shape p) p.size (has_sides p is) 0 done done 1 none_more)
         (subst (λ d. ChangesOnly base d (IsInSome (chunks_from p done 1)) old new) (sym of_shape) changes) held
 
     some_left : (least : Option ℕ) (q : Position) → (least ≡ None → over ≡ None) → (later : ℕ) → IsInSome (chunks_from p 0 done) q
@@ -75,7 +57,7 @@ module _ (p : SlabPlanOf) (is : IsSlabPlan p) where
       held = store_piece_kept (IsRecordByte base (result_shape p) (IsInSome (chunks_from p done 1))) old new
           (record_offset base (number_of (result_shape p) q)) (record_of some.cell) changes
           (λ k low high. no_common_byte base (result_shape p) (IsInSome (chunks_from p 0 done)) (IsInSome (chunks_from p done 1))
-          (chunks_inside p is 0 done) (chunks_inside p is done 1) (chunks_apart p is 0 done done 1 none_more) k
+          (chunks_inside (result_shape p) p.size (has_sides p is) 0 done) (chunks_inside (result_shape p) p.size (has_sides p is) done 1) (chunks_apart (result_shape p) p.size (has_sides p is) 0 done done 1 none_more) k
           (record { p = q; inside = h; begun = low; before = omega (arith, length-record_of some.cell) })) some.held;
       numbered = λ e. some.numbered (none e);
     }
@@ -94,7 +76,7 @@ module _ (p : SlabPlanOf) (is : IsSlabPlan p) where
     chunks_next : chunks_from p 0 (done + 1) ≡ chunks_from p 0 done ++ chunk_of p done ∷ []
     chunks_next =
         let same : 0 + done ≡ done = omega arith in
-        chunks_more p 0 done ∙ ap (λ k. chunks_from p 0 done ++ chunk_of p k ∷ []) same
+        chunks_more (tiling_of (result_shape p) p.size) 0 done ∙ ap (λ k. chunks_from p 0 done ++ chunk_of p k ∷ []) same
 
     in_next : (q : Position) → IsInSome (chunk_of p done ∷ []) q → IsIn (chunk_of p done) q
     in_next q (inl h) = h

@@ -24,11 +24,11 @@ use Rattle.oe_dims.specs.declared.shape.ShapeFault.{ShapeFault}
 use Rattle.oe_dims.specs.declared.shape.ShapeFault.TheVariants.{OrderWrong, OutOfRange, TooMany, EpsgWrong, TooManyCells}
 use Rattle.oe_dims.proofs.FlatMapLemmas.{same_gets, value_at}
 use Rattle.oe_dims.proofs.RuleLemmas.{AreNames-list_all, IsBetween-all_between, IsRising-rises, IsShape-KeepsEveryRule, IsWithoutTwice-all_differ}
-use Rattle.oe_sources.specs.Generated.{IsRow, falling_labels, first_position, generated_cell, generated_contents, generated_days, generated_shape, generated_sum, rest_cell, rising_labels}
+use Rattle.oe_sources.specs.Generated.{IsRow, falling_labels, generated_cell, generated_contents, generated_days, generated_shape, generated_sum, rest_cell, rising_labels}
 use Rattle.oe_sources.specs.Source.{AreCellsOf, collection_with}
 use Rattle.oe_sources.proofs.SourceLemmas.{none_contained}
 use Rattle.oe_window.specs.Parts.{IsPartFrom, row_of}
-use Rattle.oe_window.specs.Windows.{Holds, number_in, position_count, positions, span_indices, span_length, whole_window}
+use Rattle.oe_window.specs.Windows.{Holds, first_position, number_in, position_count, positions, span_indices, span_length, whole_window}
 use Rattle.oe_window.specs.declared.window.Window.{Window}
 use Rattle.oe_window.proofs.CellLemmas.{is_cells_on}
 use Rattle.oe_window.proofs.RangeLemmas.{range-slice_get, slice_get-range}

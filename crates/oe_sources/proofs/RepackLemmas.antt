@@ -40,7 +40,7 @@ use Rattle.oe_window.specs.declared.window.Window.{Window}
 use Rattle.oe_window.proofs.CellLemmas.{cells_on-numbers, range_of_list}
 use Rattle.oe_window.proofs.NumberLemmas.{runs_within, window-box}
 use Rattle.oe_window.proofs.RangeLemmas.{slice_get-range}
-use Rattle.oe_window.proofs.RunLemmas.{range-append}
+use Rattle.oe_window.proofs.RunLemmas.{touching}
 use Rattle.oe_window.proofs.WholeLemmas.{position_in}
 use Rattle.oe_window.proofs.WindowLemmas.{position_number}
 
@@ -139,19 +139,6 @@ no_sink_fault before after SinkFailed count told = absurd told
 no_sink_fault before after OutOfMemory count told = absurd told
 
 -- ---- the numbers of a part
-
--- runs that touch are one
-touching_from : (c s a n : ℕ) → flat_map (λ i. range_with_len (c + i * s) s) (range_with_len a n) ≡ range_with_len (c + a * s) (n * s)
-touching_from c s a zero = let none : 0 * s ≡ 0 = omega arith in rw none refl
-touching_from c s a (suc n) =
-    let more : suc n * s ≡ s + n * s = omega arith in
-    let next : c + a * s + s ≡ c + (a + 1) * s = omega arith in
-    ap (λ ys. range_with_len (c + a * s) s ++ ys) (touching_from c s (a + 1) n)
-    ∙ ap (λ b. range_with_len (c + a * s) s ++ range_with_len b (n * s)) (sym next)
-    ∙ sym (range-append (c + a * s) s (n * s)) ∙ ap (range_with_len (c + a * s)) (sym more)
-
-touching : (c s n : ℕ) → flat_map (λ i. range_with_len (c + i * s) s) (range_with_len 0 n) ≡ range_with_len c (n * s)
-touching c s n = let first : c + 0 * s ≡ c = omega arith in touching_from c s 0 n ∙ ap (λ b. range_with_len b (n * s)) first
 
 -- whole planes of one index of t
 box_planes : (d : Dimensions) (first n : ℕ) → box_numbers first (record { t = 1; bands = n; y = extent d.y; x = extent d.x }) (cube_sides d) ≡ range_with_len first (n * (extent d.y * extent d.x))

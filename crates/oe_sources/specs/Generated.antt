@@ -52,7 +52,3 @@ pub record IsRow (window : Window) : Type 0 where
   pub t : span_length window.t ≡ 1
   pub bands : span_length window.bands ≡ 1
   pub y : span_length window.y ≡ 1
-
-abbrev pub first_position : Window → Position
-first_position window =
-    record { t = window.t.from; band = window.bands.from; y = window.y.from; x = window.x.from }

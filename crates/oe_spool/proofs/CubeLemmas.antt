@@ -1,6 +1,6 @@
--- A cube that has given cells on a window.
-use Rattle.std.proofs.Common.{◌≡◌, ◌≢◌, ℕ, ◌<◌, ◌==◌, true, false, List, length, map, get_or, unwrap_or, Some, refl, sym, ap, ◌∙◌, arith}
-use Rattle.std.specs.List.{range_with_len, slice_get}
+-- A cube that has given cells on a window, and what holds of cells on one.
+use Rattle.std.proofs.Common.{◌≡◌, ◌≢◌, ℕ, ◌<◌, ◌==◌, true, false, List, length, map, get_or, unwrap_or, Some, refl, sym, ap, ◌∙◌, arith, ◌-◌, subst}
+use Rattle.std.specs.List.{All, range_with_len, slice_get}
 use Rattle.std.specs.Option.{option_map}
 use Rattle.std.proofs.lemmas.Bool.{eqb-false, eqb-true, false_from_ne_true, true_from_ne_false}
 use Rattle.std.proofs.lemmas.List.FromFn.{get_or-map-range_with_len}
@@ -18,7 +18,7 @@ use Rattle.oe_window.specs.Cells.{cell_at, cells_on}
 use Rattle.oe_window.specs.Runs.{window_numbers}
 use Rattle.oe_window.specs.Windows.{Holds, IsIn, number_in, position_count, positions, whole_window}
 use Rattle.oe_window.specs.declared.window.Window.{Window}
-use Rattle.oe_window.proofs.CellLemmas.{is_cells_on}
+use Rattle.oe_window.proofs.CellLemmas.{cells_on-get, is_cells_on, length-cells_on}
 use Rattle.oe_window.proofs.WholeLemmas.{number_in_below, position_in}
 use Rattle.oe_window.proofs.WindowLemmas.{position_at, position_number}
 
@@ -70,3 +70,11 @@ module _ (d : Dimensions) (w : Window) (within : Holds (whole_window d) w) (cell
 
   pub given_cube : (cube : Cube Cell) × (cube.shape ≡ d) × (cells_on Empty cube w ≡ cells)
   given_cube = (given, refl, on_window)
+
+-- what holds of each cell on a window holds of the cell at a position of it
+pub cell_of_window : (P : Cell → Type 0) (cube : Cube Cell) (w : Window) (q : Position) → IsIn w q → All P (cells_on Empty cube w)
+    → P (cell_at Empty cube q)
+cell_of_window P cube w q h each =
+    let below = number_in_below w q h in
+    let many = length-cells_on Empty cube w in
+    subst P (cells_on-get Empty cube w q Empty h) (each (number_in w q) Empty (omega arith))

@@ -1,9 +1,9 @@
 -- The records of all cells of a cube, from those of its positions.
-use Rattle.std.proofs.Common.{◌≡◌, ℕ, suc, ◌+◌, ◌*◌, ◌<◌, ◌==◌, false, List, [], ◌∷◌, length, get_or, Option, Some, None, refl, ◌∙◌, subst, arith}
-use Rattle.std.proofs.lemmas.Bool.Decides.{nat_tests}
+use Rattle.std.proofs.Common.{◌≡◌, ℕ, suc, ◌+◌, ◌*◌, ◌<◌, List, [], ◌∷◌, length, get_or, Option, Some, None, refl, ◌∙◌, subst, arith, zero, ap, IfSome, ◌≢◌}
 use Rattle.oe_cell.specs.Record.{record_of, records_of}
 use Rattle.oe_cell.specs.declared.cell.Cell.{Cell}
-use Rattle.oe_cell.specs.declared.cell.Cell.TheVariants.{Empty}
+use Rattle.oe_cell.specs.declared.cell.Cell.TheVariants.{Empty, Over}
+use Rattle.oe_cell.specs.Cells.{IsCell}
 use Rattle.oe_cell.proofs.RecordLemmas.{length-record_of}
 use Rattle.oe_dims.specs.Cube.{Cube, IsCube}
 use Rattle.oe_dims.specs.Dimensions.{Dimensions, cell_count}
@@ -12,11 +12,12 @@ use Rattle.oe_dims.proofs.CubeLemmas.{length-tuples, position_there}
 use Rattle.oe_outside.specs.Stored.{HoldsAt, StoreHolds}
 use Rattle.oe_outside.proofs.Stores.{HoldsAt-both}
 use Rattle.oe_spool.specs.Spooled.{IsInSome, HoldsRecord, HoldsRecords, HoldsWindow, HoldsCube}
-use Rattle.oe_window.specs.Chunks.{Tiling, IsTiling, IsInside, tiling_of, chunk_count, chunk_number, chunk_window}
+use Rattle.oe_window.specs.Chunks.{IsTiling, tiling_of, chunk_count, chunk_number, chunk_window}
 use Rattle.oe_window.specs.Windows.{IsIn}
 use Rattle.oe_window.specs.declared.grid.ChunkSize.{ChunkSize}
 use Rattle.oe_window.specs.declared.window.Window.{Window}
-use Rattle.oe_window.proofs.ChunkLemmas.{chunk_number_below, chunk_positions}
+use Rattle.oe_window.proofs.ChunkLemmas.{chunk_positions}
+use Rattle.oe_window.proofs.TilingLemmas.{position_inside, some_chunk}
 
 later_record : (all : List ℕ) (base : ℕ) (c : Cell) (cs : List Cell) (k : ℕ) → HoldsAt all (base + 17 * suc k) (record_of (get_or (c ∷ cs) (suc k) Empty)) → HoldsAt all (base + 17 + 17 * k) (record_of (get_or cs k Empty))
 later_record all base c cs k held =
@@ -24,7 +25,7 @@ later_record all base c cs k held =
     subst (λ n. HoldsAt all n (record_of (get_or cs k Empty))) later held
 
 -- records one behind the other, each at its number, are those of the list
-records_held : (all : List ℕ) (base : ℕ) (cells : List Cell) → ((k : ℕ) → k < length cells → HoldsAt all (base + 17 * k) (record_of (get_or cells k Empty))) → HoldsAt all base (records_of cells)
+pub records_held : (all : List ℕ) (base : ℕ) (cells : List Cell) → ((k : ℕ) → k < length cells → HoldsAt all (base + 17 * k) (record_of (get_or cells k Empty))) → HoldsAt all base (records_of cells)
 records_held all base [] each = refl
 records_held all base (c ∷ cs) each =
     let start : base + 17 * 0 ≡ base = omega arith in
@@ -55,16 +56,6 @@ cube_from_positions store base cube positions whole all held =
 pub cube_from_windows : (store : Option (List ℕ)) (base : ℕ) (cube : Cube Cell) (windows : List Window) → IsCube cube → ((p : Position) → IsPosition cube.shape p → IsInSome windows p) → HoldsRecords store base cube (IsInSome windows) → HoldsCube store base cube
 cube_from_windows store base cube windows whole all held = cube_from_positions store base cube (IsInSome windows) whole all held
 
-position_inside : (d : Dimensions) (size : ChunkSize) (p : Position) → IsPosition d p → IsInside (tiling_of d size) p
-position_inside d size p h = record { t = h.t; bands = h.band; y = h.y; x = h.x }
-
-some_chunk : (g : Tiling) (p : Position) → IsTiling g → IsInside g p → chunk_number g p < chunk_count g
-some_chunk g p tiling h =
-    let below = chunk_number_below g p tiling h in
-    let bands = h.bands in
-    let some : g.bands == 0 ≡ false = grind (arith, nat_tests) in
-    rw some below
-
 -- each position of the shape lies in a chunk
 pub chunk_there : (d : Dimensions) (size : ChunkSize) (p : Position) → IsTiling (tiling_of d size) → IsPosition d p → (k : ℕ) × (k < chunk_count (tiling_of d size)) × IsIn (chunk_window (tiling_of d size) k) p
 chunk_there d size p tiling h =
@@ -84,3 +75,31 @@ pub cube_from_chunks : (store : Option (List ℕ)) (base : ℕ) (cube : Cube Cel
 cube_from_chunks store base cube size whole tiling held =
     cube_from_positions store base cube (IsPosition cube.shape) whole (λ p h. h) (λ p h.
     (let k = chunk_there cube.shape size p tiling h in held k.0 k.1 p k.2))
+
+-- a list with an element for each index below an end
+pub record Listed (P : ℕ → Cell → Type 0) (n : ℕ) : Type 0 where
+  pub cells : List Cell
+  pub counted : length cells ≡ n
+  pub each : (k : ℕ) → k < n → P k (get_or cells k Empty)
+
+pub list_of : (P : ℕ → Cell → Type 0) (n : ℕ) → ((k : ℕ) → k < n → (c : Cell) × P k c) → Listed P n
+list_of P zero found = record { cells = []; counted = refl; each = λ k h. absurd (omega arith) }
+list_of P (suc n) found =
+    let first = found 0 (omega arith) in
+    let rest = list_of (λ k c. P (suc k) c) n (λ k h. found (suc k) (omega arith)) in
+    record { cells = first.0 ∷ rest.cells; counted = ap suc rest.counted; each = by first.0 first.1 rest.cells rest.each }
+  where
+    by : (c : Cell) → P 0 c → (cells : List Cell) → ((k : ℕ) → k < n → P (suc k) (get_or cells k Empty))
+        → (k : ℕ) → k < suc n → P k (get_or (c ∷ cells) k Empty)
+    by c one cells each zero h = one
+    by c one cells each (suc k) h = each k (omega arith)
+
+pub if_some : (X : Type 0) (store : Option (List ℕ)) → X → IfSome store (λ _. X)
+if_some X None x = tt
+if_some X (Some bytes) x = x
+
+-- the record of a valid cell, that is not Over, stands at its number
+pub record IsStoredCell (store : Option (List ℕ)) (base k : ℕ) (c : Cell) : Type 0 where
+  pub valid : IsCell c
+  pub held : HoldsRecord store base k c
+  pub numbered : c ≢ Over

@@ -160,3 +160,14 @@ least_of_chunks cube size found whole tiling each =
     least_of_all cube (least_of_first found n) whole
     (least_of_same cube (IsInFirst g n) (IsPosition d) (least_of_first found n) (λ p h. chunk_inside d size h.0 p tiling h.2) (λ p h. chunk_there d size p tiling h)
     (least_of_first_chunks cube g found n each))
+
+-- there is no least number of either where there is none of both
+pub none_first : (a b : Option ℕ) → lesser_of a b ≡ None → a ≡ None
+none_first None b e = refl
+none_first (Some a) None e = cc
+none_first (Some a) (Some b) e = cc
+
+pub none_second : (a b : Option ℕ) → lesser_of a b ≡ None → b ≡ None
+none_second None b e = e
+none_second (Some a) None e = cc
+none_second (Some a) (Some b) e = cc

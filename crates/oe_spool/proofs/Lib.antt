@@ -4,3 +4,4 @@ pub mod KeptLemmas
 pub mod LeastLemmas
 pub mod LeastOnWindow
 pub mod RunRecords
+pub mod ChunkLists

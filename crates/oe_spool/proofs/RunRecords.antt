@@ -72,7 +72,7 @@ room_kept bytes new count room few same =
 
 -- ---- one record out of those of a run
 
-record_within : (all : List ℕ) (at : ℕ) (cells : List Cell) (j : ℕ) (c : Cell) → slice_get cells j ≡ Some c → HoldsAt all at (records_of cells) → HoldsAt all (at + 17 * j) (record_of c)
+pub record_within : (all : List ℕ) (at : ℕ) (cells : List Cell) (j : ℕ) (c : Cell) → slice_get cells j ≡ Some c → HoldsAt all at (records_of cells) → HoldsAt all (at + 17 * j) (record_of c)
 record_within all at [] j c e held = cc
 record_within all at (x ∷ xs) zero c e held =
     let same : at + 17 * 0 ≡ at = omega arith in
@@ -83,7 +83,7 @@ record_within all at (x ∷ xs) (suc j) c e held =
     subst (λ n. HoldsAt all n (record_of c)) next
     (record_within all (at + length (record_of x)) xs j c e (HoldsAt-second all at (record_of x) (records_of xs) held))
 
-store_record_within : (store : Option (List ℕ)) (at : ℕ) (cells : List Cell) (j : ℕ) (c : Cell) → slice_get cells j ≡ Some c → StoreHolds store at (records_of cells) → StoreHolds store (at + 17 * j) (record_of c)
+pub store_record_within : (store : Option (List ℕ)) (at : ℕ) (cells : List Cell) (j : ℕ) (c : Cell) → slice_get cells j ≡ Some c → StoreHolds store at (records_of cells) → StoreHolds store (at + 17 * j) (record_of c)
 store_record_within None at cells j c e held = tt
 store_record_within (Some all) at cells j c e held = record_within all at cells j c e held
 

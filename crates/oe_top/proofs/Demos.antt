@@ -21,7 +21,6 @@ use Rattle.oe_engine.specs.Results.{IsVisible, result_of}
 use Rattle.oe_engine.specs.Evaluations.{Evaluates, IsPlanOf}
 use Rattle.oe_steps.specs.declared.fail.RunFail.{RunFail}
 use Rattle.oe_steps.specs.declared.fail.RunFail.TheVariants as run
-use Rattle.oe_engine.proofs.GridLemmas.{all_inside}
 use Rattle.oe_engine.proofs.RenderLemmas.{result_shape_is, result_whole}
 use Rattle.oe_outside.specs.Faults.{HasCauseOf, NeverFalls, Rose}
 use Rattle.oe_outside.specs.Stored.{HoldsAt, StoreHolds}
@@ -41,6 +40,7 @@ use Rattle.oe_sources.specs.CatalogueDims.{dims_of}
 use Rattle.oe_sources.specs.CatalogueLaws.{NeverFailed}
 use Rattle.oe_spool.specs.Spooled.{HoldsRecord, IsInSome}
 use Rattle.oe_spool.proofs.CubeRecords.{cells_counted}
+use Rattle.oe_spool.proofs.ChunkLists.{all_inside}
 use Rattle.oe_top.specs.DemoAnswer.{DemoAnswers, Demonstrates, FiguresEnd, IsDemonstrated, IsDemonstration}
 use Rattle.oe_top.specs.Demonstration.{HasSpooled, IsSpooled, demo_graph, demo_text, figures_text}
 use Rattle.oe_top.specs.Evaluated.{CanBeNamed, IsFailOfRun, fail_of_text}
@@ -56,6 +56,7 @@ use Rattle.oe_top.specs.declared.evaluation.EvaluationFail.{EvaluationFail}
 use Rattle.oe_top.specs.declared.evaluation.EvaluationFail.TheVariants.{Overflow, WriteFault, SpoolDamaged}
 use Rattle.oe_top.proofs.DemoCubes.{demo_valid}
 use Rattle.oe_engine.proofs.RunResults.{hidden, of_meaning, over_is}
+use Rattle.oe_engine.proofs.GridLemmas.{has_sides}
 use Rattle.oe_top.proofs.Inputs.{sizes}
 
 -- ---- one record
@@ -93,7 +94,7 @@ too_short (Some all) count number whole (c, is) below no_whole short =
 
 module _ (r : RunOf) (is : IsPlan r.plan) (complete : r.done ≡ chunk_total r.plan) (front : r.base ≡ 0) where
   in_chunks : (q : Position) → IsPosition (result_shape r.plan) q → IsInSome (chunks_from r.plan 0 r.done) q
-  in_chunks q h = subst (λ n. IsInSome (chunks_from r.plan 0 n) q) (sym complete) (all_inside r.plan is q h)
+  in_chunks q h = subst (λ n. IsInSome (chunks_from r.plan 0 n) q) (sym complete) (all_inside (result_shape r.plan) r.plan.size (has_sides r.plan is) q h)
 
   -- each number has a cell in the spool
   pub spooled : (store : Option (List ℕ)) → r.over ≡ None → HasRunRecords r store → (number : ℕ)

@@ -120,28 +120,40 @@ number_digits t y x rows columns k hy hx e =
     let second : k / columns % rows ≡ y = ap (λ n. n % rows) plane ∙ mod-mul-add t rows y hy in
     (sym first, sym second, sym column)
 
-chunk_number_of : (g : Tiling) (k : ℕ) → IsTiling g → (p : Position) → IsIn (chunk_window g k) p → IsInside g p × (chunk_number g p ≡ k)
+-- the sides of chunks have an index at least
+pub record HasSides (g : Tiling) : Type 0 where
+  pub t : 1 ≤ g.side_t
+  pub y : 1 ≤ g.side_y
+  pub x : 1 ≤ g.side_x
+
+pub sides_of : (g : Tiling) → IsTiling g → HasSides g
+sides_of g v = record { t = v.side_t.0; y = v.side_y.0; x = v.side_x.0 }
+
+chunk_number_of : (g : Tiling) (k : ℕ) → HasSides g → (p : Position) → IsIn (chunk_window g k) p → IsInside g p × (chunk_number g p ≡ k)
 chunk_number_of g k v p h =
-    let t = along_part g.t g.side_t _ p.t v.side_t.0 h.t in
-    let y = along_part g.y g.side_y _ p.y v.side_y.0 h.y in
-    let x = along_part g.x g.side_x _ p.x v.side_x.0 h.x in
+    let t = along_part g.t g.side_t _ p.t v.t h.t in
+    let y = along_part g.y g.side_y _ p.y v.y h.y in
+    let x = along_part g.x g.side_x _ p.x v.x h.x in
     (record { t = t.0; bands = h.bands.before; y = y.0; x = x.0 }, rw (t.1, y.1, x.1) (digits_number k (parts_along g.y g.side_y) (parts_along g.x g.side_x)))
 
-in_chunk_of : (g : Tiling) (k : ℕ) → IsTiling g → (p : Position) → IsInside g p → chunk_number g p ≡ k → IsIn (chunk_window g k) p
+in_chunk_of : (g : Tiling) (k : ℕ) → HasSides g → (p : Position) → IsInside g p → chunk_number g p ≡ k → IsIn (chunk_window g k) p
 in_chunk_of g k v p h e =
-    let below_y = part_of g.y g.side_y p.y v.side_y.0 h.y in
-    let below_x = part_of g.x g.side_x p.x v.side_x.0 h.x in
+    let below_y = part_of g.y g.side_y p.y v.y h.y in
+    let below_x = part_of g.x g.side_x p.x v.x h.x in
     let digits = number_digits (p.t / g.side_t) (p.y / g.side_y) (p.x / g.side_x) (parts_along g.y g.side_y) (parts_along g.x g.side_x) k below_y below_x e in
     record {
-      t = part_along g.t g.side_t _ p.t v.side_t.0 h.t digits.0;
+      t = part_along g.t g.side_t _ p.t v.t h.t digits.0;
       bands = record { begun = omega arith; before = h.bands };
-      y = part_along g.y g.side_y _ p.y v.side_y.0 h.y digits.1;
-      x = part_along g.x g.side_x _ p.x v.side_x.0 h.x digits.2;
+      y = part_along g.y g.side_y _ p.y v.y h.y digits.1;
+      x = part_along g.x g.side_x _ p.x v.x h.x digits.2;
     }
 
 -- a chunk has exactly the positions of its number
+pub positions_by_sides : (g : Tiling) (k : ℕ) → HasSides g → (p : Position) → IsIn (chunk_window g k) p ↔ (IsInside g p × (chunk_number g p ≡ k))
+positions_by_sides g k v p = (chunk_number_of g k v p, λ h. in_chunk_of g k v p h.0 h.1)
+
 pub chunk_positions : (g : Tiling) (k : ℕ) → IsTiling g → (p : Position) → IsIn (chunk_window g k) p ↔ (IsInside g p × (chunk_number g p ≡ k))
-chunk_positions g k v p = (chunk_number_of g k v p, λ h. in_chunk_of g k v p h.0 h.1)
+chunk_positions g k v = positions_by_sides g k (sides_of g v)
 
 -- no chunk is empty
 pub chunk_filled : (g : Tiling) (k : ℕ) → IsTiling g → k < chunk_count g → (p : Position) × IsIn (chunk_window g k) p
@@ -157,14 +169,17 @@ chunk_filled g k v h =
     )
 
 -- each position of the shape has the number of a chunk
-pub chunk_number_below : (g : Tiling) (p : Position) → IsTiling g → IsInside g p → chunk_number g p < parts_along g.t g.side_t * parts_along g.y g.side_y * parts_along g.x g.side_x
-chunk_number_below g p v h =
+pub number_by_sides : (g : Tiling) (p : Position) → HasSides g → IsInside g p → chunk_number g p < parts_along g.t g.side_t * parts_along g.y g.side_y * parts_along g.x g.side_x
+number_by_sides g p v h =
     let pt = parts_along g.t g.side_t in
     let py = parts_along g.y g.side_y in
     let px = parts_along g.x g.side_x in
-    let t = part_of g.t g.side_t p.t v.side_t.0 h.t in
-    let y = part_of g.y g.side_y p.y v.side_y.0 h.y in
-    let x = part_of g.x g.side_x p.x v.side_x.0 h.x in
+    let t = part_of g.t g.side_t p.t v.t h.t in
+    let y = part_of g.y g.side_y p.y v.y h.y in
+    let x = part_of g.x g.side_x p.x v.x h.x in
     let plane : p.t / g.side_t * py + p.y / g.side_y < py * pt = mul-add-lt (p.t / g.side_t) py (p.y / g.side_y) pt t y in
     let two : py * pt ≡ pt * py = omega arith in
     omega (arith, mul-add-lt (p.t / g.side_t * py + p.y / g.side_y) px (p.x / g.side_x) (py * pt) plane x)
+
+pub chunk_number_below : (g : Tiling) (p : Position) → IsTiling g → IsInside g p → chunk_number g p < parts_along g.t g.side_t * parts_along g.y g.side_y * parts_along g.x g.side_x
+chunk_number_below g p v h = number_by_sides g p (sides_of g v) h

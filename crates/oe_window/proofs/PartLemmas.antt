@@ -7,12 +7,12 @@ use Rattle.std.proofs.lemmas.Nat.{div-add-mod', mod_below, div_below, mul-le}
 use Rattle.std.proofs.lemmas.Option.{slice_get_within, get_or_from_slice_get}
 use Rattle.oe_dims.specs.Positions.{Position}
 use Rattle.oe_window.specs.Parts.{IsPartFrom, plane_size, plane_count, plane_of, row_count, row_of}
-use Rattle.oe_window.specs.Windows.{IsAlong, IsIn, IsEmpty, Holds, span_at, span_length, positions, position_count, number_in}
+use Rattle.oe_window.specs.Windows.{IsAlong, IsIn, IsEmpty, Holds, span_at, span_length, positions, position_count, number_in, first_position}
 use Rattle.oe_window.specs.declared.window.Span.{Span}
 use Rattle.oe_window.specs.declared.window.Window.{Window}
 use Rattle.oe_window.proofs.ChunkLemmas.{digits_number, none_or_more}
 use Rattle.oe_window.proofs.WholeLemmas.{number_in_below}
-use Rattle.oe_window.proofs.WindowLemmas.{first_position, first_in, position_at, position_number, length-positions, count_of_empty, filled_unless_empty, partial_products}
+use Rattle.oe_window.proofs.WindowLemmas.{first_in, position_at, position_number, length-positions, count_of_empty, filled_unless_empty, partial_products}
 
 -- ---- one piece of a list
 
@@ -87,7 +87,7 @@ one_long : (i : ℕ) → span_length (span_at i) ≡ 1
 one_long i = omega arith
 
 -- one index of a span
-at_one : (i p : ℕ) → IsAlong (span_at i) p → p ≡ i
+pub at_one : (i p : ℕ) → IsAlong (span_at i) p → p ≡ i
 at_one i p h = let begun = h.begun in let before = h.before in omega arith
 
 in_span : (s : Span) (i p : ℕ) → i < span_length s → IsAlong (span_at (s.from + i)) p → IsAlong s p

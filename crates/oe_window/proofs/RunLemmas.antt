@@ -58,7 +58,7 @@ flat_map-rows f n a (suc m) =
     ∙ ap (λ ys. flat_map (λ j. f (a * n + j)) (range_with_len 0 n) ++ ys) (flat_map-rows f n (a + 1) m)
 
 -- runs that touch are one
-touching_from : (c s a n : ℕ) → flat_map (λ i. range_with_len (c + i * s) s) (range_with_len a n) ≡ range_with_len (c + a * s) (n * s)
+pub touching_from : (c s a n : ℕ) → flat_map (λ i. range_with_len (c + i * s) s) (range_with_len a n) ≡ range_with_len (c + a * s) (n * s)
 touching_from c s a zero = let none : 0 * s ≡ 0 = omega arith in rw none refl
 touching_from c s a (suc n) =
     let more : suc n * s ≡ s + n * s = omega arith in
@@ -67,7 +67,7 @@ touching_from c s a (suc n) =
     ∙ ap (λ b. range_with_len (c + a * s) s ++ range_with_len b (n * s)) (sym next)
     ∙ sym (range-append (c + a * s) s (n * s)) ∙ ap (range_with_len (c + a * s)) (sym more)
 
-touching : (c s n : ℕ) → flat_map (λ i. range_with_len (c + i * s) s) (range_with_len 0 n) ≡ range_with_len c (n * s)
+pub touching : (c s n : ℕ) → flat_map (λ i. range_with_len (c + i * s) s) (range_with_len 0 n) ≡ range_with_len c (n * s)
 touching c s n = let first : c + 0 * s ≡ c = omega arith in touching_from c s 0 n ∙ ap (λ b. range_with_len b (n * s)) first
 
 one_step : (f : ℕ → List ℕ) → flat_map f (range_with_len 0 1) ≡ f 0

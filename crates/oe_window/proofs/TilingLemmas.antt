@@ -11,13 +11,13 @@ use Rattle.oe_dims.proofs.FlatMapLemmas.{value_at}
 use Rattle.oe_window.specs.Chunks.{Tiling, IsTiling, IsInside, PartNumbers, tiling_of, chunk_count, chunk_number, chunk_numbers, chunk_window}
 use Rattle.oe_window.specs.Windows.{positions, number_in}
 use Rattle.oe_window.specs.declared.grid.ChunkSize.{ChunkSize}
-use Rattle.oe_window.proofs.ChunkLemmas.{chunk_number_below, chunk_positions}
+use Rattle.oe_window.proofs.ChunkLemmas.{HasSides, chunk_positions, number_by_sides, sides_of}
 use Rattle.oe_window.proofs.WindowLemmas.{position_at, position_number}
 
-inside_position : (d : Dimensions) (size : ChunkSize) (p : Position) → IsInside (tiling_of d size) p → IsPosition d p
+pub inside_position : (d : Dimensions) (size : ChunkSize) (p : Position) → IsInside (tiling_of d size) p → IsPosition d p
 inside_position d size p h = record { t = h.t; band = h.bands; y = h.y; x = h.x }
 
-position_inside : (d : Dimensions) (size : ChunkSize) (p : Position) → IsPosition d p → IsInside (tiling_of d size) p
+pub position_inside : (d : Dimensions) (size : ChunkSize) (p : Position) → IsPosition d p → IsInside (tiling_of d size) p
 position_inside d size p h = record { t = h.t; bands = h.band; y = h.y; x = h.x }
 
 -- the positions of a tiling are those of its shape
@@ -40,12 +40,16 @@ has_number d g chunk index number tiling e =
     let part = (chunk_positions g chunk tiling found.0).0 here.0 in
     record { p = found.0; inside = part.0; chunk_is = part.1; index_is = here.1; number_is = found.2 }
 
-some_chunk : (g : Tiling) (p : Position) → IsTiling g → IsInside g p → chunk_number g p < chunk_count g
-some_chunk g p tiling h =
-    let below = chunk_number_below g p tiling h in
+-- each has a chunk
+pub chunk_by_sides : (g : Tiling) (p : Position) → HasSides g → IsInside g p → chunk_number g p < chunk_count g
+chunk_by_sides g p sides h =
+    let below = number_by_sides g p sides h in
     let bands = h.bands in
     let some : g.bands == 0 ≡ false = grind (arith, nat_tests) in
     rw some below
+
+pub some_chunk : (g : Tiling) (p : Position) → IsTiling g → IsInside g p → chunk_number g p < chunk_count g
+some_chunk g p tiling h = chunk_by_sides g p (sides_of g tiling) h
 
 pub part_numbers : (d : Dimensions) (size : ChunkSize) → IsTiling (tiling_of d size) → PartNumbers (chunk_count (tiling_of d size)) (chunk_numbers d (tiling_of d size)) (cell_count d)
 part_numbers d size tiling =

@@ -10,7 +10,7 @@ use Rattle.std.proofs.lemmas.Option.{slice_get-map}
 use Rattle.oe_dims.proofs.FlatMapLemmas.{length-flat_map, slice_get-flat_map, from_part, below_product, value_inside}
 use Rattle.oe_window.proofs.RangeLemmas.{slice_get-range, range-slice_get}
 use Rattle.oe_dims.specs.Positions.{Position}
-use Rattle.oe_window.specs.Windows.{IsAlong, IsIn, IsEmpty, Holds, span_length, span_indices, positions, position_count, number_in}
+use Rattle.oe_window.specs.Windows.{IsAlong, IsIn, IsEmpty, Holds, span_length, span_indices, positions, position_count, number_in, first_position}
 use Rattle.oe_window.specs.declared.window.Span.{Span}
 use Rattle.oe_window.specs.declared.window.Window.{Window}
 
@@ -22,10 +22,6 @@ pub record IsFilled (window : Window) : Type 0 where
   pub bands : window.bands.from < window.bands.to
   pub y : window.y.from < window.y.to
   pub x : window.x.from < window.x.to
-
--- the first position, and the last
-abbrev pub first_position : Window → Position
-first_position window = record { t = window.t.from; band = window.bands.from; y = window.y.from; x = window.x.from }
 
 abbrev last_position : Window → Position
 last_position window = record { t = window.t.to - 1; band = window.bands.to - 1; y = window.y.to - 1; x = window.x.to - 1 }

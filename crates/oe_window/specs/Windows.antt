@@ -76,3 +76,8 @@ abbrev pub number_in : Window → Position → ℕ
 number_in window p =
     (((p.t - window.t.from) * span_length window.bands + (p.band - window.bands.from)) * span_length window.y
     + (p.y - window.y.from)) * span_length window.x + (p.x - window.x.from)
+
+-- the position where a window begins
+abbrev pub first_position : Window → Position
+first_position window =
+    record { t = window.t.from; band = window.bands.from; y = window.y.from; x = window.x.from }

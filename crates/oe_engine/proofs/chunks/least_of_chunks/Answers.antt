@@ -5,6 +5,7 @@ use Rattle.oe_cell.specs.declared.cell.Cell.TheVariants.{Empty}
 use Rattle.oe_dims.specs.Cube.{Cube}
 use Rattle.oe_spool.specs.Least.{IsLeastOver, lesser_of}
 use Rattle.oe_spool.specs.Spooled.{IsInSome}
+use Rattle.oe_spool.proofs.LeastLemmas.{none_first, none_second}
 use Rattle.oe_window.specs.Cells.{cells_on}
 use Rattle.oe_window.specs.Windows.{IsIn, position_count}
 use Rattle.oe_window.specs.declared.window.Window.{Window}
@@ -14,7 +15,6 @@ use Rattle.oe_engine.specs.Runs.{chunks_from, result_shape}
 use Rattle.oe_engine.proofs.ChunkLemmas.{each_all, each_more}
 use Rattle.oe_engine.proofs.DoneLemmas.{cells_counted}
 use Rattle.oe_engine.proofs.NextChunkLemmas.{least_more, none_here}
-use Rattle.oe_engine.proofs.WrittenLemmas.{none_first, none_second}
 use Rattle.oe_engine.proofs.chunks.least_of_chunks.Goals as goal
 
 pub result_cells-cells-requires : goal.result_cells-cells-requires
