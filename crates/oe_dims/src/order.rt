@@ -2,7 +2,7 @@
 ghost use Rattle.std.specs.Prelude.{◌≡◌};
 ghost use Rattle.std.specs.List.{list_all};
 ghost use Rattle.oe_dims.specs.Dimensions.{rises, falls, all_between};
-ghost use Rattle.oe_dims.specs.Names.{is_name, same_name};
+ghost use Rattle.oe_dims.specs.Names.{is_name, is_name_before, same_name};
 ghost use Rattle.oe_dims.specs.Indices.{index_where};
 
 use crate::{Text, is_name};
@@ -57,6 +57,13 @@ pub fn same_text(a: &str, b: &str) -> bool
     ensures { result ≡ same_name a.now b.now }
 {
     a == b
+}
+
+/// Whether a text stands before another in the order of bytes.
+pub fn is_name_before(a: &str, b: &str) -> bool
+    ensures { result ≡ is_name_before a.now b.now }
+{
+    a < b
 }
 
 /// The index of a name among these.

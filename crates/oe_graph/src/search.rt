@@ -6,7 +6,7 @@ ghost use Rattle.oe_graph.specs.Plain.{plain_nodes};
 ghost use Rattle.oe_graph.specs.Printed.{ids_of};
 
 use crate::tree::Node;
-use oe_dims::same_text;
+use oe_dims::{is_name_before, same_text};
 use oe_memory::OutOfMemory;
 use std::alloc::Global;
 
@@ -65,13 +65,6 @@ pub fn index_in(nodes: &Vec<Node>, id: &str) -> Option<usize>
         }
     }
     None
-}
-
-/// Whether a text stands before another in the order of bytes.
-pub fn is_name_before(a: &str, b: &str) -> bool
-    ensures { result ≡ is_name_before a.now b.now }
-{
-    a < b
 }
 
 /// Where the node of an id stands, if ids rise and a node has it.

@@ -6,7 +6,7 @@ ghost use Rattle.oe_order.specs.Turns.{AreTurns};
 ghost use Rattle.oe_plan.specs.Turns as spec;
 
 use oe_check::Checked;
-use oe_dims::Text;
+use oe_dims::{Text, is_name_before};
 use oe_memory::OutOfMemory;
 use oe_requests::Operation;
 use std::alloc::Global;
@@ -44,13 +44,6 @@ fn turn_name(alloc: Global, checked: &Checked, node: u32) -> Result<Text, OutOfM
     }
 }
 
-/// The first name comes before the other in the order of bytes.
-fn is_before(a: &Text, b: &Text) -> bool
-    ensures { result ≡ is_name_before a.now b.now }
-{
-    a.as_str().cmp(b.as_str()).is_lt()
-}
-
 /// How many of these names come before a name.
 fn count_before(names: &[Text], name: &Text) -> usize
     ensures value { result ≡ count_by (λ other. is_name_before other name.now) names.now }
@@ -58,7 +51,7 @@ fn count_before(names: &[Text], name: &Text) -> usize
 {
     let mut count: usize = 0;
     for other in names {
-        if is_before(other, name) {
+        if is_name_before(other.as_str(), name.as_str()) {
             count += 1;
         }
     }

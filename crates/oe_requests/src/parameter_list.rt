@@ -3,7 +3,7 @@ ghost use Rattle.std.specs.Prelude.{◌≡◌, IfOk, codes, map, length, ◌==�
 ghost use Rattle.std.specs.List.{list_all, flat_map};
 ghost use Rattle.std.specs.Option.{option_map, option_and_then};
 ghost use Rattle.oe_dims.specs.Dimensions.{all_differ};
-ghost use Rattle.oe_dims.specs.Names.{is_name_before, names_rise};
+ghost use Rattle.oe_dims.specs.Names.{names_rise};
 ghost use Rattle.oe_graph.specs.Plain.{plain_arg, plain_args, plain_named};
 ghost use Rattle.oe_graph.specs.Tree as tree;
 ghost use Rattle.oe_expr.specs.Requests.{read};
@@ -15,7 +15,7 @@ use crate::extent::{Interval, TemporalExtent};
 use crate::parameter::{extent_in, instant_in, name_in, number_in};
 use crate::request::KernelRows;
 use oe_cell::Frac;
-use oe_dims::Text;
+use oe_dims::{Text, is_name_before};
 use oe_graph::{Arg, argument_named};
 use oe_memory::OutOfMemory;
 use std::alloc::Global;
@@ -37,19 +37,12 @@ fn names_of(alloc: Global, args: &Vec<Arg>) -> Result<Option<Vec<&Text>>, OutOfM
     Ok(Some(names))
 }
 
-/// The first name stands before the other in the order of bytes.
-fn is_before(a: &Text, b: &Text) -> bool
-    ensures { result ≡ is_name_before a.now b.now }
-{
-    a.as_str().cmp(b.as_str()).is_lt()
-}
-
 /// Each name stands before the next.
 fn rise(names: &[&Text]) -> bool
     ensures { result ≡ names_rise (map (λ n. n.now) names.now) }
 {
     for index in 1..names.len() {
-        if !is_before(names[index - 1], names[index]) {
+        if !is_name_before(names[index - 1].as_str(), names[index].as_str()) {
             return false;
         }
     }

@@ -3,7 +3,7 @@ ghost use Rattle.std.specs.Prelude.{◌≡◌, ◌≤◌, ◌<◌, [], ◌∷◌
 ghost use Rattle.std.specs.List.{list_all};
 ghost use Rattle.oe_cube.specs.Collections.{IsCollection};
 ghost use Rattle.oe_dims.specs.Dimensions.{all_differ};
-ghost use Rattle.oe_dims.specs.Names.{is_name, is_name_before, same_name};
+ghost use Rattle.oe_dims.specs.Names.{is_name, same_name};
 ghost use Rattle.oe_dims.specs.declared.dims.DimsRow.{DimsRow};
 ghost use Rattle.oe_sources.specs.Catalogue.{kept_source, is_boxed, mounted_ids, mounted_index, row_shown};
 ghost use Rattle.oe_sources.specs.CatalogueDims.{dims_row, put_row};
@@ -12,7 +12,7 @@ ghost use Rattle.oe_window.specs.Windows.{Holds, position_count, whole_window};
 
 use crate::{CubeSource, GeneratedCube, SourceFail};
 use oe_cell::Cell;
-use oe_dims::{CellKind, Dims, DimsRow, Shape, Text, is_name};
+use oe_dims::{CellKind, Dims, DimsRow, Shape, Text, is_name, is_name_before};
 use oe_memory::OutOfMemory;
 use oe_window::Window;
 use std::alloc::Global;
@@ -394,16 +394,9 @@ fn index_behind(rows: &[DimsRow], id: &Text) -> usize
         ≡ take result rows.now ++ row ∷ drop result rows.now }
 {
     for index in 0..rows.len() {
-        if is_before(id, &rows[index].id) {
+        if is_name_before(id.as_str(), rows[index].id.as_str()) {
             return index;
         }
     }
     rows.len()
-}
-
-/// The first id stands before the other.
-fn is_before(a: &Text, b: &Text) -> bool
-    ensures { result ≡ is_name_before a.now b.now }
-{
-    a.as_str().cmp(b.as_str()).is_lt()
 }

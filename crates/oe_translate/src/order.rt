@@ -1,11 +1,10 @@
 // Nodes in byte order of their ids.
 ghost use Rattle.std.specs.Prelude.{◌≡◌, ◌≤◌, OnOk, length};
-ghost use Rattle.oe_dims.specs.Names.{is_name_before};
 ghost use Rattle.oe_graph.specs.Plain.{plain_node, plain_nodes};
 ghost use Rattle.oe_graph.specs.Printed.{ids_of};
 ghost use Rattle.oe_calls.specs.Rounds as spec;
 
-use oe_dims::same_text;
+use oe_dims::{is_name_before, same_text};
 use oe_graph::Node;
 use oe_memory::OutOfMemory;
 
@@ -25,17 +24,11 @@ fn index_among(nodes: &Vec<Node>, id: &str) -> usize
     ensures is { result ≡ spec.index_among id.now (ids_of (plain_nodes nodes.now.items)) }
 {
     for index in 0..nodes.len() {
-        if !is_before(nodes[index].id.as_str(), id) {
+        if !is_name_before(nodes[index].id.as_str(), id) {
             return index;
         }
     }
     nodes.len()
-}
-
-fn is_before(text: &str, other: &str) -> bool
-    ensures { result ≡ is_name_before text.now other.now }
-{
-    text < other
 }
 
 /// The index of the first node of an id, or as many as there are where no node has it.
