@@ -9,6 +9,7 @@ use Rattle.json.specs.Print.{quoted}
 use Rattle.oe_dims.specs.Dimensions.{Dimensions, all_kinds}
 use Rattle.oe_dims.specs.declared.kind.CellKind.{CellKind}
 use Rattle.oe_render.specs.Text.{listed_text, present_text}
+use Rattle.oe_render.specs.Members.{kind_word}
 use Rattle.oe_window.specs.Chunks.{Tiling, chunk_count, chunk_window, tiling_of}
 use Rattle.oe_window.specs.Windows.{position_count}
 use Rattle.oe_window.specs.declared.grid.ChunkSize.{ChunkSize}
@@ -16,7 +17,7 @@ use Rattle.oe_window.specs.declared.window.Window.{Window}
 use Rattle.oe_window.proofs.ChunkLemmas.{chunk_filled}
 use Rattle.oe_window.proofs.WholeLemmas.{empty_if_none}
 use Rattle.oe_parts.specs.Changed.{DifferInOneByte, NameOneResult}
-use Rattle.oe_parts.specs.Head.{AreSides, IsPartHead, PartHead, chunk_total, grid_of, header_text, kind_word, numbers_text, sides_text}
+use Rattle.oe_parts.specs.Head.{AreSides, IsPartHead, PartHead, chunk_total, grid_of, header_text, numbers_text, sides_text}
 use Rattle.oe_parts.specs.PartFile.{IsPartFile, part_cells}
 use Rattle.oe_parts.proofs.CellLemmas.{sum_from}
 use Rattle.oe_parts.proofs.OpenLemmas.{length-front}

@@ -1,36 +1,19 @@
 -- A value says one head at most.
-use Rattle.std.proofs.Common.{◌≡◌, ℕ, ◌<◌, List, [], ◌∷◌, length, get_or, codes, Option, Some, None, Result, Ok, Err, IfOk, MatchOption, IsUtf8, refl, sym, ap, ◌∙◌, subst, zero, suc, arith}
+use Rattle.std.proofs.Common.{◌≡◌, ℕ, ◌<◌, List, [], ◌∷◌, length, get_or, codes, Option, Some, None, Result, Ok, Err, IfOk, MatchOption, IsUtf8, sym, ap, ◌∙◌, subst, zero, suc, arith}
 use Rattle.serde_json.specs.Data.{Data}
 use Rattle.serde_json.specs.Read.{read}
 use Rattle.serde_json.specs.View.{items_view, view}
 use Rattle.serde_json.specs.declared.value.Value.{Value}
-use Rattle.oe_dims.specs.Dimensions.{Dimensions}
-use Rattle.oe_dims.specs.declared.kind.CellKind.{CellKind}
-use Rattle.oe_dims.specs.declared.kind.CellKind.TheVariants.{Numbers, Flags}
-use Rattle.oe_render.specs.CubeText.{AreDimensions, Each, list_in}
+use Rattle.oe_render.specs.CubeText.{Each, list_in}
+use Rattle.oe_render.specs.Members.{text_in}
 use Rattle.oe_render.proofs.Ahead.{each_one}
-use Rattle.oe_render.proofs.Shapes.{one_shape, same_items}
+use Rattle.oe_render.proofs.Shapes.{same_items}
 use Rattle.oe_render.proofs.Values.{same_data}
-use Rattle.oe_parts.specs.Head.{IsPartHead, PartHead, header_text, kind_word}
-use Rattle.oe_parts.specs.HeadRead.{IsNumberOf, IsReadHead, SaysKind, SaysNumbers, SaysPartHead, SaysShape, text_in}
+use Rattle.oe_render.proofs.Spelled.{one_text}
+use Rattle.oe_render.proofs.MemberLemmas.{each_length, one_kind, shape_once}
+use Rattle.oe_parts.specs.Head.{IsPartHead, PartHead, header_text}
+use Rattle.oe_parts.specs.HeadRead.{IsNumberOf, IsReadHead, SaysNumbers, SaysPartHead}
 use Rattle.oe_parts.proofs.HeadText.{header_read, header_utf8}
-
-one_text : (o : Option (List ℕ)) (s t : List ℕ) → o ≡ Some s → o ≡ Some t → s ≡ t
-one_text o s t p q = let both : Some s ≡ Some t = sym p ∙ q in cc
-
-kind_by_word : (k l : CellKind) → kind_word k ≡ kind_word l → k ≡ l
-kind_by_word Numbers Numbers e = refl
-kind_by_word Numbers Flags e = absurd cc
-kind_by_word Flags Numbers e = absurd cc
-kind_by_word Flags Flags e = refl
-
-one_kind : (d : Data) (k l : CellKind) → SaysKind d k → SaysKind d l → k ≡ l
-one_kind d k l p q = kind_by_word k l (one_text (text_in (codes "cells") d) (kind_word k) (kind_word l) p q)
-
-shape_once : (d : Data) (a b : Dimensions) → SaysShape d a → SaysShape d b → a ≡ b
-shape_once d a b p q =
-    let same = same_items (list_in (codes "dimensions") d) p.0 q.0 p.1 q.1 in
-    one_shape q.0 a b (subst (λ ds. AreDimensions ds a) same p.2) q.2
 
 one_number : (d : Data) (m n : ℕ) → IsNumberOf d m → IsNumberOf d n → m ≡ n
 one_number d m n p q = let both : Some m ≡ Some n = sym p ∙ q in cc
@@ -93,13 +76,6 @@ members_said bytes d (Ok None) is h = no_header bytes d is h
 members_said bytes d (Ok (Some found)) is h = (h.0, that_header bytes d found is h.1)
 
 -- ---- lists of three and of two numbers
-
--- values that spell a list are as many as its items
-each_length : {A : Type 0} (Spells : Data → A → Type 0) (values : List Value) (list : List A) → Each Spells (items_view values) list → length list ≡ length values
-each_length Spells [] [] h = refl
-each_length Spells [] (a ∷ more) h = absurd h
-each_length Spells (v ∷ values) [] h = absurd h
-each_length Spells (v ∷ values) (a ∷ more) h = ap suc (each_length Spells values more h.1)
 
 -- values that are listed spell numbers that are said
 pub same_numbers : (name : List ℕ) (d : Data) (values : List Value) (ns : List ℕ) → Some (items_view values) ≡ list_in name d → SaysNumbers name d ns → Each IsNumberOf (items_view values) ns

@@ -9,7 +9,8 @@ use Rattle.oe_dims.specs.Dimensions.{IsShape, all_kinds}
 use Rattle.oe_dims.specs.declared.kind.CellKind.{CellKind}
 use Rattle.oe_dims.specs.declared.kind.CellKind.TheVariants.{Numbers, Flags}
 use Rattle.oe_render.specs.Text.{listed_text, present_text}
-use Rattle.oe_parts.specs.Head.{AreSides, PartHead, chunk_total, header_text, kind_word, most_header, numbers_text, sides_text}
+use Rattle.oe_render.specs.Members.{kind_word}
+use Rattle.oe_parts.specs.Head.{AreSides, PartHead, chunk_total, header_text, most_header, numbers_text, sides_text}
 use Rattle.oe_parts.proofs.SizeLemmas.{total_below}
 
 -- ---- a JSON text

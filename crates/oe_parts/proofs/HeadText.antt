@@ -11,13 +11,14 @@ use Rattle.oe_dims.specs.declared.kind.CellKind.{CellKind}
 use Rattle.oe_dims.specs.declared.kind.CellKind.TheVariants.{Numbers, Flags}
 use Rattle.oe_render.specs.CubeText.{Each}
 use Rattle.oe_render.specs.Text.{listed_text, present_text}
+use Rattle.oe_render.specs.Members.{kind_word}
 use Rattle.oe_render.proofs.Leaves.{IsLeaf, AreLeaves, items, count_leaf, items_more, leaves_written, leaves_shallow, leaves_same, leaves_texts}
 use Rattle.oe_render.proofs.ReadBack.{IsWritten, ordered, items_ordered, written_utf8, written_read}
 use Rattle.oe_render.proofs.Spells.{name_leaves}
 use Rattle.oe_render.proofs.Texts.{listed_is_more}
 use Rattle.oe_render.proofs.WrittenCube.{shape_values, shape_values_text, shape_values_written, shape_values_shallow, shape_values_read}
 use Rattle.oe_window.specs.declared.grid.ChunkSize.{ChunkSize}
-use Rattle.oe_parts.specs.Head.{AreSides, IsPartHead, PartHead, chunk_total, header_text, kind_word}
+use Rattle.oe_parts.specs.Head.{AreSides, IsPartHead, PartHead, chunk_total, header_text}
 use Rattle.oe_parts.specs.HeadRead.{IsNumberOf, SaysPartHead}
 use Rattle.oe_parts.proofs.SizeLemmas.{total_below}
 

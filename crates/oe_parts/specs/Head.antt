@@ -5,8 +5,8 @@ use Rattle.std.specs.List.{filter_map}
 use Rattle.json.specs.Print.{quoted}
 use Rattle.oe_dims.specs.Dimensions.{Dimensions, IsShape, all_kinds}
 use Rattle.oe_dims.specs.declared.kind.CellKind.{CellKind}
-use Rattle.oe_dims.specs.declared.kind.CellKind.TheVariants.{Numbers, Flags}
 use Rattle.oe_render.specs.Text.{listed_text, present_text}
+use Rattle.oe_render.specs.Members.{kind_word}
 use Rattle.oe_window.specs.Chunks.{IsSide, Tiling, chunk_count, tiling_of}
 use Rattle.oe_window.specs.declared.grid.ChunkSize.{ChunkSize}
 
@@ -34,10 +34,6 @@ abbrev pub chunk_total : PartHead → ℕ
 chunk_total head = chunk_count (grid_of head)
 
 -- ---- the text of the header
-
-abbrev pub kind_word : CellKind → List ℕ
-kind_word Numbers = codes "number"
-kind_word Flags = codes "boolean"
 
 -- a list of numbers in decimal
 abbrev pub numbers_text : List ℕ → List ℕ

@@ -1,25 +1,12 @@
 -- What a JSON value says of the head of a part file, whatever the order of its members.
-use Rattle.std.specs.Prelude.{◌≡◌, ℕ, List, [], ◌∷◌, Option, Some, IsUtf8, codes, option_and_then}
+use Rattle.std.specs.Prelude.{◌≡◌, ℕ, List, [], ◌∷◌, Some, IsUtf8, codes, option_and_then}
 use Rattle.serde_json.specs.Data.{Data, Items}
-use Rattle.serde_json.specs.Find.{get, as_number, as_str, as_u64}
-use Rattle.oe_dims.specs.Dimensions.{Dimensions, IsShape}
-use Rattle.oe_dims.specs.declared.kind.CellKind.{CellKind}
-use Rattle.oe_render.specs.CubeText.{AreDimensions, Each, list_in}
+use Rattle.serde_json.specs.Find.{as_number, as_u64}
+use Rattle.oe_dims.specs.Dimensions.{IsShape}
+use Rattle.oe_render.specs.CubeText.{Each, list_in}
+use Rattle.oe_render.specs.Members.{SaysKind, SaysShape, text_in}
 use Rattle.oe_window.specs.declared.grid.ChunkSize.{ChunkSize}
-use Rattle.oe_parts.specs.Head.{PartHead, kind_word}
-
--- the text of the member of this name
-abbrev pub text_in : List ℕ → Data → Option (List ℕ)
-text_in name value = option_and_then as_str (get name value)
-
--- the kind of the cells
-abbrev pub SaysKind : Data → CellKind → Type 0
-SaysKind value kind = text_in (codes "cells") value ≡ Some (kind_word kind)
-
--- the shape of the whole result
-abbrev pub SaysShape : Data → Dimensions → Type 0
-SaysShape value shape =
-    (values : Items) × (list_in (codes "dimensions") value ≡ Some values) × AreDimensions values shape
+use Rattle.oe_parts.specs.Head.{PartHead}
 
 -- the value is a number that 64 bits hold
 abbrev pub IsNumberOf : Data → ℕ → Type 0

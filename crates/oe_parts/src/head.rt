@@ -1,25 +1,25 @@
 // What a part file says before its records, both ways.
 ghost use Rattle.std.specs.Prelude.{◌≡◌, ◌++◌, ◌↔◌, ◌<◌, ◌≤◌, ℕ, [], ◌∷◌, IfOk, IfSome, IsTrue, OnOk, MatchOption, codes, decimal, length, map};
 ghost use Rattle.std.specs.List.{filter_map};
-ghost use Rattle.std.specs.Option.{option_map};
 ghost use Rattle.json.specs.Print.{quoted};
-ghost use Rattle.serde_json.specs.View.{items_view, view};
-ghost use Rattle.oe_dims.specs.Dimensions.{Dimensions, IsShape, all_kinds};
+ghost use Rattle.serde_json.specs.View.{view};
+ghost use Rattle.oe_dims.specs.Dimensions.{all_kinds};
 ghost use Rattle.oe_dims.specs.declared.kind.CellKind.{CellKind};
 ghost use Rattle.oe_outside.specs.Visible.{Appends};
 ghost use Rattle.oe_render.specs.CubeText.{list_in};
 ghost use Rattle.oe_render.specs.Text.{listed_text, present_text, separator};
+ghost use Rattle.oe_render.specs.Members.{text_in};
 ghost use Rattle.oe_window.specs.Chunks.{IsSide};
 ghost use Rattle.oe_window.specs.declared.grid.ChunkSize.{ChunkSize};
 ghost use Rattle.oe_parts.specs.Head as spec;
 ghost use Rattle.oe_parts.specs.Head.{AreSides, IsPartHead, PartHead as Head, chunk_total, numbers_text, sides_text};
-ghost use Rattle.oe_parts.specs.HeadRead.{IsNumberOf, IsReadHead, SaysKind, SaysPartHead, SaysRange, SaysShape, SaysSides, text_in};
+ghost use Rattle.oe_parts.specs.HeadRead.{IsNumberOf, IsReadHead, SaysPartHead, SaysRange, SaysSides};
 
 use itoa::Buffer;
 use oe_dims::{CellKind, Shape, Text};
 use oe_memory::OutOfMemory;
 use oe_outside::{CountSink, Failed, MemorySink, Pending, Sink, flush};
-use oe_render::{read_shape, send_dimensions};
+use oe_render::{kind_word, list_in, read_dimensions, read_kind, send_dimensions, text_in};
 use oe_window::{ChunkSize, Grid};
 use serde_json::Value;
 use std::alloc::Global;
@@ -181,15 +181,6 @@ fn push_number(bytes: &mut Vec<u8>, number: u64) -> Result<(), OutOfMemory>
 {
     bytes.extend_from_slice(Buffer::new().format(number).as_bytes())?;
     Ok(())
-}
-
-fn kind_word(kind: CellKind) -> &'static str
-    ensures { result.now ≡ spec.kind_word kind }
-{
-    match kind {
-        CellKind::Numbers => "number",
-        CellKind::Flags => "boolean",
-    }
 }
 
 /// The dimensions of a shape, as the result text spells them, which are likely to fit so many bytes.
@@ -387,43 +378,4 @@ fn read_range(value: &Value) -> Option<(u64, u64)>
         return None;
     }
     Some((range[0].as_u64()?, range[1].as_u64()?))
-}
-
-fn read_kind(value: &Value) -> Option<CellKind>
-    ensures { MatchOption result ((kind : CellKind) → ¬ SaysKind (view value.now) kind)
-        (SaysKind (view value.now)) }
-{
-    let word = text_in(value, "cells")?;
-    if word == "number" {
-        Some(CellKind::Numbers)
-    } else if word == "boolean" {
-        Some(CellKind::Flags)
-    } else {
-        None
-    }
-}
-
-fn read_dimensions(alloc: Global, value: &Value) -> Result<Option<Shape>, OutOfMemory>
-    ensures { IfOk result (λ read. MatchOption read
-        ((shape : Dimensions) → IsShape shape → ¬ SaysShape (view value.now) shape)
-        (SaysShape (view value.now))) }
-{
-    match list_in(value, "dimensions") {
-        Some(values) => read_shape(alloc, values),
-        None => Ok(None),
-    }
-}
-
-fn text_in<'a>(value: &'a Value, name: &str) -> Option<&'a str>
-    ensures { option_map (λ text. text.now) result ≡ text_in name.now (view value.now) }
-{
-    value.get(name)?.as_str()
-}
-
-fn list_in<'a>(value: &'a Value, name: &str) -> Option<&'a [Value]>
-    ensures { option_map (λ list. items_view list.now) result
-        ≡ list_in name.now (view value.now) }
-{
-    let list = value.get(name)?.as_array()?;
-    Some(list.as_slice())
 }

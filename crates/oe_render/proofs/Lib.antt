@@ -15,3 +15,4 @@ pub mod Texts
 pub mod Values
 mod Worked
 pub mod WrittenCube
+pub mod MemberLemmas

@@ -12,7 +12,7 @@ use Rattle.oe_dims.specs.declared.instant.InstantFault.{InstantFault}
 use Rattle.oe_dims.proofs.SpellingLemmas.{read_exactly}
 use Rattle.oe_render.specs.CubeText.{SpellsTime, SpellsName, SpellsCoordinate, SpellsCell, IsFraction, whole}
 
-one_text : (o : Option (List ℕ)) (s t : List ℕ) → o ≡ Some s → o ≡ Some t → s ≡ t
+pub one_text : (o : Option (List ℕ)) (s t : List ℕ) → o ≡ Some s → o ≡ Some t → s ≡ t
 one_text o s t p q = let both : Some s ≡ Some t = sym p ∙ q in cc
 
 one_integer : (o : Option ℤ) (a b : ℤ) → o ≡ Some a → o ≡ Some b → a ≡ b

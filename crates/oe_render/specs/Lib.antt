@@ -5,3 +5,4 @@ pub mod Rendered
 pub mod Seen
 pub mod Stored
 pub mod Text
+pub mod Members

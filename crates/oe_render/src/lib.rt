@@ -23,6 +23,7 @@ mod text;
 
 pub use dimensions::read_shape;
 pub use laws::{counts_are_exact, texts_are_short, texts_are_utf8};
+pub use members::{kind_word, list_in, read_dimensions, read_kind, text_in};
 pub use reading::{CubeText, CubeTextFail, read_cube_text};
 pub use rendering::{RenderFail, render};
 pub use text::{send_dimensions, write_text};

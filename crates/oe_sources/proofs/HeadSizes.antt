@@ -18,8 +18,9 @@ use Rattle.oe_dims.specs.declared.kind.Kind.{Kind}
 use Rattle.oe_dims.specs.declared.kind.Kind.TheVariants.{Time, Bands, Y, X}
 use Rattle.oe_dims.proofs.ShapeLemmas.{bands_are_names, extents_of_shape, fitting_epsg, names_within, numbers_within, x_in_range, y_in_range}
 use Rattle.oe_render.specs.Text.{listed_text, quoted, separator, part_text, parts_after, dimension_head, dimension_text, label_texts, present_text}
+use Rattle.oe_render.specs.Members.{kind_word}
 use Rattle.oe_render.proofs.Texts.{le_from, listed_four}
-use Rattle.oe_sources.specs.Head.{Head, IsHead, header_text, kind_word, most_header, widths_text}
+use Rattle.oe_sources.specs.Head.{Head, IsHead, header_text, most_header, widths_text}
 use Rattle.oe_sources.specs.HeadRead.{HasWidthsOf, IsHeadOf}
 use Rattle.oe_sources.specs.declared.head.Version.{Version}
 use Rattle.oe_sources.specs.declared.head.Version.TheVariants.{First, Second}

@@ -1,18 +1,19 @@
 -- A value says one head at most.
-use Rattle.std.proofs.Common.{◌≡◌, ℕ, List, [], ◌∷◌, length, codes, Option, Some, None, Result, Ok, Err, IfOk, MatchOption, IsUtf8, refl, sym, ap, ◌∙◌, subst, suc, arith}
+use Rattle.std.proofs.Common.{◌≡◌, ℕ, List, [], length, codes, Option, Some, None, Result, Ok, Err, IfOk, MatchOption, IsUtf8, refl, sym, ap, ◌∙◌, subst, arith}
 use Rattle.serde_json.specs.Data.{Data}
 use Rattle.serde_json.specs.Read.{read}
 use Rattle.serde_json.specs.View.{items_view}
 use Rattle.serde_json.specs.declared.value.Value.{Value}
 use Rattle.oe_dims.specs.Dimensions.{Dimensions, extent}
-use Rattle.oe_dims.specs.declared.kind.CellKind.{CellKind}
-use Rattle.oe_dims.specs.declared.kind.CellKind.TheVariants.{Numbers, Flags}
-use Rattle.oe_render.specs.CubeText.{AreDimensions, Each, list_in}
+use Rattle.oe_render.specs.CubeText.{Each, list_in}
+use Rattle.oe_render.specs.Members.{SaysShape, text_in}
 use Rattle.oe_render.proofs.Ahead.{each_one}
-use Rattle.oe_render.proofs.Shapes.{one_shape, same_items}
+use Rattle.oe_render.proofs.Shapes.{same_items}
 use Rattle.oe_render.proofs.Values.{same_data}
-use Rattle.oe_sources.specs.Head.{Head, header_text, kind_word}
-use Rattle.oe_sources.specs.HeadRead.{HasWidthsOf, IsHeadOf, ListsWidths, SaysHead, SaysKind, SaysShape, SaysWidths, SpellsWidth, text_in}
+use Rattle.oe_render.proofs.Spelled.{one_text}
+use Rattle.oe_render.proofs.MemberLemmas.{each_length, one_kind, shape_once}
+use Rattle.oe_sources.specs.Head.{Head, header_text}
+use Rattle.oe_sources.specs.HeadRead.{HasWidthsOf, IsHeadOf, ListsWidths, SaysHead, SaysWidths, SpellsWidth}
 use Rattle.oe_sources.specs.declared.head.Version.{Version}
 use Rattle.oe_sources.specs.declared.head.Version.TheVariants.{First, Second}
 use Rattle.oe_sources.proofs.HeadText.{header_read, header_utf8}
@@ -20,20 +21,8 @@ use Rattle.oe_wide.specs.Wide.{byte_count}
 use Rattle.oe_wide.specs.declared.width.Width.{Width}
 use Rattle.oe_wide.specs.declared.width.Width.TheVariants.{One, Nine, Seventeen}
 
-pub one_text : (o : Option (List ℕ)) (s t : List ℕ) → o ≡ Some s → o ≡ Some t → s ≡ t
-one_text o s t p q = let both : Some s ≡ Some t = sym p ∙ q in cc
-
 one_count : (o : Option ℕ) (m n : ℕ) → o ≡ Some m → o ≡ Some n → m ≡ n
 one_count o m n p q = let both : Some m ≡ Some n = sym p ∙ q in cc
-
-kind_by_word : (k l : CellKind) → kind_word k ≡ kind_word l → k ≡ l
-kind_by_word Numbers Numbers e = refl
-kind_by_word Numbers Flags e = absurd cc
-kind_by_word Flags Numbers e = absurd cc
-kind_by_word Flags Flags e = refl
-
-pub one_kind : (d : Data) (k l : CellKind) → SaysKind d k → SaysKind d l → k ≡ l
-one_kind d k l p q = kind_by_word k l (one_text (text_in (codes "cells") d) (kind_word k) (kind_word l) p q)
 
 width_by_count : (v w : Width) → byte_count v ≡ byte_count w → v ≡ w
 width_by_count One One e = refl
@@ -61,11 +50,6 @@ one_list First m n d (Some vs) ws h k p q = absurd h
 one_list Second m n d None ws h k p q = absurd h
 one_list Second m n d (Some vs) None h k p q = absurd k
 one_list Second m n d (Some vs) (Some ws) h k p q = ap Some (listed_once d vs ws p q)
-
-pub shape_once : (d : Data) (a b : Dimensions) → SaysShape d a → SaysShape d b → a ≡ b
-shape_once d a b p q =
-    let same = same_items (list_in (codes "dimensions") d) p.0 q.0 p.1 q.1 in
-    one_shape q.0 a b (subst (λ ds. AreDimensions ds a) same p.2) q.2
 
 one_head : (version : Version) (d : Data) (g h : Head) → IsHeadOf version g → IsHeadOf version h → SaysHead d g → SaysHead d h → g ≡ h
 one_head version d g h valid good p q =
@@ -113,13 +97,6 @@ pub no_widths : (version : Version) (d : Data) (shape : Dimensions) (count : ℕ
 no_widths version d shape count said is none h valid says =
     let same : shape ≡ h.shape = shape_once d shape h.shape said says.shape in
     none h.widths (subst (λ n. HasWidthsOf version n h.widths) (sym (is ∙ ap (λ (s : Dimensions). extent s.t) same)) valid.widths) says.widths
-
--- values that spell a list are as many as its items
-pub each_length : {A : Type 0} (Spells : Data → A → Type 0) (values : List Value) (list : List A) → Each Spells (items_view values) list → length list ≡ length values
-each_length Spells [] [] h = refl
-each_length Spells [] (a ∷ more) h = absurd h
-each_length Spells (v ∷ values) [] h = absurd h
-each_length Spells (v ∷ values) (a ∷ more) h = ap suc (each_length Spells values more h.1)
 
 -- ---- lists of widths
 

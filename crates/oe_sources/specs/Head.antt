@@ -5,8 +5,8 @@ use Rattle.std.specs.List.{filter_map}
 use Rattle.oe_dims.specs.Dimensions.{Dimensions, IsShape, all_kinds, cell_count, extent}
 use Rattle.oe_dims.specs.Names.{is_name}
 use Rattle.oe_dims.specs.declared.kind.CellKind.{CellKind}
-use Rattle.oe_dims.specs.declared.kind.CellKind.TheVariants.{Numbers, Flags}
 use Rattle.oe_render.specs.Text.{listed_text, present_text, quoted}
+use Rattle.oe_render.specs.Members.{kind_word}
 use Rattle.oe_wide.specs.Wide.{byte_count}
 use Rattle.oe_wide.specs.declared.width.Width.{Width}
 use Rattle.oe_wide.specs.declared.width.Width.TheVariants.{Seventeen}
@@ -19,10 +19,6 @@ pub record Head : Type 0 where
   pub shape : Dimensions
 
 -- ---- the text of the header
-
-abbrev pub kind_word : CellKind → List ℕ
-kind_word Numbers = codes "number"
-kind_word Flags = codes "boolean"
 
 -- the member that only version 2 has
 abbrev pub widths_text : Option (List Width) → List ℕ

@@ -3,12 +3,12 @@ use Rattle.std.specs.Prelude.{◌≡◌, ℕ, true, List, length, Option, Some, 
 use Rattle.std.specs.Borrow.{Bor}
 use Rattle.std.specs.Option.{option_map}
 use Rattle.serde_json.specs.Data.{Data, Items}
-use Rattle.serde_json.specs.Find.{get, as_number, as_str, as_u64}
-use Rattle.oe_dims.specs.Dimensions.{Dimensions, IsShape, extent}
+use Rattle.serde_json.specs.Find.{as_number, as_u64}
+use Rattle.oe_dims.specs.Dimensions.{IsShape, extent}
 use Rattle.oe_dims.specs.Names.{is_name}
-use Rattle.oe_dims.specs.declared.kind.CellKind.{CellKind}
-use Rattle.oe_render.specs.CubeText.{AreDimensions, Each, list_in}
-use Rattle.oe_sources.specs.Head.{Head, kind_word}
+use Rattle.oe_render.specs.CubeText.{Each, list_in}
+use Rattle.oe_render.specs.Members.{SaysKind, SaysShape, text_in}
+use Rattle.oe_sources.specs.Head.{Head}
 use Rattle.oe_sources.specs.declared.head.Version.{Version}
 use Rattle.oe_sources.specs.declared.head.Version.TheVariants.{First, Second}
 use Rattle.oe_wide.specs.Wide.{byte_count}
@@ -32,19 +32,6 @@ pub record IsHeadOf (version : Version) (head : Head) : Type 0 where
   pub widths : HasWidthsOf version (extent head.shape.t) head.widths
 
 -- ---- what a JSON value says of a head, whatever the order of its members
-
--- the text of the member of this name
-abbrev pub text_in : List ℕ → Data → Option (List ℕ)
-text_in name value = option_and_then as_str (get name value)
-
--- the kind of the cells
-abbrev pub SaysKind : Data → CellKind → Type 0
-SaysKind value kind = text_in (codes "cells") value ≡ Some (kind_word kind)
-
--- the shape
-abbrev pub SaysShape : Data → Dimensions → Type 0
-SaysShape value shape =
-    (values : Items) × (list_in (codes "dimensions") value ≡ Some values) × AreDimensions values shape
 
 -- how many bytes a record of the width has
 abbrev pub SpellsWidth : Data → Width → Type 0

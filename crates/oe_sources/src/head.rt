@@ -1,9 +1,9 @@
 // What a cube file says before its records, both ways.
-ghost use Rattle.std.specs.Prelude.{◌≡◌, ◌<◌, ◌≤◌, ◌*◌, ◌++◌, ℕ, true, List, [], codes, length, map, decimal, if◌then◌else◌, slice_get, Option, Some, IfOk, OnOk, MatchOption};
+ghost use Rattle.std.specs.Prelude.{◌≡◌, ◌<◌, ◌≤◌, ◌*◌, ◌++◌, ℕ, true, List, [], codes, length, map, decimal, slice_get, Option, Some, IfOk, OnOk, MatchOption};
 ghost use Rattle.std.specs.List.{filter_map};
 ghost use Rattle.std.specs.Option.{option_map};
 ghost use Rattle.serde_json.specs.View.{items_view, view};
-ghost use Rattle.oe_dims.specs.Dimensions.{Dimensions, IsShape, all_kinds, extent};
+ghost use Rattle.oe_dims.specs.Dimensions.{IsShape, all_kinds, extent};
 ghost use Rattle.oe_dims.specs.Lists.{items_of};
 ghost use Rattle.oe_dims.specs.Names.{is_name};
 ghost use Rattle.oe_dims.specs.declared.kind.CellKind.{CellKind};
@@ -12,17 +12,18 @@ ghost use Rattle.oe_wide.specs.Wide.{byte_count};
 ghost use Rattle.oe_wide.specs.declared.width.Width.{Width};
 ghost use Rattle.oe_render.specs.CubeText.{Each, list_in};
 ghost use Rattle.oe_render.specs.Text.{listed_text, present_text, quoted, separator};
+ghost use Rattle.oe_render.specs.Members.{kind_word, text_in};
 ghost use Rattle.oe_window.specs.Windows.{extent_along};
 ghost use Rattle.oe_sources.specs.Head as spec;
 ghost use Rattle.oe_sources.specs.Packed.{packed_head};
-ghost use Rattle.oe_sources.specs.HeadRead.{HasWidthsOf, IsHeadOf, ListsWidths, SaysHead, SaysKind, SaysShape, SaysWidths, SpellsWidth, text_in, widths_seen};
+ghost use Rattle.oe_sources.specs.HeadRead.{HasWidthsOf, IsHeadOf, ListsWidths, SaysHead, SaysWidths, SpellsWidth, widths_seen};
 
 use crate::Catalogue;
 use crate::gather::Gather;
 use oe_dims::{CellKind, Kind, Shape, Text, is_name};
 use oe_memory::OutOfMemory;
 use oe_outside::{Failed, Pending, Sink, flush};
-use oe_render::{read_shape, send_dimensions};
+use oe_render::{kind_word, list_in, read_dimensions, read_kind, send_dimensions, text_in};
 use oe_wide::Width;
 use serde_json::Value;
 use std::alloc::Global;
@@ -170,7 +171,7 @@ fn header_bytes(
 /// The members `id` and `cells`.
 fn push_names(bytes: &mut Vec<u8>, id: &Text, kind: CellKind) -> Result<(), OutOfMemory>
     ensures { OnOk result (bytes.new.items ≡ bytes.old.items ++ codes "{\"id\":" ++ quoted id.now
-        ++ codes ",\"cells\":" ++ quoted (spec.kind_word kind) ++ codes ",") }
+        ++ codes ",\"cells\":" ++ quoted (kind_word kind) ++ codes ",") }
 {
     bytes.extend_from_slice(b"{\"id\":\"")?;
     bytes.extend_from_slice(id.as_str().as_bytes())?;
@@ -178,15 +179,6 @@ fn push_names(bytes: &mut Vec<u8>, id: &Text, kind: CellKind) -> Result<(), OutO
     bytes.extend_from_slice(kind_word(kind).as_bytes())?;
     bytes.extend_from_slice(b"\",")?;
     Ok(())
-}
-
-fn kind_word(kind: CellKind) -> &'static str
-    ensures { result.now ≡ spec.kind_word kind }
-{
-    match kind {
-        CellKind::Numbers => "number",
-        CellKind::Flags => "boolean",
-    }
 }
 
 /// The member `widths`, where the file has widths.
@@ -350,45 +342,6 @@ fn read_id(alloc: Global, value: &Value) -> Result<Option<Text>, OutOfMemory>
         }
         None => Ok(None),
     }
-}
-
-fn text_in<'a>(value: &'a Value, name: &str) -> Option<&'a str>
-    ensures { option_map (λ text. text.now) result ≡ text_in name.now (view value.now) }
-{
-    value.get(name)?.as_str()
-}
-
-fn read_kind(value: &Value) -> Option<CellKind>
-    ensures { MatchOption result ((kind : CellKind) → ¬ SaysKind (view value.now) kind)
-        (SaysKind (view value.now)) }
-{
-    let word = text_in(value, "cells")?;
-    if word == "number" {
-        Some(CellKind::Numbers)
-    } else if word == "boolean" {
-        Some(CellKind::Flags)
-    } else {
-        None
-    }
-}
-
-fn read_dimensions(alloc: Global, value: &Value) -> Result<Option<Shape>, OutOfMemory>
-    ensures { IfOk result (λ read. MatchOption read
-        ((shape : Dimensions) → IsShape shape → ¬ SaysShape (view value.now) shape)
-        (SaysShape (view value.now))) }
-{
-    match list_in(value, "dimensions") {
-        Some(values) => read_shape(alloc, values),
-        None => Ok(None),
-    }
-}
-
-fn list_in<'a>(value: &'a Value, name: &str) -> Option<&'a [Value]>
-    ensures { option_map (λ list. items_view list.now) result
-        ≡ list_in name.now (view value.now) }
-{
-    let list = value.get(name)?.as_array()?;
-    Some(list.as_slice())
 }
 
 /// The widths of so many sections, where a file of the version has widths.

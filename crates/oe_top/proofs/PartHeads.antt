@@ -14,9 +14,10 @@ use Rattle.oe_parts.specs.Head.{AreSides, IsPartHead, PartHead}
 use Rattle.oe_plan.specs.Figures.{shape_of_node}
 use Rattle.oe_plan.specs.Ranges.{IsWithinRanges}
 use Rattle.oe_render.specs.Text.{listed_text, present_text, quoted}
+use Rattle.oe_render.specs.Members.{kind_word}
 use Rattle.oe_check.specs.Checked.{CheckedGraph}
 use Rattle.oe_sources.proofs.HeadSizes.{packed_short}
-use Rattle.oe_sources.specs.Head.{header_text, kind_word, widths_for, widths_text}
+use Rattle.oe_sources.specs.Head.{header_text, widths_for, widths_text}
 use Rattle.oe_window.specs.declared.grid.ChunkSize.{ChunkSize}
 use Rattle.oe_top.proofs.Inputs.{sizes}
 use Rattle.oe_top.specs.Faults.{of_form}
