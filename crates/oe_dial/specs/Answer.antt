@@ -1,8 +1,9 @@
 -- The status of a call and what is said of it.
 use Rattle.std.specs.Prelude.{◌≡◌, ℕ, Result}
+use Rattle.oe_outside.specs.Stream.{ErrorOutput}
 use Rattle.oe_dial.specs.Ends.{Input, Lent, Views}
 use Rattle.oe_dial.specs.Lists.{Makes}
-use Rattle.oe_dial.specs.Lines.{ErrorOutput, SaysEnding, exit_status}
+use Rattle.oe_dial.specs.Lines.{SaysEnding, exit_status}
 use Rattle.oe_dial.specs.Words.{PlainCall}
 use Rattle.oe_dial.specs.declared.refusal.CallRefusal.{CallRefusal}
 

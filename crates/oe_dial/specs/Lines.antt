@@ -1,7 +1,8 @@
 -- The status and the line on the error output that each ending of a call has.
-use Rattle.std.specs.Prelude.{◌≡◌, ℕ, List, ◌++◌, ◌⊎◌, Option, Result, Ok, Err, codes, decimal}
+use Rattle.std.specs.Prelude.{◌≡◌, ℕ, List, ◌++◌, ◌⊎◌, Result, Ok, Err, codes, decimal}
 use Rattle.oe_outside.specs.Faults.{NeverFalls, Rose}
 use Rattle.oe_outside.specs.Visible.{Appends, AppendsPrefix}
+use Rattle.oe_outside.specs.Stream.{ErrorOutput}
 use Rattle.oe_dial.specs.declared.refusal.CallRefusal.{CallRefusal}
 use Rattle.oe_dial.specs.declared.refusal.CallRefusal.TheVariants.{ReadFault, InputTooLong, WriteFault, OutOfMemory, LinkFault, PeerInvalid, Refused}
 
@@ -34,22 +35,6 @@ line_of (Refused status body) = refused_lines status body.items
 abbrev pub exit_status : Result (Unit {0}) CallRefusal → ℕ
 exit_status (Ok done) = 0
 exit_status (Err refusal) = status_of refusal
-
--- the error output before and after a call: what it holds, where that is visible, and its fault counter
-pub record ErrorOutput : Type 0 where
-  pub before : Option (List ℕ)
-  pub before_faults : ℕ
-  pub after : Option (List ℕ)
-  pub after_faults : ℕ
-
--- the error output, of a sink of type E
-abbrev pub error_output : {E : Type 0} → (E → Option (List ℕ)) → (E → ℕ) → E → E → ErrorOutput
-error_output written faults before after = record {
-  before = written before;
-  before_faults = faults before;
-  after = written after;
-  after_faults = faults after;
-}
 
 -- the text follows what the error output held, or a prefix of it where its fault counter rose
 pub record Says (text : List ℕ) (err : ErrorOutput) : Type 0 where

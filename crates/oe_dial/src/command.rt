@@ -1,8 +1,8 @@
 // The command, from its words to its status and what it says.
 ghost use Rattle.std.specs.Prelude.{List, ℕ};
+ghost use Rattle.oe_outside.specs.Stream.{error_output};
 ghost use Rattle.oe_dial.specs.Answer.{Answers};
 ghost use Rattle.oe_dial.specs.Ends.{input_from, lent, views_of};
-ghost use Rattle.oe_dial.specs.Lines.{error_output};
 ghost use Rattle.oe_dial.specs.Lists.{Makes};
 ghost use Rattle.oe_dial.specs.Words.{SpellsCall, plain_call};
 

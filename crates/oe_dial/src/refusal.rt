@@ -63,7 +63,7 @@ pub(crate) fn say<E: Sink>(err: &mut E, refusal: &CallRefusal) -> Result<(), Fai
 }
 
 /// Writes the status of a peer's refusal, and its body on the next line.
-#[tactic(auto, using(crate::proofs::Sayings::first_stopped, crate::proofs::Sayings::second_stopped, crate::proofs::Sayings::both_written))]
+#[tactic(auto, using(oe_outside::proofs::Runs::first_stopped, oe_outside::proofs::Runs::second_stopped, crate::proofs::Sayings::both_written))]
 fn say_refused<E: Sink>(err: &mut E, status: u16, body: &[u8]) -> Result<(), Failed>
     ensures appended { OnOk result (Appends (E.written err.old)
         (spec.refused_lines status body.now) (E.written err.new)) }
@@ -82,7 +82,7 @@ fn say_refused<E: Sink>(err: &mut E, status: u16, body: &[u8]) -> Result<(), Fai
 }
 
 /// Writes a line end, a body and a line end.
-#[tactic(auto, using(crate::proofs::Sayings::first_stopped, crate::proofs::Sayings::second_stopped, crate::proofs::Sayings::both_written))]
+#[tactic(auto, using(oe_outside::proofs::Runs::first_stopped, oe_outside::proofs::Runs::second_stopped, crate::proofs::Sayings::both_written))]
 fn say_body<E: Sink>(err: &mut E, body: &[u8]) -> Result<(), Failed>
     ensures appended { OnOk result (Appends (E.written err.old)
         ((codes "\n" ++ body.now) ++ codes "\n") (E.written err.new)) }
@@ -97,7 +97,7 @@ fn say_body<E: Sink>(err: &mut E, body: &[u8]) -> Result<(), Failed>
 }
 
 /// Writes two pieces, one behind the other.
-#[tactic(auto, using(crate::proofs::Sayings::first_stopped, crate::proofs::Sayings::second_stopped, crate::proofs::Sayings::both_written))]
+#[tactic(auto, using(oe_outside::proofs::Runs::first_stopped, oe_outside::proofs::Runs::second_stopped, crate::proofs::Sayings::both_written))]
 pub(crate) fn write_two<E: Sink>(err: &mut E, first: &[u8], second: &[u8]) -> Result<(), Failed>
     ensures appended { OnOk result
         (Appends (E.written err.old) (first.now ++ second.now) (E.written err.new)) }

@@ -1,10 +1,11 @@
 -- How the clauses on visible bytes add up over calls.
-use Rattle.std.proofs.Common.{◌≡◌, ℕ, ◌+◌, ◌≤◌, List, [], ◌++◌, length, take, Option, Some, None, IfSome, refl, ap, sym, ◌∙◌, append_assoc, append-nil, arith}
+use Rattle.std.proofs.Common.{◌≡◌, ℕ, ◌+◌, ◌≤◌, List, [], ◌++◌, length, take, Option, Some, None, IfSome, refl, ap, sym, ◌∙◌, append_assoc, append-nil, arith, inl, inr, take_all, subst}
 use Rattle.std.specs.Option.{option_map}
-use Rattle.std.proofs.lemmas.List.{take-append-drop, length-append}
-use Rattle.std.proofs.Math.Seq.{take-append_seam, drop-append_seam, take-length}
+use Rattle.std.proofs.lemmas.List.{take-append-drop, length-append, take-append-le}
+use Rattle.std.proofs.Math.Seq.{take-append_seam, drop-append_seam, take-length, take-append-add}
 use Rattle.std.proofs.lemmas.Grind.{common_steps}
-use Rattle.oe_outside.specs.Visible.{TakesFront, Gave, Appends, AddsBytes, AddsSome}
+use Rattle.std.proofs.lemmas.Bool.{cases_lt}
+use Rattle.oe_outside.specs.Visible.{TakesFront, Gave, Appends, AddsBytes, AddsSome, AppendsPrefix, IsFront}
 
 -- over no read nothing was given
 pub Gave-none : (left : Option (List ℕ)) → Gave left [] left
@@ -75,3 +76,33 @@ AddsSome-less a b few many fewer adds = (adds.0, omega (arith, fewer, adds.1), a
 pub AddsSome-more : (a b c : Option ℕ) (first second : ℕ) → AddsBytes a first b → AddsSome b second c → AddsSome a (first + second) c
 AddsSome-more a b c first second one two =
     (first + two.0, omega (arith, two.1), AddsBytes-more a b c first two.0 one two.2)
+
+-- a front of the first text is one of both
+front_of_both : (n : ℕ) (first second : List ℕ) → (k : ℕ) × (take n first ≡ take k (first ++ second))
+front_of_both n first second = elim (cases_lt (length first) n) [
+  | inl past ↦ (length first, take_all n first (omega (arith, past)) ∙ sym (take-append_seam first second))
+  | inr within ↦ (n, sym (take-append-le n first second within))
+]
+
+-- the first text stopped, and so both did
+pub first_stopped : (a b : Option (List ℕ)) (first second : List ℕ) → AppendsPrefix a first b → AppendsPrefix a (first ++ second) b
+first_stopped a b first second stopped =
+    let front = front_of_both stopped.0 first second in
+    (front.0, stopped.1 ∙ ap (λ (piece : List ℕ). option_map (λ (held : List ℕ). held ++ piece) a) front.1)
+
+-- the first text was written, and the second stopped
+pub second_stopped : (a b c : Option (List ℕ)) (first second : List ℕ) → Appends a first b → AppendsPrefix b second c
+    → AppendsPrefix a (first ++ second) c
+second_stopped a b c first second one stopped = (
+  length first + stopped.0,
+  subst (λ (piece : List ℕ). Appends a piece c) (sym (take-append-add first second stopped.0))
+      (Appends-more a b c first (take stopped.0 second) one stopped.1),
+)
+
+-- bytes in front of others of which none are left are the others
+pub same_whole : (visible bytes rest : List ℕ) → IsFront visible (length bytes) bytes rest → rest ≡ [] → bytes ≡ visible
+same_whole visible bytes rest front none =
+    let all : take (length bytes) bytes ≡ bytes = take_all (length bytes) bytes (omega arith) in
+    sym all ∙ front.given ∙ sym (append-nil (take (length bytes) visible))
+    ∙ ap (λ others. take (length bytes) visible ++ others) (sym none ∙ front.rest_is)
+    ∙ take-append-drop (length bytes) visible

@@ -29,3 +29,19 @@ pub record HasSent {O T E : Type 0} (written : O → Option (List ℕ)) (size : 
   pub sent : OnOk result (Sends (written before) (size before) held text (written after) (size after) left)
   pub stopped : OnErr result (Stops (written before) (size before) held text (written after) (size after))
   pub cause : HasCause (faults before) (faults after) result
+
+-- the error output before and after a call: what it holds, where that is visible, and its fault counter
+pub record ErrorOutput : Type 0 where
+  pub before : Option (List ℕ)
+  pub before_faults : ℕ
+  pub after : Option (List ℕ)
+  pub after_faults : ℕ
+
+-- the error output, of a sink of type E
+abbrev pub error_output : {E : Type 0} → (E → Option (List ℕ)) → (E → ℕ) → E → E → ErrorOutput
+error_output written faults before after = record {
+  before = written before;
+  before_faults = faults before;
+  after = written after;
+  after_faults = faults after;
+}

@@ -1,5 +1,4 @@
 mod Loads
-mod Pieces
 mod Texts
 mod Endings
 mod Lengths

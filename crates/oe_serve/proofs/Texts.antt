@@ -8,6 +8,7 @@ use Rattle.oe_engine.proofs.RenderLemmas.{result_shape_is, result_whole, text_is
 use Rattle.oe_outside.specs.Faults.{HasCauseOf, NeverFalls, Rose}
 use Rattle.oe_outside.specs.Visible.{Appends, AppendsPrefix}
 use Rattle.oe_outside.proofs.Causes.{NeverFalls-trans, then-Rose}
+use Rattle.oe_outside.proofs.Runs.{Appends-more, first_stopped, second_stopped}
 use Rattle.oe_plan.specs.Plans.{IsPlan}
 use Rattle.oe_render.specs.Rendered.{AppendsCube, IsRefusalWithin}
 use Rattle.oe_render.specs.Text.{cube_text}
@@ -17,7 +18,6 @@ use Rattle.oe_serve.specs.Evaluations.{SendsRun, SendsRunText, WritesText, serve
 use Rattle.oe_serve.specs.Links.{LinkOf}
 use Rattle.oe_serve.specs.declared.served.Served.{Served}
 use Rattle.oe_serve.specs.declared.served.Served.TheVariants.{Answered, Cut, LinkFailed}
-use Rattle.oe_serve.proofs.Pieces.{appends_both, prefix_first, prefix_later}
 
 -- ---- the text of a run
 
@@ -62,7 +62,7 @@ module _ (r : RunOf) (store : Option (List ℕ)) (faults faults_after : ℕ) (he
     is,
     record {
       text = writes.text;
-      written = appends_both before.written link.written after.written head writes.text headed writes.written;
+      written = Appends-more before.written link.written after.written head writes.text headed writes.written;
       text_is = writes.text_is;
     },
   )
@@ -71,14 +71,14 @@ module _ (r : RunOf) (store : Option (List ℕ)) (faults faults_after : ℕ) (he
     λ collections are shows.
         let part = stands collections are shows in (
           part.0,
-          appends_both before.written link.written after.written head
+          Appends-more before.written link.written after.written head
               (take part.0 (cube_text (result_cube collections r.plan))) headed part.1,
         ),
   )
   behind LinkFailed (rose, stands) = (
     then-Rose count rose,
     λ collections are shows.
-        prefix_later before.written link.written after.written head (cube_text (result_cube collections r.plan)) headed
+        second_stopped before.written link.written after.written head (cube_text (result_cube collections r.plan)) headed
         (stands collections are shows),
   )
 
@@ -95,7 +95,7 @@ failed_at_head r store faults faults_after head before after rose count prefix =
   sends = (
     rose,
     λ collections are shows.
-        prefix_first before.written after.written head (cube_text (result_cube collections r.plan)) prefix,
+        first_stopped before.written after.written head (cube_text (result_cube collections r.plan)) prefix,
   );
   count = count;
 }

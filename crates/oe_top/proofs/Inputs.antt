@@ -1,18 +1,9 @@
 -- An input that was read up to the limit.
-use Rattle.std.proofs.Common.{◌≡◌, ℕ, zero, suc, ◌<◌, ◌≤◌, ◌⊎◌, inl, inr, List, [], ◌++◌, length, take, take_all, Option, Some, None, IfSome, sym, ap, ◌∙◌, arith}
-use Rattle.std.proofs.lemmas.List.{take-append-drop, append-nil}
+use Rattle.std.proofs.Common.{◌≡◌, ℕ, zero, suc, ◌<◌, ◌≤◌, ◌⊎◌, inl, inr, List, [], length, Option, Some, None, IfSome, sym, arith}
 use Rattle.oe_graph.specs.Form.{most_input}
 use Rattle.oe_outside.specs.Input.{ReadsUpTo}
-use Rattle.oe_outside.specs.Visible.{IsFront}
+use Rattle.oe_outside.proofs.Runs.{same_whole}
 use Rattle.oe_top.specs.Objects.{IsReadWhole}
-
--- bytes in front of others of which none are left are the others
-same_whole : (visible bytes rest : List ℕ) → IsFront visible (length bytes) bytes rest → rest ≡ [] → bytes ≡ visible
-same_whole visible bytes rest front none =
-    let all : take (length bytes) bytes ≡ bytes = take_all (length bytes) bytes (omega arith) in
-    sym all ∙ front.given ∙ sym (append-nil (take (length bytes) visible))
-    ∙ ap (λ others. take (length bytes) visible ++ others) (sym none ∙ front.rest_is)
-    ∙ take-append-drop (length bytes) visible
 
 -- an input within the limit was read whole
 pub whole_same : (visible bytes : List ℕ) (after : Option (List ℕ)) → ReadsUpTo most_input (Some visible) bytes after → length bytes ≤ most_input → bytes ≡ visible

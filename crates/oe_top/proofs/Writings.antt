@@ -1,43 +1,12 @@
 -- Texts that are written one after another.
-use Rattle.std.proofs.Common.{◌≡◌, ℕ, ◌+◌, inl, inr, List, [], ◌++◌, length, take, take_all, Option, Result, Ok, Err, refl, sym, ap, ◌∙◌, arith}
-use Rattle.std.specs.Option.{option_map}
-use Rattle.std.proofs.Math.Seq.{take-append-add, take-append_seam}
-use Rattle.std.proofs.lemmas.List.{take-append-le}
+use Rattle.std.proofs.Common.{ℕ, ◌+◌, List, [], ◌++◌, Option, Result, Ok, Err, refl, arith}
 use Rattle.oe_outside.proofs.Causes.{NeverFalls-refl, NeverFalls-trans, then-Rose}
-use Rattle.oe_outside.proofs.Streams.{visible_nothing, visible_twice}
-use Rattle.oe_outside.specs.Visible.{Appends, AppendsPrefix}
-use Rattle.oe_top.proofs.Inputs.{sizes}
+use Rattle.oe_outside.proofs.Streams.{visible_nothing}
+use Rattle.oe_outside.proofs.Runs.{Appends-more, first_stopped, second_stopped}
+use Rattle.oe_outside.specs.Stream.{ErrorOutput}
 use Rattle.oe_top.proofs.Said.{says}
-use Rattle.oe_top.specs.Lines.{ErrorOutput, Says}
+use Rattle.oe_top.specs.Lines.{Says}
 use Rattle.oe_top.specs.Written.{Writes}
-
--- ---- what stands there
-
-appends_both : (before middle after : Option (List ℕ)) (first second : List ℕ) → Appends before first middle
-    → Appends middle second after → Appends before (first ++ second) after
-appends_both before middle after first second one two =
-    two ∙ ap (option_map (λ held. held ++ second)) one ∙ visible_twice before first second
-
-prefix_later : (before middle after : Option (List ℕ)) (first second : List ℕ) → Appends before first middle
-    → AppendsPrefix middle second after → AppendsPrefix before (first ++ second) after
-prefix_later before middle after first second one (n, two) = (
-  length first + n,
-  two ∙ ap (option_map (λ held. held ++ take n second)) one ∙ visible_twice before first (take n second)
-      ∙ ap (λ piece. option_map (λ held. held ++ piece) before) (sym (take-append-add first second n)),
-)
-
--- a prefix of a text is one of the text and more
-front_of_both : (first second : List ℕ) (n : ℕ) → (m : ℕ) × (take n first ≡ take m (first ++ second))
-front_of_both first second n = elim (sizes n (length first)) [
-  | inl within ↦ (n, sym (take-append-le n first second within))
-  | inr past ↦ (length first, take_all n first (omega (arith, past)) ∙ sym (take-append_seam first second))
-]
-
-prefix_first : (before after : Option (List ℕ)) (first second : List ℕ) → AppendsPrefix before first after
-    → AppendsPrefix before (first ++ second) after
-prefix_first before after first second (n, is) =
-    let front = front_of_both first second n in
-    (front.0, is ∙ ap (λ piece. option_map (λ held. held ++ piece) before) front.1)
 
 -- ---- what was answered
 
@@ -48,13 +17,13 @@ module _ {T U E F : Type 0} (before middle after : Option (List ℕ)) (faults mi
       → Writes second middle middle_faults after after_faults result
       → Writes (first ++ second) before faults after after_faults result
   then_writes x (Ok y) one two = record {
-    appended = appends_both before middle after first second one.appended two.appended;
+    appended = Appends-more before middle after first second one.appended two.appended;
     prefix = tt;
     cause = record { count = NeverFalls-trans one.cause.count two.cause.count; failed = λ e. cc };
   }
   then_writes x (Err f) one two = record {
     appended = tt;
-    prefix = prefix_later before middle after first second one.appended two.prefix;
+    prefix = second_stopped before middle after first second one.appended two.prefix;
     cause = record {
       count = NeverFalls-trans one.cause.count two.cause.count;
       failed = λ e. then-Rose one.cause.count (two.cause.failed e);
@@ -67,7 +36,7 @@ module _ {T U E F : Type 0} (before after : Option (List ℕ)) (faults after_fau
       → Writes {T = U} (first ++ second) before faults after after_faults (Err f)
   stops_both e f one = record {
     appended = tt;
-    prefix = prefix_first before after first second one.prefix;
+    prefix = first_stopped before after first second one.prefix;
     cause = record { count = one.cause.count; failed = λ _. one.cause.failed refl };
   }
 

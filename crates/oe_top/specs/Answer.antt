@@ -1,5 +1,6 @@
 -- What the top call answers, and what it leaves.
 use Rattle.std.specs.Prelude.{◌≡◌, ℕ, ◌↔◌, List, Result, Err}
+use Rattle.oe_outside.specs.Stream.{ErrorOutput}
 use Rattle.oe_top.specs.CheckAnswer.{CheckAnswers}
 use Rattle.oe_top.specs.DemoAnswer.{DemoAnswers}
 use Rattle.oe_top.specs.DescribeAnswer.{DescribeAnswers, ListingAnswers}
@@ -7,7 +8,7 @@ use Rattle.oe_top.specs.Endings.{ending_of, of_check, of_demo, of_describe, of_j
 use Rattle.oe_top.specs.ExplainAnswer.{ExplainAnswers}
 use Rattle.oe_parts.specs.Parts.{PartState}
 use Rattle.oe_top.specs.JoinAnswer.{JoinAnswers}
-use Rattle.oe_top.specs.Lines.{ErrorOutput, SaysEnding, status_of}
+use Rattle.oe_top.specs.Lines.{SaysEnding, status_of}
 use Rattle.oe_top.specs.Objects.{Objects}
 use Rattle.oe_top.specs.PackAnswer.{PackAnswers}
 use Rattle.oe_top.specs.PartAnswer.{PartAnswers}

@@ -1,9 +1,10 @@
 -- The status and the line on the error output that each ending has.
-use Rattle.std.specs.Prelude.{◌≡◌, ℕ, List, [], Option, ◌⊎◌, ◌++◌, Result, Ok, Err, codes, decimal}
+use Rattle.std.specs.Prelude.{◌≡◌, ℕ, List, [], ◌⊎◌, ◌++◌, Result, Ok, Err, codes, decimal}
 use Rattle.oe_graph.specs.Codes.{name_of}
 use Rattle.oe_judge.specs.Texts.{behind_blank}
 use Rattle.oe_outside.specs.Faults.{NeverFalls, Rose}
 use Rattle.oe_outside.specs.Visible.{Appends, AppendsPrefix}
+use Rattle.oe_outside.specs.Stream.{ErrorOutput}
 use Rattle.oe_top.specs.declared.refusal.Refusal.{Refusal}
 use Rattle.oe_top.specs.declared.refusal.Refusal.TheVariants.{Usage, Graph, NoCubeText, NotMounted, NoTimeFold, ChunkRange, PartGraph, PartShape, PartSides, PartOverlap, ChunkMissing, TooLarge, Overflow, ReadFault, Damaged, PartDamaged, SpoolFault, WriteFault, OutOfMemory, SpoolDamaged}
 
@@ -65,22 +66,6 @@ abbrev pub line_of : Refusal → List ℕ
 line_of refusal = codes "openeo: " ++ (status_and_code refusal).1 ++ detail_of refusal ++ codes "\n"
 
 -- ---- the error output
-
--- the error output before and after a call: what it holds, where that is visible, and its fault counter
-pub record ErrorOutput : Type 0 where
-  pub before : Option (List ℕ)
-  pub before_faults : ℕ
-  pub after : Option (List ℕ)
-  pub after_faults : ℕ
-
--- the error output, of a sink of type E
-abbrev pub error_output : {E : Type 0} → (E → Option (List ℕ)) → (E → ℕ) → E → E → ErrorOutput
-error_output written faults before after = record {
-  before = written before;
-  before_faults = faults before;
-  after = written after;
-  after_faults = faults after;
-}
 
 -- the line follows what the error output held, or a prefix of it where its fault counter rose
 pub record Says (line : List ℕ) (err : ErrorOutput) : Type 0 where

@@ -1,7 +1,7 @@
 // The top call: from the words of a command to its status and its line.
 ghost use Rattle.oe_sources.specs.CatalogueRows.{rows_of};
+ghost use Rattle.oe_outside.specs.Stream.{error_output};
 ghost use Rattle.oe_top.specs.Answer.{Answers, Ends};
-ghost use Rattle.oe_top.specs.Lines.{error_output};
 ghost use Rattle.oe_top.specs.Objects.{lends};
 
 use crate::check::check;

@@ -1,8 +1,9 @@
 // The line on the error output that says why a command did not finish. It is written piece by piece, since writing it
 // takes no memory.
 ghost use Rattle.std.specs.Prelude.{◌++◌, codes};
+ghost use Rattle.oe_outside.specs.Stream.{error_output};
 ghost use Rattle.oe_judge.specs.Texts.{behind_blank};
-ghost use Rattle.oe_top.specs.Lines.{Says, detail_of, error_output, line_of, number_said, status_and_code};
+ghost use Rattle.oe_top.specs.Lines.{Says, detail_of, line_of, number_said, status_and_code};
 ghost use Rattle.oe_top.specs.Written.{Writes};
 
 use crate::refusal::Refusal;

@@ -1,10 +1,11 @@
 -- What the program itself answers, before and beside its command.
 use Rattle.std.specs.Prelude.{◌≡◌, ℕ, List, [], ◌∷◌, ◌⊎◌, Result, Ok, Err, codes}
+use Rattle.oe_outside.specs.Stream.{ErrorOutput}
 use Rattle.oe_adapters.specs.Setup.{fault_status, program_fault_line}
 use Rattle.oe_adapters.specs.declared.fault.Fault.{Fault}
 use Rattle.oe_serve.specs.Endings.{line_of, status_of}
 use Rattle.oe_serve.specs.declared.turns.ServeFail.{ServeFail}
-use Rattle.oe_top.specs.Lines.{ErrorOutput, IsSilent, Says}
+use Rattle.oe_top.specs.Lines.{IsSilent, Says}
 
 -- the word asks for a text about the program or a command
 abbrev pub IsTextWord : List ℕ → Type 0

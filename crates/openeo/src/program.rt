@@ -1,6 +1,6 @@
 // What the program does before its command, over any files and streams.
 ghost use Rattle.std.specs.Prelude.{◌≡◌, ◌↔◌, IfErr, IfOk, IsErrOf, IsNone};
-ghost use Rattle.oe_top.specs.Lines.{error_output};
+ghost use Rattle.oe_outside.specs.Stream.{error_output};
 ghost use Rattle.openeo.specs.Ends.{AsksForText, EndsByFault};
 
 use crate::help::text_of;

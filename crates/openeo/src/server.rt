@@ -1,10 +1,11 @@
 // The command `serve`: what it stands on, and how it ends.
 ghost use Rattle.std.specs.Prelude.{◌≡◌, IfNone};
+ghost use Rattle.oe_outside.specs.Stream.{error_output};
 ghost use Rattle.oe_plan.specs.Ranges.{IsWithinRanges};
 ghost use Rattle.oe_serve.specs.Endings.{line_of, status_of};
 ghost use Rattle.oe_serve.specs.Words.{SpellsServe};
 ghost use Rattle.oe_serve.specs.declared.command.ServeCommand.{ServeCommand as Command};
-ghost use Rattle.oe_top.specs.Lines.{Says, error_output};
+ghost use Rattle.oe_top.specs.Lines.{Says};
 ghost use Rattle.openeo.specs.Ends.{EndsServer};
 
 use crate::program::end;

@@ -1,5 +1,6 @@
 use Rattle.std.proofs.Common.{◌++◌, codes}
-use Rattle.oe_dial.proofs.Sayings.{first_stopped, second_err}
+use Rattle.oe_outside.proofs.Runs.{first_stopped}
+use Rattle.oe_dial.proofs.Sayings.{second_err}
 use Rattle.oe_dial.proofs.refusal.say_body.Goals as goal
 
 pub returns-in-Ok-clause-prefix : goal.returns-in-Ok-clause-prefix

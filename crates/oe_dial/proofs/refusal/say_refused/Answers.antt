@@ -1,6 +1,7 @@
 use Rattle.std.proofs.Common.{◌≡◌, ◌++◌, List, ℕ, OnErr, OnOk, codes, decimal, subst}
 use Rattle.oe_outside.specs.Visible.{Appends, AppendsPrefix}
-use Rattle.oe_dial.proofs.Sayings.{first_stopped, second_err, second_ok}
+use Rattle.oe_outside.proofs.Runs.{first_stopped}
+use Rattle.oe_dial.proofs.Sayings.{second_err, second_ok}
 use Rattle.oe_dial.proofs.refusal.say_refused.Goals as goal
 
 pub returns-in-Ok-clause-appended : goal.returns-in-Ok-clause-appended

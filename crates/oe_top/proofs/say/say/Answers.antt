@@ -1,5 +1,6 @@
 use Rattle.oe_top.proofs.Writings.{says_written}
-use Rattle.oe_top.specs.Lines.{error_output, line_of}
+use Rattle.oe_outside.specs.Stream.{error_output}
+use Rattle.oe_top.specs.Lines.{line_of}
 use Rattle.oe_top.proofs.say.say.Goals as goal
 
 pub returns : goal.returns

@@ -1,5 +1,5 @@
 use Rattle.oe_top.proofs.Said.{says}
-use Rattle.oe_top.specs.Lines.{error_output}
+use Rattle.oe_outside.specs.Stream.{error_output}
 use Rattle.openeo.proofs.program.end.Goals as goal
 
 pub returns : goal.returns

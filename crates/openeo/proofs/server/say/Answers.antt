@@ -1,6 +1,6 @@
 use Rattle.std.proofs.Common.{◌∙◌}
+use Rattle.oe_outside.specs.Stream.{error_output}
 use Rattle.oe_top.proofs.Said.{says}
-use Rattle.oe_top.specs.Lines.{error_output}
 use Rattle.openeo.proofs.server.say.Goals as goal
 
 pub returns-clause-line : goal.returns-clause-line
