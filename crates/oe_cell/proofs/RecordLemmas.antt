@@ -13,7 +13,7 @@ use Rattle.oe_cell.specs.Record.{bytes_of, record_of, IsRecord}
 use Rattle.oe_cell.specs.declared.cell.Cell.{Cell}
 use Rattle.oe_cell.specs.declared.cell.Cell.TheVariants.{Empty, Flag, Number, Over}
 
-cast_below : (z : ℤ) → FitsSigned w64 z → cast_unsigned w64 z < 2 ^ 64
+pub cast_below : (z : ℤ) → FitsSigned w64 z → cast_unsigned w64 z < 2 ^ 64
 cast_below z fits = omega (arith, ints)
 
 pub tag_from_bytes : (s t : ℕ) (m n : ℤ) (c d : ℕ) → bytes_of s m c ≡ bytes_of t n d → s ≡ t
@@ -164,7 +164,7 @@ number_from_fields c t n d e h k =
     subst (λ (x : ℕ). IsNumber (record { num = n; den = x })) k.den_is
     (subst (λ (z : ℤ). IsNumber (record { num = z; den = den_in c })) k.num_is (number_in c (k.tag_is ∙ e) h))
 
-from_bytes_below : (bs : List ℕ) → ((k : ℕ) → get_or bs k 0 < 256) → from_be_bytes w64 bs < 2 ^ 64
+pub from_bytes_below : (bs : List ℕ) → ((k : ℕ) → get_or bs k 0 < 256) → from_be_bytes w64 bs < 2 ^ 64
 from_bytes_below bs h = omega (arith, h 0, h 1, h 2, h 3, h 4, h 5, h 6, h 7)
 
 parts_are : (t : ℕ) (front back : List ℕ) → length front ≡ 8 → length back ≡ 8 → ((k : ℕ) → get_or front k 0 < 256) → ((k : ℕ) → get_or back k 0 < 256) → bytes_of t (cast_signed w64 (from_be_bytes w64 front)) (from_be_bytes w64 back) ≡ t ∷ front ++ back

@@ -1,13 +1,13 @@
 -- What is kept of the nodes of a checked graph, by their indices.
-use Rattle.std.proofs.Common.{◌≡◌, ℕ, suc, ◌<◌, true, List, length, slice_get, get_or, Some, refl, sym, ap, subst, ◌∙◌}
+use Rattle.std.proofs.Common.{◌≡◌, ℕ, ◌<◌, true, List, length, slice_get, get_or, Some, sym, ap, subst, ◌∙◌}
 use Rattle.std.specs.Arc.{arc_value}
 use Rattle.std.specs.List.{slice_index_or}
 use Rattle.std.specs.Option.{option_and_then}
 use Rattle.std.proofs.lemmas.Option.{slice_get-get_or}
 use Rattle.oe_dims.specs.Names.{names_rise}
-use Rattle.oe_graph.specs.Printed.{ids_of, node_count}
-use Rattle.oe_graph.specs.Tree.{Nodes, no_nodes, node, PlainNode}
-use Rattle.oe_graph.proofs.ResolvedLemmas.{node_below}
+use Rattle.oe_graph.specs.Printed.{node_count}
+use Rattle.oe_graph.specs.Tree.{node, PlainNode}
+use Rattle.oe_graph.proofs.ResolvedLemmas.{length-ids_of, node_below}
 use Rattle.oe_order.specs.declared.Links.{Links}
 use Rattle.oe_expr.proofs.NodeLemmas.{id_at_is, index_of_node}
 use Rattle.oe_check.specs.Checked.{CheckedGraph, outline_of_node, operation_of_node, collection_of_node, AreFaultless, IsKept}
@@ -20,10 +20,6 @@ use Rattle.oe_check.specs.declared.checked.CheckedNode.{CheckedNode}
 use Rattle.oe_check.specs.declared.checked.State.{State}
 use Rattle.oe_check.specs.declared.checked.State.TheVariants.{Sound}
 use Rattle.oe_check.proofs.LinkLemmas.{few, named_at, rises}
-
-pub id_count : (nodes : Nodes) → length (ids_of nodes) ≡ node_count nodes
-id_count no_nodes = refl
-id_count (node id process_id namespace arguments rest) = ap suc (id_count rest)
 
 -- this is kept of a node
 pub record IsKeptOf (c : CheckedGraph) (index : ℕ) (kept : CheckedNode) : Type 0 where
@@ -93,4 +89,4 @@ module _ (c : CheckedGraph) (ids : List (List ℕ)) (states : List State) (links
   ids_rise = ap names_rise k.ids_are ∙ rises c.nodes k.resolved
 
   pub ids_few : length ids < 4294967296
-  ids_few = subst (λ count. count < 4294967296) (sym (ap length k.ids_are ∙ id_count c.nodes)) (few c.nodes k.resolved)
+  ids_few = subst (λ count. count < 4294967296) (sym (ap length k.ids_are ∙ length-ids_of c.nodes)) (few c.nodes k.resolved)

@@ -1,13 +1,12 @@
 // How the labels of two cubes compare, and labels that are given.
 ghost use Rattle.std.specs.Prelude.{◌≡◌, ◌%◌, ◌==◌, true, false, not, map, nat_lt, IfOk};
 ghost use Rattle.std.specs.List.{list_any};
-ghost use Rattle.oe_dims.specs.Dimensions.{number_labels, band_names, rises};
+ghost use Rattle.oe_dims.specs.Dimensions.{number_labels, band_names, rises, numbers_along};
 ghost use Rattle.oe_dims.specs.Indices.{same_number};
 ghost use Rattle.oe_dims.specs.Names.{same_name, OrdersNames};
 ghost use Rattle.oe_kernel.specs.Kernels.{largest_size};
 ghost use Rattle.oe_requests.specs.Labels as labels;
 ghost use Rattle.oe_requests.specs.Labels.{are_among, are_distinct, differ_in};
-ghost use Rattle.oe_meanings.specs.Results.{numbers_along};
 ghost use Rattle.oe_meanings.specs.Rows as row;
 ghost use Rattle.oe_meanings.specs.ValidShapes.{labels_of};
 ghost use Rattle.oe_meanings.specs.Words as word;

@@ -10,9 +10,9 @@ use Rattle.serde_json.specs.Find.{get}
 use Rattle.serde_json.specs.View.{items_of as made_items}
 use Rattle.serde_json.proofs.Views.{get_member-put, get_member-put_other}
 use Rattle.oe_pages.specs.Pages.{item_list, items_in, links_to, member_of, next_of, page_items, page_of}
+use Rattle.oe_pages.proofs.PageLemmas.{values_back}
 use Rattle.oe_client.specs.Laws.{PagesAreFollowed}
 use Rattle.oe_client.specs.Pages.{items_of, items_under, last_offset, leads_on, next_behind, next_by, next_in, page_limit}
-use Rattle.oe_client.proofs.PageLemmas.{values_back}
 
 -- a page of 100 items is whole where items are left behind it
 whole_page : (offset : ℕ) (xs : List Data) → offset + 100 < length xs → length (page_items 100 offset xs) ≡ 100

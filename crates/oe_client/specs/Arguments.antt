@@ -1,12 +1,10 @@
 -- What may stand behind a verb.
 use Rattle.std.specs.Prelude.{◌≡◌, ℕ, ◌<◌, ◌≤◌, ◌^◌, ◌==◌, ◌&&◌, ◌||◌, not, nat_le, Bool, true, bytes_eq, List, codes, length, Option, Some, None, decimal, ⊤}
 use Rattle.std.specs.List.{after_first, before_first, list_all}
+use Rattle.oe_http.specs.Heads.{slash}
 use Rattle.oe_dims.specs.Names.{is_name_byte}
 use Rattle.oe_client.specs.declared.verbs.Argument.{Argument}
 use Rattle.oe_client.specs.declared.verbs.Argument.TheVariants.{Missing, Id, JobAndAsset, JobAndOffset, ListName}
-
-abbrev pub slash : ℕ
-slash = 47
 
 -- what stands before the first slash, and what follows it
 abbrev pub id_part : List ℕ → List ℕ

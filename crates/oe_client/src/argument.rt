@@ -2,6 +2,7 @@
 ghost use Rattle.std.specs.Prelude.{◌≡◌, ◌↔◌, ◌==◌, ℕ, IfNone, IfSome, IsTrue, decimal, not, true};
 ghost use Rattle.std.specs.List.{list_all};
 ghost use Rattle.std.specs.Option.{option_map};
+ghost use Rattle.oe_http.specs.Heads.{slash};
 ghost use Rattle.oe_client.specs.Arguments as spec;
 
 use crate::verbs::Argument;
@@ -109,7 +110,7 @@ fn is_segment(text: &str) -> bool
 }
 
 fn has_no_slash(bytes: &[u8]) -> bool
-    ensures { result ≡ list_all (λ b. not (b == spec.slash)) bytes.now }
+    ensures { result ≡ list_all (λ b. not (b == slash)) bytes.now }
 {
     bytes.iter().all(|byte| *byte != b'/')
 }

@@ -86,7 +86,7 @@ same_number_below a b h = grind (arith, ints)
 pub same_number_above : (a b : ℤ) → a <ℤ b → same_number a b ≡ false
 same_number_above a b h = grind (arith, ints)
 
-later_index : (index : Option ℕ) (p : ℕ) → option_map (λ n. n + 1) index ≡ Some p → (n : ℕ) × (index ≡ Some n) × (p ≡ suc n)
+pub later_index : (index : Option ℕ) (p : ℕ) → option_map (λ n. n + 1) index ≡ Some p → (n : ℕ) × (index ≡ Some n) × (p ≡ suc n)
 later_index None p e = cc
 later_index (Some n) p e = let same : n + 1 ≡ p = cc in (n, refl, omega arith)
 

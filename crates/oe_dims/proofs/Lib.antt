@@ -13,5 +13,6 @@ pub mod ReaderLemmas
 pub mod RuleLemmas
 mod RunLemmas
 pub mod ShapeLemmas
+pub mod SpelledLemmas
 pub mod SpellingLemmas
 mod Worked

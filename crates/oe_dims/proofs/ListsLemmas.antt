@@ -1,5 +1,5 @@
 -- The first kind whose labels fail a test, one kind at a time, and how many cells there can be.
-use Rattle.std.proofs.Common.{◌≡◌, ℕ, ◌+◌, ◌*◌, ◌^◌, ◌<◌, ◌≤◌, nat_le, Bool, true, false, List, length, get_or, drop, refl, arith, Option, Some, None, cond}
+use Rattle.std.proofs.Common.{◌≡◌, ℕ, ◌+◌, ◌*◌, ◌^◌, ◌<◌, ◌≤◌, nat_le, Bool, true, false, List, length, get_or, drop, refl, arith, Option, Some, None, cond, [], ◌∷◌, ◌++◌, take, sym, ap, ◌∙◌}
 use Rattle.std.specs.Option.{option_map, option_map_or}
 use Rattle.std.proofs.lemmas.List.{drop_more, drop_all}
 use Rattle.std.proofs.lemmas.Bool.{leb-true}
@@ -56,3 +56,17 @@ product_fits a b c ha hb hc =
     let two : a * b ≤ 65536 * 65536 = mul-le-mul ha hb in
     let three : a * b * c ≤ 65536 * 65536 * 65536 = mul-le-mul two hc in
     (omega arith, omega arith)
+
+pub take_front : (a b : List ℕ) (n : ℕ) → length a ≡ n → take n (a ++ b) ≡ a
+take_front a b n e = ap (λ (m : ℕ). take m (a ++ b)) (sym e) ∙ seam a b
+  where
+    seam : (xs ys : List ℕ) → take (length xs) (xs ++ ys) ≡ xs
+    seam [] ys = refl
+    seam (x ∷ xs) ys = ap (λ (zs : List ℕ). x ∷ zs) (seam xs ys)
+
+pub drop_front : (a b : List ℕ) (n : ℕ) → length a ≡ n → drop n (a ++ b) ≡ b
+drop_front a b n e = ap (λ (m : ℕ). drop m (a ++ b)) (sym e) ∙ seam a b
+  where
+    seam : (xs ys : List ℕ) → drop (length xs) (xs ++ ys) ≡ ys
+    seam [] ys = refl
+    seam (x ∷ xs) ys = seam xs ys

@@ -153,3 +153,10 @@ number_labels d X = unwrap_or d.x []
 -- the names of the bands, none where the cube lacks the dimension
 abbrev pub band_names : Dimensions → List (List ℕ)
 band_names d = unwrap_or d.bands []
+
+-- the labels along t, y or x, where the cube has the dimension
+abbrev pub numbers_along : Kind → Dimensions → Option (List ℤ)
+numbers_along Time d = d.t
+numbers_along Bands d = None
+numbers_along Y d = d.y
+numbers_along X d = d.x

@@ -1,7 +1,8 @@
 -- What contracts see of lists of labels.
-use Rattle.std.specs.Prelude.{◌≡◌, ℕ, ℤ, List, Option, Vec}
+use Rattle.std.specs.Prelude.{◌≡◌, ℕ, ℤ, List, Option, Vec, ◌==◌, Bool}
 use Rattle.std.specs.Option.{option_map}
 use Rattle.std.specs.declared.alloc.Global.{Global}
+use Rattle.std.specs.List.{slice_split}
 use Rattle.oe_dims.specs.Dimensions.{Dimensions}
 use Rattle.oe_dims.specs.declared.kind.Kind.{Kind}
 use Rattle.oe_dims.specs.declared.kind.Kind.TheVariants.{Time, Bands, Y, X}
@@ -32,3 +33,11 @@ HaveSameLabels a b Time = a.t ≡ b.t
 HaveSameLabels a b Bands = a.bands ≡ b.bands
 HaveSameLabels a b Y = a.y ≡ b.y
 HaveSameLabels a b X = a.x ≡ b.x
+
+abbrev pub is_line_feed : ℕ → Bool
+is_line_feed byte = byte == 10
+
+-- what stands before, between and behind the line feeds of the bytes: the last of these is no line but what follows the
+-- last one, and nothing may
+abbrev pub lines_of : List ℕ → List (List ℕ)
+lines_of bytes = slice_split is_line_feed bytes

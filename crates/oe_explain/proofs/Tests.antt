@@ -1,7 +1,8 @@
 -- Tests of arguments beside the readers of the definitions.
-use Rattle.std.proofs.Common.{◌≡◌, ◌≢◌, ℕ, suc, ◌<◌, ◌≤◌, ◌==◌, ◌&&◌, ◌||◌, not, Bool, true, false, nat_le, if◌then◌else◌, List, [], ◌∷◌, map, length, Option, Some, None, IfSome, is_some, option_map, option_and_then, codes, refl, sym, ap, ◌∙◌, ℤ, arith}
+use Rattle.std.proofs.Common.{◌≡◌, ◌≢◌, ℕ, suc, ◌<◌, ◌≤◌, ◌&&◌, ◌||◌, not, Bool, true, false, nat_le, if◌then◌else◌, List, [], ◌∷◌, length, Option, Some, None, IfSome, is_some, option_map, option_and_then, codes, refl, sym, ap, ◌∙◌, ℤ, arith}
 use Rattle.std.specs.List.{list_all}
 use Rattle.std.proofs.lemmas.Bool.Decides.{nat_tests}
+use Rattle.std.proofs.Math.Bool.{and-true}
 use Rattle.oe_cell.specs.Rational.{whole_of}
 use Rattle.oe_dims.specs.Dimensions.{all_differ}
 use Rattle.oe_dims.specs.Names.{same_name}
@@ -91,10 +92,6 @@ and_false : (b : Bool) → (b && false) ≡ false
 and_false true = refl
 and_false false = refl
 
-and_true : (b : Bool) → (b && true) ≡ b
-and_true true = refl
-and_true false = refl
-
 scalars_some : (args : List Arg) → list_all (λ a. is_some (cell.scalar_in (plain_arg a))) args ≡ is_some (cell.scalars_in (plain_args args))
 scalars_some [] = refl
 scalars_some (a ∷ args) =
@@ -127,7 +124,7 @@ written_some args =
         → (nat_le n 64 && is_some o) ≡ is_some (option_and_then cell.written_list o)
     by None n h = and_false (nat_le n 64)
     by (Some scalars) n h =
-        and_true (nat_le n 64) ∙ ap (λ k. nat_le k 64) (sym h) ∙ few (nat_le (length scalars) 64) scalars
+        and-true (nat_le n 64) ∙ ap (λ k. nat_le k 64) (sym h) ∙ few (nat_le (length scalars) 64) scalars
 
 pub written_few : (args : List Arg) → length args ≤ 64
     → list_all (λ a. is_some (cell.scalar_in (plain_arg a))) args

@@ -3,6 +3,7 @@ use Rattle.std.proofs.Common.{◌≡◌, List, [], ◌∷◌, ◌++◌, Bool, tr
 use Rattle.std.specs.List.{list_any}
 use Rattle.std.specs.Option.{option_or}
 use Rattle.std.proofs.lemmas.List.Folds.{list_any-append}
+use Rattle.std.proofs.Math.Bool.{or-true}
 use Rattle.oe_dims.specs.declared.kind.CellKind.{CellKind}
 use Rattle.oe_dims.specs.declared.kind.CellKind.TheVariants.{Numbers, Flags}
 use Rattle.oe_expr.specs.KindCounts.{AreKindsOf}
@@ -16,10 +17,6 @@ or_none (Some kind) = refl
 or_false : (b : Bool) → (b || false) ≡ b
 or_false true = refl
 or_false false = refl
-
-or_true : (b : Bool) → (b || true) ≡ true
-or_true true = refl
-or_true false = refl
 
 among_more : (kinds : List (Option CellKind)) (kind : Option CellKind) → kind_among (kinds ++ kind ∷ []) ≡ option_or (kind_among kinds) kind
 among_more [] None = refl
@@ -38,7 +35,7 @@ pub numbers_more : (kinds : List (Option CellKind)) (k more : Kinds) → AreKind
     → more.first ≡ option_or k.first (Some Numbers) → more.numbers ≡ true → more.flags ≡ k.flags → AreKindsOf (kinds ++ Some Numbers ∷ []) more
 numbers_more kinds k more is first numbers flags = record {
   first = first ∙ (ap (λ o. option_or o (Some Numbers)) is.first ∙ sym (among_more kinds (Some Numbers)));
-  numbers = numbers ∙ sym (list_any-append is_numbers kinds (Some Numbers ∷ []) ∙ or_true (list_any is_numbers kinds));
+  numbers = numbers ∙ sym (list_any-append is_numbers kinds (Some Numbers ∷ []) ∙ or-true (list_any is_numbers kinds));
   flags = flags ∙ (is.flags ∙ sym (list_any-append is_flags kinds (Some Numbers ∷ []) ∙ or_false (list_any is_flags kinds)));
 }
 
@@ -47,5 +44,5 @@ pub flags_more : (kinds : List (Option CellKind)) (k more : Kinds) → AreKindsO
 flags_more kinds k more is first numbers flags = record {
   first = first ∙ (ap (λ o. option_or o (Some Flags)) is.first ∙ sym (among_more kinds (Some Flags)));
   numbers = numbers ∙ (is.numbers ∙ sym (list_any-append is_numbers kinds (Some Flags ∷ []) ∙ or_false (list_any is_numbers kinds)));
-  flags = flags ∙ sym (list_any-append is_flags kinds (Some Flags ∷ []) ∙ or_true (list_any is_flags kinds));
+  flags = flags ∙ sym (list_any-append is_flags kinds (Some Flags ∷ []) ∙ or-true (list_any is_flags kinds));
 }

@@ -11,6 +11,7 @@ use Rattle.oe_dims.proofs.OrderLemmas.{same_name-bytes_eq, same_name_is, same_na
 use Rattle.oe_graph.specs.Printed.{node_count, ids_of}
 use Rattle.oe_graph.specs.References.{each_node, references_named, Refers, Leads, refers, onwards}
 use Rattle.oe_graph.specs.Tree.{Nodes, no_nodes, node, PlainNode}
+use Rattle.oe_graph.proofs.ResolvedLemmas.{length-ids_of}
 use Rattle.oe_expr.specs.Nodes.{node_named, id_at, within_turns, down_from, LooksDown, UnfoldsAt}
 
 -- ---- the node of a name
@@ -89,10 +90,6 @@ id_within (node id p s args rest) (suc k) n at =
     let below = later.1 in
     (suc later.0, omega arith, later.2)
 
-id_count : (nodes : Nodes) → length (ids_of nodes) ≡ node_count nodes
-id_count no_nodes = refl
-id_count (node id process_id namespace arguments rest) = ap suc (id_count rest)
-
 module _ (nodes : Nodes) where
   leads_on : {a b c : List ℕ} → Leads nodes a b → Refers nodes b c → Leads nodes a c
   leads_on (refers r) s = onwards r (refers s)
@@ -139,7 +136,7 @@ module _ (nodes : Nodes) where
     few : (names : List (List ℕ)) → IsDistinct bytes_eq names → Each in_nodes names → length names ≤ node_count nodes
     few names distinct inside =
         let some = length-le_from_is_member nat_list_eq_equiv names (ids_of nodes) distinct (members names inside) in
-        let count = id_count nodes in
+        let count = length-ids_of nodes in
         omega arith
 
     long : (k : ℕ) (name : List ℕ) (seen : List (List ℕ)) → IsDistinct bytes_eq seen → Each (λ q. Leads nodes q name) seen → Each in_nodes seen

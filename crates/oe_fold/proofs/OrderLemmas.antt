@@ -8,14 +8,13 @@ use Rattle.std.specs.Cmp.{IsStrictWeakOrder, int_cmp_is}
 use Rattle.std.proofs.lemmas.Cmp.{int_ranked}
 use Rattle.std.proofs.lemmas.Int.{ints}
 use Rattle.std.proofs.lemmas.Bool.{cases_Bool, cond-true, cond-false, ltb-true, lt-ltb}
-use Rattle.std.proofs.Math.Nat.{mul_comm}
 use Rattle.oe_cell.specs.Fraction.{Fraction}
 use Rattle.oe_cell.specs.Order.{compare_of}
 use Rattle.oe_cell.specs.declared.cell.Cell.{Cell}
 use Rattle.oe_cell.specs.declared.cell.Cell.TheVariants.{Empty, Flag, Number, Over}
-use Rattle.oe_cell.proofs.OrderLemmas.{compare_of_antisymm}
+use Rattle.oe_cell.proofs.OrderLemmas.{compare_of_antisymm, scale_swap}
 use Rattle.oe_fold.specs.Order.{is_below, is_sound, is_before}
-use Rattle.oe_cell.proofs.Scale.{scale-scale, below_scale, at_most_scale}
+use Rattle.oe_cell.proofs.Scale.{below_scale, at_most_scale}
 
 lt-from_below : (p q : Fraction) → is_lt (compare_of p q) ≡ true → (p.num *ℤ pos q.den) <ℤ (q.num *ℤ pos p.den)
 lt-from_below p q e = int_ranked _ _ Less (sym (less (compare_of p q) e))
@@ -28,9 +27,6 @@ lt-from_below p q e = int_ranked _ _ Less (sym (less (compare_of p q) e))
 not_true : (b : Bool) → (b ≡ true → ⊥) → b ≡ false
 not_true true h = absurd (h refl)
 not_true false h = refl
-
-scale_swap : (z : ℤ) (a b : ℕ) → z *ℤ pos a *ℤ pos b ≡ z *ℤ pos b *ℤ pos a
-scale_swap z a b = scale-scale z a b ∙ ap (λ (n : ℕ). z *ℤ pos n) (mul_comm a b) ∙ sym (scale-scale z b a)
 
 at_most : (p q : Fraction) → is_lt (compare_of p q) ≡ false → (q.num *ℤ pos p.den) ≤ℤ (p.num *ℤ pos q.den)
 at_most p q e = by_order (compare_of p q) refl e

@@ -14,7 +14,7 @@ either Less d e rest n is here there = there is
 either Equal d e rest n is here there = let same : d ≡ e = cc in subst (λ x. depth x ≤ n) same here
 either Greater d e rest n is here there = there is
 
-member_depth : (k : List ℕ) (ms : Members) (e : Data) → get_member k ms ≡ Some e → depth e ≤ members_depth ms
+pub member_depth : (k : List ℕ) (ms : Members) (e : Data) → get_member k ms ≡ Some e → depth e ≤ members_depth ms
 member_depth k no_members e is = absurd cc
 member_depth k (member l d ms) e is =
     either (slice_cmp nat_cmp k l) d e (get_member k ms) _ is (omega arith) (λ rest. let below = member_depth k ms e rest in omega arith)

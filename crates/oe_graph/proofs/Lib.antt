@@ -5,7 +5,7 @@ pub mod ReferenceLemmas
 pub mod SearchLemmas
 pub mod ReferenceGraphLemmas
 mod Views
-mod Depths
+pub mod Depths
 mod Finds
 pub mod LeastLemmas
 mod NamesLemmas

@@ -1,6 +1,6 @@
 -- What is written for a graph that keeps the rules of its form is that graph again.
-use Rattle.std.proofs.Common.{◌≡◌, ◌≢◌, ℕ, ℤ, pos, negsuc, suc, ◌+◌, ◌≤◌, ◌<◌, ◌==◌, nat_lt, List, [], codes, Bool, true, false, ◌&&◌, ◌||◌, not, if◌then◌else◌, Option, Some, None, unwrap_or, refl, sym, ap, ◌∙◌, true≢false, arith, eqb-true, eq-eqb}
-use Rattle.std.proofs.lemmas.Bool.{false≢true, and_parts, and_from, leb-true}
+use Rattle.std.proofs.Common.{◌≡◌, ◌≢◌, ℕ, ℤ, pos, negsuc, suc, ◌+◌, ◌≤◌, ◌<◌, ◌==◌, nat_lt, List, [], codes, Bool, true, false, ◌&&◌, ◌||◌, if◌then◌else◌, Option, Some, None, unwrap_or, refl, sym, ap, ◌∙◌, true≢false, arith, eqb-true, eq-eqb}
+use Rattle.std.proofs.lemmas.Bool.{false≢true, and_parts, and_from, leb-true, not-true}
 use Rattle.serde_json.specs.Data.{Data, Members, no_members, member, object}
 use Rattle.serde_json.specs.Find.{of_integer}
 use Rattle.oe_dims.specs.Names.{is_name, same_name}
@@ -9,15 +9,11 @@ use Rattle.oe_graph.specs.Tree.{Argument, ListValues, Named, Nodes}
 use Rattle.oe_graph.specs.Built as built
 use Rattle.oe_graph.specs.Faults.{least}
 use Rattle.oe_graph.specs.declared.fault.Fault.{Fault}
-use Rattle.oe_graph.specs.Built.{graph_of, number_argument, reference, reference_by, reference_unless, value_of, values_of, members_of, argument_of, each_argument, callback_among, callback_in, process_id_of, namespace_of, result_index}
+use Rattle.oe_graph.specs.Built.{graph_of, number_argument, reference, reference_by, value_of, values_of, members_of, argument_of, each_argument, callback_among, callback_in, process_id_of, namespace_of, result_index}
 use Rattle.oe_graph.specs.Form.{is_node, is_result, result_count, node_name, callback_name}
 use Rattle.oe_graph.specs.Walked.{nodes_fault, node_fault, inside_fault, callbacks_fault, callback_fault, graph_among, graph_in, count_fault, graph_fault}
 use Rattle.oe_graph.specs.Printed.{argument_data, arguments_data, named_data, nodes_data, node_data, node_count, is_whole, is_object, is_reference_like, is_callback_like, is_process_text, is_namespace_text, is_plain_value, are_plain_values, are_plain_members, is_printable_argument, are_printable_arguments, are_printable_nodes}
 use Rattle.oe_graph.proofs.Straight.{named_list, nodes_list, named_straight, nodes_straight}
-
-not_true : (b : Bool) → not b ≡ true → b ≡ false
-not_true false h = refl
-not_true true h = absurd (false≢true h)
 
 -- ---- values
 
@@ -78,7 +74,7 @@ mutual
       let parts = and_parts _ _ h in
       let heads = and_parts _ _ parts.0 in
       let straight = named_straight ms heads.1 in
-      object_back (named_data ms no_members) ms (ap reference straight ∙ no_reference ms (not_true _ heads.0))
+      object_back (named_data ms no_members) ms (ap reference straight ∙ no_reference ms (not-true _ heads.0))
       (ap (members_of false) straight ∙ members_back ms parts.1)
   value_back (tree.from_node id) h = refl
   value_back (tree.from_parameter name) h = refl
@@ -237,7 +233,7 @@ mutual
       let heads = and_parts _ _ parts.0 in
       let firsts = and_parts _ _ heads.0 in
       let straight = named_straight ms heads.1 in
-      plain_back (named_data ms no_members) ms (ap callback_among straight ∙ no_callback ms (not_true _ firsts.0))
+      plain_back (named_data ms no_members) ms (ap callback_among straight ∙ no_callback ms (not-true _ firsts.0))
       (value_back (tree.object ms) (and_from _ _ (and_from _ _ firsts.1 heads.1) parts.1))
   argument_back (tree.from_node id) h = refl
   argument_back (tree.from_parameter name) h = refl
@@ -325,7 +321,7 @@ mutual
       let parts = and_parts _ _ h in
       let heads = and_parts _ _ parts.0 in
       let firsts = and_parts _ _ heads.0 in
-      ap (graph_among at) (named_straight ms heads.1) ∙ no_graph_among at ms (not_true _ firsts.0)
+      ap (graph_among at) (named_straight ms heads.1) ∙ no_graph_among at ms (not-true _ firsts.0)
   callback_whole at (tree.from_node id) h = refl
   callback_whole at (tree.from_parameter name) h = refl
   callback_whole at (tree.callback ns result) h =

@@ -1,8 +1,8 @@
 -- Where faults stand in bytes and in values, beside what the pass over the graph finds.
-use Rattle.std.proofs.Common.{◌≡◌, ◌≢◌, inl, inr, ℕ, ◌<◌, ◌≤◌, List, [], ◌∷◌, length, codes, Bool, true, false, if◌then◌else◌, Option, Some, None, is_some, Result, Ok, Err, IfErr, IsErrAnd, refl, sym, ap, ◌∙◌, subst, true≢false, arith}
-use Rattle.serde_json.specs.Data.{Data, null, boolean, number, string, array, object, Members}
+use Rattle.std.proofs.Common.{◌≡◌, ◌≢◌, inl, inr, ℕ, ◌<◌, ◌≤◌, List, [], ◌∷◌, length, codes, Bool, true, false, if◌then◌else◌, Option, Some, None, is_some, Result, Ok, Err, IfErr, IsErrAnd, refl, sym, ap, ◌∙◌, subst, true≢false, arith, IsUtf8}
+use Rattle.serde_json.specs.Data.{Data, null, boolean, number, string, array, object, Members, depth}
 use Rattle.serde_json.specs.Find.{as_object}
-use Rattle.serde_json.specs.Read.{read}
+use Rattle.serde_json.specs.Read.{max_depth, read}
 use Rattle.oe_graph.specs.Faults.{least, IsLeast, is_before}
 use Rattle.oe_graph.specs.Form as form
 use Rattle.oe_graph.specs.Form.{nodes_in, is_absent_or, IsNamedWithin, IsGraphObject, IsReading, StandsIn, Stands, most_input}
@@ -247,3 +247,10 @@ module _ (bytes : List ℕ) (d : Data) (r : IsReading bytes d) (small : length b
       → (code : Code) (node : List ℕ) → ¬ StandsStored bytes code node
   stored_valid main is found code node =
       subst (IsLeastOf (λ f. StandsStored bytes f.code f.node)) (sym found) (both_least main is) (at_code code node)
+
+pub reading_of : (d e : Data) (text s : List ℕ) → text ≡ s → IsUtf8 s → d ≡ e → (depth d ≤ max_depth → read s ≡ Some d)
+    → depth e ≤ max_depth → IsReading text e
+reading_of d e text s is utf8 same back deep = record {
+  utf8 = subst IsUtf8 (sym is) utf8;
+  value = ap read is ∙ (back (subst (λ x. depth x ≤ max_depth) (sym same) deep) ∙ ap Some same);
+}

@@ -27,7 +27,7 @@ pub record NodeAt (nodes : Nodes) (id : List ℕ) : Type 0 where
   pub is_there : slice_get (each_node nodes) index ≡ Some node
   pub is_named : node.id ≡ id
 
-length-ids_of : (nodes : Nodes) → length (ids_of nodes) ≡ node_count nodes
+pub length-ids_of : (nodes : Nodes) → length (ids_of nodes) ≡ node_count nodes
 length-ids_of no_nodes = refl
 length-ids_of (node id p n a rest) = let more : length (ids_of rest) ≡ node_count rest = length-ids_of rest in omega arith
 

@@ -8,6 +8,7 @@ use Rattle.httparse.specs.declared.spans.HeaderSpan.{HeaderSpan}
 use Rattle.std.proofs.Math.Nat.{pow-le-pow_right}
 use Rattle.std.proofs.Math.Seq.{drop-cons}
 use Rattle.std.proofs.lemmas.Slice.Eq.{bytes_eq-Decides}
+use Rattle.std.proofs.lemmas.Bool.{false_from_ne_true}
 use Rattle.httparse.specs.declared.spans.Span.{Span}
 
 -- one more field of the name, or of another
@@ -23,15 +24,11 @@ rest_of fields i d within =
     let next : suc i ≡ i + 1 = omega arith in
     drop-cons fields i d within ∙ ap (λ k. get_or fields i d ∷ drop k fields) next
 
-not_true : (b : Bool) → ¬ (b ≡ true) → b ≡ false
-not_true true never = absurd (never refl)
-not_true false never = refl
-
 -- the test of two names
 same_test : (piece name : List ℕ) (test : Bool) → (IsTrue test ↔ (map to_ascii_lowercase piece ≡ map to_ascii_lowercase name)) → is_same_name piece name ≡ test
 same_test piece name true both = (bytes_eq-Decides (map to_ascii_lowercase piece) (map to_ascii_lowercase name)).1 (both.0 refl)
 same_test piece name false both =
-    not_true (is_same_name piece name) (λ same. cc (both.1 ((bytes_eq-Decides (map to_ascii_lowercase piece) (map to_ascii_lowercase name)).0 same)))
+    false_from_ne_true (is_same_name piece name) (λ same. cc (both.1 ((bytes_eq-Decides (map to_ascii_lowercase piece) (map to_ascii_lowercase name)).0 same)))
 
 -- the values of a name so far, and those behind
 pub step_other : (name head : List ℕ) (fields : List HeaderSpan) (i : ℕ) (d : HeaderSpan) (so_far all : List (List ℕ)) → i < length fields → is_same_name (span_bytes head (get_or fields i d).name) name ≡ false → all ≡ so_far ++ values_of name (map (header_bytes head) (drop i fields)) → all ≡ so_far ++ values_of name (map (header_bytes head) (drop (i + 1) fields))

@@ -1,16 +1,15 @@
 -- The entry that is written of a job is the entry of this job, without its assets.
-use Rattle.std.proofs.Common.{◌≡◌, ◌<◌, ◌≤◌, ◌^◌, ℕ, ℤ, pos, negsuc, List, [], ◌∷◌, map, false, Option, Some, None, refl, sym, ap, ◌∙◌, subst, arith, IsUtf8}
+use Rattle.std.proofs.Common.{◌≡◌, ◌<◌, ◌≤◌, ◌^◌, ℕ, ℤ, pos, negsuc, List, [], ◌∷◌, map, false, Option, Some, None, refl, arith}
 use Rattle.std.specs.List.{AllByRecursion}
 use Rattle.std.specs.Option.{IfSome}
 use Rattle.std.proofs.lemmas.Bool.{lt-ltb}
 use Rattle.std.proofs.lemmas.Int.{ints}
-use Rattle.serde_json.specs.Data.{Data, depth, items_depth}
+use Rattle.serde_json.specs.Data.{depth, items_depth}
 use Rattle.serde_json.specs.Find.{as_i64, of_integer}
-use Rattle.serde_json.specs.Read.{read, max_depth}
+use Rattle.serde_json.specs.Read.{max_depth}
 use Rattle.serde_json.specs.View.{items_of}
 use Rattle.serde_json.specs.Written.{has_float, items_have_float}
 use Rattle.oe_dims.specs.Instant.{IsInstant}
-use Rattle.oe_graph.specs.Form.{IsReading}
 use Rattle.oe_graph.specs.Read.{ReadsStored}
 use Rattle.oe_graph.specs.Tree.{PlainStored}
 use Rattle.oe_jobs.specs.Plain.{PlainJob, PlainRan}
@@ -109,12 +108,4 @@ entry_back job is fits = record {
   ran = record { value = ran_data job.ran; is_member = refl; is_ran = ran_back job.ran is.stored };
   logs = record { entries = items_of (map log_data job.logs); is_list = refl; each = logs_back job.logs };
   bare = refl;
-}
-
--- the text of a value that was written
-pub reading_of : (d e : Data) (text s : List ℕ) → text ≡ s → IsUtf8 s → d ≡ e → (depth d ≤ max_depth → read s ≡ Some d)
-    → depth e ≤ max_depth → IsReading text e
-reading_of d e text s is utf8 same back deep = record {
-  utf8 = subst IsUtf8 (sym is) utf8;
-  value = ap read is ∙ (back (subst (λ x. depth x ≤ max_depth) (sym same) deep) ∙ ap Some same);
 }

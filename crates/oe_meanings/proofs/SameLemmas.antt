@@ -7,7 +7,7 @@ use Rattle.std.proofs.lemmas.List.{append-nil}
 use Rattle.oe_dims.proofs.IndexLemmas.{same_number_refl}
 use Rattle.oe_dims.proofs.OrderLemmas.{same_name_refl}
 use Rattle.oe_dims.proofs.ShapeLemmas.{t_rises, y_falls, x_rises}
-use Rattle.oe_dims.specs.Dimensions.{Dimensions, IsShape, label_count, rises, falls}
+use Rattle.oe_dims.specs.Dimensions.{Dimensions, IsShape, label_count, rises, falls, numbers_along}
 use Rattle.oe_dims.specs.Indices.{same_number}
 use Rattle.oe_dims.specs.Lists.{HaveSameLabels}
 use Rattle.oe_dims.specs.Names.{same_name}
@@ -15,7 +15,6 @@ use Rattle.oe_dims.specs.declared.kind.Kind.{Kind}
 use Rattle.oe_dims.specs.declared.kind.Kind.TheVariants.{Time, Bands, Y, X}
 use Rattle.oe_meanings.proofs.OrderedLemmas.{left_of, right_of, stand_in_order, rises_stand, falls_stand}
 use Rattle.oe_requests.specs.Labels.{is_below, is_above, insert_label, sorted_labels, new_among, all_in_order, all_bands, either_epsg, merged_shape, are_among, differ_in}
-use Rattle.oe_meanings.specs.Results.{numbers_along}
 
 or_right : (a b : Bool) → b ≡ true → (a || b) ≡ true
 or_right true b h = refl

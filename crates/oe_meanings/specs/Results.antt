@@ -1,5 +1,5 @@
 -- The cubes that a request works on, and the shape and the kinds of what it gives on them.
-use Rattle.std.specs.Prelude.{◌≡◌, ⊤, ℤ, ◌||◌, Bool, true, false, not, List, [], ◌∷◌, map, Option, Some, None, IfSome, if◌then◌else◌}
+use Rattle.std.specs.Prelude.{◌≡◌, ⊤, ◌||◌, Bool, true, false, not, List, [], ◌∷◌, map, Option, Some, None, IfSome, if◌then◌else◌}
 use Rattle.std.specs.Option.{option_map_or}
 use Rattle.oe_dims.specs.Dimensions.{Dimensions}
 use Rattle.oe_dims.specs.declared.kind.CellKind.{CellKind}
@@ -18,13 +18,6 @@ abbrev pub cubes_among : CubeRequest → Outline → Outline → List Outline
 cubes_among (merge_cubes one_id two_id resolver) one two = one ∷ two ∷ []
 cubes_among (mask data_id mask_id replacement) one two = one ∷ two ∷ []
 cubes_among _ one two = one ∷ []
-
--- the labels along t, y or x, where the cube has the dimension
-abbrev pub numbers_along : Kind → Dimensions → Option (List ℤ)
-numbers_along Time d = d.t
-numbers_along Bands d = None
-numbers_along Y d = d.y
-numbers_along X d = d.x
 
 -- labels rise along t and x
 abbrev pub IsRisingKind : Kind → Type 0

@@ -1,12 +1,12 @@
 // The shape of two cubes that are merged.
 ghost use Rattle.std.specs.Prelude.{◌≡◌, ◌++◌, IfOk, true};
 ghost use Rattle.std.specs.Option.{option_map};
-ghost use Rattle.oe_dims.specs.Dimensions.{IsShape, number_labels, band_names};
+ghost use Rattle.oe_dims.specs.Dimensions.{IsShape, number_labels, band_names, numbers_along};
 ghost use Rattle.oe_dims.specs.Indices.{same_number};
 ghost use Rattle.oe_dims.specs.Lists.{items_of, HaveSameLabels};
 ghost use Rattle.oe_dims.specs.Names.{same_name};
 ghost use Rattle.oe_requests.specs.Labels.{is_below, is_above, sorted_labels, new_among, all_in_order, all_bands, either_epsg, merged_shape};
-ghost use Rattle.oe_meanings.specs.Results.{numbers_along, IsRisingKind, where_within_limits};
+ghost use Rattle.oe_meanings.specs.Results.{IsRisingKind, where_within_limits};
 
 use crate::shape_aggregated::{sort_falling, sort_rising};
 use crate::shape_labels::{has_band, has_number};

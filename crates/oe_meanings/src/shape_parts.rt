@@ -1,9 +1,9 @@
 // The labels of a shape, copied for the shape of a result, and a shape of such labels where it is within the limits.
 ghost use Rattle.std.specs.Prelude.{◌≡◌, true, IfOk};
 ghost use Rattle.std.specs.Option.{option_map};
-ghost use Rattle.oe_dims.specs.Dimensions.{IsShape};
+ghost use Rattle.oe_dims.specs.Dimensions.{IsShape, numbers_along};
 ghost use Rattle.oe_dims.specs.Lists.{items_of, dimensions_with};
-ghost use Rattle.oe_meanings.specs.Results.{numbers_along, where_within_limits};
+ghost use Rattle.oe_meanings.specs.Results.{where_within_limits};
 ghost use Rattle.oe_meanings.specs.ValidShapes.{is_within_limits};
 
 use oe_dims::{Kind, Shape, Text};

@@ -1,10 +1,10 @@
 // The shape of a cube of which a dimension is reduced.
 ghost use Rattle.std.specs.Prelude.{◌≡◌, IfOk};
 ghost use Rattle.std.specs.Option.{option_map};
-ghost use Rattle.oe_dims.specs.Dimensions.{IsShape};
+ghost use Rattle.oe_dims.specs.Dimensions.{IsShape, numbers_along};
 ghost use Rattle.oe_dims.specs.Lists.{items_of};
 ghost use Rattle.oe_requests.specs.Operations.{without_dimension};
-ghost use Rattle.oe_meanings.specs.Results.{numbers_along, where_within_limits};
+ghost use Rattle.oe_meanings.specs.Results.{where_within_limits};
 
 use crate::shape_parts::{copy_numbers, shape_within};
 use oe_dims::{Kind, Shape, Text, copy_bands};

@@ -4,6 +4,7 @@ use Rattle.std.specs.List.{Contains, find, list_any, slice_get}
 use Rattle.std.specs.Option.{option_map_or}
 use Rattle.std.proofs.lemmas.Bool.Decides.{nat_tests}
 use Rattle.std.proofs.lemmas.Bool.{and_parts}
+use Rattle.std.proofs.Math.Bool.{or-true}
 use Rattle.oe_cell.specs.declared.cell.Cell.TheVariants.{Empty}
 use Rattle.oe_dims.specs.Cube.{Tuple, row_major}
 use Rattle.oe_mosaic.specs.Mosaics.{Part, are_visible, cell_in, deciding_part, has_tuple, is_damaged_at, is_damaged_in, mosaic_cell}
@@ -66,15 +67,11 @@ eq_true m n h = grind (arith, nat_tests, h)
 eq_false : (m n : ℕ) → ¬ (m ≡ n) → (m == n) ≡ false
 eq_false m n h = grind (arith, nat_tests, h)
 
-or_true : (b : Bool) → (b || true) ≡ true
-or_true true = refl
-or_true false = refl
-
 pub is_listed : (numbers : List ℕ) (n : ℕ) → Contains numbers n → list_any (λ other. other == n) numbers ≡ true
 is_listed [] n (k, below, here) = absurd (omega (arith, below))
 is_listed (m ∷ numbers) n (zero, below, here) = ap (λ (b : Bool). b || list_any (λ other. other == n) numbers) (eq_true m n here)
 is_listed (m ∷ numbers) n (suc k, below, here) =
-    ap (λ (b : Bool). (m == n) || b) (is_listed numbers n (k, omega (arith, below), here)) ∙ or_true (m == n)
+    ap (λ (b : Bool). (m == n) || b) (is_listed numbers n (k, omega (arith, below), here)) ∙ or-true (m == n)
 
 pub not_listed : (numbers : List ℕ) (n : ℕ) → ¬ Contains numbers n → list_any (λ other. other == n) numbers ≡ false
 not_listed [] n h = refl

@@ -8,7 +8,7 @@ use Rattle.std.proofs.lemmas.Bool.{cases_Bool, false≢true, or_parts}
 use Rattle.std.proofs.lemmas.Int.{ints}
 use Rattle.std.proofs.lemmas.List.{append-nil}
 use Rattle.std.proofs.lemmas.Option.{same_Some}
-use Rattle.oe_dims.specs.Dimensions.{Dimensions, IsShape, band_names, label_count, number_labels}
+use Rattle.oe_dims.specs.Dimensions.{Dimensions, IsShape, band_names, label_count, number_labels, numbers_along}
 use Rattle.oe_dims.specs.Names.{same_name}
 use Rattle.oe_dims.specs.Rules.{IsInOrder, IsWithoutTwice, KeepsRule}
 use Rattle.oe_dims.specs.declared.kind.Kind.{Kind}
@@ -17,7 +17,7 @@ use Rattle.oe_dims.specs.declared.shape.ShapeFault.TheVariants.{OrderWrong}
 use Rattle.oe_dims.proofs.IndexLemmas.{from_lt}
 use Rattle.oe_dims.proofs.OrderLemmas.{same_name_is, same_name_refl}
 use Rattle.oe_dims.proofs.RuleLemmas.{KeepsEveryRule-IsShape}
-use Rattle.oe_mosaic.specs.Labels.{bands_with, join_bands, join_labels, labels_with, merge_labels, new_names, numbers_along, stands_before}
+use Rattle.oe_mosaic.specs.Labels.{bands_with, join_bands, join_labels, labels_with, merge_labels, new_names, stands_before}
 use Rattle.oe_mosaic.specs.MosaicLaws.{BeginWith, MosaicsHaveAllLabels, SomePartHasBand, SomePartHasLabel, some_part_has}
 use Rattle.oe_mosaic.specs.Mosaics.{Part, bands_of_parts, labels_of_parts, mosaic_shape}
 use Rattle.oe_mosaic.proofs.LabelLemmas.{takes_both, takes_first, takes_second}

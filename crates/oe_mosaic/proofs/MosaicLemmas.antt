@@ -15,7 +15,6 @@ use Rattle.oe_dims.specs.Cube.{Tuple, row_major, tabulate, tuples}
 use Rattle.oe_dims.specs.Dimensions.{Dimensions, IsShape, cell_count}
 use Rattle.oe_dims.specs.Positions.{IsPosition, Position, number_of, tuple_of}
 use Rattle.oe_dims.specs.declared.kind.CellKind.{CellKind}
-use Rattle.oe_dims.specs.declared.kind.CellKind.TheVariants.{Numbers, Flags}
 use Rattle.oe_dims.proofs.CubeLemmas.{length-tuples, number_below, slice_get-tuples}
 use Rattle.oe_mosaic.specs.Mosaics.{Part, are_visible, cell_in, contents_of_parts, deciding_part, fault_counts, first_kind, has_tuple, is_damaged_at, mosaic_cell, mosaic_contents, mosaic_shape, mosaic_source, numbers_where, parts_of}
 use Rattle.oe_mosaic.specs.PartFaults.{SomeRose}
@@ -25,6 +24,8 @@ use Rattle.oe_mosaic.proofs.FaultLemmas.{count_falls, count_rose}
 use Rattle.oe_sources.specs.Source.{AreCellsOf, Contents, IsDamagedIn, Reads, Source, asked_after, collection_with}
 use Rattle.oe_sources.specs.declared.source.SourceFail.{SourceFail}
 use Rattle.oe_sources.specs.declared.source.SourceFail.TheVariants.{Failed, Damaged}
+use Rattle.oe_sources.proofs.SourceLemmas.{all_true, null_fits}
+use Rattle.oe_sources.proofs.ContentLemmas.{kept}
 use Rattle.oe_window.specs.Windows.{Holds, IsEmpty, position_count, whole_window}
 use Rattle.oe_window.specs.declared.window.Window.{Window}
 use Rattle.oe_window.proofs.CellLemmas.{is_cells_on}
@@ -33,10 +34,6 @@ use Rattle.oe_window.proofs.WholeLemmas.{position_in}
 use Rattle.oe_window.proofs.WindowLemmas.{count_of_empty}
 
 -- ---- cells of the kind
-
-pub null_fits : (kind : CellKind) → is_null_or_of kind Empty ≡ true
-null_fits Numbers = refl
-null_fits Flags = refl
 
 -- a part that is found is one of the parts
 found_there : (test : Part → Bool) (parts : List Part) (part : Part) → find test parts ≡ Some part → Contains parts part
@@ -81,10 +78,6 @@ mosaic_cell_kind parts tuple h = each (deciding_part parts tuple) refl
         let there = found_there (has_tuple tuple) parts part e in
         subst (λ (k : CellKind). is_null_or_of k (cell_in tuple part) ≡ true) (kind_of_each parts part h there) (cell_in_kind tuple part (h.sound part there))
 
-all_true : {A : Type 0} (p : A → Bool) (xs : List A) → ((a : A) → p a ≡ true) → list_all p xs ≡ true
-all_true p [] h = refl
-all_true p (x ∷ xs) h = rw (h x) (all_true p xs h)
-
 -- ---- the collection of a mosaic
 
 pub contents_sound : (parts : List Part) → ArePartsOfOne parts → IsShape (mosaic_shape parts) → IfSome (mosaic_contents parts) (λ c. IsCollection (collection_with (mosaic_shape parts) (first_kind parts) c))
@@ -100,18 +93,6 @@ contents_sound parts h valid = each (are_visible parts)
     }
 
 -- ---- damaged numbers
-
-fronted : {X : Type 0} (b : Bool) (y x : X) (zs : List X) → Contains zs x → Contains (cond b (y ∷ zs) zs) x
-fronted true y x zs h = (suc h.0, omega (arith, h.1), h.2)
-fronted false y x zs h = h
-
-kept : {X : Type 0} (p : X → Bool) (xs : List X) (x : X) (k : ℕ) → slice_get xs k ≡ Some x → p x ≡ true → Contains (filter p xs) x
-kept p [] x k e h = cc
-kept p (y ∷ ys) x zero e h =
-    let same : y ≡ x = same_Some y x e in
-    let passes : p y ≡ true = ap p same ∙ h in
-    subst (λ (b : Bool). Contains (cond b (y ∷ filter p ys) (filter p ys)) x) (sym passes) (0, omega arith, same)
-kept p (y ∷ ys) x (suc k) e h = fronted (p y) y x (filter p ys) (kept p ys x k e h)
 
 pub number_there : (test : Tuple → Bool) (d : Dimensions) (p : Position) → IsPosition d p → test (tuple_of d p) ≡ true → Contains (numbers_where test d) (number_of d p)
 number_there test d p inside h =

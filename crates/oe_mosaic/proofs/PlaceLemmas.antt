@@ -7,7 +7,7 @@ use Rattle.std.proofs.lemmas.Bool.{cases_lt, or_cases, or_parts}
 use Rattle.std.proofs.lemmas.Int.{ints}
 use Rattle.std.proofs.lemmas.List.{length-drop, length-take}
 use Rattle.oe_dims.specs.Cube.{Tuple, index_along, row_major}
-use Rattle.oe_dims.specs.Dimensions.{Dimensions, IsShape, band_names, extent, label_count, number_labels}
+use Rattle.oe_dims.specs.Dimensions.{Dimensions, IsShape, band_names, extent, label_count, number_labels, numbers_along}
 use Rattle.oe_dims.specs.Indices.{IsIndexRange, index_where, is_inside, same_number}
 use Rattle.oe_dims.specs.Names.{same_name}
 use Rattle.oe_dims.specs.Positions.{tuple_of}
@@ -16,7 +16,6 @@ use Rattle.oe_dims.specs.declared.kind.Kind.{Kind}
 use Rattle.oe_dims.specs.declared.kind.Kind.TheVariants.{Time, Bands, Y, X}
 use Rattle.oe_dims.proofs.IndexLemmas.{index_where_passes, same_number_is}
 use Rattle.oe_dims.proofs.ShapeLemmas.{extents_of_shape}
-use Rattle.oe_mosaic.specs.Labels.{numbers_along}
 use Rattle.oe_mosaic.specs.Places.{HasBox, HasLabelsFrom, HasNoLabelOf, HasNoTupleOf, IsOfNumbers, LieAlong, LieAmong, LiesAlong, box_of, first_index, has_across, has_apart, is_across, is_apart, side_sum}
 use Rattle.oe_mosaic.proofs.PartLemmas.{get_there}
 use Rattle.oe_mosaic.specs.declared.place.Along.{Along}

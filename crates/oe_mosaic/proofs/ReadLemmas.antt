@@ -23,12 +23,13 @@ use Rattle.oe_mosaic.proofs.BoxLemmas.{box_cells, box_damaged, box_undamaged}
 use Rattle.oe_mosaic.proofs.DecideLemmas.{cell_none, damage_none, none_decides, one_visible}
 use Rattle.oe_mosaic.proofs.FaultLemmas.{none_refl, none_trans, rose_later, set_falls, set_rose}
 use Rattle.oe_mosaic.proofs.FindLemmas.{part_at}
-use Rattle.oe_mosaic.proofs.MosaicLemmas.{kind_of_each, null_fits}
+use Rattle.oe_mosaic.proofs.MosaicLemmas.{kind_of_each}
 use Rattle.oe_mosaic.proofs.PartLemmas.{get_there}
 use Rattle.oe_outside.specs.Faults.{NeverFalls, Rose}
 use Rattle.oe_sources.specs.Source.{AreCellsOf, Contents, IsDamagedIn, Reads, Source, collection_with}
 use Rattle.oe_sources.specs.declared.source.SourceFail.{SourceFail}
 use Rattle.oe_sources.specs.declared.source.SourceFail.TheVariants.{Failed, Damaged}
+use Rattle.oe_sources.proofs.SourceLemmas.{null_fits}
 use Rattle.oe_window.specs.Cells.{cell_at, cells_on}
 use Rattle.oe_window.specs.Windows.{Holds, IsAlong, IsEmpty, IsIn, number_in, position_count, positions, span_length, whole_window}
 use Rattle.oe_window.specs.declared.window.Span.{Span}

@@ -8,7 +8,8 @@ use Rattle.std.proofs.lemmas.List.Splits.{slice_split_first, slice_split_none, l
 use Rattle.std.proofs.lemmas.List.Sums.{fails_before_first}
 use Rattle.std.proofs.lemmas.Str.{IsUtf8-from_ascii}
 use Rattle.oe_dims.specs.Names.{is_name, is_name_byte}
-use Rattle.oe_mosaic.specs.MosaicText.{if_enough, is_line_feed, lines_of, may_follow, names_from, names_with}
+use Rattle.oe_dims.specs.Lists.{is_line_feed, lines_of}
+use Rattle.oe_mosaic.specs.MosaicText.{if_enough, may_follow, names_from, names_with}
 
 -- nothing stands behind the last line feed
 pub no_more : (before : List (List ℕ)) (rest : List ℕ) → length rest ≡ 0 → names_from before (lines_of rest) ≡ if_enough before

@@ -1,7 +1,6 @@
 -- The labels of several cubes along one dimension.
 use Rattle.std.specs.Prelude.{ℤ, Bool, int_lt, not, if◌then◌else◌, List, [], ◌∷◌, ◌++◌, filter, Option, Some, None, ℕ}
 use Rattle.std.specs.List.{list_any}
-use Rattle.oe_dims.specs.Dimensions.{Dimensions}
 use Rattle.oe_dims.specs.Names.{same_name}
 use Rattle.oe_dims.specs.declared.kind.Kind.{Kind}
 use Rattle.oe_dims.specs.declared.kind.Kind.TheVariants.{Time, Bands, Y, X}
@@ -12,13 +11,6 @@ stands_before Time a b = int_lt a b
 stands_before Bands a b = int_lt a b
 stands_before Y a b = int_lt b a
 stands_before X a b = int_lt a b
-
--- the labels of t, y or x, none where the cube lacks the dimension
-abbrev pub numbers_along : Kind → Dimensions → Option (List ℤ)
-numbers_along Time d = d.t
-numbers_along Bands d = None
-numbers_along Y d = d.y
-numbers_along X d = d.x
 
 -- the labels of two lists, each of which is in the order of the dimension, in that order and each once
 abbrev pub merge_labels : Kind → List ℤ → List ℤ → List ℤ

@@ -1,8 +1,8 @@
 -- The file of a mosaic: a line with the id of the collection, and a line with the name of each file, each with a line
 -- feed.
-use Rattle.std.specs.Prelude.{◌≡◌, ⊤, ℕ, ◌+◌, ◌==◌, ◌&&◌, nat_lt, if◌then◌else◌, Bool, List, [], ◌∷◌, ◌++◌, length, Result, Ok, Err}
-use Rattle.std.specs.List.{slice_split}
+use Rattle.std.specs.Prelude.{◌≡◌, ⊤, ℕ, ◌+◌, ◌&&◌, nat_lt, if◌then◌else◌, Bool, List, [], ◌∷◌, ◌++◌, length, Result, Ok, Err}
 use Rattle.oe_dims.specs.Names.{is_name}
+use Rattle.oe_dims.specs.Lists.{lines_of}
 use Rattle.oe_mosaic.specs.declared.text.MosaicText.{MosaicText}
 use Rattle.oe_mosaic.specs.declared.text.MosaicTextFail.{MosaicTextFail}
 use Rattle.oe_mosaic.specs.declared.text.MosaicTextFail.TheVariants.{Invalid, OutOfMemory}
@@ -13,14 +13,6 @@ fewest_lines = 2
 
 abbrev pub most_lines : ℕ
 most_lines = 17
-
-abbrev pub is_line_feed : ℕ → Bool
-is_line_feed byte = byte == 10
-
--- what stands before, between and behind the line feeds of the bytes: the last of these is no line but what follows the
--- last one, and nothing may
-abbrev pub lines_of : List ℕ → List (List ℕ)
-lines_of bytes = slice_split is_line_feed bytes
 
 -- a line may stand behind the names before it: it is a valid name, and they are not too many
 abbrev pub may_follow : List (List ℕ) → List ℕ → Bool

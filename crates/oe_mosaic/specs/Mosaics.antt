@@ -5,12 +5,12 @@ use Rattle.std.specs.Option.{option_map_or}
 use Rattle.oe_cell.specs.declared.cell.Cell.{Cell}
 use Rattle.oe_cell.specs.declared.cell.Cell.TheVariants.{Empty}
 use Rattle.oe_dims.specs.Cube.{Tuple, cell_or, row_major, tabulate, tuples}
-use Rattle.oe_dims.specs.Dimensions.{Dimensions, cell_count}
+use Rattle.oe_dims.specs.Dimensions.{Dimensions, cell_count, numbers_along}
 use Rattle.oe_dims.specs.declared.kind.CellKind.{CellKind}
 use Rattle.oe_dims.specs.declared.kind.CellKind.TheVariants.{Numbers}
 use Rattle.oe_dims.specs.declared.kind.Kind.{Kind}
 use Rattle.oe_dims.specs.declared.kind.Kind.TheVariants.{Time, Y, X}
-use Rattle.oe_mosaic.specs.Labels.{bands_with, labels_with, numbers_along}
+use Rattle.oe_mosaic.specs.Labels.{bands_with, labels_with}
 use Rattle.oe_outside.specs.Faults.{last_count}
 use Rattle.oe_sources.specs.Source.{Contents, Source}
 

@@ -4,7 +4,8 @@ ghost use Rattle.std.specs.List.{list_any};
 ghost use Rattle.std.specs.Option.{option_map};
 ghost use Rattle.oe_dims.specs.Lists.{items_of};
 ghost use Rattle.oe_dims.specs.Names.{same_name};
-ghost use Rattle.oe_mosaic.specs.Labels.{join_bands, join_labels, merge_labels, new_names, numbers_along, stands_before};
+ghost use Rattle.oe_dims.specs.Dimensions.{numbers_along};
+ghost use Rattle.oe_mosaic.specs.Labels.{join_bands, join_labels, merge_labels, new_names, stands_before};
 
 use oe_dims::{Kind, Shape, Text, copy_bands, same_name};
 use oe_memory::OutOfMemory;

@@ -1,11 +1,10 @@
 // How a window lies in a part.
 ghost use Rattle.std.specs.Prelude.{◌≡◌, ◌+◌, ◌<◌, ◌≤◌, ℕ, true, length, slice_get, IfSome};
 ghost use Rattle.std.specs.List.{Contains, slice_range};
-ghost use Rattle.oe_dims.specs.Dimensions.{band_names, extent, number_labels};
+ghost use Rattle.oe_dims.specs.Dimensions.{band_names, extent, number_labels, numbers_along};
 ghost use Rattle.oe_dims.specs.Indices.{is_inside, same_number};
 ghost use Rattle.oe_dims.specs.Names.{same_name};
 ghost use Rattle.oe_dims.specs.Rules.{IsInOrder};
-ghost use Rattle.oe_mosaic.specs.Labels.{numbers_along};
 ghost use Rattle.oe_mosaic.specs.Places.{HasNoTupleOf, HasNumbersOf, HaveAllBetween, IsOfNumbers, LieAlong, LieAmong, LiesAlong, LiesIn, first_index, has_across, has_apart, is_across, is_apart, span_in_part};
 ghost use Rattle.oe_window.specs.Windows.{Holds, IsEmpty, span_length, whole_window};
 

@@ -1,7 +1,6 @@
 // Where a window is cut that lies across several parts. Any cut gives the same cells; one at a seam gives few pieces.
 ghost use Rattle.std.specs.Prelude.{◌≡◌, ◌≤◌, ◌<◌, length};
-ghost use Rattle.oe_dims.specs.Dimensions.{extent};
-ghost use Rattle.oe_mosaic.specs.Labels.{numbers_along};
+ghost use Rattle.oe_dims.specs.Dimensions.{extent, numbers_along};
 ghost use Rattle.oe_mosaic.specs.Places.{IsOfNumbers};
 ghost use Rattle.oe_window.specs.Windows.{Holds, IsEmpty, whole_window};
 

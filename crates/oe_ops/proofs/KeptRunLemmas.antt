@@ -3,7 +3,7 @@ use Rattle.std.proofs.Common.{◌≡◌, ℕ, zero, suc, ◌+◌, ◌<◌, ◌�
 use Rattle.std.specs.Prelude.{int_le}
 use Rattle.std.specs.List.{slice_get}
 use Rattle.std.specs.Option.{unwrap_or}
-use Rattle.std.proofs.lemmas.Bool.{cases_Bool}
+use Rattle.std.proofs.lemmas.Bool.{cases_Bool, false_from_ne_true}
 use Rattle.std.proofs.lemmas.Int.{ints}
 use Rattle.oe_dims.specs.Cube.{index_along}
 use Rattle.oe_dims.specs.Dimensions.{extent, falls, rises}
@@ -39,10 +39,6 @@ none_pass test (x ∷ labels) fail =
     let rest = none_pass test labels (λ k lt. fail (suc k) (omega arith)) in
     rw (here, rest) refl
 
-not_true : (b : Bool) → ¬ (b ≡ true) → b ≡ false
-not_true true h = absurd (h refl)
-not_true false h = refl
-
 empty_run : (labels : List ℤ) → IsRunAt labels [] 0
 empty_run labels = record { within = omega arith; each = λ k lt. absurd (omega arith) }
 
@@ -71,7 +67,7 @@ first_run test (x ∷ labels) h = elim (cases_Bool (test x)) [
       let rest = first_run test labels (λ i j lt l p. h (suc i) (suc j) (omega arith) (omega arith) p) in
       rw passes (longer_run x labels (filter test labels) rest)
   | inr fails ↦
-      let none = none_pass test labels (λ k lt. not_true (test (get_or labels k (pos 0))) (λ p. true≢false (sym (h 0 (suc k) (omega arith) (omega arith) p) ∙ fails))) in
+      let none = none_pass test labels (λ k lt. false_from_ne_true (test (get_or labels k (pos 0))) (λ p. true≢false (sym (h 0 (suc k) (omega arith) (omega arith) p) ∙ fails))) in
       rw (fails, none) (empty_run (x ∷ labels))
 ]
 

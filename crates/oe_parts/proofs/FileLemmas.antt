@@ -8,13 +8,13 @@ use Rattle.oe_cell.specs.declared.cell.Cell.{Cell}
 use Rattle.oe_cell.specs.declared.cell.Cell.TheVariants.{Empty}
 use Rattle.oe_cell.proofs.ListLemmas.{length-records_of}
 use Rattle.oe_dims.specs.Cube.{Cube}
+use Rattle.oe_dims.proofs.ListsLemmas.{take_front}
 use Rattle.oe_window.specs.Cells.{cells_on}
 use Rattle.oe_window.specs.Windows.{position_count}
 use Rattle.oe_window.specs.declared.window.Window.{Window}
 use Rattle.oe_window.proofs.CellLemmas.{length-cells_on}
 use Rattle.oe_parts.specs.Head.{PartHead, front_bytes}
 use Rattle.oe_parts.specs.PartFile.{IsPartFile, IsPartOf, cells_on_all, chunks_of}
-use Rattle.oe_parts.proofs.OpenLemmas.{take_front}
 
 pub length-cells_on_all : (cube : Cube Cell) (ws : List Window) → length (cells_on_all cube ws) ≡ sum_by position_count ws
 length-cells_on_all cube [] = refl

@@ -1,8 +1,9 @@
 -- The start of a part file, its header, and that the bytes are the file of one head alone.
-use Rattle.std.proofs.Common.{◌≡◌, ℕ, ◌+◌, ◌*◌, ◌<◌, ◌≤◌, ◌^◌, Bool, true, false, List, [], ◌∷◌, ◌++◌, length, get_or, take, drop, Option, Some, None, IfSome, codes, refl, sym, ap, ◌∙◌, subst, arith}
+use Rattle.std.proofs.Common.{◌≡◌, ℕ, ◌+◌, ◌*◌, ◌<◌, ◌≤◌, ◌^◌, Bool, true, false, List, [], ◌++◌, length, get_or, take, drop, Option, Some, None, IfSome, codes, refl, sym, ap, ◌∙◌, subst, arith}
 use Rattle.std.specs.Int.{w32, to_be_bytes, from_be_bytes}
 use Rattle.std.proofs.lemmas.Nat.{be_bytes_4, from_be_bytes-to_be_bytes_4}
 use Rattle.std.proofs.lemmas.List.{take-append-drop, take-take, drop-take, length-append}
+use Rattle.oe_dims.proofs.ListsLemmas.{drop_front, take_front}
 use Rattle.oe_outside.specs.Stored.{HoldsAt, StoreHolds}
 use Rattle.oe_parts.specs.Head.{AreSides, IsPartHead, PartHead, chunk_total, front_bytes, header_text, most_header}
 use Rattle.oe_parts.specs.HeadRead.{IsReadHead}
@@ -59,20 +60,6 @@ pub length-front : (head : PartHead) → length (front_bytes head) ≡ 12 + leng
 length-front head =
     let n = length (header_text head) in
     length-append (start_bytes n) (header_text head) ∙ ap (λ (m : ℕ). m + n) (length-start n)
-
-pub take_front : (a b : List ℕ) (n : ℕ) → length a ≡ n → take n (a ++ b) ≡ a
-take_front a b n e = ap (λ (m : ℕ). take m (a ++ b)) (sym e) ∙ seam a b
-  where
-    seam : (xs ys : List ℕ) → take (length xs) (xs ++ ys) ≡ xs
-    seam [] ys = refl
-    seam (x ∷ xs) ys = ap (λ (zs : List ℕ). x ∷ zs) (seam xs ys)
-
-drop_front : (a b : List ℕ) (n : ℕ) → length a ≡ n → drop n (a ++ b) ≡ b
-drop_front a b n e = ap (λ (m : ℕ). drop m (a ++ b)) (sym e) ∙ seam a b
-  where
-    seam : (xs ys : List ℕ) → drop (length xs) (xs ++ ys) ≡ ys
-    seam [] ys = refl
-    seam (x ∷ xs) ys = seam xs ys
 
 file_start : (all : List ℕ) (head : PartHead) → IsPartFile all head → take 12 all ≡ start_bytes (length (header_text head))
 file_start all head file =

@@ -13,7 +13,7 @@ use Rattle.oe_cell.specs.declared.cell.Cell.{Cell}
 use Rattle.oe_cell.specs.declared.cell.Cell.TheVariants.{Empty, Flag, Number, Over}
 use Rattle.oe_periods.specs.Sums.{HasSummed, IsSumOf, StaysNull, left_sum, running_sum, sum_at, sum_so_far}
 
-abbrev counts : Cell → Bool
+abbrev pub counts : Cell → Bool
 counts c = not (is_empty c)
 
 -- ---- tests of one more
@@ -62,7 +62,7 @@ sum_past_null : (cells : List Cell) → sum_so_far (cells ++ Empty ∷ []) ≡ s
 sum_past_null cells = ap left_sum (filter-append counts cells (Empty ∷ []) ∙ append-nil (filter counts cells))
 
 -- where all cells are null none counts
-none_counts : (cells : List Cell) → list_all is_empty cells ≡ true → filter counts cells ≡ []
+pub none_counts : (cells : List Cell) → list_all is_empty cells ≡ true → filter counts cells ≡ []
 none_counts [] h = refl
 none_counts (Empty ∷ cells) h = none_counts cells h
 none_counts (Over ∷ cells) h = absurd cc

@@ -75,7 +75,7 @@ times_total [] = omega arith
 times_total (seconds ∷ labels) =
     omega (arith, quoted_length (instant_text seconds), time_length seconds, times_total labels)
 
-name_short : (name : List ℕ) → is_name name ≡ true → length name ≤ 64
+pub name_short : (name : List ℕ) → is_name name ≡ true → length name ≤ 64
 name_short name h =
     let parts = and_parts (nat_le 1 (length name) && nat_le (length name) 64) (list_all is_name_byte name) h in
     leb-true (length name) 64 (and_parts (nat_le 1 (length name)) (nat_le (length name) 64) parts.0).1

@@ -1,5 +1,5 @@
 -- The text of a cube is read as that cube.
-use Rattle.std.proofs.Common.{◌≡◌, ℕ, ◌≤◌, ◌==◌, ◌&&◌, ◌||◌, nat_le, ℤ, pos, neg_ℤ, List, [], ◌∷◌, ◌++◌, length, map, filter, codes, decimal, Bool, true, false, Option, Some, None, is_some, IsUtf8, refl, sym, ap, ◌∙◌, subst, append_assoc, arith, eq-eqb, eqb-true}
+use Rattle.std.proofs.Common.{◌≡◌, ℕ, ◌≤◌, ◌==◌, ◌&&◌, ◌||◌, nat_le, ℤ, List, [], ◌∷◌, ◌++◌, length, map, filter, codes, decimal, Bool, true, false, Option, Some, None, is_some, IsUtf8, refl, sym, ap, ◌∙◌, subst, append_assoc, arith, eq-eqb, eqb-true}
 use Rattle.std.specs.Prelude.{if◌then◌else◌, unwrap_or}
 use Rattle.std.specs.Fmt.{signed_decimal}
 use Rattle.std.specs.List.{filter_map, list_all}
@@ -13,7 +13,7 @@ use Rattle.serde_json.specs.Written.{compact_text, items_text}
 use Rattle.oe_cell.specs.Spelling.{cell_text}
 use Rattle.oe_cell.specs.declared.cell.Cell.{Cell}
 use Rattle.oe_dims.specs.Cube.{IsCube}
-use Rattle.oe_dims.specs.Dimensions.{Dimensions, IsShape, all_kinds, all_between, first_instant, last_instant, farthest_coordinate, number_labels, band_names, label_count}
+use Rattle.oe_dims.specs.Dimensions.{Dimensions, IsShape, all_kinds, all_between, first_instant, last_instant, number_labels, band_names, label_count}
 use Rattle.oe_dims.specs.Names.{is_name}
 use Rattle.oe_dims.specs.declared.kind.CellKind.{CellKind}
 use Rattle.oe_dims.specs.declared.kind.Kind.{Kind}
@@ -23,7 +23,7 @@ use Rattle.oe_render.specs.CubeText.{Each, Along, AreDimensions, IsCubeText, Spe
 use Rattle.oe_render.specs.Text.{listed_text, quoted, dimension_text, present_text, cube_text}
 use Rattle.oe_render.proofs.Leaves.{AreLeaves, AreTexts, items, count_leaf, items_more, leaves_written, leaves_shallow, leaves_same, leaves_texts}
 use Rattle.oe_render.proofs.ReadBack.{IsWritten, AreWritten, ordered, items_ordered, written_utf8, written_read}
-use Rattle.oe_render.proofs.Spells.{time_data, time_text, whole_data, cell_data, time_leaves, each_time, name_leaves, each_name, coordinate_leaves, each_coordinate, AreFit, cell_leaves, each_cell}
+use Rattle.oe_render.proofs.Spells.{time_data, time_text, whole_data, cell_data, time_leaves, each_time, name_leaves, each_name, coordinate_leaves, each_coordinate, AreFit, cell_leaves, each_cell, are_near}
 use Rattle.oe_render.proofs.Texts.{listed_is_more}
 
 -- ---- dimensions
@@ -70,7 +70,7 @@ record HasLeaves (d : Dimensions) : Type 0 where
   x : AreLeaves whole_data signed_decimal (number_labels d X)
   epsg : d.epsg ≤ 999999
 
-epsg_within : (d : Dimensions) (there : Bool) → (if there then nat_le 1 d.epsg && nat_le d.epsg 999999 else d.epsg == 0) ≡ true → d.epsg ≤ 999999
+pub epsg_within : (d : Dimensions) (there : Bool) → (if there then nat_le 1 d.epsg && nat_le d.epsg 999999 else d.epsg == 0) ≡ true → d.epsg ≤ 999999
 epsg_within d true h = leb-true d.epsg 999999 (and_parts _ _ h).1
 epsg_within d false h = let none : d.epsg ≡ 0 = eqb-true d.epsg 0 h in omega (arith, none)
 
@@ -185,9 +185,6 @@ bands_along : (o : Option (List (List ℕ))) → list_all is_name (unwrap_or o [
 bands_along None h = tt
 bands_along (Some names) h =
     (items_ordered (items string names), refl, subst (λ ds. Each SpellsName ds names) (sym (leaves_same string quoted names (name_leaves names h))) (each_name names))
-
-abbrev are_near : List ℤ → Bool
-are_near labels = all_between (neg_ℤ (pos farthest_coordinate)) (pos farthest_coordinate) labels
 
 each_ordered : (labels : List ℤ) → are_near labels ≡ true → Each SpellsCoordinate (items_ordered (items whole_data labels)) labels
 each_ordered labels h =

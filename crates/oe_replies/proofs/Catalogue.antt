@@ -3,6 +3,7 @@ use Rattle.std.proofs.Common.{◌≡◌, ℕ, ◌≤◌, ◌^◌, List, [], Bool
 use Rattle.std.specs.Fmt.{digits}
 use Rattle.std.specs.Prelude.{nat_lt, option_and_then}
 use Rattle.std.proofs.lemmas.Bool.Decides.{nat_tests}
+use Rattle.std.proofs.lemmas.Bool.{and_parts}
 use Rattle.json.specs.Json as json
 use Rattle.json.specs.Lex.{tokens}
 use Rattle.json.specs.Token.{Token}
@@ -41,10 +42,6 @@ abbrev mutual
   members_are_short no_members = true
   members_are_short (member k d ms) = are_short d && members_are_short ms
 
-both : (a b : Bool) → (a && b) ≡ true → (a ≡ true) × (b ≡ true)
-both true b h = (refl, h)
-both false b h = absurd cc
-
 mutual
   have_numbers : (d : Data) → are_short d ≡ true → HasNumbers (outline d)
   have_numbers null h = tt
@@ -59,13 +56,13 @@ mutual
   items_have_numbers : (ds : Items) → items_are_short ds ≡ true → ItemsHaveNumbers (items_outline ds)
   items_have_numbers no_items h = tt
   items_have_numbers (item d ds) h =
-      let parts = both (are_short d) (items_are_short ds) h in
+      let parts = and_parts (are_short d) (items_are_short ds) h in
       (have_numbers d parts.0, items_have_numbers ds parts.1)
 
   members_have_numbers : (ms : Members) → members_are_short ms ≡ true → MembersHaveNumbers (members_outline ms)
   members_have_numbers no_members h = tt
   members_have_numbers (member k d ms) h =
-      let parts = both (are_short d) (members_are_short ms) h in
+      let parts = and_parts (are_short d) (members_are_short ms) h in
       (have_numbers d parts.0, members_have_numbers ms parts.1)
 
 -- the tokens of a compact text

@@ -1,13 +1,11 @@
 -- What a valid book takes of the bodies of requests.
-use Rattle.std.proofs.Common.{◌≡◌, ℕ, ◌≤◌, List, codes, Bool, true, false, Option, Some, None, Ordering, Less, Equal, Greater, nat_cmp, Result, Ok, refl, sym, ap, ◌∙◌, subst, arith, Bor}
+use Rattle.std.proofs.Common.{◌≡◌, ℕ, ◌≤◌, List, codes, Bool, true, false, Option, Some, None, Result, Ok, refl, sym, ap, ◌∙◌, subst, arith, Bor}
 use Rattle.std.specs.Prelude.{IfSome, is_some, unwrap_or}
-use Rattle.std.specs.Cmp.Lexicographic.{slice_cmp}
-use Rattle.std.specs.Ordering.{match_ordering}
 use Rattle.std.specs.Option.{option_copied, option_map}
 use Rattle.serde_json.specs.View.{view}
 use Rattle.serde_json.specs.declared.value.Value.{Value}
-use Rattle.serde_json.specs.Data.{Data, null, boolean, number, string, array, object, Members, no_members, member, depth, members_depth}
-use Rattle.serde_json.specs.Find.{as_object, get, get_member}
+use Rattle.serde_json.specs.Data.{Data, null, boolean, number, string, array, object, depth}
+use Rattle.serde_json.specs.Find.{as_object, get}
 use Rattle.serde_json.specs.Read.{max_depth}
 use Rattle.oe_graph.specs.AsRead.{is_as_read}
 use Rattle.oe_graph.specs.Form.{IsReading}
@@ -17,24 +15,13 @@ use Rattle.oe_graph.specs.Valid.{IsValidGraph}
 use Rattle.oe_graph.specs.declared.fault.Fault.{Fault}
 use Rattle.oe_graph.proofs.AsReadLemmas.{get_as_read, read_as_read}
 use Rattle.oe_graph.proofs.ValidLemmas.{IsPrintable-valid}
+use Rattle.oe_graph.proofs.Depths.{member_depth}
 use Rattle.oe_jobs.specs.Valid.{AreWords}
 use Rattle.oe_routes.specs.Forms.{IsProcess, IsSent, faultless, object_in, object_where}
 use Rattle.oe_routes.specs.Found.{IsFaultWhere, IsJson, process_in}
 use Rattle.oe_routes.specs.Rejections.{Rejected, ◌>>=◌}
 
 -- ---- a member is no deeper than its object
-
-by_order : (o : Ordering) (d e : Data) (rest : Option Data) (n : ℕ)
-    → match_ordering o rest (Some d) rest ≡ Some e → depth d ≤ n → (rest ≡ Some e → depth e ≤ n) → depth e ≤ n
-by_order Less d e rest n is here there = there is
-by_order Equal d e rest n is here there = let same : d ≡ e = cc in subst (λ x. depth x ≤ n) same here
-by_order Greater d e rest n is here there = there is
-
-member_depth : (k : List ℕ) (ms : Members) (e : Data) → get_member k ms ≡ Some e → depth e ≤ members_depth ms
-member_depth k no_members e is = absurd cc
-member_depth k (member l d ms) e is =
-    by_order (slice_cmp nat_cmp k l) d e (get_member k ms) _ is (omega arith)
-    (λ rest. let below = member_depth k ms e rest in omega arith)
 
 pub get_depth : (k : List ℕ) (d e : Data) → get k d ≡ Some e → depth e ≤ depth d
 get_depth k null e is = absurd cc

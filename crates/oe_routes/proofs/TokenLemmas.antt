@@ -7,8 +7,9 @@ use Rattle.std.proofs.lemmas.List.Splits.{slice_split_first, slice_split_none, l
 use Rattle.std.proofs.lemmas.List.Sums.{fails_before_first}
 use Rattle.std.proofs.lemmas.Str.{IsUtf8-from_ascii}
 use Rattle.oe_dims.specs.Names.{is_byte_in}
+use Rattle.oe_dims.specs.Lists.{is_line_feed, lines_of}
 use Rattle.std.proofs.lemmas.Bool.{and_parts}
-use Rattle.oe_routes.specs.Tokens.{Adds, Entry, entries_from, entry_in, has_token, has_user, is_id, is_id_byte, is_line_feed, is_token, lines_of, may_follow}
+use Rattle.oe_routes.specs.Tokens.{Adds, Entry, entries_from, entry_in, has_token, has_user, is_id, is_id_byte, is_token, may_follow}
 
 -- nothing stands behind the last line feed
 pub no_more : (before : List Entry) (rest : List ℕ) → length rest ≡ 0 → entries_from before (lines_of rest) ≡ Ok before

@@ -1,9 +1,7 @@
 -- The parameters of a path: its second and its fourth segment. Nothing is decoded.
-use Rattle.std.specs.Prelude.{ℕ, ◌==◌, Bool, List}
+use Rattle.std.specs.Prelude.{ℕ, List}
 use Rattle.std.specs.List.{before_first, after_first}
-
-abbrev pub is_slash : ℕ → Bool
-is_slash byte = byte == 47
+use Rattle.oe_pages.specs.Pages.{is_slash}
 
 -- what stands before and behind the first slash
 abbrev pub segment : List ℕ → List ℕ

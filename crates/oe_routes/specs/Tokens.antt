@@ -1,7 +1,8 @@
 -- The file of tokens: a line `USER TOKEN` with a line feed for each user.
 use Rattle.std.specs.Prelude.{◌≡◌, ⊤, ℕ, ◌+◌, ◌==◌, ◌&&◌, ◌||◌, nat_le, nat_lt, not, if◌then◌else◌, Bool, bytes_eq, List, [], ◌∷◌, ◌++◌, length, Result, Ok, Err}
-use Rattle.std.specs.List.{before_first, after_first, list_all, list_any, slice_split}
+use Rattle.std.specs.List.{before_first, after_first, list_all, list_any}
 use Rattle.oe_dims.specs.Names.{is_byte_in}
+use Rattle.oe_dims.specs.Lists.{lines_of}
 use Rattle.oe_routes.specs.declared.tokens.TokensFail.{TokensFail}
 use Rattle.oe_routes.specs.declared.tokens.TokensFail.TheVariants.{Invalid, OutOfMemory}
 
@@ -46,14 +47,6 @@ may_follow before entry =
     && not (list_any (has_user entry.0) before) && not (list_any (has_token entry.1) before)
 
 -- ---- the file
-
-abbrev pub is_line_feed : ℕ → Bool
-is_line_feed byte = byte == 10
-
--- what stands before, between and behind the line feeds of the bytes: the last of these is no line but what follows the
--- last one, and nothing may
-abbrev pub lines_of : List ℕ → List (List ℕ)
-lines_of bytes = slice_split is_line_feed bytes
 
 -- the entries of these lines behind those before them, or the number of the first bad line, from 1
 abbrev pub entries_from : List Entry → List (List ℕ) → Result (List Entry) ℕ

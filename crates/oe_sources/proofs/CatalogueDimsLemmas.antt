@@ -1,12 +1,12 @@
 -- The rows of a catalogue, put in the order of their ids.
-use Rattle.std.proofs.Common.{◌≡◌, ℕ, zero, suc, ◌+◌, ◌<◌, ◌≤◌, Bool, true, false, cond, not, ◌||◌, List, [], ◌∷◌, map, length, drop, get_or, add-one, Option, Some, None, refl, sym, ap, ◌∙◌, arith, inl, inr}
+use Rattle.std.proofs.Common.{◌≡◌, ℕ, zero, suc, ◌+◌, ◌<◌, ◌≤◌, Bool, true, false, cond, ◌||◌, List, [], ◌∷◌, map, length, drop, get_or, add-one, Option, Some, None, refl, sym, ap, ◌∙◌, arith, inl, inr}
 use Rattle.std.specs.Cmp.Lexicographic.{slice_cmp}
 use Rattle.std.specs.FinMap.{slice_cmp-IsAntisymmetric, nat_cmp-IsAntisymmetric}
 use Rattle.std.specs.List.{find, list_any}
 use Rattle.std.specs.Option.{option_map}
 use Rattle.std.specs.Ordering.{nat_cmp}
 use Rattle.std.proofs.Math.Seq.{drop-cons}
-use Rattle.std.proofs.lemmas.Bool.{cases_Bool, and_parts, and_from, false≢true}
+use Rattle.std.proofs.lemmas.Bool.{cases_Bool, and_parts, and_from, false≢true, not-true}
 use Rattle.std.proofs.lemmas.Cmp.{nat_list_cmp_total}
 use Rattle.std.proofs.lemmas.List.{drop_all, length-map}
 use Rattle.oe_dims.proofs.OrderLemmas.{same_name_is, same_name_refl}
@@ -137,10 +137,6 @@ lacks_put row (first ∷ rows) id other none = elim (cases_Bool (is_name_before 
   | inr f ↦ let parts = or_parts (same_name first.id id) _ none in rw (put_behind row first rows f) (or_from _ _ parts.0 (lacks_put row rows id other parts.1))
 ]
 
-not_true : (b : Bool) → not b ≡ true → b ≡ false
-not_true false e = refl
-not_true true e = cc
-
 -- where no row has the name, none has another spelling of it
 none_among : (x id : List ℕ) (rows : List Row) → list_any (same_name x) (row_ids rows) ≡ false → same_name x id ≡ true → list_any (λ (row : Row). same_name row.id id) rows ≡ false
 none_among x id [] none same = refl
@@ -158,7 +154,7 @@ here row rows = ap (λ b. b || list_any (λ (r : Row). same_name r.id row.id) ro
 still_apart : (row : Row) (done : List DimsRow) (rows : List Row) → all_differ (row_ids (row ∷ rows)) ≡ true → AreApart done (row ∷ rows) → AreApart (put_row (dims_row row) done) rows
 still_apart row done rows differ apart id among =
     let differs : same_name row.id id ≡ false = elim (cases_Bool (same_name row.id id)) [
-      | inl t ↦ absurd (false≢true (sym (none_among row.id id rows (not_true _ (and_parts _ _ differ).0) t) ∙ among))
+      | inl t ↦ absurd (false≢true (sym (none_among row.id id rows (not-true _ (and_parts _ _ differ).0) t) ∙ among))
       | inr f ↦ f
     ] in
     lacks_put (dims_row row) done id differs (apart id (or_true _ _ among))
@@ -176,7 +172,7 @@ step : (row : Row) (done : List DimsRow) (rows : List Row) (id : List ℕ) → l
     ≡ first_of (option_map dims_row (row_of (row ∷ rows) id)) (find (λ (r : DimsRow). same_name r.id id) done)
 step row done rows id none differ = elim (cases_Bool (same_name row.id id)) [
   | inl t ↦
-      let missing = find_lacks rows id (none_among row.id id rows (not_true _ (and_parts _ _ differ).0) t) in
+      let missing = find_lacks rows id (none_among row.id id rows (not-true _ (and_parts _ _ differ).0) t) in
       rw (find_put (dims_row row) done id none, missing, t) refl
   | inr f ↦ rw (find_put (dims_row row) done id none, f) refl
 ]

@@ -2,10 +2,11 @@
 use Rattle.std.proofs.Common.{◌≡◌, ℕ, zero, suc, ◌+◌, ◌<◌, ◌≤◌, Bool, true, false, ◌||◌, not, List, [], ◌∷◌, ◌++◌, map, length, get_or, set, slice_get, is_some, nat_le, Option, Some, None, Result, Ok, Err, OnOk, OnErr, refl, sym, ap, ◌∙◌, subst, arith, inl, inr, IfSome}
 use Rattle.std.specs.List.{find, list_all, list_any, remove}
 use Rattle.std.specs.Option.{option_map, option_map_or}
-use Rattle.std.proofs.lemmas.Bool.{and_from, and_parts, cases_Bool, false≢true}
+use Rattle.std.proofs.lemmas.Bool.{and_from, and_parts, cases_Bool, false≢true, not-true}
 use Rattle.std.proofs.lemmas.List.{length-map}
 use Rattle.std.proofs.lemmas.Option.{same_Some, slice_get-get_or}
 use Rattle.oe_dims.proofs.OrderLemmas.{same_name_is, same_name_refl}
+use Rattle.oe_dims.proofs.IndexLemmas.{later_index}
 use Rattle.oe_dims.specs.Dimensions.{all_differ}
 use Rattle.oe_dims.specs.Indices.{index_where}
 use Rattle.oe_dims.specs.Names.{is_name, same_name}
@@ -24,10 +25,6 @@ use Rattle.oe_window.specs.declared.window.Window.{Window}
 pub index_where-map : {A B : Type 0} (f : A → B) (test : B → Bool) (xs : List A) → index_where test (map f xs) ≡ index_where (λ x. test (f x)) xs
 index_where-map f test [] = refl
 index_where-map f test (x ∷ xs) = rw (index_where-map f test xs) refl
-
-later_index : (index : Option ℕ) (p : ℕ) → option_map (λ n. n + 1) index ≡ Some p → (n : ℕ) × (index ≡ Some n) × (p ≡ suc n)
-later_index None p e = cc
-later_index (Some n) p e = let same : n + 1 ≡ p = cc in (n, refl, omega arith)
 
 no_later_index : (index : Option ℕ) → option_map (λ n. n + 1) index ≡ None → index ≡ None
 no_later_index None e = refl
@@ -179,12 +176,8 @@ or_parts true b e = cc
 or_from : (a b : Bool) → a ≡ false → b ≡ false → (a || b) ≡ false
 or_from a b ea eb = rw (ea, eb) refl
 
-not_true : (b : Bool) → not b ≡ true → b ≡ false
-not_true false e = refl
-not_true true e = cc
-
 head_differs : (id : List ℕ) (ids : List (List ℕ)) → all_differ (id ∷ ids) ≡ true → list_any (same_name id) ids ≡ false
-head_differs id ids e = not_true _ (and_parts _ _ e).0
+head_differs id ids e = not-true _ (and_parts _ _ e).0
 
 -- where no id of the items is this one, each row passes by
 others_differ : (x id other : List ℕ) → same_name x id ≡ true → same_name x other ≡ false → same_name other id ≡ false

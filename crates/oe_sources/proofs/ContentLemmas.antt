@@ -17,9 +17,8 @@ use Rattle.oe_cube.specs.Kinds.{is_null_or_of}
 use Rattle.oe_dims.specs.Dimensions.{Dimensions, cell_count}
 use Rattle.oe_dims.specs.Positions.{Position, number_of}
 use Rattle.oe_dims.specs.declared.kind.CellKind.{CellKind}
-use Rattle.oe_dims.specs.declared.kind.CellKind.TheVariants.{Numbers, Flags}
 use Rattle.oe_dims.proofs.CubeLemmas.{number_below}
-use Rattle.oe_dims.proofs.FlatMapLemmas.{value_at}
+use Rattle.oe_dims.proofs.FlatMapLemmas.{slice_get-append_left, value_at}
 use Rattle.oe_sources.specs.CubeFile.{cell_stored, contents_of, is_damaged}
 use Rattle.oe_sources.specs.Head.{Head, IsHead}
 use Rattle.oe_sources.specs.OpenedFile.{AreOfKind, AreStoredFrom, IsDamageFrom}
@@ -27,8 +26,9 @@ use Rattle.oe_sources.specs.Source.{AreCellsOf, TellsDamage, collection_with}
 use Rattle.oe_sources.specs.StoredCell.{stored_cell}
 use Rattle.oe_sources.specs.declared.source.SourceFail.{SourceFail}
 use Rattle.oe_sources.specs.declared.source.SourceFail.TheVariants.{Failed, Damaged}
-use Rattle.oe_sources.proofs.PieceLemmas.{slice_get_back, slice_get_front, slice_get_take}
+use Rattle.oe_sources.proofs.PieceLemmas.{slice_get_back, slice_get_take}
 use Rattle.oe_sources.proofs.StoredLemmas.{from_stored}
+use Rattle.oe_sources.proofs.SourceLemmas.{all_true, null_fits}
 use Rattle.oe_wide.specs.declared.width.Width.{Width}
 use Rattle.oe_window.specs.Runs.{EndWithin, window_numbers}
 use Rattle.oe_window.specs.Windows.{Holds, IsIn, number_in, position_count, positions, whole_window}
@@ -55,17 +55,9 @@ unfolding contents_of
 content_count head all =
     length-map-range_with_len (λ (m : ℕ). unwrap_or (cell_stored head all m) Empty) 0 (cell_count head.shape)
 
-null_fits : (kind : CellKind) → is_null_or_of kind Empty ≡ true
-null_fits Numbers = refl
-null_fits Flags = refl
-
 stored_fits : (kind : CellKind) (w : Width) (bytes : List ℕ) (o : Option Cell) → stored_cell kind w bytes ≡ o → is_null_or_of kind (unwrap_or o Empty) ≡ true
 stored_fits kind w bytes None e = null_fits kind
 stored_fits kind w bytes (Some c) e = (from_stored kind w bytes c e).of_kind
-
-all_true : {A : Type 0} (p : A → Bool) (xs : List A) → ((a : A) → p a ≡ true) → list_all p xs ≡ true
-all_true p [] h = refl
-all_true p (x ∷ xs) h = rw (h x) (all_true p xs h)
 
 -- each of the kind
 pub content_kind : (head : Head) (all : List ℕ) → list_all (is_null_or_of head.kind) (contents_of head all).cells ≡ true
@@ -86,7 +78,7 @@ fronted : {X : Type 0} (b : Bool) (y x : X) (zs : List X) → Contains zs x → 
 fronted true y x zs h = Contains-append_right (y ∷ []) zs x h
 fronted false y x zs h = h
 
-kept : {X : Type 0} (p : X → Bool) (xs : List X) (x : X) (k : ℕ) → slice_get xs k ≡ Some x → p x ≡ true → Contains (filter p xs) x
+pub kept : {X : Type 0} (p : X → Bool) (xs : List X) (x : X) (k : ℕ) → slice_get xs k ≡ Some x → p x ≡ true → Contains (filter p xs) x
 kept p [] x k e h = cc
 kept p (y ∷ ys) x zero e h =
     let same : y ≡ x = same_Some y x e in
@@ -141,7 +133,7 @@ more_read (Some all) head numbers left next first count done into new rest visit
     elim (cases_lt k done) [
       | inl inner ↦
           before k n inner e
-          ∙ sym (slice_get_front (take done into) (new ++ rest) k (omega (arith, inner, front)) ∙ slice_get_take done into k inner (omega (arith, inner, room)))
+          ∙ sym (slice_get-append_left (take done into) (new ++ rest) k (omega (arith, inner, front)) ∙ slice_get_take done into k inner (omega (arith, inner, room)))
       | inr outer ↦ (
           let i = k - done in
           let index : k ≡ done + i = omega (arith, outer) in
@@ -150,7 +142,7 @@ more_read (Some all) head numbers left next first count done into new rest visit
           let number : n ≡ first + i = same_Some n (first + i) (sym e ∙ visited) in
           let behind : k ≡ length (take done into) + i = omega (arith, index, front) in
           ap (cell_stored head all) number ∙ read i within
-          ∙ sym (ap (slice_get (take done into ++ (new ++ rest))) behind ∙ slice_get_back (take done into) (new ++ rest) i ∙ slice_get_front new rest i (omega (arith, within, long))))
+          ∙ sym (ap (slice_get (take done into ++ (new ++ rest))) behind ∙ slice_get_back (take done into) (new ++ rest) i ∙ slice_get-append_left new rest i (omega (arith, within, long))))
     ]
 
 some_of : (o : Option Cell) (c : Cell) → o ≡ Some c → unwrap_or o Empty ≡ c

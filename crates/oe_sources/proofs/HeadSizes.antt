@@ -1,17 +1,17 @@
 -- The header of every valid head keeps the limit of its length.
-use Rattle.std.proofs.Common.{◌≡◌, ℕ, zero, suc, ◌+◌, ◌*◌, ◌≤◌, ◌&&◌, ◌||◌, ◌==◌, nat_le, ℤ, pos, negsuc, neg_ℤ, unsigned_abs, ◌≤ℤ◌, List, [], ◌∷◌, ◌++◌, length, map, codes, decimal, Bool, true, false, Option, Some, None, is_some, IfSome, refl, eqb-true, ap, arith}
+use Rattle.std.proofs.Common.{◌≡◌, ℕ, zero, suc, ◌+◌, ◌*◌, ◌≤◌, ◌||◌, ℤ, pos, negsuc, neg_ℤ, unsigned_abs, ◌≤ℤ◌, List, [], ◌∷◌, ◌++◌, length, map, codes, decimal, Bool, true, false, Option, Some, None, is_some, IfSome, refl, ap, arith}
 use Rattle.std.specs.Prelude.{⊤, if◌then◌else◌}
 use Rattle.std.specs.Fmt.{signed_decimal}
 use Rattle.std.specs.Int.Signed.{le_z}
 use Rattle.std.specs.List.{filter_map, list_all}
 use Rattle.std.proofs.Math.Nat.{mul-suc}
-use Rattle.std.proofs.lemmas.Bool.{and_parts, leb-true}
+use Rattle.std.proofs.lemmas.Bool.{and_parts}
 use Rattle.std.proofs.lemmas.Fmt.{length-decimal-le, length_signed_le}
 use Rattle.std.proofs.lemmas.Int.{ints}
 use Rattle.std.proofs.lemmas.List.{length-append, length-map}
-use Rattle.oe_dims.specs.Dimensions.{Dimensions, IsShape, all_between, all_kinds, band_names, farthest_coordinate, extent, label_count, number_labels}
+use Rattle.oe_dims.specs.Dimensions.{Dimensions, IsShape, all_kinds, band_names, farthest_coordinate, extent, label_count, number_labels}
 use Rattle.oe_dims.specs.Instant.{instant_text}
-use Rattle.oe_dims.specs.Names.{is_name, is_name_byte}
+use Rattle.oe_dims.specs.Names.{is_name}
 use Rattle.oe_dims.specs.declared.kind.CellKind.{CellKind}
 use Rattle.oe_dims.specs.declared.kind.CellKind.TheVariants.{Numbers, Flags}
 use Rattle.oe_dims.specs.declared.kind.Kind.{Kind}
@@ -20,6 +20,9 @@ use Rattle.oe_dims.proofs.ShapeLemmas.{bands_are_names, extents_of_shape, fittin
 use Rattle.oe_render.specs.Text.{listed_text, quoted, separator, part_text, parts_after, dimension_head, dimension_text, label_texts, present_text}
 use Rattle.oe_render.specs.Members.{kind_word}
 use Rattle.oe_render.proofs.Texts.{le_from, listed_four}
+use Rattle.oe_render.proofs.Spells.{are_near}
+use Rattle.oe_render.proofs.WrittenCube.{epsg_within}
+use Rattle.oe_render.proofs.Lengths.{name_short}
 use Rattle.oe_sources.specs.Head.{Head, IsHead, header_text, most_header, widths_text}
 use Rattle.oe_sources.specs.HeadRead.{HasWidthsOf, IsHeadOf}
 use Rattle.oe_sources.specs.declared.head.Version.{Version}
@@ -56,19 +59,11 @@ short_instants : (labels : List ℤ) → AreShort 22 (map (λ label. quoted (ins
 short_instants [] = tt
 short_instants (l ∷ labels) = (omega (arith, length_quoted (instant_text l), length_instant l), short_instants labels)
 
-name_short : (name : List ℕ) → is_name name ≡ true → length name ≤ 64
-name_short name h =
-    let ends = and_parts (nat_le 1 (length name) && nat_le (length name) 64) (list_all is_name_byte name) h in
-    leb-true (length name) 64 (and_parts (nat_le 1 (length name)) (nat_le (length name) 64) ends.0).1
-
 short_names : (names : List (List ℕ)) → list_all is_name names ≡ true → AreShort 66 (map quoted names)
 short_names [] h = tt
 short_names (name ∷ names) h =
     let parts = and_parts (is_name name) (list_all is_name names) h in
     (omega (arith, length_quoted name, name_short name parts.0), short_names names parts.1)
-
-abbrev are_near : List ℤ → Bool
-are_near labels = all_between (neg_ℤ (pos farthest_coordinate)) (pos farthest_coordinate) labels
 
 near : (z : ℤ) → neg_ℤ (pos 1000000000) ≤ℤ z → z ≤ℤ pos 1000000000 → unsigned_abs z ≤ 1000000000
 near z low high = grind (arith, ints, low, high)
@@ -93,10 +88,6 @@ short_coordinates (z ∷ labels) h =
 length_four : (a b c d : List ℕ) → length (a ++ b ++ c ++ d) ≡ length a + length b + length c + length d
 length_four a b c d =
     omega (arith, length-append (a ++ b ++ c) d, length-append (a ++ b) c, length-append a b)
-
-epsg_within : (d : Dimensions) (there : Bool) → (if there then nat_le 1 d.epsg && nat_le d.epsg 999999 else d.epsg == 0) ≡ true → d.epsg ≤ 999999
-epsg_within d true h = leb-true d.epsg 999999 (and_parts _ _ h).1
-epsg_within d false h = let none : d.epsg ≡ 0 = eqb-true d.epsg 0 h in omega (arith, none)
 
 epsg_short : (d : Dimensions) → IsShape d → length (decimal d.epsg) ≤ 6
 epsg_short d valid =

@@ -1,9 +1,10 @@
 -- The start of a cube file, its header, and that the bytes are the file of one head alone.
-use Rattle.std.proofs.Common.{◌≡◌, ◌↔◌, ℕ, ◌+◌, ◌<◌, ◌≤◌, ◌^◌, Bool, true, false, List, [], ◌∷◌, ◌++◌, length, get_or, take, drop, Option, Some, None, IfSome, refl, sym, ap, ◌∙◌, subst, arith}
+use Rattle.std.proofs.Common.{◌≡◌, ◌↔◌, ℕ, ◌+◌, ◌<◌, ◌≤◌, ◌^◌, Bool, true, false, List, [], ◌++◌, length, get_or, take, drop, Option, Some, None, IfSome, refl, sym, ap, ◌∙◌, subst, arith}
 use Rattle.std.specs.Int.{w32, to_be_bytes, from_be_bytes}
 use Rattle.std.proofs.lemmas.Nat.{be_bytes_4, from_be_bytes-to_be_bytes_4}
 use Rattle.std.proofs.lemmas.List.{take-append-drop, take-take, drop-take, length-append}
 use Rattle.oe_dims.specs.Dimensions.{extent}
+use Rattle.oe_dims.proofs.ListsLemmas.{drop_front, take_front}
 use Rattle.oe_outside.specs.Stored.{HoldsAt, StoreHolds}
 use Rattle.oe_sources.specs.CubeFile.{IsCubeFile}
 use Rattle.oe_sources.specs.Head.{Head, IsHead, front_bytes, header_text, magic, most_header, record_bytes_count}
@@ -83,20 +84,6 @@ length-front head =
     let v = version_for head.widths in
     let n = length (header_text head) in
     ap length (front_is head) ∙ length-append (start_bytes v n) (header_text head) ∙ ap (λ (m : ℕ). m + n) (length-start v n)
-
-take_front : (a b : List ℕ) (n : ℕ) → length a ≡ n → take n (a ++ b) ≡ a
-take_front a b n e = ap (λ (m : ℕ). take m (a ++ b)) (sym e) ∙ seam a b
-  where
-    seam : (xs ys : List ℕ) → take (length xs) (xs ++ ys) ≡ xs
-    seam [] ys = refl
-    seam (x ∷ xs) ys = ap (λ (zs : List ℕ). x ∷ zs) (seam xs ys)
-
-drop_front : (a b : List ℕ) (n : ℕ) → length a ≡ n → drop n (a ++ b) ≡ b
-drop_front a b n e = ap (λ (m : ℕ). drop m (a ++ b)) (sym e) ∙ seam a b
-  where
-    seam : (xs ys : List ℕ) → drop (length xs) (xs ++ ys) ≡ ys
-    seam [] ys = refl
-    seam (x ∷ xs) ys = seam xs ys
 
 pub file_start : (all : List ℕ) (head : Head) → IsCubeFile all head → take 12 all ≡ start_bytes (version_for head.widths) (length (header_text head))
 file_start all head file =

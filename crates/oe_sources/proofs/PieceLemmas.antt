@@ -15,6 +15,7 @@ use Rattle.oe_sources.specs.CubeFile.{IsCubeFile, cell_stored, is_damaged, recor
 use Rattle.std.specs.Int.{w32, to_be_bytes}
 use Rattle.oe_dims.specs.Dimensions.{cell_count}
 use Rattle.oe_dims.proofs.ShapeLemmas.{cell_count_within}
+use Rattle.oe_dims.proofs.FlatMapLemmas.{slice_get-append_left}
 use Rattle.oe_sources.proofs.SizeLemmas.{byte_count_most, bytes_few, le_product, section_within, sections_few, sum_more}
 use Rattle.oe_sources.specs.Head.{Head, IsHead, front_bytes, header_text, magic, record_bytes_count, section_size, section_start, section_widths}
 use Rattle.oe_sources.specs.OpenedFile.{AreStoredFrom, HasRecords, IsDamageFrom}
@@ -126,15 +127,10 @@ offset_few head n valid below =
     let rest = le_product (byte_count (width_of head n)) (n % section_size head) 17 1099511627776 (byte_count_most (width_of head n)) (omega (arith, mod-le n (section_size head), below, cell_count_within head.shape valid.shape)) in
     omega (arith, start, rest)
 
-pub slice_get_front : (xs ys : List Cell) (j : ℕ) → j < length xs → slice_get (xs ++ ys) j ≡ slice_get xs j
-slice_get_front [] ys j h = absurd (omega (arith, h))
-slice_get_front (x ∷ xs) ys zero h = refl
-slice_get_front (x ∷ xs) ys (suc j) h = slice_get_front xs ys j (omega (arith, h))
-
 -- the cells that were read stand in front of the others
 pub in_front : (store : Option (List ℕ)) (head : Head) (m n : ℕ) (xs ys : List Cell) → n ≤ length xs → IfSome store (λ all. (k : ℕ) → k < n → cell_stored head all (m + k) ≡ slice_get xs k) → IfSome store (λ all. (k : ℕ) → k < n → cell_stored head all (m + k) ≡ slice_get (xs ++ ys) k)
 in_front None head m n xs ys room h = tt
-in_front (Some all) head m n xs ys room h = λ k below. h k below ∙ sym (slice_get_front xs ys k (omega (arith, below, room)))
+in_front (Some all) head m n xs ys room h = λ k below. h k below ∙ sym (slice_get-append_left xs ys k (omega (arith, below, room)))
 
 -- a refusal at one of some cells is one at one of more
 pub damage_among : (head : Head) (store : Option (List ℕ)) (m n l : ℕ) (e : SourceFail) → n ≤ l → IsDamageFrom head store m n e → IsDamageFrom head store m l e
@@ -186,7 +182,7 @@ more_stored (Some all) head first done count xs ys room h read = λ k below.
     elim (cases_lt k done) [
       | inl inner ↦ (
           let long : length (take done xs) ≡ done = length-take-le done xs room in
-          h k inner ∙ sym (slice_get_front (take done xs) ys k (omega (arith, inner, long)) ∙ slice_get_take done xs k inner (omega (arith, inner, room))))
+          h k inner ∙ sym (slice_get-append_left (take done xs) ys k (omega (arith, inner, long)) ∙ slice_get_take done xs k inner (omega (arith, inner, room))))
       | inr outer ↦ (
           let long : length (take done xs) ≡ done = length-take-le done xs room in
           let number : first + k ≡ first + done + (k - done) = omega (arith, outer) in

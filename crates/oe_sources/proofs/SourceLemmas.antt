@@ -27,7 +27,7 @@ Rose-counted n =
       | inr above ↦ inr (omega (arith, above))
     ]
 
-null_fits : (kind : CellKind) → is_null_or_of kind Empty ≡ true
+pub null_fits : (kind : CellKind) → is_null_or_of kind Empty ≡ true
 null_fits Numbers = refl
 null_fits Flags = refl
 
@@ -37,7 +37,7 @@ one_of_kind kind [] k all = null_fits kind
 one_of_kind kind (c ∷ cells) zero all = (and_parts (is_null_or_of kind c) (list_all (is_null_or_of kind) cells) all).0
 one_of_kind kind (c ∷ cells) (suc k) all = one_of_kind kind cells k (and_parts (is_null_or_of kind c) (list_all (is_null_or_of kind) cells) all).1
 
-all_true : {A : Type 0} (p : A → Bool) (xs : List A) → ((a : A) → p a ≡ true) → list_all p xs ≡ true
+pub all_true : {A : Type 0} (p : A → Bool) (xs : List A) → ((a : A) → p a ≡ true) → list_all p xs ≡ true
 all_true p [] h = refl
 all_true p (x ∷ xs) h = rw (h x) (all_true p xs h)
 

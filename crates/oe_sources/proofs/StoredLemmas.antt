@@ -1,20 +1,20 @@
 -- The computed cell of a record is the one that the record is of.
 use Rattle.std.proofs.Common.{◌≡◌, ◌≢◌, ◌==◌, ◌&&◌, true, false, Bool, ℕ, ◌<◌, ◌≤◌, ◌^◌, w64, List, [], ◌∷◌, length, get_or, take, inl, inr, Option, Some, None, refl, sym, ap, ◌∙◌, subst, arith, ℤ, pos, FitsSigned, unsigned_abs, lt-ltb, eq-eqb, eqb-true}
-use Rattle.std.specs.Prelude.{if◌then◌else◌, nat_lt, nat_le, slice_get}
+use Rattle.std.specs.Prelude.{nat_lt, nat_le, slice_get}
 use Rattle.std.specs.List.{list_all}
 use Rattle.std.proofs.lemmas.List.{get_or-take, length-take-le}
-use Rattle.std.proofs.lemmas.Option.{slice_get-get_or}
+use Rattle.std.proofs.lemmas.Option.{same_Some, slice_get-get_or}
 use Rattle.std.specs.Int.{cast_unsigned, cast_signed}
 use Rattle.std.specs.Option.{option_map_or}
 use Rattle.std.proofs.lemmas.Bool.{and_parts, cases_lt, le-leb, leb-true, ltb-true}
 use Rattle.std.proofs.lemmas.Nat.{from_be_bytes-to_be_bytes_8}
-use Rattle.std.proofs.lemmas.Int.{to_z-of_z, ints}
+use Rattle.std.proofs.lemmas.Int.{to_z-of_z}
 use Rattle.oe_cell.specs.Cells.{IsCell}
 use Rattle.oe_cell.specs.Exact.{gcd_of}
 use Rattle.oe_cell.specs.Fraction.{Fraction, IsNumber}
 use Rattle.oe_cell.specs.Record.{bytes_of, record_of}
 use Rattle.oe_cell.proofs.Coprime.{IsCoprime-from_gcd, IsGcd-gcd_of, one_from_IsCoprime}
-use Rattle.oe_cell.proofs.RecordLemmas.{same_from_record}
+use Rattle.oe_cell.proofs.RecordLemmas.{cast_below, same_from_record}
 use Rattle.oe_cell.specs.declared.cell.Cell.{Cell}
 use Rattle.oe_cell.specs.declared.cell.Cell.TheVariants.{Empty, Flag, Number, Over}
 use Rattle.oe_cube.specs.Kinds.{is_null_or_of}
@@ -25,22 +25,9 @@ use Rattle.oe_dims.specs.declared.kind.CellKind.TheVariants.{Numbers, Flags}
 use Rattle.oe_sources.specs.StoredCell.{IsStoredAs, candidate, fraction_in, is_valid_cell, is_valid_number, stored_cell}
 use Rattle.oe_sources.proofs.SourceLemmas.{one_of_kind}
 use Rattle.oe_wide.specs.Wide.{HaveRecords, IsRecordIn, nine_bytes, part_at, record_in}
-use Rattle.oe_wide.proofs.NineLemmas.{number_is}
+use Rattle.oe_wide.proofs.NineLemmas.{guarded, num_fits, number_is}
 use Rattle.oe_wide.specs.declared.width.Width.{Width}
 use Rattle.oe_wide.specs.declared.width.Width.TheVariants.{One, Nine, Seventeen}
-
-same_some : {A : Type 0} (x y : A) → Some x ≡ Some y → x ≡ y
-same_some x y e = cc
-
-guarded : {A : Type 0} (b : Bool) (x y : A) → (if b then Some x else None) ≡ Some y → (b ≡ true) × (x ≡ y)
-guarded true x y e = (refl, same_some x y e)
-guarded false x y e = cc
-
-cast_below : (z : ℤ) → FitsSigned w64 z → cast_unsigned w64 z < 2 ^ 64
-cast_below z fits = omega (arith, ints)
-
-num_fits : (q : Fraction) → IsNumber q → FitsSigned w64 q.num
-num_fits q h = let small : unsigned_abs q.num < 2 ^ 63 = h.num_fits in omega (arith, ints)
 
 num_of-nine : (t : ℕ) (n : ℤ) → FitsSigned w64 n → (fraction_in (nine_bytes t n)).num ≡ n
 unfolding nine_bytes
@@ -66,7 +53,7 @@ candidate-seventeen n d = refl
 
 -- the bytes of a record, and what is its cell
 moved : (b bytes : List ℕ) (c : Cell) → Some b ≡ Some bytes → candidate b ≡ c → candidate bytes ≡ c
-moved b bytes c e h = ap candidate (sym (same_some b bytes e)) ∙ h
+moved b bytes c e h = ap candidate (sym (same_Some b bytes e)) ∙ h
 
 small_one : (t : ℕ) → (candidate (0 ∷ []) ≡ Empty) × (candidate (1 ∷ []) ≡ Flag false) × (candidate (2 ∷ []) ≡ Flag true)
 unfolding candidate
@@ -193,7 +180,7 @@ other_kind kind w bytes c h other = none_or (stored_cell kind w bytes) (λ d e. 
     over_alone One d a b = absurd (let e : None ≡ Some bytes = a.bytes_are in cc)
     over_alone Nine d a b = absurd (let e : None ≡ Some bytes = a.bytes_are in cc)
     over_alone Seventeen d a b =
-        same_from_record d Over b.valid tt (same_some (record_of d) bytes b.bytes_are ∙ sym (same_some (record_of Over) bytes a.bytes_are))
+        same_from_record d Over b.valid tt (same_Some (record_of d) bytes b.bytes_are ∙ sym (same_Some (record_of Over) bytes a.bytes_are))
 
     same_cell : (e : Cell) → IsRecordIn w bytes e → (d : Cell) → IsStoredAs kind w bytes d → e ≡ d
     same_cell Over k d s = sym (over_alone w d k s.is_record)

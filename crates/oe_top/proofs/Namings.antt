@@ -1,8 +1,6 @@
 -- Refusals that name a position of a collection.
-use Rattle.std.proofs.Common.{◌≡◌, ℕ, ◌≤◌, ◌&&◌, nat_le, true, List, length, Some, refl, sym, ap, subst}
-use Rattle.std.proofs.lemmas.Bool.{and_parts, leb-true}
-use Rattle.std.specs.List.{list_all}
-use Rattle.oe_dims.specs.Names.{is_name, is_name_byte}
+use Rattle.std.proofs.Common.{◌≡◌, ℕ, List, Some, refl, sym, ap, subst}
+use Rattle.oe_render.proofs.Lengths.{name_short}
 use Rattle.oe_steps.specs.Refusals.{KeepsDamage}
 use Rattle.oe_steps.specs.declared.fail.RunFail.{RunFail}
 use Rattle.oe_steps.specs.declared.fail.RunFail.TheVariants as run
@@ -21,13 +19,6 @@ named_damage c fail node number id held is loads same =
 
 -- ---- what can be named
 
--- a name is short enough for a line
-short_name : (id : List ℕ) → is_name id ≡ true → length id ≤ 64
-short_name id valid =
-    let parts = and_parts (nat_le 1 (length id) && nat_le (length id) 64) (list_all is_name_byte id) valid in
-    let sizes = and_parts (nat_le 1 (length id)) (nat_le (length id) 64) parts.0 in
-    leb-true (length id) 64 sizes.1
-
 -- a damaged position that a node keeps is one of a collection whose id fits a line
 pub can_be_named : (c : CheckedGraph) (rows : List Row) → HaveValidIds rows → (fail : RunFail)
     → ((node number : ℕ) → fail ≡ run.SourceDamaged node number → KeepsDamage c rows node number) → CanBeNamed c fail
@@ -39,7 +30,7 @@ can_be_named c rows valid (run.SourceDamaged node number) says =
       within = node_there c node keeps.id loads;
       id = keeps.id;
       loads = loads;
-      short = short_name keeps.id (valid keeps.id keeps.index keeps.mounted.index_is);
+      short = name_short keeps.id (valid keeps.id keeps.index keeps.mounted.index_is);
     }
 can_be_named c rows valid run.SpoolFailed says = tt
 can_be_named c rows valid (run.Overflow number) says = tt

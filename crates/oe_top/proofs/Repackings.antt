@@ -1,8 +1,6 @@
 -- Mounted collections that are repacked.
-use Rattle.std.proofs.Common.{◌≡◌, ◌≢◌, true, ◌&&◌, nat_le, ℕ, zero, suc, ◌<◌, ◌≤◌, List, [], ◌∷◌, length, Option, Some, None, IfSome, Result, Ok, Err, sym, ◌∙◌, slice_get, arith}
-use Rattle.std.proofs.lemmas.Bool.{and_parts, leb-true}
-use Rattle.std.specs.List.{Contains, list_all}
-use Rattle.oe_dims.specs.Names.{is_name, is_name_byte}
+use Rattle.std.proofs.Common.{◌≡◌, ◌≢◌, ℕ, zero, suc, ◌<◌, List, [], ◌∷◌, length, Option, Some, None, IfSome, Result, Ok, Err, sym, ◌∙◌, slice_get, arith}
+use Rattle.std.specs.List.{Contains}
 use Rattle.oe_outside.specs.Faults.{NeverFalls, Rose}
 use Rattle.oe_dims.specs.Dimensions.{cell_count}
 use Rattle.oe_sources.specs.Catalogue.{OnlyReads, Row, row_index, row_of, source_at}
@@ -15,12 +13,6 @@ use Rattle.oe_top.specs.declared.repack.RepackRefusal.{RepackRefusal}
 use Rattle.oe_top.specs.declared.repack.RepackRefusal.TheVariants.{NotMounted, ReadFault, Damaged, WriteFault, OutOfMemory}
 
 -- ---- a collection that is mounted
-
--- its id fits a line
-pub name_short : (name : List ℕ) → is_name name ≡ true → length name ≤ 64
-name_short name is =
-    let parts = and_parts (nat_le 1 (length name) && nat_le (length name) 64) (list_all is_name_byte name) is in
-    leb-true (length name) 64 (and_parts (nat_le 1 (length name)) (nat_le (length name) 64) parts.0).1
 
 -- a row stands at an index within
 there : (rows : List Row) (index : ℕ) → index < length rows → ¬ (slice_get rows index ≡ None)

@@ -3,7 +3,6 @@ pub mod CallbackLemmas
 pub mod CheckedLemmas
 pub mod FaultlessLemmas
 pub mod GraphLemmas
-pub mod InstantLemmas
 pub mod IntervalLemmas
 pub mod MeaningLemmas
 pub mod NameLemmas

@@ -19,12 +19,10 @@ use Rattle.oe_fold.specs.Counted.{counted_cells}
 use Rattle.oe_fold.specs.Value.{reduction_of, result_of_counted}
 use Rattle.oe_fold.specs.declared.reducer.Reducer.TheVariants.{Sum}
 use Rattle.oe_periods.specs.Sums.{left_sum, running_sum, sum_at, sum_so_far}
+use Rattle.oe_periods.proofs.SumLemmas.{counts, none_counts}
 
 abbrev pub zero_cell : Cell
 zero_cell = Number (whole_of (pos 0))
-
-abbrev counts : Cell → Bool
-counts c = not (is_empty c)
 
 -- ---- one number
 
@@ -111,14 +109,6 @@ all_count (Empty ∷ cells) h = absurd (true≢false h)
 all_count (Over ∷ cells) h = ap (λ xs. Over ∷ xs) (all_count cells h)
 all_count (Flag b ∷ cells) h = ap (λ xs. Flag b ∷ xs) (all_count cells h)
 all_count (Number q ∷ cells) h = ap (λ xs. Number q ∷ xs) (all_count cells h)
-
--- where all are null none does
-none_counts : (cells : List Cell) → list_all is_empty cells ≡ true → filter counts cells ≡ []
-none_counts [] h = refl
-none_counts (Empty ∷ cells) h = none_counts cells h
-none_counts (Over ∷ cells) h = absurd (true≢false (sym h))
-none_counts (Flag b ∷ cells) h = absurd (true≢false (sym h))
-none_counts (Number q ∷ cells) h = absurd (true≢false (sym h))
 
 not_all_null : (c : Cell) (cells : List Cell) → list_any is_empty (c ∷ cells) ≡ false → list_all is_empty (c ∷ cells) ≡ false
 not_all_null Empty cells h = absurd (true≢false h)

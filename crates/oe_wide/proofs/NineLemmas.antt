@@ -1,32 +1,26 @@
 -- What the bytes of records of 1 and of 9 bytes tell.
-use Rattle.std.proofs.Common.{◌≡◌, ◌≢◌, ◌==◌, true, false, Bool, ℕ, suc, ◌+◌, ◌<◌, ◌≤◌, ◌^◌, w64, List, [], ◌∷◌, ◌++◌, length, get_or, take, drop, Option, Some, None, IfSome, IfNone, inl, inr, refl, sym, ap, ◌∙◌, subst, arith, ℤ, pos, FitsSigned, unsigned_abs}
+use Rattle.std.proofs.Common.{◌≡◌, ◌≢◌, ◌==◌, true, false, Bool, ℕ, suc, ◌+◌, ◌<◌, ◌≤◌, ◌^◌, w64, List, [], ◌∷◌, length, get_or, take, drop, Some, None, refl, sym, ap, ◌∙◌, arith, ℤ, pos, FitsSigned, unsigned_abs}
 use Rattle.std.specs.Prelude.{if◌then◌else◌}
 use Rattle.std.specs.Int.{to_be_bytes, from_be_bytes, cast_unsigned, cast_signed}
-use Rattle.std.proofs.lemmas.Bool.{cases_lt}
 use Rattle.std.proofs.lemmas.List.{length-take, length-drop, get_or-take, get_or-drop, take-take, drop-take, drop-drop}
-use Rattle.std.proofs.Math.Seq.{take-add, take-length}
+use Rattle.std.proofs.Math.Seq.{take-length}
 use Rattle.std.proofs.lemmas.Nat.{be_bytes_8, from_be_bytes-to_be_bytes_8}
 use Rattle.std.proofs.lemmas.Int.{to_z-of_z, of_z-to_z, ints}
+use Rattle.std.proofs.lemmas.Option.{same_Some}
 use Rattle.oe_cell.specs.Cells.{IsCell}
 use Rattle.oe_cell.specs.Fraction.{Fraction, IsNumber}
-use Rattle.oe_cell.proofs.RecordLemmas.{take_below}
+use Rattle.oe_cell.proofs.RecordLemmas.{cast_below, from_bytes_below, take_below}
 use Rattle.oe_cell.specs.declared.cell.Cell.{Cell}
 use Rattle.oe_cell.specs.declared.cell.Cell.TheVariants.{Empty, Flag, Number, Over}
 use Rattle.oe_wide.specs.Wide.{IsRecordIn, nine_bytes, record_in}
-use Rattle.oe_wide.specs.declared.width.Width.TheVariants.{One, Nine, Seventeen}
-
-cast_below : (z : ℤ) → FitsSigned w64 z → cast_unsigned w64 z < 2 ^ 64
-cast_below z fits = omega (arith, ints)
+use Rattle.oe_wide.specs.declared.width.Width.TheVariants.{One, Nine}
 
 zero_fits : FitsSigned w64 (pos 0)
 zero_fits = omega (arith, ints)
 
-same_some : {A : Type 0} (x y : A) → Some x ≡ Some y → x ≡ y
-same_some x y e = cc
-
 -- a choice that gives something was made
-guarded : {A : Type 0} (b : Bool) (x y : A) → (if b then Some x else None) ≡ Some y → (b ≡ true) × (x ≡ y)
-guarded true x y e = (refl, same_some x y e)
+pub guarded : {A : Type 0} (b : Bool) (x y : A) → (if b then Some x else None) ≡ Some y → (b ≡ true) × (x ≡ y)
+guarded true x y e = (refl, same_Some x y e)
 guarded false x y e = cc
 
 tag_from_nine : (s t : ℕ) (m n : ℤ) → nine_bytes s m ≡ nine_bytes t n → s ≡ t
@@ -44,7 +38,7 @@ num_of-nine t n fits =
 num_from_nine : (s t : ℕ) (m n : ℤ) → FitsSigned w64 m → FitsSigned w64 n → nine_bytes s m ≡ nine_bytes t n → m ≡ n
 num_from_nine s t m n m_fits n_fits e = sym (num_of-nine s m m_fits) ∙ ap num_of e ∙ num_of-nine t n n_fits
 
-num_fits : (q : Fraction) → IsNumber q → FitsSigned w64 q.num
+pub num_fits : (q : Fraction) → IsNumber q → FitsSigned w64 q.num
 num_fits q h = let small : unsigned_abs q.num < 2 ^ 63 = h.num_fits in omega (arith, ints)
 
 -- what a record of 9 bytes says of its cell
@@ -54,7 +48,7 @@ pub record NineFields (t : ℕ) (n : ℤ) (s : ℕ) (m : ℤ) : Type 0 where
 
 nine_fields : (s t : ℕ) (m n : ℤ) → FitsSigned w64 m → FitsSigned w64 n → Some (nine_bytes s m) ≡ Some (nine_bytes t n) → NineFields t n s m
 nine_fields s t m n m_fits n_fits e =
-    let same : nine_bytes s m ≡ nine_bytes t n = same_some (nine_bytes s m) (nine_bytes t n) e in
+    let same : nine_bytes s m ≡ nine_bytes t n = same_Some (nine_bytes s m) (nine_bytes t n) e in
     record { tag_is = tag_from_nine s t m n same; num_is = num_from_nine s t m n m_fits n_fits same }
 
 -- the number of a record with tag 5
@@ -105,7 +99,7 @@ small_from_nine t n Over fits other h = absurd (let e : None ≡ Some (nine_byte
 -- and the other way round
 one_as : (s t : ℕ) (c : Cell) → IsCell c → record_in Nine c ≡ Some (nine_bytes s (pos 0)) → Some (s ∷ []) ≡ Some (t ∷ []) → IsRecordIn Nine (nine_bytes t (pos 0)) c
 one_as s t c valid own e =
-    let same : s ∷ [] ≡ t ∷ [] = same_some (s ∷ []) (t ∷ []) e in
+    let same : s ∷ [] ≡ t ∷ [] = same_Some (s ∷ []) (t ∷ []) e in
     let tags : s ≡ t = ap (λ (bs : List ℕ). get_or bs 0 0) same in
     record { valid = valid; bytes_are = own ∙ ap (λ (k : ℕ). Some (nine_bytes k (pos 0))) tags }
 
@@ -118,10 +112,7 @@ nine_from_one t Over h = absurd (let e : None ≡ Some (t ∷ []) = h.bytes_are 
 
 -- the cell of a tag is one alone
 pub one_tag : (s t : ℕ) (c : Cell) → Some (s ∷ []) ≡ Some (t ∷ []) → s ≡ t
-one_tag s t c e = ap (λ (bs : List ℕ). get_or bs 0 0) (same_some (s ∷ []) (t ∷ []) e)
-
-from_bytes_below : (bs : List ℕ) → ((k : ℕ) → get_or bs k 0 < 256) → from_be_bytes w64 bs < 2 ^ 64
-from_bytes_below bs h = omega (arith, h 0, h 1, h 2, h 3, h 4, h 5, h 6, h 7)
+one_tag s t c e = ap (λ (bs : List ℕ). get_or bs 0 0) (same_Some (s ∷ []) (t ∷ []) e)
 
 -- any 9 bytes are those of their two parts
 pub nine_bytes-parts : (bs : List ℕ) → length bs ≡ 9 → ((k : ℕ) → get_or bs k 0 < 256) → nine_bytes (get_or bs 0 0) (cast_signed w64 (from_be_bytes w64 (take 8 (drop 1 bs)))) ≡ bs

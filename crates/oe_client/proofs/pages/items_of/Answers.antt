@@ -1,8 +1,8 @@
 use Rattle.std.proofs.Common.{map, Some, sym, ap, ◌∙◌}
+use Rattle.oe_pages.proofs.PageLemmas.{values_back}
 use Rattle.serde_json.proofs.Views.{view-Array}
 use Rattle.serde_json.specs.View.{view}
 use Rattle.oe_client.specs.Pages.{items_of}
-use Rattle.oe_client.proofs.PageLemmas.{values_back}
 use Rattle.oe_client.proofs.pages.items_of.Goals as goal
 
 pub returns-in-Array : goal.returns-in-Array

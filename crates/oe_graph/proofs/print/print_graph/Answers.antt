@@ -1,8 +1,7 @@
-use Rattle.std.proofs.Common.{◌≡◌, ◌≤◌, false, List, ℕ, length, IsUtf8, sym, ap, ◌∙◌, refl, subst, Some}
+use Rattle.std.proofs.Common.{◌≡◌, ◌≤◌, false, List, ℕ, length, IsUtf8, ap, ◌∙◌, refl, subst}
 use Rattle.std.proofs.lemmas.Result.{IfOk-weaker}
 use Rattle.serde_json.specs.View.{view}
-use Rattle.serde_json.specs.Data.{Data, no_members, depth}
-use Rattle.serde_json.specs.Read.{read, max_depth}
+use Rattle.serde_json.specs.Data.{no_members}
 use Rattle.serde_json.specs.Written.{has_float, compact_text}
 use Rattle.oe_graph.specs.Form.{IsReading, StandsIn, most_input}
 use Rattle.oe_graph.specs.Plain.{plain_graph}
@@ -12,7 +11,7 @@ use Rattle.oe_graph.specs.Tree as tree
 use Rattle.oe_graph.specs.Tree.{PlainGraph}
 use Rattle.oe_graph.proofs.LeastLemmas.{IsLeastOf}
 use Rattle.oe_graph.proofs.WalkLemmas.{at_code}
-use Rattle.oe_graph.proofs.ReadLemmas.{value_least, bytes_valid}
+use Rattle.oe_graph.proofs.ReadLemmas.{value_least, bytes_valid, reading_of}
 use Rattle.oe_graph.proofs.PrintLemmas.{argument_no_float}
 use Rattle.oe_graph.proofs.PrintBack.{graph_back, graph_whole}
 use Rattle.oe_graph.proofs.print.print_graph.Goals as goal
@@ -43,13 +42,6 @@ reads_again g text reading printable fits = record {
     built = graph_back g.nodes g.result printable;
   };
   valid = bytes_valid text (graph_data g) reading fits (faultless g printable);
-}
-
-reading_of : (d e : Data) (text s : List ℕ) → text ≡ s → IsUtf8 s → d ≡ e → (depth d ≤ max_depth → read s ≡ Some d)
-    → depth e ≤ max_depth → IsReading text e
-reading_of d e text s is utf8 same back deep = record {
-  utf8 = subst IsUtf8 (sym is) utf8;
-  value = ap read is ∙ (back (subst (λ x. depth x ≤ max_depth) (sym same) deep) ∙ ap Some same);
 }
 
 pub returns-clause-reads_back : goal.returns-clause-reads_back

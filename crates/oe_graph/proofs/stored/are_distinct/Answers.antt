@@ -1,5 +1,6 @@
 use Rattle.std.proofs.Common.{◌≡◌, ℕ, ◌+◌, ◌<◌, ◌&&◌, Bool, true, false, not, List, ◌∷◌, drop, get_or, length, Bor, sym, ap, ◌∙◌, refl, true≢false}
 use Rattle.std.proofs.lemmas.List.{drop_more}
+use Rattle.std.proofs.lemmas.Bool.{not-true}
 use Rattle.serde_json.specs.View.{view, items_view}
 use Rattle.serde_json.specs.declared.value.Value.{Value}
 use Rattle.oe_graph.specs.Parameters.{are_distinct, parameter_names, parameter_name}
@@ -24,10 +25,6 @@ names_next vs i v more is =
 not_false : (b : Bool) → not b ≡ false → b ≡ true
 not_false true is = refl
 not_false false is = absurd (true≢false is)
-
-not_true : (b : Bool) → not b ≡ true → b ≡ false
-not_true true is = absurd (true≢false (sym is))
-not_true false is = refl
 
 pub loop-item-init : goal.loop-item-init
 loop-item-init c =
@@ -58,7 +55,7 @@ loop-item-preserved c =
     let vs = c.deref-item-items.result.now in
     let i = c.loop-item.item-index in
     let found : has bytes ks n.now ≡ false =
-    sym (any_has bytes n.now ks) ∙ not_true _ (sym c.in_ok-insert.ensures.added ∙ c.if-not-branch.false) in
+    sym (any_has bytes n.now ks) ∙ not-true _ (sym c.in_ok-insert.ensures.added ∙ c.if-not-branch.false) in
     let next : parameter_names (items_view (drop i vs)) ≡ n.now ∷ parameter_names (items_view (drop (i + 1) vs)) =
     names_next vs i c.item-item.result c.loop-item-test.true c.item-item.is
     ∙ ap (λ m. m ∷ parameter_names (items_view (drop (i + 1) vs))) (sym c.parameter_name.ensures) in

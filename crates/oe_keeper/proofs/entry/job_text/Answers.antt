@@ -1,10 +1,11 @@
 use Rattle.std.proofs.Common.{◌≡◌, IsUtf8, ap, ◌∙◌, subst}
 use Rattle.std.proofs.lemmas.Result.{IfOk-weaker}
+use Rattle.oe_graph.proofs.ReadLemmas.{reading_of}
 use Rattle.serde_json.specs.View.{view}
 use Rattle.serde_json.specs.Written.{has_float, compact_text}
 use Rattle.oe_jobs.specs.Plain.{plain_job}
 use Rattle.oe_keeper.specs.Entry.{job_data}
-use Rattle.oe_keeper.proofs.Entries.{entry_back, job_flat, job_whole, reading_of}
+use Rattle.oe_keeper.proofs.Entries.{entry_back, job_flat, job_whole}
 use Rattle.oe_keeper.proofs.entry.job_text.Goals as goal
 
 pub returns-clause-text : goal.returns-clause-text

@@ -1,7 +1,8 @@
 use Rattle.std.proofs.Common.{◌≡◌, drop, map}
 use Rattle.std.specs.Option.{option_map}
 use Rattle.oe_dims.specs.Lists.{items_of}
-use Rattle.oe_mosaic.specs.Labels.{labels_with, numbers_along}
+use Rattle.oe_dims.specs.Dimensions.{numbers_along}
+use Rattle.oe_mosaic.specs.Labels.{labels_with}
 use Rattle.oe_mosaic.specs.Mosaics.{labels_of_parts, parts_of}
 use Rattle.oe_mosaic.proofs.mosaic.labels_of.Given as goal
 

@@ -1,5 +1,6 @@
 use Rattle.std.proofs.Common.{◌≡◌, ◌≤◌, ◌+◌, length}
-use Rattle.oe_mosaic.specs.MosaicText.{lines_of, names_from, names_in}
+use Rattle.oe_dims.specs.Lists.{lines_of}
+use Rattle.oe_mosaic.specs.MosaicText.{names_from, names_in}
 use Rattle.oe_mosaic.proofs.text.read_names.Given as goal
 
 abbrev pub invariant-loop-rest : goal.invariant-loop-rest

@@ -1,5 +1,6 @@
 use Rattle.std.proofs.Common.{◌≡◌, ◌≤◌, ◌+◌, length}
-use Rattle.oe_routes.specs.Tokens.{entries_from, entries_in, lines_of}
+use Rattle.oe_dims.specs.Lists.{lines_of}
+use Rattle.oe_routes.specs.Tokens.{entries_from, entries_in}
 use Rattle.oe_routes.proofs.tokens.read_entries.Given as goal
 
 abbrev pub invariant-loop-rest : goal.invariant-loop-rest

@@ -3,8 +3,8 @@ use Rattle.std.specs.List.{slice_index_or}
 use Rattle.oe_expr.specs.Nodes.{id_at}
 use Rattle.oe_graph.specs.Printed.{ids_of, node_count}
 use Rattle.oe_graph.specs.Tree.{Nodes, no_nodes, node}
+use Rattle.oe_graph.proofs.ResolvedLemmas.{length-ids_of}
 use Rattle.oe_check.specs.Checked.{CheckedGraph, IsKept}
-use Rattle.oe_check.proofs.KeptLemmas.{id_count}
 use Rattle.oe_check.proofs.checked.Checked.id.Goals as goal
 
 id_read : (nodes : Nodes) (index : ℕ) (other : List ℕ) → index < node_count nodes → slice_index_or (ids_of nodes) index other ≡ id_at index nodes
@@ -16,7 +16,7 @@ pub index-requires : goal.index-requires
 index-requires c =
     let inside = c.self.inside in
     let k = subst (λ (g : CheckedGraph). IsKept g inside.ids.items inside.states.items inside.links.items) c.self.view_is c.self.invariant in
-    let long : length inside.ids.items ≡ node_count c.args.self.now.nodes = ap length k.ids_are ∙ id_count c.args.self.now.nodes in
+    let long : length inside.ids.items ≡ node_count c.args.self.now.nodes = ap length k.ids_are ∙ length-ids_of c.args.self.now.nodes in
     let ok = inside.ids.ok in
     let within = c.requires in
     omega (arith, ok)

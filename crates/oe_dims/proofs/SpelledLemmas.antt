@@ -1,11 +1,11 @@
 -- The spelling of an instant is UTF-8, since it has digits and the other bytes of its pattern.
-use Rattle.std.proofs.Common.{◌≡◌, ℕ, zero, suc, ◌≤◌, ◌==◌, ℤ, List, [], ◌∷◌, Bool, true, false, ◌&&◌, nat_le, nat_lt, Ok, Err, IsUtf8, refl, sym, subst, arith, lt-ltb, true≢false}
-use Rattle.std.specs.Prelude.{if◌then◌else◌}
-use Rattle.std.specs.Str.{IsAscii}
+use Rattle.std.proofs.Common.{Bool, Err, IsUtf8, List, Ok, [], arith, false, lt-ltb, nat_le, nat_lt, refl, subst, suc, sym, true, true≢false, zero, ℕ, ℤ, ◌&&◌, ◌==◌, ◌∷◌, ◌≡◌, ◌≤◌}
 use Rattle.std.proofs.lemmas.Bool.{and_parts, eqb-true, leb-true, ltb-true}
 use Rattle.std.proofs.lemmas.Str.{IsUtf8-from_ascii}
-use Rattle.oe_dims.specs.Instant.{date_pattern, follows_pattern, instant_of, instant_pattern, instant_read, is_let_stand, midnight_in, moment_in}
+use Rattle.std.specs.Str.{IsAscii}
+use Rattle.std.specs.Prelude.{if◌then◌else◌}
 use Rattle.oe_dims.specs.Names.{is_byte_in}
+use Rattle.oe_dims.specs.Instant.{date_pattern, follows_pattern, instant_of, instant_pattern, instant_read, is_let_stand, midnight_in, moment_in}
 use Rattle.oe_dims.specs.declared.instant.InstantFault.TheVariants.{Spelling}
 
 abbrev all_ascii : List ℕ → Bool
