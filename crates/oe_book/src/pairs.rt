@@ -9,8 +9,9 @@ ghost use Rattle.oe_jobs.specs.Machine.{is_busy, is_running};
 ghost use Rattle.oe_jobs.specs.Plain.{plain_job, plain_owned};
 ghost use Rattle.oe_jobs.specs.Valid.{AllApart, AreApart, OwnedDiffer, stored_ids};
 
+use oe_dims::same_name;
 use oe_graph::StoredProcess;
-use oe_jobs::{Job, Owned, is_same};
+use oe_jobs::{Job, Owned};
 
 /// Whether at most one job runs, and no two that are queued or running have one turn.
 pub(crate) fn are_all_apart(jobs: &[Job]) -> bool
@@ -86,7 +87,7 @@ fn is_owned_again(owned: &Owned, others: &[Owned]) -> bool
 fn is_of(other: &Owned, owned: &Owned) -> bool
     ensures { result ≡ is_owned owned.now.user owned.now.process.id (plain_owned other.now) }
 {
-    is_same(&other.user, &owned.user) && is_same(&other.process.id, &owned.process.id)
+    same_name(&other.user, &owned.user) && same_name(&other.process.id, &owned.process.id)
 }
 
 /// Whether no two stored processes have one id.
@@ -106,5 +107,5 @@ pub(crate) fn have_distinct_ids(stored: &[StoredProcess]) -> bool
 fn has_id(others: &[StoredProcess], process: &StoredProcess) -> bool
     ensures { result ≡ list_any (λ p. same_name process.now.id p.id) others.now }
 {
-    others.iter().any(|other| is_same(&process.id, &other.id))
+    others.iter().any(|other| same_name(&process.id, &other.id))
 }

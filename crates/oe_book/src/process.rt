@@ -12,9 +12,8 @@ ghost use Rattle.oe_jobs.specs.Valid.{IsProcessText};
 ghost use Rattle.oe_book.specs.Process.{IsTextOf, IsTextRefusal};
 
 use crate::floats::has_float;
-use oe_dims::Text;
+use oe_dims::{Text, same_name};
 use oe_graph::{Refusal, read_value};
-use oe_jobs::is_same;
 use oe_memory::OutOfMemory;
 use serde_json::Value;
 use std::alloc::Global;
@@ -106,7 +105,7 @@ fn is_text_of(alloc: Global, value: &Value, text: &Text) -> Result<bool, OutOfMe
     ensures { IfOk result (λ yes. IsTrue yes ↔ IsTextOf (view value.now) text.now) }
 {
     match process_text(alloc, value) {
-        Ok(written) => Ok(is_same(&written, text)),
+        Ok(written) => Ok(same_name(&written, text)),
         Err(ProcessRefusal::OutOfMemory) => Err(OutOfMemory),
         Err(_) => Ok(false),
     }

@@ -7,9 +7,9 @@ ghost use Rattle.oe_jobs.specs.Plain.{empty_book, plain_book, plain_job};
 ghost use Rattle.oe_jobs.specs.Valid.{IsBook};
 ghost use Rattle.oe_jobs.specs.Verdicts as spec;
 
-use crate::find::{has_busy_job, index_of, is_same, next_queued, running_job};
+use crate::find::{has_busy_job, index_of, next_queued, running_job};
 use crate::job::Job;
-use oe_dims::Text;
+use oe_dims::{Text, same_name};
 use oe_graph::StoredProcess;
 use oe_memory::OutOfMemory;
 use std::alloc::Global;
@@ -109,7 +109,7 @@ impl Book {
     {
         let mut stored = Vec::new(alloc);
         for owned in &self.processes {
-            if is_same(&owned.user, user) {
+            if same_name(&owned.user, user) {
                 stored.push(owned.process.copy()?)?;
             }
         }

@@ -2,7 +2,6 @@
 ghost use Rattle.std.specs.Prelude.{◌≡◌, ◌<◌, ◌≤◌, IfSome, length, map, count_by, true};
 ghost use Rattle.std.specs.Option.{option_map};
 ghost use Rattle.oe_dims.specs.Indices.{index_where};
-ghost use Rattle.oe_dims.specs.Names as names;
 ghost use Rattle.oe_jobs.specs.Changes as changes;
 ghost use Rattle.oe_jobs.specs.Events as events;
 ghost use Rattle.oe_jobs.specs.Machine.{is_queued, is_running};
@@ -12,14 +11,7 @@ ghost use Rattle.oe_jobs.specs.Verdicts as spec;
 
 use crate::book::{Book, Owned};
 use crate::job::Job;
-use oe_dims::Text;
-
-/// The two texts have the same bytes.
-pub fn is_same(a: &Text, b: &Text) -> bool
-    ensures { result ≡ names.same_name a.now b.now }
-{
-    a.as_str() == b.as_str()
-}
+use oe_dims::{Text, same_name};
 
 /// The user's job of an id. Another user's job is not there.
 pub(crate) fn job_of<'a>(book: &'a Book, user: &Text, id: &Text) -> Option<&'a Job>
@@ -38,7 +30,7 @@ pub(crate) fn job_of<'a>(book: &'a Book, user: &Text, id: &Text) -> Option<&'a J
 fn is_job_of(job: &Job, user: &Text, id: &Text) -> bool
     ensures { result ≡ spec.is_found user.now id.now (plain_job job.now) }
 {
-    is_same(&job.id, id) && is_same(&job.user, user)
+    same_name(&job.id, id) && same_name(&job.user, user)
 }
 
 /// Where the user's job of an id stands.
@@ -61,7 +53,7 @@ pub(crate) fn job_named<'a>(book: &'a Book, id: &Text) -> Option<&'a Job>
         ≡ events.job_named id.now (plain_book book.now) }
 {
     for job in &book.jobs {
-        if is_same(&job.id, id) {
+        if same_name(&job.id, id) {
             return Some(job);
         }
     }
@@ -126,7 +118,7 @@ pub(crate) fn index_of_job(jobs: &[Job], id: &Text) -> Option<usize>
     ensures within { IfSome result (λ i. i < length jobs.now) }
 {
     for index in 0..jobs.len() {
-        if is_same(&jobs[index].id, id) {
+        if same_name(&jobs[index].id, id) {
             return Some(index);
         }
     }
@@ -141,7 +133,7 @@ pub fn count_jobs(book: &Book, user: &Text) -> usize
 {
     let mut count = 0;
     for job in &book.jobs {
-        if is_same(&job.user, user) {
+        if same_name(&job.user, user) {
             count += 1;
         }
     }
@@ -156,7 +148,7 @@ pub fn count_processes(book: &Book, user: &Text) -> usize
 {
     let mut count = 0;
     for owned in &book.processes {
-        if is_same(&owned.user, user) {
+        if same_name(&owned.user, user) {
             count += 1;
         }
     }
@@ -167,7 +159,7 @@ pub fn count_processes(book: &Book, user: &Text) -> usize
 fn is_owned(owned: &Owned, user: &Text, id: &Text) -> bool
     ensures { result ≡ changes.is_owned user.now id.now (plain_owned owned.now) }
 {
-    is_same(&owned.user, user) && is_same(&owned.process.id, id)
+    same_name(&owned.user, user) && same_name(&owned.process.id, id)
 }
 
 /// Whether the user has a stored process of an id.
@@ -200,7 +192,7 @@ pub(crate) fn index_of_process(processes: &[Owned], user: &Text, id: &Text) -> O
 fn is_behind(a: &Owned, b: &Owned) -> bool
     ensures { result ≡ changes.is_behind (plain_owned a.now) (plain_owned b.now) }
 {
-    a.user < b.user || (is_same(&a.user, &b.user) && a.process.id < b.process.id)
+    a.user < b.user || (same_name(&a.user, &b.user) && a.process.id < b.process.id)
 }
 
 /// Where the first process stands that is behind this one.

@@ -27,7 +27,7 @@ pub use book::{Book, Owned};
 pub use change::Change;
 pub use command::{Command, JobFault, Outcome, Verdict};
 pub use event::{JobEvent, reopen, step};
-pub use find::{count_jobs, count_processes, is_same};
+pub use find::{count_jobs, count_processes};
 pub use job::{Asset, Job, LogEntry, Ran};
 pub use keeper::{Keeper, KeeperFail};
 pub use level::Level;

@@ -6,8 +6,8 @@ ghost use Rattle.oe_jobs.specs.Events.{IsFree, MayCome, event_of};
 ghost use Rattle.oe_jobs.specs.Machine.{may_come, step_of};
 ghost use Rattle.oe_jobs.specs.Plain.{plain_book, plain_job};
 
-use oe_dims::Text;
-use oe_jobs::{Asset, Book, Change, Job, JobEvent, Status, is_same, reopen, step};
+use oe_dims::{Text, same_name};
+use oe_jobs::{Asset, Book, Change, Job, JobEvent, Status, reopen, step};
 use oe_lines::{Fault, first_word};
 use std::alloc::Global;
 
@@ -77,7 +77,7 @@ fn job_named<'a>(book: &'a Book, id: &Text) -> Option<&'a Job>
         ≡ spec.job_named id.now (plain_book book.now) }
 {
     for job in &book.jobs {
-        if is_same(&job.id, id) {
+        if same_name(&job.id, id) {
             return Some(job);
         }
     }
