@@ -39,4 +39,4 @@ pub use search::{Beside, Guesses, find_index, guesses_of, index_in};
 pub use stored::StoredProcess;
 pub use table::{ArgumentKind, Literal, PROCESS_COUNT, PROCESSES, ParameterEntry, ProcessEntry};
 pub use tree::{Arg, Graph, Node};
-pub use walk::fault_at_node;
+pub use walk::{callback_name, fault_at_node, node_name};

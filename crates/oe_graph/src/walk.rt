@@ -78,7 +78,8 @@ fn callbacks_fault(
     let mut fault = None;
     for (argument, value) in arguments.iter() {
         if let Some(nodes) = nodes_in(value) {
-            let inner = callback_name(alloc, name, id, argument.as_str())?;
+            let node = node_name(alloc, name, id)?;
+            let inner = callback_name(alloc, node.as_str(), argument.as_str())?;
             let found = graph_fault(alloc, inner.as_str(), nodes)?;
             fault = least(fault, found);
         }
@@ -144,8 +145,8 @@ pub fn fault_at_node(alloc: Global, code: Code, name: &str, id: &str) -> Result<
     fault_at(alloc, code, path.as_str())
 }
 
-/// The name of a node in the graph object of a name.
-fn node_name(alloc: Global, name: &str, id: &str) -> Result<String, OutOfMemory>
+/// The name of a node in the graph object of a name; in the main graph, whose name is empty, its id.
+pub fn node_name(alloc: Global, name: &str, id: &str) -> Result<String, OutOfMemory>
     ensures { IfOk result (λ s. string_bytes s ≡ form.node_name name.now id.now) }
 {
     let mut path = String::from_str(alloc, name)?;
@@ -156,12 +157,11 @@ fn node_name(alloc: Global, name: &str, id: &str) -> Result<String, OutOfMemory>
     Ok(path)
 }
 
-/// The name of a callback.
-fn callback_name(alloc: Global, name: &str, id: &str, argument: &str) -> Result<String, OutOfMemory>
-    ensures { IfOk result (λ s. string_bytes s
-        ≡ form.callback_name (form.node_name name.now id.now) argument.now) }
+/// The name of the callback in an argument of the node of a name.
+pub fn callback_name(alloc: Global, node: &str, argument: &str) -> Result<String, OutOfMemory>
+    ensures { IfOk result (λ s. string_bytes s ≡ form.callback_name node.now argument.now) }
 {
-    let mut path = node_name(alloc, name, id)?;
+    let mut path = String::from_str(alloc, node)?;
     path.push('/')?;
     path.push_str(argument)?;
     Ok(path)

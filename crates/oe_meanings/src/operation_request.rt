@@ -21,7 +21,7 @@ use crate::shape_periods::period_intervals;
 use crate::words::dimension_named;
 use oe_dims::{CellKind, Kind, Shape, Text};
 use oe_expr::{Expr, Scope, build};
-use oe_graph::{Graph, Refusal};
+use oe_graph::{Graph, Refusal, callback_name};
 use oe_kernel::Kernel;
 use oe_memory::OutOfMemory;
 use oe_periods::Period;
@@ -30,16 +30,6 @@ use oe_requests::{
     TemporalExtent, running_sum_in,
 };
 use std::alloc::Global;
-
-/// The name of the callback in an argument of a node.
-fn callback_path(alloc: Global, id: &str, argument: &str) -> Result<Text, OutOfMemory>
-    ensures { IfOk result (λ path. path ≡ callback_name id.now argument.now) }
-{
-    let mut path = String::from_str(alloc, id)?;
-    path.push('/')?;
-    path.push_str(argument)?;
-    Text::of(alloc, path.as_str())
-}
 
 /// A callback under a scope, in an argument of a node.
 fn callback_under(
@@ -59,8 +49,8 @@ fn callback_under(
         (spec.callback_under (plain_scope scope.now) (plain_called called.now))
         (callback_name id.now argument.now))) }
 {
-    let path = callback_path(alloc, id, argument)?;
-    build(alloc, called.graph, scope, called.context, path.as_str())
+    let name = callback_name(alloc, id, argument)?;
+    build(alloc, called.graph, scope, called.context, name.as_str())
 }
 
 /// The operation that a request of the node `id` asks for, where the first of its cubes has this shape and kind; of a

@@ -1,5 +1,5 @@
 -- The callback of running sums: its first node that is something else has the least fault.
-use Rattle.std.proofs.Common.{◌≡◌, ℕ, ◌+◌, ◌<◌, ◌≤◌, Bool, true, false, ◌&&◌, if◌then◌else◌, true≢false, List, [], ◌∷◌, ◌++◌, Option, Some, None, is_some, is_none, Ordering, Less, Equal, Greater, nat_cmp, length, map, drop, get_or, append_assoc, slice_get, Contains, inl, inr, refl, sym, ap, ◌∙◌, subst, arith}
+use Rattle.std.proofs.Common.{◌≡◌, ℕ, ◌+◌, ◌<◌, ◌≤◌, Bool, true, false, ◌&&◌, if◌then◌else◌, true≢false, List, [], ◌∷◌, ◌++◌, Option, Some, None, is_some, is_none, Ordering, Less, Equal, Greater, nat_cmp, length, map, drop, get_or, slice_get, Contains, inl, inr, refl, sym, ap, ◌∙◌, subst, arith}
 use Rattle.std.specs.Prelude.{codes, option_and_then, option_map, unwrap_or}
 use Rattle.std.specs.Cmp.Lexicographic.{slice_cmp}
 use Rattle.std.specs.Ordering.{ordering_then, is_lt}
@@ -166,13 +166,12 @@ module _ (id : List ℕ) (ns : List Node) (i : ℕ) (n : Node) where
       by None e = absurd (true≢false e)
       by (Some ignore) e = refl
 
-  pub stop_node : (name : List ℕ) → i < length ns → n ≡ get_or ns i n → is_none (running_sum_at (plain_node n)) ≡ true
-      → name ≡ sum_name id n.id
-      → First id (map plain_node (drop i ns)) (Some (record { code = ProcessParameterInvalid; node = name }))
-  stop_node name more is refused named =
-      first_from (Some (record { code = ProcessParameterInvalid; node = name })) more is
-      (subst (λ xs. First id (plain_node n ∷ map plain_node (drop (i + 1) ns)) (Some (record { code = ProcessParameterInvalid; node = xs })))
-      (sym (named ∙ ap (sum_name id) (sym (plain_id n)))) (here (by (running_sum_at (plain_node n)) refused)))
+  pub stop_node : (fault : Fault) → i < length ns → n ≡ get_or ns i n → is_none (running_sum_at (plain_node n)) ≡ true
+      → fault ≡ sum_fault id n.id → First id (map plain_node (drop i ns)) (Some fault)
+  stop_node fault more is refused named =
+      first_from (Some fault) more is
+      (subst (λ f. First id (plain_node n ∷ map plain_node (drop (i + 1) ns)) (Some f))
+      (sym (named ∙ ap (sum_fault id) (sym (plain_id n)))) (here (by (running_sum_at (plain_node n)) refused)))
     where
       by : (sum : Option Bool) → is_none sum ≡ true → sum ≡ None
       by None e = refl
@@ -203,10 +202,6 @@ module _ (g : Graph) where
           ≡ unwrap_or (option_and_then (λ n. running_sum_at (plain_node n)) o) true
       by None = refl
       by (Some n) = refl
-
--- the name of a node of it, as it is spelled
-pub spelled : (id inner : List ℕ) → (id ++ codes "/process/") ++ inner ≡ sum_name id inner
-spelled id inner = append_assoc id (codes "/process/") inner ∙ sym (begins id (codes "process") inner)
 
 -- ---- one node by its parts
 

@@ -1,7 +1,6 @@
 // The callback of `apply_dimension`, whose nodes are running sums of the list that it sees.
 ghost use Rattle.std.specs.Prelude.{◌≡◌, ℕ, true, false, IfOk, IfErr, OnOk, codes, is_none};
 ghost use Rattle.oe_dims.specs.Names.{names_rise, same_name};
-ghost use Rattle.oe_graph.specs.Form.{callback_name, node_name};
 ghost use Rattle.oe_expr.specs.Requests.{passes};
 ghost use Rattle.oe_graph.specs.Plain.{plain_arg, plain_graph, plain_named, plain_node, plain_nodes};
 ghost use Rattle.oe_graph.specs.Printed.{ids_of};
@@ -10,7 +9,9 @@ ghost use Rattle.oe_requests.specs.RunningSums as spec;
 
 use crate::parameter::flag_at;
 use oe_dims::Text;
-use oe_graph::{Arg, Code, Fault, Graph, Node, Refusal, argument_named};
+use oe_graph::{
+    Arg, Code, Fault, Graph, Node, Refusal, argument_named, callback_name, fault_at_node,
+};
 use oe_memory::OutOfMemory;
 use std::alloc::Global;
 
@@ -103,23 +104,15 @@ fn sums_fault(alloc: Global, nodes: &Vec<Node>, id: &str) -> Result<Option<Fault
 {
     for node in nodes {
         if is_other(node) {
-            return Ok(Some(Fault {
-                code: Code::ProcessParameterInvalid,
-                node: sum_name(alloc, id, node.id.as_str())?,
-            }));
+            let callback = callback_name(alloc, id, "process")?;
+            let fault = fault_at_node(
+                alloc,
+                Code::ProcessParameterInvalid,
+                callback.as_str(),
+                node.id.as_str(),
+            )?;
+            return Ok(Some(fault));
         }
     }
     Ok(None)
-}
-
-/// The name of a node in the argument `process` of another.
-#[tactic(auto, using(crate::proofs::RunningSumLemmas::spelled))]
-fn sum_name(alloc: Global, id: &str, inner: &str) -> Result<Text, OutOfMemory>
-    ensures { IfOk result (λ name. name
-        ≡ node_name (callback_name id.now (codes "process")) inner.now) }
-{
-    let mut name = String::from_str(alloc, id)?;
-    name.push_str("/process/")?;
-    name.push_str(inner)?;
-    Text::of(alloc, name.as_str())
 }

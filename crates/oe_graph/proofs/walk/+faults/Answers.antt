@@ -30,8 +30,11 @@ callbacks_fault-loop-argument-preserved-in-Some-nodes_in t c =
     let left = c.next.new.self in
     let name = node_name c.args.name.now c.args.id.now in
     let all : c.args.arguments.now.entries ≡ done ++ e ∷ left = l.invariant.1 ∙ ap (λ es. done ++ es) c.in-Some.ensures.steps in
-    let at : c.as_str-in-Some-nodes_in.result.now ≡ callback_name name (string_bytes e.0) =
-    c.as_str-in-Some-nodes_in.ensures.value ∙ (c.in_ok-inner.ensures ∙ ap (callback_name name) c.as_str.ensures.value) in
+    let at : c.as_str-in-Some-nodes_in-2.result.now ≡ callback_name name (string_bytes e.0) =
+    c.as_str-in-Some-nodes_in-2.ensures.value
+    ∙ (c.in_ok-inner.ensures
+    ∙ (ap (λ of. callback_name of c.as_str-in-Some-nodes_in.result.now) (c.as_str.ensures.value ∙ c.in_ok-node.ensures)
+    ∙ ap (callback_name name) c.as_str-in-Some-nodes_in.ensures.value)) in
     let found : c.in_ok-found.found ≡ callback_fault (callback_name name (string_bytes e.0)) (view e.1) =
     c.in_ok-found.ensures ∙ (ap (λ p. graph_fault p (members_view c.in-Some-nodes_in.nodes.now.entries)) at ∙ callback_with _ (view e.1) _ c.in-Some-nodes_in.ensures) in
     let next : c.least-fault.result ≡ least l.fault (callback_fault (callback_name name (string_bytes e.0)) (view e.1)) =

@@ -13,4 +13,4 @@ build-requires c = record { resolved = c.requires.resolved.resolved; scope = c.r
 pub returns-clause-refused : goal.returns-clause-refused
 returns-clause-refused c =
     let callback = spec.callback_under (plain_scope c.args.scope.now) (plain_called c.args.called.now) in
-    subst (λ (name : List ℕ). IfErr c.build.result (IsFault (StandsInCallbackAt callback name))) (c.as_str.ensures ∙ c.in_ok-path.ensures) c.build.ensures.refused
+    subst (λ (name : List ℕ). IfErr c.build.result (IsFault (StandsInCallbackAt callback name))) (c.as_str.ensures.value ∙ c.in_ok-name.ensures) c.build.ensures.refused

@@ -1,9 +1,9 @@
-use Rattle.std.proofs.Common.{◌≡◌, ◌≤◌, ◌∙◌, List, Option, Some, None, length, map, sym, ap, subst, arith}
+use Rattle.std.proofs.Common.{◌≡◌, ◌≤◌, ◌∙◌, List, Some, None, length, map, sym, ap, subst, arith}
+use Rattle.oe_graph.specs.Form.{node_name}
 use Rattle.oe_graph.specs.Plain.{plain_node}
 use Rattle.oe_graph.specs.declared.code.Code.TheVariants.{ProcessParameterInvalid}
-use Rattle.oe_graph.specs.declared.fault.Fault.{Fault}
 use Rattle.oe_graph.specs.declared.tree.Node.{Node}
-use Rattle.oe_requests.proofs.RunningSumLemmas.{sum_name, First, first_sum, skip_node, stop_node, end_nodes}
+use Rattle.oe_requests.proofs.RunningSumLemmas.{sum_fault, First, first_sum, skip_node, stop_node, end_nodes}
 use Rattle.oe_requests.proofs.running_sums.sums_fault.Goals as goal
 
 pub returns-then-is_other : goal.returns-then-is_other
@@ -11,13 +11,16 @@ returns-then-is_other c = λ index.
     let id = c.args.id.now in
     let ns = c.deref-node-items.result.now in
     let n = c.node-item.result in
-    let name = c.in_ok-sum_name.field-0 in
-    let fault : Option Fault = Some (record { code = ProcessParameterInvalid; node = name }) in
-    let named : name ≡ sum_name id n.id = c.in_ok-sum_name.ensures ∙ ap (sum_name id) c.as_str.ensures in
+    let fault = c.in_ok-fault.fault in
+    let named : fault ≡ sum_fault id n.id =
+    c.in_ok-fault.ensures
+    ∙ (ap (λ callback. record { code = ProcessParameterInvalid; node = node_name callback c.as_str-then-is_other.result.now })
+    (c.as_str.ensures.value ∙ c.in_ok-callback.ensures)
+    ∙ ap (sum_fault id) c.as_str-then-is_other.ensures) in
     let refused = sym c.is_other.ensures ∙ c.if-is_other.true in
-    first_sum id c.args.nodes.now.items index fault c.requires
-    (subst (λ (ms : List Node). First id (map plain_node ms) fault) c.deref-node-items.ensures.value
-    (c.loop-node.invariant fault (stop_node id ns c.loop-node.node-index n name c.loop-node-test.true c.node-item.is refused named)))
+    first_sum id c.args.nodes.now.items index (Some fault) c.requires
+    (subst (λ (ms : List Node). First id (map plain_node ms) (Some fault)) c.deref-node-items.ensures.value
+    (c.loop-node.invariant (Some fault) (stop_node id ns c.loop-node.node-index n fault c.loop-node-test.true c.node-item.is refused named)))
 
 pub loop-node-preserved : goal.loop-node-preserved
 loop-node-preserved c = λ o rest.
