@@ -3,7 +3,6 @@ ghost use Rattle.std.specs.Prelude.{◌≡◌, ◌<◌, ◌^◌, true, false, le
 ghost use Rattle.std.specs.List.{list_any};
 ghost use Rattle.oe_dims.specs.Names.{same_name, names_rise};
 ghost use Rattle.oe_graph.specs.Catalogue.{parameter_of, plain_parameter as plain_of};
-ghost use Rattle.oe_graph.specs.Form as form;
 ghost use Rattle.oe_graph.specs.Indices.{reference_graph};
 ghost use Rattle.oe_graph.specs.Plain.{plain_arg, plain_args, plain_graph, plain_named, plain_node, plain_nodes, plain_parameter, plain_stored};
 ghost use Rattle.oe_graph.specs.Printed.{ids_of};
@@ -22,7 +21,7 @@ use oe_calls::{callee, is_among, is_call, means_catalogue, names_of_both};
 use oe_dims::Text;
 use oe_graph::{
     Arg, Code, Fault, Graph, Node, ParameterEntry, ParameterRow, StoredProcess, argument_named,
-    least, process_entry, read_references,
+    callback_name, least, node_name, process_entry, read_references,
 };
 use oe_memory::OutOfMemory;
 use oe_order::Links;
@@ -254,26 +253,6 @@ fn members_fault(
         }
     }
     Ok(fault)
-}
-
-/// The name of a node in a graph object; in the main graph, whose name is empty, its id.
-fn node_name(alloc: Global, object: &str, id: &str) -> Result<Text, OutOfMemory>
-    ensures { IfOk result (λ text. text ≡ form.node_name object.now id.now) }
-{
-    if object.is_empty() {
-        return Text::of(alloc, id);
-    }
-    callback_name(alloc, object, id)
-}
-
-/// The name of a callback in an argument of a node.
-fn callback_name(alloc: Global, node: &str, argument: &str) -> Result<Text, OutOfMemory>
-    ensures { IfOk result (λ text. text ≡ form.callback_name node.now argument.now) }
-{
-    let mut text = String::from_str(alloc, node)?;
-    text.push_str("/")?;
-    text.push_str(argument)?;
-    Text::of(alloc, text.as_str())
 }
 
 /// The parameters that the callbacks of a node see, those of its process first.

@@ -1,4 +1,4 @@
-use Rattle.std.proofs.Common.{◌≡◌, ◌+◌, ◌<◌, ◌≤◌, ℕ, List, Bool, None, length, map, option_map, take, false, get_or, sym, ap, ◌∙◌, subst, arith}
+use Rattle.std.proofs.Common.{◌≡◌, ◌+◌, ◌<◌, ◌≤◌, ℕ, List, Bool, None, length, map, option_map, take, false, get_or, sym, ap, ◌∙◌, subst, arith, string_bytes}
 use Rattle.std.proofs.lemmas.List.{take_all, get_or_read, length-map}
 use Rattle.std.proofs.lemmas.Result.{IfOk-weaker}
 use Rattle.std.specs.Result.{IfOk}
@@ -120,7 +120,7 @@ argument_fault-returns-in_ok-name-in-Callback t c =
     → IsLeastOf (OfArgument (map plain_stored c.args.judge.now.stored.now) c.args.judge.now.last c.args.node_name.now c.args.argument.now (names_behind c.args.scope.now) (plain_arg c.args.arg.now)) o)
     (λ o found. callback_argument (map plain_stored c.args.judge.now.stored.now) c.args.judge.now.last c.args.node_name.now c.args.argument.now
     c.as_str.result.now (names_behind c.args.scope.now) c.args.arg.now c.in-Callback.graph o c.in-Callback.is
-    (c.as_str.ensures ∙ c.in_ok-name-in-Callback.ensures) found)
+    (c.as_str.ensures.value ∙ c.in_ok-name-in-Callback.ensures) found)
     c.object_fault.ensures
 
 pub node_faults-returns-then-is_call : goal.node_faults-returns-then-is_call
@@ -130,10 +130,10 @@ node_faults-returns-then-is_call t c nodes rise known marked =
     let n = c.args.node.now in
     let scope = names_behind c.args.scope.now in
     let code = node_code stored last scope (plain_node n) c.args.is_known c.args.is_cyclic in
-    call_least stored last c.args.name.now scope nodes n c.args.is_known c.args.is_cyclic c.in_ok-own.own c.in_ok-name.name
+    call_least stored last c.args.name.now scope nodes n c.args.is_known c.args.is_cyclic c.in_ok-own.own (string_bytes c.in_ok-name.name)
     (sym c.is_call.ensures ∙ c.if-is_call.true)
     (c.in_ok-name.ensures ∙ ap (node_name c.args.name.now) c.as_str.ensures)
-    (c.in_ok-own.ensures ∙ ap (λ at. option_map (λ k. record { code = k; node = at }) code) c.as_str-2.ensures)
+    (c.in_ok-own.ensures ∙ ap (λ at. option_map (λ k. record { code = k; node = at }) code) c.as_str-2.ensures.value)
     known marked
 
 pub node_faults-returns : goal.node_faults-returns
@@ -147,16 +147,16 @@ node_faults-returns t c nodes rise known marked =
     let scoped = names_behind c.in_ok-scope.scope.items in
     let rises : IdsRiseIn (callbacks_named arguments) =
     subst (λ (m : PlainNode). IdsRiseIn (callbacks_named m.arguments)) (node_parts n) rise in
-    let found : IsLeastOf (OfArguments stored last c.in_ok-name.name scoped arguments) c.in_ok-inner.inner =
-    subst (λ name. IsLeastOf (OfArguments stored last name scoped arguments) c.in_ok-inner.inner) c.as_str-3.ensures
+    let found : IsLeastOf (OfArguments stored last (string_bytes c.in_ok-name.name) scoped arguments) c.in_ok-inner.inner =
+    subst (λ name. IsLeastOf (OfArguments stored last name scoped arguments) c.in_ok-inner.inner) c.as_str-3.ensures.value
     (subst (λ names. IsLeastOf (OfArguments stored last c.as_str-3.result.now (names_behind names) arguments) c.in_ok-inner.inner)
     c.as_slice.ensures.value (c.in_ok-inner.ensures rises)) in
     subst (IsLeastOf (OfNode stored last c.args.name.now scope nodes (plain_node n))) (sym c.least.ensures)
-    (node_least stored last c.args.name.now scope nodes n c.args.is_known c.args.is_cyclic c.in_ok-own.own c.in_ok-inner.inner c.in_ok-name.name scoped
+    (node_least stored last c.args.name.now scope nodes n c.args.is_known c.args.is_cyclic c.in_ok-own.own c.in_ok-inner.inner (string_bytes c.in_ok-name.name) scoped
     (sym c.is_call.ensures ∙ c.if-is_call.false)
     (c.in_ok-name.ensures ∙ ap (node_name c.args.name.now) c.as_str.ensures)
     c.in_ok-scope.ensures
-    (c.in_ok-own.ensures ∙ ap (λ at. option_map (λ k. record { code = k; node = at }) code) c.as_str-2.ensures)
+    (c.in_ok-own.ensures ∙ ap (λ at. option_map (λ k. record { code = k; node = at }) code) c.as_str-2.ensures.value)
     known marked found)
 
 pub object_fault-index-requires-in-loop-index : goal.object_fault-index-requires-in-loop-index
