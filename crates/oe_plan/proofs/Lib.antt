@@ -14,3 +14,4 @@ pub mod FitLemmas
 mod Worked
 pub mod ScheduleLemmas
 pub mod CrossLemmas
+pub mod NumberWords

@@ -8,3 +8,4 @@ pub mod Plans
 pub mod Widening
 pub mod Fits
 pub mod Laws
+pub mod Words

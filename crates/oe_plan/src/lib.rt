@@ -17,6 +17,7 @@ mod schedule;
 mod turns;
 mod widths;
 mod windows;
+mod words;
 
 pub use bound::{
     PlanFigures, Sides, figures, most_along, order_of, order_to, scratch_of, sides_of,
@@ -25,3 +26,4 @@ pub use laws::{plans_cross_threads, plans_fit, schedules_serve};
 pub use plan::{Plan, PlanFail};
 pub use schedule::Schedule;
 pub use windows::{argument_count, argument_of, windows_of};
+pub use words::{is_spelling, read_number, read_size};

@@ -1,19 +1,7 @@
 -- The words of the command `serve`.
-use Rattle.std.specs.Prelude.{◌≡◌, ℕ, ◌≤◌, ◌^◌, ◌-◌, List, [], ◌∷◌, codes, decimal}
-use Rattle.oe_window.specs.declared.grid.ChunkSize.{ChunkSize}
+use Rattle.std.specs.Prelude.{◌≡◌, ℕ, ◌^◌, ◌-◌, List, [], ◌∷◌, codes}
+use Rattle.oe_plan.specs.Words.{AreSides, IsNumberWord}
 use Rattle.oe_serve.specs.declared.command.ServeCommand.{ServeCommand}
-
--- a number from low to high, spelled in decimal with no sign and no leading zero
-pub record IsNumberWord (low high : ℕ) (word : List ℕ) (number : ℕ) : Type 0 where
-  pub above : low ≤ number
-  pub below : number ≤ high
-  pub spelled : word ≡ decimal number
-
--- three words that spell the sides of a chunk along x, y and t, each from 1 to 4096
-pub record AreSides (cx cy ct : List ℕ) (size : ChunkSize) : Type 0 where
-  pub x : IsNumberWord 1 4096 cx size.x
-  pub y : IsNumberWord 1 4096 cy size.y
-  pub t : IsNumberWord 1 4096 ct size.t
 
 -- `serve PORT CX CY CT W TURNS`: a port, the sides of a chunk, a number of workers and a number of turns
 pub record SpellsServe (words : List (List ℕ)) (command : ServeCommand) : Type 0 where

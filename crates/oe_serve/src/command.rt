@@ -1,11 +1,11 @@
 // The words of the command `serve`.
-ghost use Rattle.std.specs.Prelude.{◌≡◌, ◌≤◌, ◌↔◌, ◌∷◌, [], ℕ, IfNone, IfSome, IsTrue, codes, decimal};
-ghost use Rattle.oe_serve.specs.Words.{AreSides, IsNumberWord, SpellsServe};
+ghost use Rattle.std.specs.Prelude.{◌≡◌, ◌↔◌, ◌∷◌, [], ℕ, IfNone, IfSome, IsTrue, codes};
+ghost use Rattle.oe_plan.specs.Words.{IsNumberWord};
+ghost use Rattle.oe_serve.specs.Words.{SpellsServe};
 ghost use Rattle.oe_serve.specs.declared.command.ServeCommand.{ServeCommand as Command};
-ghost use Rattle.oe_window.specs.declared.grid.ChunkSize.{ChunkSize as Size};
 
-use itoa::Buffer;
 use oe_dims::Text;
+use oe_plan::{read_number, read_size};
 use oe_window::ChunkSize;
 
 /// What the words `serve PORT CX CY CT W TURNS` ask for.
@@ -92,52 +92,4 @@ fn read_port(word: &Text) -> Option<u16>
         Some(port) => Some(port as u16),
         None => None,
     }
-}
-
-/// A chunk with these sides, `None` exactly where a word is no side.
-fn read_size(cx: &Text, cy: &Text, ct: &Text) -> Option<ChunkSize>
-    ensures some { IfSome result (AreSides cx.now cy.now ct.now) }
-    ensures none { IfNone result ((size : Size) → ¬ AreSides cx.now cy.now ct.now size) }
-{
-    let x = read_number(cx, 1, 4096)?;
-    let y = read_number(cy, 1, 4096)?;
-    let t = read_number(ct, 1, 4096)?;
-    Some(ChunkSize { x, y, t })
-}
-
-/// The number from `low` to `high` that the word spells in decimal, with no sign and no leading zero. `None` exactly
-/// where it spells none.
-fn read_number(word: &Text, low: u32, high: u32) -> Option<u32>
-    ensures some { IfSome result (IsNumberWord low high word.now) }
-    ensures none { IfNone result ((number : ℕ) → ¬ IsNumberWord low high word.now number) }
-{
-    match word.as_str().parse::<u32>() {
-        Ok(number) => {
-            if is_number(word, number, low, high) {
-                Some(number)
-            } else {
-                None
-            }
-        }
-        Err(_) => None,
-    }
-}
-
-fn is_number(word: &Text, number: u32, low: u32, high: u32) -> bool
-    ensures { IsTrue result ↔ IsNumberWord low high word.now number }
-{
-    is_within(number, low, high) && is_spelling(word, number)
-}
-
-fn is_within(number: u32, low: u32, high: u32) -> bool
-    ensures { IsTrue result ↔ (low ≤ number) × (number ≤ high) }
-{
-    low <= number && number <= high
-}
-
-/// Whether the word is the decimal spelling of the number.
-fn is_spelling(word: &Text, number: u32) -> bool
-    ensures { IsTrue result ↔ word.now ≡ decimal number }
-{
-    Buffer::new().format(number) == word.as_str()
 }

@@ -1,6 +1,6 @@
 -- Words spell one command alone.
 use Rattle.std.proofs.Common.{◌≡◌, ℕ, List, [], ◌∷◌, get_or, refl, sym, ap, ◌∙◌, codes, arith}
-use Rattle.oe_top.proofs.Numbers.{one_number}
+use Rattle.oe_plan.proofs.NumberWords.{one_number}
 use Rattle.oe_top.specs.Words.{Spells, SpellsDemo, SpellsNumbers, SpellsPart, SpellsSides}
 use Rattle.oe_top.specs.declared.words.Command.{Command}
 use Rattle.oe_top.specs.declared.words.Command.TheVariants.{Run, Part, Join, Plan, Slab, SlabPlan, Demo, Check, Explain, Pack, Repack, DescribeAll, Describe}

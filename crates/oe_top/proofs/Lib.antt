@@ -4,7 +4,6 @@ pub mod Ended
 pub mod Inputs
 pub mod Joins
 pub mod JoinedLemmas
-pub mod Numbers
 pub mod Packings
 pub mod Plans
 pub mod Repackings

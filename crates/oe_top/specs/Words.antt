@@ -1,21 +1,10 @@
 -- The words of a command, and the command that they spell.
-use Rattle.std.specs.Prelude.{◌≡◌, ℕ, ◌≤◌, true, List, [], ◌∷◌, codes, decimal, slice_index_or}
+use Rattle.std.specs.Prelude.{◌≡◌, ℕ, true, List, [], ◌∷◌, codes, slice_index_or}
+use Rattle.oe_plan.specs.Words.{AreSides, IsNumberWord}
 use Rattle.oe_dims.specs.Names.{is_name}
 use Rattle.oe_window.specs.declared.grid.ChunkSize.{ChunkSize}
 use Rattle.oe_top.specs.declared.words.Command.{Command}
 use Rattle.oe_top.specs.declared.words.Command.TheVariants.{Run, Part, Join, Plan, Slab, SlabPlan, Demo, Check, Explain, Pack, Repack, DescribeAll, Describe}
-
--- a number from low to high, spelled in decimal with no sign and no leading zero
-pub record IsNumberWord (low high : ℕ) (word : List ℕ) (number : ℕ) : Type 0 where
-  pub above : low ≤ number
-  pub below : number ≤ high
-  pub spelled : word ≡ decimal number
-
--- three words that spell the sides of a chunk along x, y and t, each from 1 to 4096
-pub record AreSides (cx cy ct : List ℕ) (size : ChunkSize) : Type 0 where
-  pub x : IsNumberWord 1 4096 cx size.x
-  pub y : IsNumberWord 1 4096 cy size.y
-  pub t : IsNumberWord 1 4096 ct size.t
 
 -- four words that spell the sides of a chunk and a number of workers, from 1 to 64
 abbrev pub AreRunNumbers : List ℕ → List ℕ → List ℕ → List ℕ → ChunkSize → ℕ → Type 0

@@ -1,5 +1,5 @@
 use Rattle.std.proofs.Common.{◌^◌, ◌<◌, arith}
-use Rattle.oe_top.proofs.Numbers.{same_number, spells_none, spells_it}
+use Rattle.oe_plan.proofs.NumberWords.{same_number, spells_it, spells_none}
 use Rattle.oe_top.specs.Words.{most_chunks}
 use Rattle.oe_top.proofs.words.read_chunk_number.Goals as goal
 

@@ -1,6 +1,6 @@
 use Rattle.std.proofs.Common.{◌^◌, ◌<◌, arith}
-use Rattle.oe_top.proofs.Numbers.{spells_none, spells_it, same_number}
-use Rattle.oe_top.proofs.words.read_number.Goals as goal
+use Rattle.oe_plan.proofs.NumberWords.{same_number, spells_it, spells_none}
+use Rattle.oe_plan.proofs.words.read_number.Goals as goal
 
 pub returns-else-is_number-clause-none : goal.returns-else-is_number-clause-none
 returns-else-is_number-clause-none c = λ number word.

@@ -2,7 +2,7 @@
 use Rattle.std.proofs.Common.{◌≡◌, ℕ, ◌^◌, ◌<◌, ◌≤◌, List, Result, Ok, Err, sym, ◌∙◌, arith}
 use Rattle.std.specs.Str.Parse.{ParsesUnsigned}
 use Rattle.std.proofs.lemmas.Fmt.{decimal_injective, parse-decimal}
-use Rattle.oe_top.specs.Words.{IsNumberWord}
+use Rattle.oe_plan.specs.Words.{IsNumberWord}
 
 -- what parsing into so many bits makes of a word that spells a number
 pub parses_number : {E : Type 0} (bits : ℕ) {low high number : ℕ} (word bytes : List ℕ) (r : Result ℕ E) → high < 2 ^ bits → high < 2 ^ 64
