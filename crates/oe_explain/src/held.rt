@@ -1,21 +1,22 @@
 // What an argument may hold, by the kind of its parameter.
-ghost use Rattle.std.specs.Prelude.{◌≡◌, ◌&&◌, ◌||◌, IfOk, codes, is_some, not};
+ghost use Rattle.std.specs.Prelude.{◌≡◌, ◌&&◌, ◌||◌, IfOk, is_some, not};
 ghost use Rattle.std.specs.List.{list_all};
 ghost use Rattle.std.specs.Option.{option_and_then};
-ghost use Rattle.oe_dims.specs.Names.{same_name};
 ghost use Rattle.oe_graph.specs.Built as built;
-ghost use Rattle.oe_graph.specs.Plain.{plain_arg, plain_args, plain_named};
+ghost use Rattle.oe_graph.specs.Plain.{plain_arg, plain_args};
 ghost use Rattle.oe_graph.specs.Tree as tree;
 ghost use Rattle.oe_expr.specs.Requests as cell;
 ghost use Rattle.oe_check.specs.Held as held;
 ghost use Rattle.oe_requests.specs.Parameters as cube;
-ghost use Rattle.oe_requests.specs.RunningSums as sums;
 
 use crate::asked::{are_bands, is_box, is_kernel};
-use oe_dims::{Text, read_instant};
+use oe_dims::read_instant;
 use oe_graph::{Arg, ArgumentKind};
 use oe_memory::OutOfMemory;
 use oe_periods::period_named;
+use oe_requests::{
+    is_data, is_empty_list, is_empty_object, is_null, is_null_or_empty_object, is_time_name,
+};
 use std::alloc::Global;
 
 /// Most elements of a list that is written in a callback.
@@ -60,13 +61,6 @@ pub(crate) fn may_hold(alloc: Global, kind: ArgumentKind, arg: &Arg) -> Result<b
 }
 
 // ---- null, and what may be null
-
-/// Null.
-fn is_null(arg: &Arg) -> bool
-    ensures { result ≡ cell.is_null (plain_arg arg.now) }
-{
-    matches!(arg, Arg::Null)
-}
 
 /// A box or null.
 #[tactic(auto, using(crate::proofs::Tests::or_null))]
@@ -119,40 +113,6 @@ fn is_period(arg: &Arg) -> bool
 {
     match arg {
         Arg::Str(name) => period_named(name.as_str()).is_some(),
-        _ => false,
-    }
-}
-
-/// The name `t`.
-fn names_time(name: &str) -> bool
-    ensures { result ≡ same_name name.now (codes "t") }
-{
-    name == "t"
-}
-
-/// A text that is the name of t.
-fn is_time_name(arg: &Arg) -> bool
-    ensures { result ≡ cube.is_time_name (plain_arg arg.now) }
-{
-    match arg {
-        Arg::Str(name) => names_time(name.as_str()),
-        _ => false,
-    }
-}
-
-/// The name of the list that a callback sees.
-fn is_data_name(name: &str) -> bool
-    ensures { result ≡ same_name name.now (codes "data") }
-{
-    name == "data"
-}
-
-/// A reference to the list that a callback sees.
-fn is_data(arg: &Arg) -> bool
-    ensures { result ≡ sums.is_data (plain_arg arg.now) }
-{
-    match arg {
-        Arg::FromParameter(name) => is_data_name(name.as_str()),
         _ => false,
     }
 }
@@ -274,53 +234,6 @@ fn is_label_or_null(arg: &Arg) -> bool
         Arg::Null => true,
         Arg::Str(_) => true,
         Arg::Whole(whole) => is_literal(*whole),
-        _ => false,
-    }
-}
-
-// ---- empty lists and objects
-
-/// The list is empty.
-fn lacks_arguments(args: &[Arg]) -> bool
-    ensures { result ≡ cube.is_empty_list (tree.list (plain_args args.now)) }
-{
-    args.is_empty()
-}
-
-/// The object is empty.
-fn lacks_members(members: &Vec<(Text, Arg)>) -> bool
-    ensures { result ≡ cube.is_empty_object (tree.object (plain_named members.now.items)) }
-{
-    members.as_slice().is_empty()
-}
-
-/// The empty list.
-fn is_empty_list(arg: &Arg) -> bool
-    ensures { result ≡ cube.is_empty_list (plain_arg arg.now) }
-{
-    match arg {
-        Arg::List(args) => lacks_arguments(args),
-        _ => false,
-    }
-}
-
-/// The empty object.
-fn is_empty_object(arg: &Arg) -> bool
-    ensures { result ≡ cube.is_empty_object (plain_arg arg.now) }
-{
-    match arg {
-        Arg::Object(members) => lacks_members(members),
-        _ => false,
-    }
-}
-
-/// Null or the empty object.
-fn is_null_or_empty_object(arg: &Arg) -> bool
-    ensures { result ≡ cube.is_null_or_empty_object (plain_arg arg.now) }
-{
-    match arg {
-        Arg::Null => true,
-        Arg::Object(members) => lacks_members(members),
         _ => false,
     }
 }

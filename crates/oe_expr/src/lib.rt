@@ -27,5 +27,6 @@ mod walk;
 pub use evaluate::{SCRATCH, eval};
 pub use expr::{Expr, build};
 pub use laws::values_unfold;
+pub use request::flag_at;
 pub use row::{EnvRow, eval_row};
 pub use scope::{Env, ListPart, Scope};

@@ -311,8 +311,8 @@ fn written_items(alloc: Global, args: &Vec<Arg>) -> Result<Option<Items<'_>>, Ou
     Ok(Some(Items::Written(scalars)))
 }
 
-/// A flag that is written as such.
-fn flag_at(arguments: &Vec<(Text, Arg)>, name: &str) -> Option<bool>
+/// The flag that is written as the argument of a name.
+pub fn flag_at(arguments: &Vec<(Text, Arg)>, name: &str) -> Option<bool>
     ensures { result ≡ spec.read spec.flag_in name.now (plain_named arguments.now.items) }
 {
     match argument_named(arguments, name)? {

@@ -17,5 +17,8 @@ mod running_sums;
 pub use extent::{BoundingBox, Interval, TemporalExtent};
 pub use intervals::Intervals;
 pub use operation::{Operation, Restriction};
+pub use parameter::{
+    is_empty_list, is_empty_object, is_null, is_null_or_empty_object, is_time_name,
+};
 pub use request::{Called, KernelRows, Request, read_request};
-pub use running_sums::running_sum_in;
+pub use running_sums::{is_data, running_sum_in};

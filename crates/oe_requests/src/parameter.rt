@@ -105,8 +105,8 @@ fn names_time(name: &str) -> bool
     name == "t"
 }
 
-/// Whether it is the name of t.
-fn is_time_name(arg: &Arg) -> bool
+/// Whether an argument is the name of t.
+pub fn is_time_name(arg: &Arg) -> bool
     ensures { result ≡ spec.is_time_name (plain_arg arg.now) }
 {
     match arg {
@@ -126,8 +126,8 @@ pub(crate) fn has_time_name(arguments: &Vec<(Text, Arg)>, name: &str) -> bool
     }
 }
 
-/// Whether it is null.
-fn is_null(arg: &Arg) -> bool
+/// Whether an argument is null.
+pub fn is_null(arg: &Arg) -> bool
     ensures { result ≡ requests.is_null (plain_arg arg.now) }
 {
     matches!(arg, Arg::Null)
@@ -141,16 +141,6 @@ pub(crate) fn has_null(arguments: &Vec<(Text, Arg)>, name: &str) -> bool
     match argument_named(arguments, name) {
         Some(arg) => is_null(arg),
         None => false,
-    }
-}
-
-/// A flag that is written.
-pub(crate) fn flag_at(arguments: &Vec<(Text, Arg)>, name: &str) -> Option<bool>
-    ensures { result ≡ read requests.flag_in name.now (plain_named arguments.now.items) }
-{
-    match argument_named(arguments, name)? {
-        Arg::Flag(flag) => Some(*flag),
-        _ => None,
     }
 }
 
@@ -236,8 +226,8 @@ fn lacks_members(members: &Vec<(Text, Arg)>) -> bool
     members.as_slice().is_empty()
 }
 
-/// Whether it is the empty list.
-fn is_empty_list(arg: &Arg) -> bool
+/// Whether an argument is the empty list.
+pub fn is_empty_list(arg: &Arg) -> bool
     ensures { result ≡ spec.is_empty_list (plain_arg arg.now) }
 {
     match arg {
@@ -246,8 +236,8 @@ fn is_empty_list(arg: &Arg) -> bool
     }
 }
 
-/// Whether it is the empty object.
-fn is_empty_object(arg: &Arg) -> bool
+/// Whether an argument is the empty object.
+pub fn is_empty_object(arg: &Arg) -> bool
     ensures { result ≡ spec.is_empty_object (plain_arg arg.now) }
 {
     match arg {
@@ -256,8 +246,8 @@ fn is_empty_object(arg: &Arg) -> bool
     }
 }
 
-/// Whether it is null or the empty object.
-fn is_null_or_empty_object(arg: &Arg) -> bool
+/// Whether an argument is null or the empty object.
+pub fn is_null_or_empty_object(arg: &Arg) -> bool
     ensures { result ≡ spec.is_null_or_empty_object (plain_arg arg.now) }
 {
     match arg {

@@ -7,8 +7,8 @@ ghost use Rattle.oe_graph.specs.Printed.{ids_of};
 ghost use Rattle.oe_graph.specs.Read.{IsFault};
 ghost use Rattle.oe_requests.specs.RunningSums as spec;
 
-use crate::parameter::flag_at;
 use oe_dims::Text;
+use oe_expr::flag_at;
 use oe_graph::{
     Arg, Code, Fault, Graph, Node, Refusal, argument_named, callback_name, fault_at_node,
 };
@@ -43,8 +43,8 @@ fn is_data_name(name: &str) -> bool
     name == "data"
 }
 
-/// Whether it is a reference to the list that the callback sees.
-fn is_data(arg: &Arg) -> bool
+/// Whether an argument is a reference to the list that a callback sees.
+pub fn is_data(arg: &Arg) -> bool
     ensures { result ≡ spec.is_data (plain_arg arg.now) }
 {
     match arg {
