@@ -59,8 +59,8 @@ struct CivilDate {
     day: u32,
 }
 
-/// The date so many days after 1 January of the year 1.
-fn date_after(days: u32) -> Date
+/// The date so many days after 1 January of the year 1, in the Gregorian calendar.
+pub fn date_after(days: u32) -> Date
     requires { days ≤ 3_652_058 }
     ensures year { result.year ≡ pos (civil_date days).year }
     ensures month { result.month ≡ (civil_date days).month }

@@ -24,7 +24,7 @@ mod text;
 pub use bands::BandIndex;
 pub use copies::{copy_bands, copy_text, copy_texts};
 pub use dims::{Dims, DimsRow};
-pub use instant::{InstantFault, is_instant, print_instant, read_instant};
+pub use instant::{InstantFault, date_after, is_instant, print_instant, read_instant};
 pub use kind::{CellKind, Kind, Labels};
 pub use name::is_name;
 pub use order::{is_name_before, same_name, same_text};

@@ -1,27 +1,11 @@
--- The date that counting off years and months gives is the one with that day number, and how dates follow one another.
-use Rattle.std.proofs.Common.{◌≡◌, ℕ, ◌+◌, ◌-◌, ◌*◌, ◌<◌, ◌≤◌, nat_lt, Bool, true, false, refl, sym, ◌∙◌, subst, arith, pos, ◌-ℤ◌}
+-- How dates follow one another.
+use Rattle.std.proofs.Common.{◌≡◌, ℕ, ◌+◌, ◌-◌, ◌*◌, ◌<◌, ◌≤◌, nat_lt, Bool, true, false, refl, subst, arith, pos}
 use Rattle.std.specs.Int.{IsInRange}
 use Rattle.std.proofs.lemmas.Bool.{ltb-true, ltb-false}
 use Rattle.jiff_core.specs.Calendar.{days_in_month, day_count, IsCivilDate}
-use Rattle.jiff_core.specs.Date.{epoch_day}
-use Rattle.jiff_core.specs.declared.civil.date.Date.{Date}
 use Rattle.jiff_core.proofs.SignedLemmas.{signed_arith}
-use Rattle.jiff_core.proofs.CalendarLemmas.{day_count-day, day_count-day_of_year, day_count-lt_year, day_count-lt_month, days_from_civil-day_count, days_in_month_bounds}
-use Rattle.jiff_core.proofs.DateLemmas.{epoch_day_injective}
-use Rattle.oe_dims.specs.Calendar.{civil_date}
-use Rattle.oe_dims.proofs.CivilLemmas.{civil_date_is, day_count-first_of_year_1}
-
--- it is the calendar's only date with that day number
-pub civil_date_only : (days : ℕ) (date : Date) → days ≤ 3_652_058 → epoch_day date ≡ pos days -ℤ pos 719_162 → (date.year ≡ pos (civil_date days).year) × (date.month ≡ (civil_date days).month)
-civil_date_only days date h e =
-    let is = civil_date_is days h in
-    let found = civil_date days in
-    let other : Date = record { year = pos found.year; month = found.month; day = found.day; year_in = (omega (arith, signed_arith, is.year), omega (arith, signed_arith, is.year)); month_in = is.month; day_in = is.day } in
-    let day : epoch_day other ≡ pos days -ℤ pos 719_162 = omega (arith, signed_arith, days_from_civil-day_count (pos found.year) found.month found.day, is.counted) in
-    let same = epoch_day_injective date other (e ∙ sym day) in
-    (same.0, same.1)
-
--- ---- how dates follow one another
+use Rattle.jiff_core.proofs.CalendarLemmas.{day_count-day, day_count-day_of_year, day_count-lt_year, day_count-lt_month, days_in_month_bounds}
+use Rattle.oe_dims.proofs.CivilLemmas.{day_count-first_of_year_1}
 
 pub civil : (year month day : ℕ) → IsInRange 1 9999 year → IsInRange 1 12 month → IsInRange 1 (days_in_month (pos year) month) day → IsCivilDate (pos year) month day
 civil year month day y m d = ((omega (arith, signed_arith, y), omega (arith, signed_arith, y)), m, d)

@@ -1,5 +1,5 @@
 // The calendar: of each instant its day, month and year, and where these begin.
-ghost use Rattle.std.specs.Prelude.{◌≡◌, ◌<◌, ◌≤◌, pos};
+ghost use Rattle.std.specs.Prelude.{◌≡◌, ◌<◌, ◌≤◌};
 ghost use Rattle.jiff_core.specs.Calendar.{days_from_civil};
 ghost use Rattle.oe_dims.specs.Calendar.{civil_date};
 ghost use Rattle.oe_dims.specs.Instant.{IsInstant};
@@ -7,12 +7,10 @@ ghost use Rattle.oe_periods.specs.Calendar as spec;
 ghost use Rattle.oe_periods.specs.Periods.{PartTime};
 
 use jiff_core::civil::Date;
+use oe_dims::date_after;
 
 /// The first second of the year 1.
 pub(crate) const FIRST_INSTANT: i64 = -62135596800;
-
-/// The days from 0001-01-01 to 1970-01-01.
-const DAYS_BEFORE_1970: i64 = 719162;
 
 /// The seconds of a day.
 const DAY: i64 = 86400;
@@ -46,18 +44,6 @@ fn days_to(instant: i64) -> u32
     ensures { result ≡ spec.days_to instant }
 {
     ((instant - FIRST_INSTANT) / DAY) as u32
-}
-
-/// The date so many days after 1 January of the year 1.
-fn date_after(days: u32) -> Date
-    requires { days < 3_652_059 }
-    ensures year { result.year ≡ pos (civil_date days).year }
-    ensures month { result.month ≡ (civil_date days).month }
-{
-    match Date::from_unix_epoch_day(i64::from(days) - DAYS_BEFORE_1970) {
-        Ok(date) => date,
-        Err(_) => unreachable!(),
-    }
 }
 
 /// The number of the month of a day, from 0 for January of the year 1.
