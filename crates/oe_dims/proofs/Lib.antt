@@ -1,4 +1,5 @@
 mod BlockLemmas
+mod ByteLemmas
 pub mod CivilLemmas
 pub mod CubeLemmas
 pub mod DistinctLemmas

@@ -1,5 +1,5 @@
 // Copies of texts.
-ghost use Rattle.std.specs.Prelude.{◌≡◌, IfOk};
+ghost use Rattle.std.specs.Prelude.{◌≡◌, IfOk, IsUtf8};
 ghost use Rattle.std.specs.Option.{option_map};
 ghost use Rattle.oe_dims.specs.Lists.{items_of};
 
@@ -14,6 +14,17 @@ pub fn copy_text(text: &Option<Text>) -> Result<Option<Text>, OutOfMemory>
     match text {
         Some(text) => Ok(Some(text.copy()?)),
         None => Ok(None),
+    }
+}
+
+/// The text of bytes that are UTF-8. Refuses: out of memory.
+pub fn text_of(alloc: Global, bytes: &[u8]) -> Result<Text, OutOfMemory>
+    requires { IsUtf8 bytes.now }
+    ensures { IfOk result (λ text. text ≡ bytes.now) }
+{
+    match std::str::from_utf8(bytes) {
+        Ok(text) => Text::of(alloc, text),
+        Err(_) => unreachable!(),
     }
 }
 

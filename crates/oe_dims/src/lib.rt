@@ -8,6 +8,7 @@
 #![tactic(auto)]
 
 mod bands;
+mod bytes;
 mod copies;
 mod dims;
 mod distinct;
@@ -22,7 +23,8 @@ mod shape;
 mod text;
 
 pub use bands::BandIndex;
-pub use copies::{copy_bands, copy_text, copy_texts};
+pub use bytes::{bytes_behind, index_of_byte};
+pub use copies::{copy_bands, copy_text, copy_texts, text_of};
 pub use dims::{Dims, DimsRow};
 pub use instant::{InstantFault, date_after, is_instant, print_instant, read_instant};
 pub use kind::{CellKind, Kind, Labels};

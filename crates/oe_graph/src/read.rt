@@ -1,5 +1,5 @@
 // Graphs and stored processes, read whole.
-ghost use Rattle.std.specs.Prelude.{◌≡◌, ◌≤◌, length, IfOk, IfErr, IsUtf8, OnOk, Some, true};
+ghost use Rattle.std.specs.Prelude.{◌≡◌, ◌≤◌, length, IfOk, IfErr, OnOk, Some, true};
 ghost use Rattle.serde_json.specs.View.{view, members_view};
 ghost use Rattle.oe_graph.specs.AsRead.{is_as_read};
 ghost use Rattle.oe_graph.specs.Form.{IsReading, Stands, StandsIn, most_input, nodes_in};
@@ -17,7 +17,7 @@ use crate::form::nodes_in;
 use crate::stored::{StoredProcess, build_parameters, fits_parameters};
 use crate::tree::Graph;
 use crate::walk::{fault_at, graph_fault};
-use oe_dims::Text;
+use oe_dims::{Text, text_of};
 use oe_memory::OutOfMemory;
 use serde_json::{Map, Value};
 use std::alloc::Global;
@@ -123,16 +123,5 @@ fn parameters_fault(alloc: Global, process: &Value) -> Result<Option<Fault>, Out
         Ok(None)
     } else {
         Ok(Some(fault_at(alloc, Code::ParametersInvalid, "")?))
-    }
-}
-
-/// The text that the bytes are.
-fn text_of(alloc: Global, bytes: &[u8]) -> Result<Text, OutOfMemory>
-    requires { IsUtf8 bytes.now }
-    ensures { IfOk result (λ text. text ≡ bytes.now) }
-{
-    match std::str::from_utf8(bytes) {
-        Ok(text) => Text::of(alloc, text),
-        Err(_) => unreachable!(),
     }
 }

@@ -1,13 +1,12 @@
 // The file of a mosaic.
-ghost use Rattle.std.specs.Prelude.{◌≡◌, ◌+◌, ◌==◌, ◌≤◌, ◌<◌, ◌++◌, ◌∷◌, [], IfOk, IsUtf8, drop, length};
-ghost use Rattle.std.specs.List.{list_all, position_or_len};
+ghost use Rattle.std.specs.Prelude.{◌≡◌, ◌≤◌, IfOk, length};
+ghost use Rattle.std.specs.List.{list_all};
 ghost use Rattle.oe_dims.specs.Names.{is_byte_in, is_name, is_name_byte};
 ghost use Rattle.oe_mosaic.specs.MosaicText as spec;
 
-use oe_dims::Text;
+use oe_dims::{Text, bytes_behind, index_of_byte, text_of};
 use oe_memory::OutOfMemory;
 use std::alloc::Global;
-use std::str;
 
 /// The most lines: that of the id, and those of 16 files.
 const MOST_LINES: usize = 17;
@@ -63,7 +62,7 @@ fn read_names(alloc: Global, bytes: &[u8]) -> Result<Vec<Text>, MosaicTextFail>
     let mut rest = bytes;
     let mut number: u32 = 1;
     while !rest.is_empty() {
-        let end = position(rest, b'\n');
+        let end = index_of_byte(rest, b'\n');
         if end == rest.len() {
             return Err(MosaicTextFail::Invalid(number));
         }
@@ -72,34 +71,12 @@ fn read_names(alloc: Global, bytes: &[u8]) -> Result<Vec<Text>, MosaicTextFail>
             return Err(MosaicTextFail::Invalid(number));
         }
         number += 1;
-        rest = behind(rest, end);
+        rest = bytes_behind(rest, end);
     }
     if number < 3 {
         return Err(MosaicTextFail::Invalid(number));
     }
     Ok(names)
-}
-
-/// Where the first byte of this value stands, or how many bytes there are where none does.
-fn position(bytes: &[u8], byte: u8) -> usize
-    ensures place { result ≡ position_or_len (λ b. b == byte) bytes.now }
-    ensures within { result ≤ length bytes.now }
-{
-    for index in 0..bytes.len() {
-        if bytes[index] == byte {
-            return index;
-        }
-    }
-    bytes.len()
-}
-
-/// What stands behind the byte of an index.
-fn behind(bytes: &[u8], index: usize) -> &[u8]
-    requires { index < length bytes.now }
-    ensures { result.now ≡ drop (index + 1) bytes.now }
-{
-    let (_, rest) = bytes.split_at(index + 1);
-    rest
 }
 
 /// Adds the name of a line, where it may stand behind those before it. Answers whether it may.
@@ -114,17 +91,6 @@ fn add_line(alloc: Global, line: &[u8], names: &mut Vec<Text>) -> Result<bool, O
     }
     names.push(text_of(alloc, line)?)?;
     Ok(true)
-}
-
-/// The text of bytes that are UTF-8.
-fn text_of(alloc: Global, bytes: &[u8]) -> Result<Text, OutOfMemory>
-    requires { IsUtf8 bytes.now }
-    ensures { IfOk result (λ text. text ≡ bytes.now) }
-{
-    match str::from_utf8(bytes) {
-        Ok(text) => Text::of(alloc, text),
-        Err(_) => unreachable!(),
-    }
 }
 
 /// Whether a line may stand behind the names before it.

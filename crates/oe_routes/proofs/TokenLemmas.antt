@@ -1,8 +1,8 @@
 -- A file of tokens line by line, and what its entries are made of.
-use Rattle.std.proofs.Common.{◌≡◌, ℕ, zero, suc, ◌+◌, ◌<◌, ◌≤◌, ◌&&◌, nat_lt, not, Bool, true, IsTrue, List, [], ◌∷◌, ◌++◌, length, drop, get_or, Result, Ok, Err, refl, sym, ap, ◌∙◌, arith, IsUtf8, if◌then◌else◌}
+use Rattle.std.proofs.Common.{◌≡◌, ℕ, zero, suc, ◌+◌, ◌<◌, ◌≤◌, ◌&&◌, nat_lt, not, Bool, true, IsTrue, List, [], ◌∷◌, ◌++◌, length, get_or, Result, Ok, Err, refl, sym, ap, ◌∙◌, arith, IsUtf8, if◌then◌else◌}
 use Rattle.std.specs.List.{before_first, after_first, list_all, list_any, position_or_len}
 use Rattle.std.proofs.lemmas.Bool.Decides.{nat_tests}
-use Rattle.std.proofs.lemmas.List.{drop_all, length_push}
+use Rattle.std.proofs.lemmas.List.{length_push}
 use Rattle.std.proofs.lemmas.List.Splits.{slice_split_first, slice_split_none, length-slice_split}
 use Rattle.std.proofs.lemmas.List.Sums.{fails_before_first}
 use Rattle.std.proofs.lemmas.Str.{IsUtf8-from_ascii}
@@ -82,11 +82,6 @@ pub may_be_few : (before : List Entry) (entry : Entry) → may_follow before ent
 may_be_few before entry may =
     few_of (is_id entry.0 && is_token entry.1) (not (list_any (has_user entry.0) before)) (not (list_any (has_token entry.1) before))
     (length before) may
-
--- ---- what stands behind the bytes
-
-pub nothing_behind : (bytes : List ℕ) (n : ℕ) → length bytes ≤ n → drop (length bytes) bytes ≡ drop (n + 1) bytes
-nothing_behind bytes n le = drop_all (length bytes) bytes (omega arith) ∙ sym (drop_all (n + 1) bytes (omega (arith, le)))
 
 -- ---- a line whose entry was added
 

@@ -1,14 +1,13 @@
 // The users of a service, and their tokens.
-ghost use Rattle.std.specs.Prelude.{◌≡◌, ◌+◌, ◌==◌, ◌≤◌, IfOk, IsUtf8, drop, length};
-ghost use Rattle.std.specs.List.{list_all, list_any, position_or_len};
+ghost use Rattle.std.specs.Prelude.{◌≡◌, IfOk};
+ghost use Rattle.std.specs.List.{list_all, list_any};
 ghost use Rattle.oe_dims.specs.Names.{is_byte_in};
 ghost use Rattle.oe_routes.specs.Tokens as spec;
 
-use oe_dims::Text;
+use oe_dims::{Text, bytes_behind, index_of_byte, text_of};
 use oe_memory::OutOfMemory;
 use std::alloc::Global;
 use std::marker::Model;
-use std::str;
 
 /// Most users.
 const MOST_USERS: usize = 8;
@@ -78,7 +77,7 @@ fn read_entries(alloc: Global, bytes: &[u8]) -> Result<Vec<(Text, Text)>, Tokens
     let mut rest = bytes;
     let mut number: u32 = 1;
     while !rest.is_empty() {
-        let end = position(rest, b'\n');
+        let end = index_of_byte(rest, b'\n');
         if end == rest.len() {
             return Err(TokensFail::Invalid(number));
         }
@@ -87,36 +86,9 @@ fn read_entries(alloc: Global, bytes: &[u8]) -> Result<Vec<(Text, Text)>, Tokens
             return Err(TokensFail::Invalid(number));
         }
         number += 1;
-        rest = behind(rest, end);
+        rest = bytes_behind(rest, end);
     }
     Ok(entries)
-}
-
-/// Where the first byte of this value stands, or how many bytes there are where none does.
-fn position(bytes: &[u8], byte: u8) -> usize
-    ensures place { result ≡ position_or_len (λ b. b == byte) bytes.now }
-    ensures within { result ≤ length bytes.now }
-{
-    for index in 0..bytes.len() {
-        if bytes[index] == byte {
-            return index;
-        }
-    }
-    bytes.len()
-}
-
-/// What stands behind the byte of an index, if there is one.
-#[tactic(auto, using(crate::proofs::TokenLemmas::nothing_behind))]
-fn behind(bytes: &[u8], index: usize) -> &[u8]
-    ensures { result.now ≡ drop (index + 1) bytes.now }
-{
-    if index < bytes.len() {
-        let (_, rest) = bytes.split_at(index + 1);
-        rest
-    } else {
-        let (_, rest) = bytes.split_at(bytes.len());
-        rest
-    }
 }
 
 /// Adds the entry of a line, where it may stand behind those before it. Answers whether it may.
@@ -141,20 +113,9 @@ fn add_line(
 fn entry_in(line: &[u8]) -> (&[u8], &[u8])
     ensures { (result.0.now, result.1.now) ≡ spec.entry_in line.now }
 {
-    let end = position(line, b' ');
+    let end = index_of_byte(line, b' ');
     let (user, _) = line.split_at(end);
-    (user, behind(line, end))
-}
-
-/// The text of bytes that are UTF-8.
-fn text_of(alloc: Global, bytes: &[u8]) -> Result<Text, OutOfMemory>
-    requires { IsUtf8 bytes.now }
-    ensures { IfOk result (λ text. text ≡ bytes.now) }
-{
-    match str::from_utf8(bytes) {
-        Ok(text) => Text::of(alloc, text),
-        Err(_) => unreachable!(),
-    }
+    (user, bytes_behind(line, end))
 }
 
 /// Whether an entry may stand behind those before it.

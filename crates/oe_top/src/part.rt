@@ -1,5 +1,5 @@
 // The command `part`: from the input to the records of some chunks of its run.
-ghost use Rattle.std.specs.Prelude.{◌≡◌, ◌<◌, ◌+◌, ◌↔◌, ℕ, [], List, Option, IfOk, IsErrOf, IsTrue, IsUtf8};
+ghost use Rattle.std.specs.Prelude.{◌≡◌, ◌<◌, ◌+◌, ◌↔◌, ℕ, [], List, Option, IfOk, IsErrOf, IsTrue};
 ghost use Rattle.oe_dims.specs.declared.dims.DimsRow.{DimsRow};
 ghost use Rattle.oe_engine.specs.Laws.{GivesCollections};
 ghost use Rattle.oe_engine.specs.Evaluations.{IsPlanOf};
@@ -19,7 +19,7 @@ use crate::judge::{InputRefusal, judge_and_keep};
 use crate::laws;
 use crate::setup::Setup;
 use oe_check::Checked;
-use oe_dims::Text;
+use oe_dims::text_of;
 use oe_engine::{PartRun, Progress, RunFail, Workspace};
 use oe_memory::OutOfMemory;
 use oe_outside::{Gate, Pending, Sink, Source, Store};
@@ -144,17 +144,6 @@ fn head_of(
         kind,
         shape,
     })
-}
-
-/// The text that the bytes are. Refuses: out of memory.
-fn text_of(alloc: Global, bytes: &[u8]) -> Result<Text, OutOfMemory>
-    requires { IsUtf8 bytes.now }
-    ensures { IfOk result (λ text. text ≡ bytes.now) }
-{
-    match std::str::from_utf8(bytes) {
-        Ok(text) => Text::of(alloc, text),
-        Err(_) => unreachable!(),
-    }
 }
 
 /// The run of these chunks of a graph before its first round, with its records at the front of a spool.

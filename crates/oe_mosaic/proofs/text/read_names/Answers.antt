@@ -6,13 +6,13 @@ use Rattle.oe_mosaic.proofs.text.read_names.Goals as goal
 pub loop-rest-preserved : goal.loop-rest-preserved
 loop-rest-preserved c =
     let rest = c.loop-rest.rest.now in
-    let place = c.position-end.ensures.place in
-    let within = c.position-end.ensures.within in
+    let place = c.index_of_byte-end.ensures.place in
+    let within = c.index_of_byte-end.ensures.within in
     let on = goes_on (names_in c.args.bytes.now) c.loop-rest.names.items c.add_line.new.names.items rest c.split_at.result.0.now
-    c.behind-rest.result.now c.in_ok-add_line.field-0 c.loop-rest.invariant.left
+    c.bytes_behind-rest.result.now c.in_ok-add_line.field-0 c.loop-rest.invariant.left
     (subst (λ (n : ℕ). n < length rest) place (omega (arith, within, c.if-end-rest.false)))
     (c.split_at.ensures.front ∙ ap (λ (n : ℕ). take n rest) place)
-    (c.behind-rest.ensures ∙ ap (λ (n : ℕ). drop (n + 1) rest) place)
+    (c.bytes_behind-rest.ensures ∙ ap (λ (n : ℕ). drop (n + 1) rest) place)
     c.in_ok-add_line.ensures.answer c.in_ok-add_line.ensures.names c.if-not-branch.false in
     record {
       left = on.0;

@@ -1,6 +1,6 @@
 use Rattle.std.proofs.Common.{◌≡◌, ◌+◌, ◌==◌, drop}
 use Rattle.std.specs.List.{position_or_len}
-use Rattle.oe_mosaic.proofs.text.position.Given as goal
+use Rattle.oe_dims.proofs.bytes.index_of_byte.Given as goal
 
 abbrev pub invariant-loop-index : goal.invariant-loop-index
 invariant-loop-index l =

@@ -1,7 +1,0 @@
-use Rattle.std.proofs.Common.{◌≡◌, ◌+◌, ◌==◌, drop}
-use Rattle.std.specs.List.{position_or_len}
-use Rattle.oe_routes.proofs.tokens.position.Given as goal
-
-abbrev pub invariant-loop-index : goal.invariant-loop-index
-invariant-loop-index l =
-    position_or_len (λ b. b == l.byte) l.bytes ≡ l.index + position_or_len (λ b. b == l.byte) (drop l.index l.bytes)
