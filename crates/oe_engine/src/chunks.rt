@@ -1,7 +1,5 @@
 // The chunks of one round, each in a bench of its own.
 ghost use Rattle.std.specs.Prelude.{◌≡◌, ◌+◌, ◌^◌, ◌≤◌, length, IfErr, OnOk};
-ghost use Rattle.std.specs.List.{All};
-ghost use Rattle.oe_cell.specs.Cells.{IsCell};
 ghost use Rattle.oe_outside.specs.Faults.{HasCauseOf};
 ghost use Rattle.oe_plan.specs.Figures.{shape_of_node};
 ghost use Rattle.oe_spool.specs.Spooled.{ChangesOnly, IsInSome};
@@ -10,11 +8,10 @@ ghost use Rattle.oe_engine.specs.Runs.{chunk_total, chunks_from};
 ghost use Rattle.oe_steps.specs.declared.fail.RunFail.{RunFail};
 
 use crate::bench::Bench;
-use oe_cell::Cell;
 use oe_outside::Store;
 use oe_plan::Plan;
 use oe_spool::{least_over, lesser, write_window};
-use oe_steps::RunFail;
+use oe_steps::{RunFail, look_at_cells};
 
 /// Writes the records of the chunks from a first one on, of benches that are done.
 ///
@@ -67,21 +64,4 @@ pub(crate) fn least_of_chunks(plan: &Plan, benches: &[Bench], first: u64) -> Opt
         least = lesser(least, least_over(plan.shape(), &window, cells));
     }
     least
-}
-
-/// Looks at each cell. Its contract says that every number among them is one, as the type of numbers keeps it.
-fn look_at_cells(cells: &[Cell])
-    ensures { All IsCell cells.now }
-{
-    for cell in cells {
-        look_at(cell);
-    }
-}
-
-fn look_at(cell: &Cell)
-    ensures { IsCell cell.now }
-{
-    if let Cell::Number(number) = cell {
-        let _num = number.num();
-    }
 }

@@ -1,7 +1,5 @@
 // The records of one chunk.
 ghost use Rattle.std.specs.Prelude.{◌≡◌, ◌≤◌, ◌^◌, length, IfErr, IfOk};
-ghost use Rattle.std.specs.List.{All};
-ghost use Rattle.oe_cell.specs.Cells.{IsCell};
 ghost use Rattle.oe_outside.specs.Faults.{HasCauseOf};
 ghost use Rattle.oe_spool.specs.Spooled.{ChangesOnly};
 ghost use Rattle.oe_steps.specs.declared.fail.RunFail.{RunFail};
@@ -12,7 +10,7 @@ use oe_cell::Cell;
 use oe_dims::Shape;
 use oe_outside::Store;
 use oe_spool::{least_over, write_window};
-use oe_steps::RunFail;
+use oe_steps::{RunFail, look_at_cells};
 use oe_window::Window;
 
 /// Writes the records of the cells of a chunk of a shape. Answers the least number of a cell that is `Over`.
@@ -41,21 +39,4 @@ pub(crate) fn write_chunk<P: Store>(
         return Err(RunFail::SpoolFailed);
     }
     Ok(least_over(shape, chunk, cells))
-}
-
-/// Looks at each cell. Its contract says that every number among them is one, as the type of numbers keeps it.
-fn look_at_cells(cells: &[Cell])
-    ensures { All IsCell cells.now }
-{
-    for cell in cells {
-        look_at(cell);
-    }
-}
-
-fn look_at(cell: &Cell)
-    ensures { IsCell cell.now }
-{
-    if let Cell::Number(number) = cell {
-        let _num = number.num();
-    }
 }

@@ -9,6 +9,7 @@
 #![tactic(auto)]
 
 mod buffers;
+mod cells;
 mod fail;
 mod laws;
 mod loading;
@@ -17,6 +18,7 @@ mod step;
 mod strips;
 
 pub use buffers::{buffers_of, no_window};
+pub use cells::look_at_cells;
 pub use fail::RunFail;
 pub use laws::loads_are_mounted;
 pub use loading::{load_front, load_slot, place_of};
