@@ -21,5 +21,5 @@ mod valid;
 
 pub use assets::{asset_ids, asset_name, assets_of};
 pub use laws::{id_leaves_faults, idle_without_busy, keeps_running, stored_is_valid};
-pub use process::{ProcessRefusal, is_process_text, process_text};
+pub use process::{ProcessRefusal, is_process_text, json_text, process_text};
 pub use valid::is_book;

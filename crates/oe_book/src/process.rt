@@ -56,14 +56,15 @@ pub fn process_text(alloc: Global, value: &Value) -> Result<Text, ProcessRefusal
     if has_float(value) {
         return Err(ProcessRefusal::NumberUnsupported);
     }
-    let text = write(alloc, value)?;
+    let text = json_text(alloc, value)?;
     if text.as_str().len() > MOST_PROCESS {
         return Err(ProcessRefusal::ProcessTooLong);
     }
     Ok(text)
 }
 
-fn write(alloc: Global, value: &Value) -> Result<Text, OutOfMemory>
+/// The text of a JSON value. Refuses: out of memory.
+pub fn json_text(alloc: Global, value: &Value) -> Result<Text, OutOfMemory>
     ensures text { IfOk result (λ text. has_float (view value.now) ≡ false
         → text ≡ compact_text (view value.now)) }
     ensures reads { IfOk result (λ text. depth (view value.now) ≤ max_depth

@@ -14,5 +14,5 @@ mod texts;
 
 pub use estimate::{EstimateRow, estimate_body};
 pub use laws::{has_pages, links_lead, pages_have_parts, pages_join};
-pub use pages::page;
+pub use pages::{page, path_behind};
 pub use query::{PageAsked, QueryFail, number_or_zero, one_value, page_asked, parts_of};

@@ -237,7 +237,8 @@ fn page_url(
     Ok(url)
 }
 
-fn path_behind(path: &str) -> &str
+/// What stands behind the first slash of a path, nothing where it has none.
+pub fn path_behind(path: &str) -> &str
     ensures { result.now ≡ spec.path_behind path.now }
 {
     match path.split_once('/') {

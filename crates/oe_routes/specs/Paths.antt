@@ -1,18 +1,15 @@
 -- The parameters of a path: its second and its fourth segment. Nothing is decoded.
 use Rattle.std.specs.Prelude.{ℕ, List}
-use Rattle.std.specs.List.{before_first, after_first}
-use Rattle.oe_pages.specs.Pages.{is_slash}
+use Rattle.std.specs.List.{before_first}
+use Rattle.oe_pages.specs.Pages.{is_slash, path_behind}
 
--- what stands before and behind the first slash
+-- what stands before the first slash
 abbrev pub segment : List ℕ → List ℕ
 segment path = before_first is_slash path
 
-abbrev pub behind : List ℕ → List ℕ
-behind path = after_first is_slash path
-
 -- the id, and the name of an asset
 abbrev pub id_in : List ℕ → List ℕ
-id_in path = segment (behind (behind path))
+id_in path = segment (path_behind (path_behind path))
 
 abbrev pub name_in : List ℕ → List ℕ
-name_in path = segment (behind (behind (behind (behind path))))
+name_in path = segment (path_behind (path_behind (path_behind (path_behind path))))

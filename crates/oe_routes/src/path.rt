@@ -2,15 +2,7 @@
 ghost use Rattle.std.specs.Prelude.{◌≡◌};
 ghost use Rattle.oe_routes.specs.Paths as spec;
 
-/// What stands behind the first slash.
-fn behind(path: &str) -> &str
-    ensures { result.now ≡ spec.behind path.now }
-{
-    match path.split_once('/') {
-        Some((_, rest)) => rest,
-        None => "",
-    }
-}
+use oe_pages::path_behind;
 
 /// What stands before the first slash.
 fn segment(path: &str) -> &str
@@ -26,12 +18,12 @@ fn segment(path: &str) -> &str
 pub fn id_in(path: &str) -> &str
     ensures { result.now ≡ spec.id_in path.now }
 {
-    segment(behind(behind(path)))
+    segment(path_behind(path_behind(path)))
 }
 
 /// The fourth segment of a path. Takes no memory.
 pub fn name_in(path: &str) -> &str
     ensures { result.now ≡ spec.name_in path.now }
 {
-    segment(behind(behind(behind(behind(path)))))
+    segment(path_behind(path_behind(path_behind(path_behind(path)))))
 }

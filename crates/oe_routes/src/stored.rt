@@ -17,7 +17,7 @@ ghost use Rattle.oe_routes.specs.Sent as spec;
 use crate::form::{object_in, read_json};
 use crate::refusal::Rejection;
 use crate::tokens::is_id;
-use oe_book::{ProcessRefusal, id_leaves_faults, process_text};
+use oe_book::{ProcessRefusal, id_leaves_faults, json_text, process_text};
 use oe_dims::Text;
 use oe_graph::{StoredProcess, read_stored};
 use oe_memory::OutOfMemory;
@@ -126,7 +126,7 @@ fn text_of_members(alloc: Global, id: &str, members: Map<String, Value>) -> Resu
     ensures short { IfOk result (λ text. length text ≤ most_process) }
 {
     let value = with_id(alloc, id, members)?;
-    let text = write(alloc, &value)?;
+    let text = json_text(alloc, &value)?;
     if text.as_str().len() > MOST_PROCESS {
         return Err(Rejection::Code(ReplyCode::ProcessTooLong));
     }
@@ -141,14 +141,4 @@ fn with_id(alloc: Global, id: &str, members: Map<String, Value>) -> Result<Value
     let id = String::from_str(alloc, id)?;
     put(&mut members, alloc, "id", Value::String(id))?;
     Ok(Value::Object(members))
-}
-
-fn write(alloc: Global, value: &Value) -> Result<Text, OutOfMemory>
-    ensures text { IfOk result (λ text. has_float (view value.now) ≡ false
-        → text ≡ compact_text (view value.now)) }
-    ensures reads { IfOk result (λ text. depth (view value.now) ≤ max_depth
-        → IsReading text (view value.now)) }
-{
-    let text = value.to_string(alloc)?;
-    Text::of(alloc, text.as_str())
 }

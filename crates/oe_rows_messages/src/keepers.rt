@@ -22,7 +22,7 @@ const KEPT: i64 = 50;
 pub(crate) fn keep_both(line: &mut Line, answers: &mut Answers) -> Result<(), Fault> {
     let alloc = line.alloc();
     let failing = line.numbers();
-    let mut keeper = MemoryKeeper::new(empty_book(alloc), failing, stop_of(line));
+    let mut keeper = MemoryKeeper::new(Book::empty(alloc), failing, stop_of(line));
     answer_calls(alloc, &mut keeper, answers)?;
     spell_stored(&keeper.stopped(), answers);
     Ok(())
@@ -38,17 +38,6 @@ fn stop_of(line: &mut Line) -> Option<(u64, bool)> {
         line.pass("lost");
     }
     Some((call, kept))
-}
-
-/// A book without jobs and stored processes.
-fn empty_book(alloc: Global) -> Book
-    ensures { IsBook (plain_book result) }
-{
-    Book {
-        next: 1,
-        jobs: Vec::new(alloc),
-        processes: Vec::new(alloc),
-    }
 }
 
 fn answer_calls(
