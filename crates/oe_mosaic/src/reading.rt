@@ -7,7 +7,7 @@ ghost use Rattle.oe_mosaic.specs.Mosaics.{fault_counts, parts_of};
 ghost use Rattle.oe_mosaic.specs.Parts.{ArePartsOfOne};
 ghost use Rattle.oe_mosaic.specs.Places.{first_of, side_sum};
 ghost use Rattle.oe_mosaic.specs.Readings.{Finds, IsAnswer, IsTried, OnlyReads};
-ghost use Rattle.oe_window.specs.Windows.{Holds, IsEmpty, extent_along, position_count, whole_window};
+ghost use Rattle.oe_window.specs.Windows.{Holds, IsEmpty, position_count, whole_window};
 
 use crate::halves::{halves, is_single};
 use crate::place::{Place, place_of};
@@ -15,7 +15,7 @@ use crate::seam::seam;
 use oe_cell::Cell;
 use oe_dims::{Kind, Shape};
 use oe_sources::{CubeSource, SourceFail};
-use oe_window::{Window, size};
+use oe_window::{Window, extent_of, size};
 
 /// Which part decides about the tuples of a window.
 #[derive(Clone, Copy, PartialEq, Eq)]
@@ -64,15 +64,6 @@ pub struct Extents {
     x: u64,
 }
 
-fn extent_of(shape: &Shape, kind: Kind) -> u64
-    ensures { result ≡ extent_along shape.now kind }
-{
-    match shape.count(kind) {
-        None => 1,
-        Some(count) => u64::from(count),
-    }
-}
-
 fn extents_of(shape: &Shape) -> Extents
     ensures bands { result.bands ≡ extent shape.now.bands }
     ensures y { result.y ≡ extent shape.now.y }
@@ -81,9 +72,9 @@ fn extents_of(shape: &Shape) -> Extents
 {
     let _epsg = shape.epsg();
     Extents {
-        bands: extent_of(shape, Kind::Bands),
-        y: extent_of(shape, Kind::Y),
-        x: extent_of(shape, Kind::X),
+        bands: u64::from(extent_of(shape, Kind::Bands)),
+        y: u64::from(extent_of(shape, Kind::Y)),
+        x: u64::from(extent_of(shape, Kind::X)),
     }
 }
 

@@ -7,7 +7,6 @@ ghost use Rattle.oe_order.specs.Live as live;
 ghost use Rattle.oe_order.specs.Live.{IsSlotted};
 ghost use Rattle.oe_order.specs.Order.{IsListing};
 ghost use Rattle.oe_check.specs.Links.{links_of};
-ghost use Rattle.oe_window.specs.Windows.{extent_along};
 ghost use Rattle.oe_plan.specs.Figures as spec;
 ghost use Rattle.oe_plan.specs.Figures.{side_along};
 ghost use Rattle.oe_plan.specs.Ranges.{AreStepsOf, IsWithinRanges, most_reach};
@@ -15,10 +14,10 @@ ghost use Rattle.oe_plan.specs.Ranges.{AreStepsOf, IsWithinRanges, most_reach};
 use crate::turns::turns_of;
 use crate::widths::width_of;
 use oe_check::Checked;
-use oe_dims::{Kind, Shape};
+use oe_dims::Kind;
 use oe_memory::OutOfMemory;
 use oe_order::{NodeOrder, order_by};
-use oe_window::{ChunkSize, Grid};
+use oe_window::{ChunkSize, Grid, extent_of};
 use std::alloc::Global;
 
 /// What a run of a checked graph takes.
@@ -96,17 +95,6 @@ pub fn order_of(alloc: Global, checked: &Checked) -> Result<NodeOrder, OutOfMemo
     order_to(alloc, checked, checked.result())
 }
 
-/// How many indices a cube has along a dimension: one for each label, and 1 where it lacks the dimension.
-fn extent(shape: &Shape, along: Kind) -> u32
-    ensures value { result ≡ extent_along shape.now along }
-    ensures most { result ≤ 65536 }
-{
-    match shape.count(along) {
-        None => 1,
-        Some(count) => count,
-    }
-}
-
 /// The largest number of labels along a dimension among the cubes of a run of these steps, and at least 1.
 pub fn most_along(checked: &Checked, steps: &[u32], along: Kind) -> u32
     requires { AreStepsOf checked.now steps.now }
@@ -115,7 +103,7 @@ pub fn most_along(checked: &Checked, steps: &[u32], along: Kind) -> u32
 {
     let mut most: u32 = 1;
     for node in steps {
-        most = most.max(extent(checked.shape(*node), along));
+        most = most.max(extent_of(checked.shape(*node), along));
     }
     most
 }

@@ -16,4 +16,4 @@ mod window;
 pub use cells::{copy_window, plane_cells, row_cells, whole_cells};
 pub use grid::{ChunkSize, Grid};
 pub use run_list::{RunList, runs};
-pub use window::{Span, Window, holds, hull, meet, size, whole};
+pub use window::{Span, Window, extent_of, holds, hull, meet, size, whole};

@@ -58,7 +58,8 @@ impl Window {
     }
 }
 
-pub(crate) fn extent_of(shape: &Shape, kind: Kind) -> u32
+/// How many indices a cube has along a dimension: one for each label, and 1 where it lacks the dimension.
+pub fn extent_of(shape: &Shape, kind: Kind) -> u32
     ensures value { result ≡ extent_along shape.now kind }
     ensures most { result ≤ most_labels }
     ensures valid { IsShape shape.now }

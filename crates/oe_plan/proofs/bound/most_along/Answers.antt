@@ -9,9 +9,9 @@ pub loop-node-preserved : goal.loop-node-preserved
 loop-node-preserved c =
     let steps = c.args.steps.now in
     let i = c.loop-node.node-index in
-    let extent : c.extent.result ≡ extent_along (shape_of_node c.args.checked.now (get_or steps i 0)) c.args.along =
-    c.extent.ensures.value ∙ ap (λ (d : Dimensions). extent_along d c.args.along) c.shape.ensures in (
+    let extent : c.extent_of.result ≡ extent_along (shape_of_node c.args.checked.now (get_or steps i 0)) c.args.along =
+    c.extent_of.ensures.value ∙ ap (λ (d : Dimensions). extent_along d c.args.along) c.shape.ensures in (
       most_more (λ node. extent_along (shape_of_node c.args.checked.now node) c.args.along) steps i c.loop-node.most
           c.max-most.result (omega arith) c.loop-node.invariant.0 (omega arith),
-      omega (arith, c.extent.ensures.most),
+      omega (arith, c.extent_of.ensures.most),
     )
