@@ -1,6 +1,7 @@
 // Copies of texts.
 ghost use Rattle.std.specs.Prelude.{◌≡◌, IfOk, IsUtf8};
 ghost use Rattle.std.specs.Option.{option_map};
+ghost use Rattle.oe_dims.specs.Dimensions.{numbers_along};
 ghost use Rattle.oe_dims.specs.Lists.{items_of};
 
 use crate::{Kind, Shape, Text};
@@ -46,5 +47,23 @@ pub fn copy_bands(alloc: Global, shape: &Shape) -> Result<Option<Vec<Text>>, Out
     match shape.count(Kind::Bands) {
         None => Ok(None),
         Some(_) => Ok(Some(copy_texts(alloc, shape.bands())?)),
+    }
+}
+
+/// A copy of the labels along t, y or x, `None` where the shape lacks the dimension, and along bands. Refuses: out of
+/// memory.
+pub fn copy_numbers(
+    alloc: Global,
+    shape: &Shape,
+    kind: Kind,
+) -> Result<Option<Vec<i64>>, OutOfMemory>
+    ensures { IfOk result (λ copy. option_map items_of copy ≡ numbers_along kind shape.now) }
+{
+    match kind {
+        Kind::Bands => Ok(None),
+        _ => match shape.count(kind) {
+            None => Ok(None),
+            Some(_) => Ok(Some(Vec::from_slice(alloc, shape.labels(kind))?)),
+        },
     }
 }

@@ -24,7 +24,7 @@ mod text;
 
 pub use bands::BandIndex;
 pub use bytes::{bytes_behind, index_of_byte};
-pub use copies::{copy_bands, copy_text, copy_texts, text_of};
+pub use copies::{copy_bands, copy_numbers, copy_text, copy_texts, text_of};
 pub use dims::{Dims, DimsRow};
 pub use instant::{InstantFault, date_after, is_instant, print_instant, read_instant};
 pub use kind::{CellKind, Kind, Labels};

@@ -6,8 +6,8 @@ ghost use Rattle.oe_requests.specs.Operations.{aggregated_shape};
 ghost use Rattle.oe_meanings.specs.Results.{where_within_limits};
 ghost use Rattle.oe_meanings.specs.ValidShapes.{AreIntervalLabels, labels_of};
 
-use crate::shape_parts::{copy_numbers, shape_within};
-use oe_dims::{Kind, Shape, copy_bands};
+use crate::shape_parts::shape_within;
+use oe_dims::{Kind, Shape, copy_bands, copy_numbers};
 use oe_memory::OutOfMemory;
 use oe_requests::Interval;
 use std::alloc::Global;

@@ -8,8 +8,8 @@ ghost use Rattle.oe_meanings.specs.Results.{where_within_limits};
 ghost use Rattle.oe_meanings.specs.ValidShapes.{AreBands};
 
 use crate::extents::is_in_time;
-use crate::shape_parts::{copy_numbers, shape_within};
-use oe_dims::{Kind, Shape, Text, copy_bands, copy_texts};
+use crate::shape_parts::shape_within;
+use oe_dims::{Kind, Shape, Text, copy_bands, copy_numbers, copy_texts};
 use oe_memory::OutOfMemory;
 use oe_requests::{BoundingBox, Restriction, TemporalExtent};
 use std::alloc::Global;

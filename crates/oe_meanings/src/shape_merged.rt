@@ -10,8 +10,8 @@ ghost use Rattle.oe_meanings.specs.Results.{IsRisingKind, where_within_limits};
 
 use crate::shape_aggregated::{sort_falling, sort_rising};
 use crate::shape_labels::{has_band, has_number};
-use crate::shape_parts::{copy_numbers, shape_within};
-use oe_dims::{BandIndex, Kind, Shape, Text, copy_bands, copy_texts};
+use crate::shape_parts::shape_within;
+use oe_dims::{BandIndex, Kind, Shape, Text, copy_bands, copy_numbers, copy_texts};
 use oe_memory::OutOfMemory;
 use std::alloc::Global;
 

@@ -6,8 +6,8 @@ ghost use Rattle.oe_dims.specs.Lists.{items_of};
 ghost use Rattle.oe_requests.specs.Operations.{without_dimension};
 ghost use Rattle.oe_meanings.specs.Results.{where_within_limits};
 
-use crate::shape_parts::{copy_numbers, shape_within};
-use oe_dims::{Kind, Shape, Text, copy_bands};
+use crate::shape_parts::shape_within;
+use oe_dims::{Kind, Shape, Text, copy_bands, copy_numbers};
 use oe_memory::OutOfMemory;
 use std::alloc::Global;
 

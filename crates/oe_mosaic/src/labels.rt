@@ -7,7 +7,7 @@ ghost use Rattle.oe_dims.specs.Names.{same_name};
 ghost use Rattle.oe_dims.specs.Dimensions.{numbers_along};
 ghost use Rattle.oe_mosaic.specs.Labels.{join_bands, join_labels, merge_labels, new_names, stands_before};
 
-use oe_dims::{Kind, Shape, Text, copy_bands, same_name};
+use oe_dims::{Kind, Shape, Text, copy_bands, copy_numbers, same_name};
 use oe_memory::OutOfMemory;
 use std::alloc::Global;
 
@@ -64,19 +64,6 @@ fn merge_labels(
     Ok(labels)
 }
 
-/// The labels of t, y or x of a cube, `None` where it lacks the dimension.
-fn copy_labels(alloc: Global, shape: &Shape, kind: Kind) -> Result<Option<Vec<i64>>, OutOfMemory>
-    ensures { IfOk result (λ labels. option_map items_of labels ≡ numbers_along kind shape.now) }
-{
-    match kind {
-        Kind::Bands => Ok(None),
-        _ => match shape.count(kind) {
-            None => Ok(None),
-            Some(_) => Ok(Some(Vec::from_slice(alloc, shape.labels(kind))?)),
-        },
-    }
-}
-
 /// The labels of t, y or x of a cube, joined to those before.
 pub fn join_labels(
     alloc: Global,
@@ -88,9 +75,9 @@ pub fn join_labels(
         ≡ join_labels kind (option_map items_of before) (numbers_along kind shape.now)) }
 {
     let Some(labels) = before else {
-        return copy_labels(alloc, shape, kind);
+        return copy_numbers(alloc, shape, kind);
     };
-    match copy_labels(alloc, shape, kind)? {
+    match copy_numbers(alloc, shape, kind)? {
         None => Ok(Some(labels)),
         Some(others) => Ok(Some(merge_labels(alloc, kind, &labels, &others)?)),
     }
