@@ -1,7 +1,7 @@
 // How the labels of two cubes compare, and labels that are given.
 ghost use Rattle.std.specs.Prelude.{◌≡◌, ◌%◌, ◌==◌, true, false, not, map, nat_lt, IfOk};
 ghost use Rattle.std.specs.List.{list_any};
-ghost use Rattle.oe_dims.specs.Dimensions.{number_labels, band_names, rises, numbers_along};
+ghost use Rattle.oe_dims.specs.Dimensions.{number_labels, band_names, numbers_along};
 ghost use Rattle.oe_dims.specs.Indices.{same_number};
 ghost use Rattle.oe_dims.specs.Names.{same_name, OrdersNames};
 ghost use Rattle.oe_kernel.specs.Kernels.{largest_size};
@@ -11,7 +11,7 @@ ghost use Rattle.oe_meanings.specs.Rows as row;
 ghost use Rattle.oe_meanings.specs.ValidShapes.{labels_of};
 ghost use Rattle.oe_meanings.specs.Words as word;
 
-use oe_dims::{BandIndex, Kind, Shape, Text};
+use oe_dims::{BandIndex, Kind, Shape, Text, rises};
 use oe_meanings::{codes_differ, has_another, has_band, has_number, interval_labels};
 use oe_memory::OutOfMemory;
 use oe_requests::Interval;
@@ -77,24 +77,12 @@ pub fn lacks_a_band(alloc: Global, shape: &Shape, names: &[&Text]) -> Result<boo
 
 // ---- labels that differ
 
-/// Each label is above the one before.
-fn rise(labels: &[i64]) -> bool
-    ensures { result ≡ rises labels.now }
-{
-    for index in 1..labels.len() {
-        if labels[index - 1] >= labels[index] {
-            return false;
-        }
-    }
-    true
-}
-
 /// Sorts labels and tells whether no two are equal.
 fn differ_in_order(labels: &mut [i64]) -> bool
     ensures { result ≡ are_distinct same_number labels.old }
 {
     labels.sort_unstable_by(|a, b| a.cmp(b));
-    rise(labels)
+    rises(labels)
 }
 
 /// No two of the intervals have one label.

@@ -29,6 +29,6 @@ pub use dims::{Dims, DimsRow};
 pub use instant::{InstantFault, date_after, is_instant, print_instant, read_instant};
 pub use kind::{CellKind, Kind, Labels};
 pub use name::is_name;
-pub use order::{is_name_before, same_name, same_text};
+pub use order::{is_name_before, rises, same_name, same_text};
 pub use shape::{Shape, ShapeFault};
 pub use text::Text;

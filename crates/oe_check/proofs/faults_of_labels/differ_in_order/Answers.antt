@@ -7,4 +7,4 @@ use Rattle.oe_check.proofs.faults_of_labels.differ_in_order.Goals as goal
 pub returns : goal.returns
 returns c =
     let order = c.sort_unstable_by.ensures.sorted compares_below compares_below_ranks (always_returns_same _ _ _ (λ a r f h. search rules)) in
-    c.rise.ensures ∙ sorted_rise _ _ c.sort_unstable_by.ensures.permutation order
+    c.rises.ensures ∙ sorted_rise _ _ c.sort_unstable_by.ensures.permutation order
