@@ -7,6 +7,7 @@ ghost use Rattle.oe_graph.specs.Catalogue as spec;
 ghost use Rattle.oe_graph.specs.Plain.{plain_arg, plain_parameter, plain_process};
 
 use crate::table::{Literal, PROCESSES, ParameterEntry, ProcessEntry};
+use crate::texts::str_json;
 use crate::tree::Arg;
 use oe_dims::Text;
 use oe_memory::OutOfMemory;
@@ -151,7 +152,7 @@ fn process_json(alloc: Global, entry: &ProcessEntry) -> Result<Value, OutOfMemor
     let parameters = parameter_values(alloc, entries)?;
     let mut row = Map::new(alloc);
     put(&mut row, alloc, "description", description_json(alloc, id)?)?;
-    put(&mut row, alloc, "id", text_json(alloc, id)?)?;
+    put(&mut row, alloc, "id", str_json(alloc, id)?)?;
     put(&mut row, alloc, "parameters", Value::Array(parameters))?;
     put(&mut row, alloc, "returns", returns_json(alloc)?)?;
     Ok(Value::Object(row))
@@ -173,7 +174,7 @@ fn returns_json(alloc: Global) -> Result<Value, OutOfMemory>
         &mut returns,
         alloc,
         "description",
-        text_json(alloc, "result")?,
+        str_json(alloc, "result")?,
     )?;
     put(
         &mut returns,
@@ -200,8 +201,8 @@ fn parameter_json(alloc: Global, entry: &ParameterEntry) -> Result<Value, OutOfM
 {
     let (name, _, default) = *entry;
     let mut row = Map::new(alloc);
-    put(&mut row, alloc, "description", text_json(alloc, name)?)?;
-    put(&mut row, alloc, "name", text_json(alloc, name)?)?;
+    put(&mut row, alloc, "description", str_json(alloc, name)?)?;
+    put(&mut row, alloc, "name", str_json(alloc, name)?)?;
     put(&mut row, alloc, "schema", Value::Object(Map::new(alloc)))?;
     match default {
         Some(literal) => with_default(alloc, row, literal),
@@ -234,10 +235,4 @@ fn literal_json(alloc: Global, literal: Literal) -> Value
         Literal::EmptyList => Value::Array(Vec::new(alloc)),
         Literal::EmptyObject => Value::Object(Map::new(alloc)),
     }
-}
-
-fn text_json(alloc: Global, text: &str) -> Result<Value, OutOfMemory>
-    ensures { IfOk result (λ v. view v ≡ string text.now) }
-{
-    Ok(Value::String(String::from_str(alloc, text)?))
 }

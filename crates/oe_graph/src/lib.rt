@@ -23,6 +23,7 @@ mod references;
 mod search;
 mod stored;
 mod table;
+mod texts;
 mod tree;
 mod walk;
 
@@ -38,5 +39,6 @@ pub use references::{References, SortedNodes, read_references, sort_nodes};
 pub use search::{Beside, Guesses, find_index, guesses_of, index_in};
 pub use stored::StoredProcess;
 pub use table::{ArgumentKind, Literal, PROCESS_COUNT, PROCESSES, ParameterEntry, ProcessEntry};
+pub use texts::{str_json, text_json};
 pub use tree::{Arg, Graph, Node};
 pub use walk::{callback_name, fault_at_node, node_name};

@@ -9,6 +9,7 @@ ghost use Rattle.oe_graph.specs.Printed as spec;
 ghost use Rattle.oe_graph.specs.Form.{most_input};
 ghost use Rattle.oe_graph.specs.Read.{Reads};
 
+use crate::texts::text_json;
 use crate::tree::{Arg, Graph, Node};
 use oe_dims::Text;
 use oe_memory::OutOfMemory;
@@ -168,10 +169,4 @@ fn reference_json(alloc: Global, key: &str, name: &Text) -> Result<Value, OutOfM
     let mut object = Map::new(alloc);
     put(&mut object, alloc, key, text_json(alloc, name)?)?;
     Ok(Value::Object(object))
-}
-
-fn text_json(alloc: Global, text: &Text) -> Result<Value, OutOfMemory>
-    ensures { IfOk result (λ v. view v ≡ string text.now) }
-{
-    Ok(Value::String(String::from_str(alloc, text.as_str())?))
 }

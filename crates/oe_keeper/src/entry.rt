@@ -10,7 +10,7 @@ ghost use Rattle.oe_keeper.specs.Entry as spec;
 ghost use Rattle.oe_keeper.specs.Reading.{IsRestorable, ReadsJob, without_assets};
 
 use oe_dims::Text;
-use oe_graph::StoredProcess;
+use oe_graph::{StoredProcess, str_json, text_json};
 use oe_jobs::{Job, LogEntry, Ran};
 use oe_memory::OutOfMemory;
 use serde_json::{Map, Value, put};
@@ -163,16 +163,4 @@ fn words_json(alloc: Global, words: &Option<Text>) -> Result<Value, OutOfMemory>
         Some(text) => text_json(alloc, text),
         None => Ok(Value::Null),
     }
-}
-
-fn text_json(alloc: Global, text: &Text) -> Result<Value, OutOfMemory>
-    ensures { IfOk result (λ v. view v ≡ string text.now) }
-{
-    str_json(alloc, text.as_str())
-}
-
-fn str_json(alloc: Global, text: &str) -> Result<Value, OutOfMemory>
-    ensures { IfOk result (λ v. view v ≡ string text.now) }
-{
-    Ok(Value::String(String::from_str(alloc, text)?))
 }

@@ -5,9 +5,9 @@ ghost use Rattle.serde_json.specs.View.{view};
 ghost use Rattle.serde_json.specs.Written.{compact_text};
 ghost use Rattle.oe_pages.specs.Estimates as spec;
 
-use crate::texts::str_json;
 use itoa::Buffer;
 use oe_dims::Text;
+use oe_graph::str_json;
 use oe_memory::OutOfMemory;
 use serde_json::{Map, Value, put};
 use std::alloc::Global;

@@ -10,7 +10,6 @@ mod estimate;
 mod laws;
 mod pages;
 mod query;
-mod texts;
 
 pub use estimate::{EstimateRow, estimate_body};
 pub use laws::{has_pages, links_lead, pages_have_parts, pages_join};

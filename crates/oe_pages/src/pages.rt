@@ -6,8 +6,8 @@ ghost use Rattle.oe_pages.specs.Pages as spec;
 ghost use Rattle.oe_pages.specs.Queries.{Gives};
 
 use crate::query::{PageAsked, QueryFail, page_asked};
-use crate::texts::str_json;
 use itoa::Buffer;
+use oe_graph::str_json;
 use oe_memory::OutOfMemory;
 use serde_json::{Map, Value, put};
 use std::alloc::Global;

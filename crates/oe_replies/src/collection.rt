@@ -11,8 +11,9 @@ ghost use Rattle.oe_replies.specs.Json.{list_data, moment_data, whole_data};
 
 use crate::moment::moment_json;
 use crate::root::text_values;
-use crate::values::{compact_body, empty_list, listing_json, put_where, single, str_json};
+use crate::values::{compact_body, empty_list, listing_json, put_where, single};
 use oe_dims::{Dims, DimsRow, Kind, Shape};
+use oe_graph::str_json;
 use oe_memory::OutOfMemory;
 use serde_json::{Map, Value, put};
 use std::alloc::Global;

@@ -9,8 +9,9 @@ ghost use Rattle.oe_jobs.specs.Verdicts.{is_job_of};
 ghost use Rattle.oe_replies.specs.Jobs as spec;
 
 use crate::moment::moment_json;
-use crate::values::{compact_body, listing_json, put_where, str_json, words_json};
+use crate::values::{compact_body, listing_json, put_where, words_json};
 use oe_dims::same_text;
+use oe_graph::str_json;
 use oe_jobs::{Book, Job};
 use oe_memory::OutOfMemory;
 use serde_json::{Map, Value, put};

@@ -6,7 +6,8 @@ ghost use Rattle.serde_json.specs.View.{view};
 ghost use Rattle.serde_json.specs.Written.{compact_text};
 ghost use Rattle.oe_replies.specs.Logs as spec;
 
-use crate::values::{compact_body, listing_json, put_where, str_json, words_json};
+use crate::values::{compact_body, listing_json, put_where, words_json};
+use oe_graph::str_json;
 use oe_jobs::{Level, LogEntry};
 use oe_memory::OutOfMemory;
 use serde_json::{Map, Value, put};

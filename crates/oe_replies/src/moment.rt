@@ -6,8 +6,8 @@ ghost use Rattle.oe_dims.specs.Dimensions.{first_instant, last_instant};
 ghost use Rattle.oe_dims.specs.Instant.{instant_text};
 ghost use Rattle.oe_replies.specs.Json as spec;
 
-use crate::values::str_json;
 use oe_dims::{is_instant, print_instant};
+use oe_graph::str_json;
 use oe_memory::OutOfMemory;
 use serde_json::Value;
 use std::alloc::Global;

@@ -7,9 +7,9 @@ ghost use Rattle.oe_jobs.specs.Plain.{plain_book};
 ghost use Rattle.oe_jobs.specs.Verdicts.{stored_of};
 ghost use Rattle.oe_replies.specs.Jobs as spec;
 
-use crate::values::{compact_body, listing_json, single, str_json};
+use crate::values::{compact_body, listing_json, single};
 use oe_dims::same_text;
-use oe_graph::processes_text;
+use oe_graph::{processes_text, str_json};
 use oe_jobs::Book;
 use oe_memory::OutOfMemory;
 use serde_json::Value;

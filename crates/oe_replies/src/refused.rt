@@ -7,8 +7,8 @@ ghost use Rattle.serde_json.specs.Written.{compact_text};
 ghost use Rattle.oe_judge.specs.Texts as texts;
 ghost use Rattle.oe_replies.specs.Bodies as spec;
 
-use crate::values::{compact_body, single, str_json};
-use oe_graph::Fault;
+use crate::values::{compact_body, single};
+use oe_graph::{Fault, str_json};
 use oe_judge::with_detail;
 use oe_memory::OutOfMemory;
 use serde_json::{Map, Value, put};

@@ -5,7 +5,8 @@ ghost use Rattle.serde_json.specs.View.{members_view, view};
 ghost use Rattle.serde_json.specs.Written.{compact_text};
 ghost use Rattle.oe_replies.specs.Jobs as spec;
 
-use crate::values::{compact_body, empty_list, single, str_json};
+use crate::values::{compact_body, empty_list, single};
+use oe_graph::str_json;
 use oe_jobs::Asset;
 use oe_memory::OutOfMemory;
 use serde_json::{Map, Value, put};

@@ -5,8 +5,9 @@ ghost use Rattle.serde_json.specs.View.{view};
 ghost use Rattle.serde_json.specs.Written.{compact_text};
 ghost use Rattle.oe_replies.specs.Bodies as spec;
 
-use crate::values::{compact_body, empty_list, single, str_json};
+use crate::values::{compact_body, empty_list, single};
 use oe_dims::Text;
+use oe_graph::str_json;
 use oe_memory::OutOfMemory;
 use serde_json::{Map, Value, put};
 use std::alloc::Global;

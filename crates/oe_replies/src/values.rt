@@ -7,6 +7,7 @@ ghost use Rattle.serde_json.specs.Written.{compact_text, has_float};
 ghost use Rattle.oe_replies.specs.Json as spec;
 
 use oe_dims::Text;
+use oe_graph::str_json;
 use oe_memory::OutOfMemory;
 use serde_json::{Map, Value, put};
 use std::alloc::Global;
@@ -18,13 +19,6 @@ pub(crate) fn compact_body(alloc: Global, value: &Value) -> Result<Vec<u8>, OutO
 {
     let text = value.to_string(alloc)?;
     Ok(text.into_bytes())
-}
-
-/// A text.
-pub(crate) fn str_json(alloc: Global, text: &str) -> Result<Value, OutOfMemory>
-    ensures { IfOk result (λ v. view v ≡ string text.now) }
-{
-    Ok(Value::String(String::from_str(alloc, text)?))
 }
 
 /// A text, where there is one.
