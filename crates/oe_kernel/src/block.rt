@@ -1,13 +1,11 @@
 // Cells of several rows at once: each pixel is unpacked once for all rows of the kernel.
-ghost use Rattle.std.specs.Prelude.{◌≡◌, ◌<◌, ◌≤◌, ◌+◌, ◌-◌, ◌*◌, ◌^◌, ℕ, length, unsigned_abs, IsTrue, IfSome};
-ghost use Rattle.std.specs.List.{slice_index_or};
+ghost use Rattle.std.specs.Prelude.{◌≡◌, ◌<◌, ◌≤◌, ◌+◌, ◌*◌, ℕ, length, IsTrue, IfSome};
 ghost use Rattle.oe_cell.specs.Exact.{cell_of_lowest};
-ghost use Rattle.oe_cell.specs.Operations.{multiply_of};
-ghost use Rattle.oe_cell.specs.declared.cell.Cell.TheVariants.{Number, Empty};
-ghost use Rattle.oe_kernel.specs.Convolution.{rows_added, convolved, WholePlane, IsPartOf, IsPlane, CoversWindow, IsAmount};
+ghost use Rattle.oe_kernel.specs.Blocks.{cell_at, cells_from, HasBlockOfWindows, IsBand, IsConvolvedBlock, KeepsBefore};
+ghost use Rattle.oe_kernel.specs.Convolution.{IsAmount};
 ghost use Rattle.oe_kernel.specs.declared.block.TheConstants.{BLOCK_PIXELS};
 ghost use Rattle.oe_kernel.specs.declared.strip.TheConstants.{STRIP};
-ghost use Rattle.oe_kernel.specs.Strips.{at, weight_of, AreWhole, AreWithin, unpacked};
+ghost use Rattle.oe_kernel.specs.Strips.{at, unpacked_sum, unpacked_cell, pixels_under, IsBoundFor, AreInRange, ArePixelsFor, HoldWindows, IsUnpackedBlock};
 
 use crate::pixels::unpack_rows;
 use crate::strip::{STRIP, convolve_strips};
@@ -28,17 +26,11 @@ fn sum_windows(
     sums: &mut [i64],
 )
     requires some { 0 < length sums.old }
-    requires room { first + (kernel.now.height - 1) * stride + length sums.old + kernel.now.width
-        ≤ length pixels.now + 1 }
-    requires few { length pixels.now ≤ BLOCK_PIXELS }
-    requires within { AreWithin pixels.now bound }
-    requires whole { AreWhole kernel.now.values }
-    requires fits { weight_of kernel.now.values 0 (length kernel.now.values) * bound < 2 ^ 63 }
+    requires room { HoldWindows kernel.now pixels.now stride first (length sums.old) }
+    requires pixels { ArePixelsFor kernel.now.values bound pixels.now }
     ensures value { (k : ℕ) → k < length sums.old
-        → cell_of_lowest (at sums.new k) 1
-        ≡ rows_added (unpacked kernel.now pixels.now stride (first + k)) kernel.now.width
-        kernel.now.height }
-    ensures size { (k : ℕ) → k < length sums.old → unsigned_abs (at sums.new k) < 2 ^ 63 }
+        → cell_of_lowest (at sums.new k) 1 ≡ unpacked_sum kernel.now pixels.now stride (first + k) }
+    ensures size { AreInRange sums.new }
 {
     clear(sums);
     let under = sums.len() + kernel.width() as usize - 1;
@@ -62,20 +54,12 @@ fn write_strip(
 )
     requires some { 0 < count }
     requires most { count ≤ STRIP }
-    requires room { first + (kernel.now.height - 1) * stride + count + kernel.now.width
-        ≤ length pixels.now + 1 }
-    requires few { length pixels.now ≤ BLOCK_PIXELS }
-    requires within { AreWithin pixels.now bound }
-    requires whole { AreWhole kernel.now.values }
-    requires fits { weight_of kernel.now.values 0 (length kernel.now.values) * bound < 2 ^ 63 }
+    requires room { HoldWindows kernel.now pixels.now stride first count }
+    requires pixels { ArePixelsFor kernel.now.values bound pixels.now }
     requires end { start + count ≤ length out.old }
-    ensures value { (k : ℕ) → k < count
-        → slice_index_or out.new (start + k) Empty
-        ≡ multiply_of (rows_added (unpacked kernel.now pixels.now stride (first + k))
-        kernel.now.width
-        kernel.now.height) (Number factor) }
-    ensures before { (k : ℕ) → k < start → slice_index_or out.new k Empty
-        ≡ slice_index_or out.old k Empty }
+    ensures value { (k : ℕ) → k < count → cell_at out.new (start + k)
+        ≡ unpacked_cell kernel.now factor pixels.now stride (first + k) }
+    ensures before { KeepsBefore start out.old out.new }
 {
     let mut sums = [0i64; STRIP];
     let strip = &mut sums[..count];
@@ -95,20 +79,12 @@ fn write_row(
     count: usize,
     out: &mut [Cell],
 )
-    requires room { first + (kernel.now.height - 1) * stride + count + kernel.now.width
-        ≤ length pixels.now + 1 }
-    requires few { length pixels.now ≤ BLOCK_PIXELS }
-    requires within { AreWithin pixels.now bound }
-    requires whole { AreWhole kernel.now.values }
-    requires fits { weight_of kernel.now.values 0 (length kernel.now.values) * bound < 2 ^ 63 }
+    requires room { HoldWindows kernel.now pixels.now stride first count }
+    requires pixels { ArePixelsFor kernel.now.values bound pixels.now }
     requires end { start + count ≤ length out.old }
-    ensures value { (k : ℕ) → k < count
-        → slice_index_or out.new (start + k) Empty
-        ≡ multiply_of (rows_added (unpacked kernel.now pixels.now stride (first + k))
-        kernel.now.width
-        kernel.now.height) (Number factor) }
-    ensures before { (k : ℕ) → k < start → slice_index_or out.new k Empty
-        ≡ slice_index_or out.old k Empty }
+    ensures value { (k : ℕ) → k < count → cell_at out.new (start + k)
+        ≡ unpacked_cell kernel.now factor pixels.now stride (first + k) }
+    ensures before { KeepsBefore start out.old out.new }
 {
     for strip in 0..(count + STRIP - 1) / STRIP {
         let past = strip * STRIP;
@@ -133,21 +109,13 @@ fn write_rows(
     start: usize,
     out: &mut [Cell],
 )
-    requires room { (rows + kernel.now.height - 1) * (columns + kernel.now.width - 1)
-        ≡ length pixels.now }
+    requires room { pixels_under kernel.now rows columns ≡ length pixels.now }
     requires few_columns { columns ≤ 65536 }
-    requires few { length pixels.now ≤ BLOCK_PIXELS }
-    requires within { AreWithin pixels.now bound }
-    requires whole { AreWhole kernel.now.values }
-    requires fits { weight_of kernel.now.values 0 (length kernel.now.values) * bound < 2 ^ 63 }
+    requires pixels { ArePixelsFor kernel.now.values bound pixels.now }
     requires end { start + rows * columns ≤ length out.old }
-    ensures value { (row k : ℕ) → row < rows → k < columns
-        → slice_index_or out.new (start + (row * columns + k)) Empty
-        ≡ multiply_of (rows_added (unpacked kernel.now pixels.now (columns + kernel.now.width - 1)
-        (row * (columns + kernel.now.width - 1) + k)) kernel.now.width kernel.now.height)
-        (Number factor) }
-    ensures before { (k : ℕ) → k < start → slice_index_or out.new k Empty
-        ≡ slice_index_or out.old k Empty }
+    ensures value { IsUnpackedBlock kernel.now factor pixels.now rows columns
+        (cells_from out.new start) }
+    ensures before { KeepsBefore start out.old out.new }
 {
     let stride = columns + kernel.width() as usize - 1;
     for row in 0..rows {
@@ -175,28 +143,12 @@ fn fast_band(
     start: usize,
     out: &mut [Cell],
 ) -> bool
-    requires plane { IsPlane plane.now }
-    requires some_rows { 0 < rows }
-    requires some_columns { 0 < columns }
-    requires room { (rows + kernel.now.height - 1) * (columns + kernel.now.width - 1)
-        ≤ BLOCK_PIXELS }
-    requires end { start + rows * columns ≤ length out.old }
-    requires x_in { x + columns ≤ plane.now.side_x }
-    requires y_in { y + rows ≤ plane.now.side_y }
-    requires rows_covered { (row : ℕ) → row < rows
-        → CoversWindow border.now (y + row) kernel.now.height plane.now.side_y plane.now.from_y
-        plane.now.to_y }
-    requires columns_covered { (k : ℕ) → k < columns
-        → CoversWindow border.now (x + k) kernel.now.width plane.now.side_x plane.now.from_x
-        plane.now.to_x }
-    requires whole { AreWhole kernel.now.values }
-    requires fits { weight_of kernel.now.values 0 (length kernel.now.values) * bound < 2 ^ 63 }
-    ensures value { IsTrue result → (whole : WholePlane) → IsPartOf plane.now whole
-        → (row k : ℕ) → row < rows → k < columns
-        → slice_index_or out.new (start + (row * columns + k)) Empty
-        ≡ convolved kernel.now factor border.now replace whole (y + row) (x + k) }
-    ensures before { (k : ℕ) → k < start → slice_index_or out.new k Empty
-        ≡ slice_index_or out.old k Empty }
+    requires band { IsBand kernel.now border.now plane.now x y rows columns start out.old }
+    requires room { pixels_under kernel.now rows columns ≤ BLOCK_PIXELS }
+    requires bound { IsBoundFor kernel.now.values bound }
+    ensures value { IsTrue result → IsConvolvedBlock kernel.now factor border.now replace plane.now
+        x y rows columns (cells_from out.new start) }
+    ensures before { KeepsBefore start out.old out.new }
 {
     let mut pixels = [0i64; BLOCK_PIXELS];
     let stride = columns + kernel.width() as usize - 1;
@@ -243,25 +195,12 @@ fn slow_band(
     start: usize,
     out: &mut [Cell],
 )
-    requires plane { IsPlane plane.now }
+    requires windows { HasBlockOfWindows kernel.now border.now plane.now x y rows columns }
     requires end { start + rows * columns ≤ length out.old }
-    requires x_in { x + columns ≤ plane.now.side_x }
-    requires y_in { y + rows ≤ plane.now.side_y }
-    requires rows_covered { (row : ℕ) → row < rows
-        → CoversWindow border.now (y + row) kernel.now.height plane.now.side_y plane.now.from_y
-        plane.now.to_y }
-    requires columns_covered { (k : ℕ) → k < columns
-        → CoversWindow border.now (x + k) kernel.now.width plane.now.side_x plane.now.from_x
-        plane.now.to_x }
-    requires whole { IfSome bound (λ most. AreWhole kernel.now.values) }
-    requires fits { IfSome bound
-        (λ most. weight_of kernel.now.values 0 (length kernel.now.values) * most < 2 ^ 63) }
-    ensures value { (whole : WholePlane) → IsPartOf plane.now whole
-        → (row k : ℕ) → row < rows → k < columns
-        → slice_index_or out.new (start + (row * columns + k)) Empty
-        ≡ convolved kernel.now factor border.now replace whole (y + row) (x + k) }
-    ensures before { (k : ℕ) → k < start → slice_index_or out.new k Empty
-        ≡ slice_index_or out.old k Empty }
+    requires bound { IfSome bound (IsBoundFor kernel.now.values) }
+    ensures value { IsConvolvedBlock kernel.now factor border.now replace plane.now
+        x y rows columns (cells_from out.new start) }
+    ensures before { KeepsBefore start out.old out.new }
 {
     for row in 0..rows {
         let index = start + row * columns;
@@ -287,27 +226,11 @@ fn convolve_band(
     start: usize,
     out: &mut [Cell],
 )
-    requires plane { IsPlane plane.now }
-    requires some_rows { 0 < rows }
-    requires some_columns { 0 < columns }
-    requires end { start + rows * columns ≤ length out.old }
-    requires x_in { x + columns ≤ plane.now.side_x }
-    requires y_in { y + rows ≤ plane.now.side_y }
-    requires rows_covered { (row : ℕ) → row < rows
-        → CoversWindow border.now (y + row) kernel.now.height plane.now.side_y plane.now.from_y
-        plane.now.to_y }
-    requires columns_covered { (k : ℕ) → k < columns
-        → CoversWindow border.now (x + k) kernel.now.width plane.now.side_x plane.now.from_x
-        plane.now.to_x }
-    requires whole { IfSome bound (λ most. AreWhole kernel.now.values) }
-    requires fits { IfSome bound
-        (λ most. weight_of kernel.now.values 0 (length kernel.now.values) * most < 2 ^ 63) }
-    ensures value { (whole : WholePlane) → IsPartOf plane.now whole
-        → (row k : ℕ) → row < rows → k < columns
-        → slice_index_or out.new (start + (row * columns + k)) Empty
-        ≡ convolved kernel.now factor border.now replace whole (y + row) (x + k) }
-    ensures before { (k : ℕ) → k < start → slice_index_or out.new k Empty
-        ≡ slice_index_or out.old k Empty }
+    requires band { IsBand kernel.now border.now plane.now x y rows columns start out.old }
+    requires bound { IfSome bound (IsBoundFor kernel.now.values) }
+    ensures value { IsConvolvedBlock kernel.now factor border.now replace plane.now
+        x y rows columns (cells_from out.new start) }
+    ensures before { KeepsBefore start out.old out.new }
 {
     let stride = columns + kernel.width() as usize - 1;
     let under = rows + kernel.height() as usize - 1;
@@ -349,24 +272,14 @@ pub fn convolve_block(
     columns: u32,
     out: &mut [Cell],
 )
-    requires plane { IsPlane plane.now }
-    requires x_in { x + columns ≤ plane.now.side_x }
-    requires y_in { y + rows ≤ plane.now.side_y }
-    requires counted { rows * columns ≡ length out.old }
     // the box holds each position that the border rule gives
-    requires rows_covered { (row : ℕ) → row < rows
-        → CoversWindow border (y + row) kernel.now.height plane.now.side_y plane.now.from_y
-        plane.now.to_y }
-    requires columns_covered { (k : ℕ) → k < columns
-        → CoversWindow border (x + k) kernel.now.width plane.now.side_x plane.now.from_x
-        plane.now.to_x }
+    requires windows { HasBlockOfWindows kernel.now border plane.now x y rows columns }
+    requires counted { rows * columns ≡ length out.old }
     // each cell is that of the definition, for every whole plane that the box is a part of
-    ensures value { (whole : WholePlane) → IsPartOf plane.now whole
-        → (row k : ℕ) → row < rows → k < columns
-        → slice_index_or out.new (row * columns + k) Empty
-        ≡ convolved kernel.now factor border replace whole (y + row) (x + k) }
+    ensures value { IsConvolvedBlock kernel.now factor border replace plane.now
+        x y rows columns (cell_at out.new) }
     ensures amounts { (row k : ℕ) → row < rows → k < columns
-        → IsAmount (slice_index_or out.new (row * columns + k) Empty) }
+        → IsAmount (cell_at out.new (row * columns + k)) }
 {
     if columns == 0 {
         return;

@@ -1,8 +1,8 @@
 // The window over one pixel of a plane.
-ghost use Rattle.std.specs.Prelude.{◌≡◌, ◌<◌, ◌≤◌, ◌-◌, length};
+ghost use Rattle.std.specs.Prelude.{◌≡◌, ◌<◌};
 ghost use Rattle.oe_cell.specs.Cells.{IsCell};
-ghost use Rattle.oe_kernel.specs.Kernels.{IsKernel};
-ghost use Rattle.oe_kernel.specs.Convolution.{WholePlane, IsPlane, IsPartOf, CoversWindow, convolved, weighted, row_added, IsAmount};
+ghost use Rattle.oe_kernel.specs.Blocks.{HasWindow};
+ghost use Rattle.oe_kernel.specs.Convolution.{WholePlane, IsPartOf, convolved, weighted, row_added, IsAmount};
 ghost use Rattle.oe_kernel.specs.Rows.{whole_plane_of};
 ghost use Rattle.oe_kernel.specs.Totals.{total_of};
 
@@ -29,14 +29,8 @@ pub fn convolve_at(
     x: u32,
     y: u32,
 ) -> Cell
-    requires plane { IsPlane plane.now }
-    requires x_in { x < plane.now.side_x }
-    requires y_in { y < plane.now.side_y }
     // the box holds each position that the border rule gives
-    requires rows { CoversWindow border y kernel.now.height plane.now.side_y plane.now.from_y
-        plane.now.to_y }
-    requires columns { CoversWindow border x kernel.now.width plane.now.side_x plane.now.from_x
-        plane.now.to_x }
+    requires window { HasWindow kernel.now border plane.now x y }
     // the cell of the definition, for every whole plane that the box is a part of
     ensures value { (whole : WholePlane) → IsPartOf plane.now whole
         → result ≡ convolved kernel.now factor border replace whole y x }
@@ -62,14 +56,8 @@ fn with_kernel_row(
     x: u32,
     y: u32,
 ) -> Total
-    requires plane { IsPlane plane.now }
-    requires x_in { x < plane.now.side_x }
-    requires y_in { y < plane.now.side_y }
+    requires window { HasWindow kernel.now border.now plane.now x y }
     requires i_in { i < kernel.now.height }
-    requires rows { CoversWindow border.now y kernel.now.height plane.now.side_y plane.now.from_y
-        plane.now.to_y }
-    requires columns { CoversWindow border.now x kernel.now.width plane.now.side_x plane.now.from_x
-        plane.now.to_x }
     ensures { total_of result
         ≡ row_added (weighted kernel.now border.now replace (whole_plane_of plane.now) y x i)
         kernel.now.width (total_of total) }

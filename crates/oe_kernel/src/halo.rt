@@ -15,9 +15,8 @@ pub(crate) fn with_halo(border: Border, size: u32, side: u32, from: u32, to: u32
     requires order { from < to }
     requires within { to ≤ side }
     // a box that has them has each position that the rule gives, also where a window passes both ends of the side
-    ensures covers { (at first end : ℕ) → IsPositionIn from to at → first ≤ result.0 → result.1
-        ≤ end
-        → CoversWindow border at size side first end }
+    ensures covers { (at first end : ℕ) → IsPositionIn from to at
+        → first ≤ result.0 → result.1 ≤ end → CoversWindow border at size side first end }
     // they are positions of the side, and the middles are among them
     ensures before { result.0 ≤ from }
     ensures after { to ≤ result.1 }

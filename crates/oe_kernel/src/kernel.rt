@@ -112,9 +112,8 @@ impl Kernel {
         requires order { from < to }
         requires within { to ≤ side }
         // a box that has them has each column that the rule gives, also where a window passes both ends of the side
-        ensures covers { (at first end : ℕ) → IsPositionIn from to at → first ≤ result.0 → result.1
-            ≤ end
-            → CoversWindow border at self.now.width side first end }
+        ensures covers { (at first end : ℕ) → IsPositionIn from to at → first ≤ result.0
+            → result.1 ≤ end → CoversWindow border at self.now.width side first end }
         // they are columns of the side, and those of the pixels are among them
         ensures before { result.0 ≤ from }
         ensures after { to ≤ result.1 }
@@ -135,9 +134,8 @@ impl Kernel {
         requires order { from < to }
         requires within { to ≤ side }
         // a box that has them has each row that the rule gives, also where a window passes both ends of the side
-        ensures covers { (at first end : ℕ) → IsPositionIn from to at → first ≤ result.0 → result.1
-            ≤ end
-            → CoversWindow border at self.now.height side first end }
+        ensures covers { (at first end : ℕ) → IsPositionIn from to at → first ≤ result.0
+            → result.1 ≤ end → CoversWindow border at self.now.height side first end }
         // they are rows of the side, and those of the pixels are among them
         ensures before { result.0 ≤ from }
         ensures after { to ≤ result.1 }

@@ -1,13 +1,11 @@
 // Pixels of a plane as whole machine numbers.
 ghost use Rattle.std.specs.Prelude.{◌≡◌, ◌<◌, ◌≤◌, ◌+◌, ◌*◌, ℕ, length, unsigned_abs, IsTrue, IfSome};
-ghost use Rattle.std.specs.List.{slice_index_or};
 ghost use Rattle.oe_cell.specs.Rational.{whole_of};
-ghost use Rattle.oe_cell.specs.declared.cell.Cell.TheVariants.{Number, Empty};
-ghost use Rattle.oe_kernel.specs.Borders.{border_position};
-ghost use Rattle.oe_kernel.specs.Convolution.{pixel_number, border_number, reach, IsPlane, IsPositionIn, longest_side};
-ghost use Rattle.oe_kernel.specs.Kernels.{largest_size};
-ghost use Rattle.oe_kernel.specs.Rows.{pixel_in};
-ghost use Rattle.oe_kernel.specs.Strips.{at, pixel_from, CoversPixels};
+ghost use Rattle.oe_cell.specs.declared.cell.Cell.TheVariants.{Number};
+ghost use Rattle.oe_kernel.specs.Blocks.{cell_at};
+ghost use Rattle.oe_kernel.specs.Convolution.{pixel_number, border_number};
+ghost use Rattle.oe_kernel.specs.Rows.{pixel_along};
+ghost use Rattle.oe_kernel.specs.Strips.{at, pixel_from, AreNumbersOf, AreWithinFrom, HasPixels, HasRowOfPixels};
 
 use crate::border::index_of;
 use crate::plane::box_row;
@@ -65,11 +63,9 @@ fn whole_pixel(pixel: &Cell, replace: Frac, bound: u64) -> Option<i64>
 /// none.
 fn unpack(cells: &[Cell], replace: Frac, bound: u64, pixels: &mut [i64], start: usize) -> bool
     requires room { start + length cells.now ≤ length pixels.old }
-    ensures value { IsTrue result → (t : ℕ) → t < length cells.now
-        → pixel_number replace (slice_index_or cells.now t Empty)
-        ≡ Number (whole_of (at pixels.new (start + t))) }
-    ensures within { IsTrue result → (t : ℕ) → t < length cells.now
-        → unsigned_abs (at pixels.new (start + t)) ≤ bound }
+    ensures value { IsTrue result → AreNumbersOf (λ t. pixel_number replace (cell_at cells.now t))
+        start (length cells.now) pixels.new }
+    ensures within { IsTrue result → AreWithinFrom bound start (length cells.now) pixels.new }
     ensures before { (n : ℕ) → n < start → at pixels.new n ≡ at pixels.old n }
 {
     for t in 0..cells.len() {
@@ -90,10 +86,9 @@ fn unpack_border(
     count: usize,
 ) -> bool
     requires room { start + count ≤ length pixels.old }
-    ensures value { IsTrue result → (t : ℕ) → t < count
-        → border_number border.now ≡ Number (whole_of (at pixels.new (start + t))) }
-    ensures within { IsTrue result → (t : ℕ) → t < count → unsigned_abs (at pixels.new (start + t))
-        ≤ bound }
+    ensures value { IsTrue result → AreNumbersOf (λ t. border_number border.now) start count
+        pixels.new }
+    ensures within { IsTrue result → AreWithinFrom bound start count pixels.new }
     ensures before { (n : ℕ) → n < start → at pixels.new n ≡ at pixels.old n }
 {
     let cell = border_cell(border);
@@ -123,19 +118,11 @@ fn unpack_each(
     start: usize,
     count: usize,
 ) -> bool
-    requires side { side ≤ longest_side }
-    requires x { x < side }
-    requires some { 0 < size }
-    requires most { size ≤ largest_size }
-    requires few { count ≤ 65536 }
-    requires covered { CoversPixels border.now x size count side from (from + length cells.now) }
+    requires pixels { HasPixels border.now side x size count from (from + length cells.now) }
     requires room { start + count ≤ length pixels.old }
-    ensures value { IsTrue result → (t : ℕ) → t < count
-        → pixel_in border.now replace cells.now from
-        (border_position border.now (reach x t size) side)
-        ≡ Number (whole_of (at pixels.new (start + t))) }
-    ensures within { IsTrue result → (t : ℕ) → t < count → unsigned_abs (at pixels.new (start + t))
-        ≤ bound }
+    ensures value { IsTrue result → AreNumbersOf
+        (pixel_along border.now replace cells.now from side x size) start count pixels.new }
+    ensures within { IsTrue result → AreWithinFrom bound start count pixels.new }
     ensures before { (n : ℕ) → n < start → at pixels.new n ≡ at pixels.old n }
 {
     for t in 0..count {
@@ -164,20 +151,12 @@ fn unpack_columns(
     start: usize,
     count: usize,
 ) -> bool
-    requires side { side ≤ longest_side }
-    requires x { x < side }
-    requires some { 0 < size }
-    requires most { size ≤ largest_size }
-    requires any { 0 < count }
-    requires few { count ≤ 65536 }
-    requires covered { CoversPixels border.now x size count side from (from + length cells.now) }
+    requires pixels { HasPixels border.now side x size count from (from + length cells.now) }
+    requires some { 0 < count }
     requires room { start + count ≤ length pixels.old }
-    ensures value { IsTrue result → (t : ℕ) → t < count
-        → pixel_in border.now replace cells.now from
-        (border_position border.now (reach x t size) side)
-        ≡ Number (whole_of (at pixels.new (start + t))) }
-    ensures within { IsTrue result → (t : ℕ) → t < count → unsigned_abs (at pixels.new (start + t))
-        ≤ bound }
+    ensures value { IsTrue result → AreNumbersOf
+        (pixel_along border.now replace cells.now from side x size) start count pixels.new }
+    ensures within { IsTrue result → AreWithinFrom bound start count pixels.new }
     ensures before { (n : ℕ) → n < start → at pixels.new n ≡ at pixels.old n }
 {
     let radius = (size - 1) / 2;
@@ -206,23 +185,11 @@ pub(crate) fn unpack_row(
     start: usize,
     count: usize,
 ) -> bool
-    requires plane { IsPlane plane.now }
-    requires x_in { x < plane.now.side_x }
-    requires y_in { y < plane.now.side_y }
-    requires row_most { row ≤ 65536 }
-    requires any { 0 < count }
-    requires few { count ≤ 65536 }
-    requires row_covered { IfSome
-        (border_position border.now (reach y row kernel.now.height) plane.now.side_y)
-        (IsPositionIn plane.now.from_y plane.now.to_y) }
-    requires covered { CoversPixels border.now x kernel.now.width count plane.now.side_x
-        plane.now.from_x plane.now.to_x }
+    requires pixels { HasRowOfPixels kernel.now border.now plane.now x y row count }
     requires room { start + count ≤ length pixels.old }
-    ensures value { IsTrue result → (t : ℕ) → t < count
-        → pixel_from kernel.now border.now replace plane.now y x row t
-        ≡ Number (whole_of (at pixels.new (start + t))) }
-    ensures within { IsTrue result → (t : ℕ) → t < count → unsigned_abs (at pixels.new (start + t))
-        ≤ bound }
+    ensures value { IsTrue result → AreNumbersOf
+        (pixel_from kernel.now border.now replace plane.now y x row) start count pixels.new }
+    ensures within { IsTrue result → AreWithinFrom bound start count pixels.new }
     ensures before { (n : ℕ) → n < start → at pixels.new n ≡ at pixels.old n }
 {
     let at = reach(y, row, kernel.height() as usize);
@@ -258,16 +225,8 @@ pub(crate) fn unpack_rows(
     stride: usize,
     pixels: &mut [i64],
 ) -> bool
-    requires plane { IsPlane plane.now }
-    requires x_in { x < plane.now.side_x }
-    requires y_in { y < plane.now.side_y }
-    requires any { 0 < stride }
-    requires few { stride ≤ 65536 }
-    requires few_rows { rows ≤ 65536 }
-    requires rows_covered { CoversPixels border.now y kernel.now.height rows plane.now.side_y
-        plane.now.from_y plane.now.to_y }
-    requires covered { CoversPixels border.now x kernel.now.width stride plane.now.side_x
-        plane.now.from_x plane.now.to_x }
+    requires pixels { (row : ℕ) → row < rows
+        → HasRowOfPixels kernel.now border.now plane.now x y row stride }
     requires room { rows * stride ≤ length pixels.old }
     ensures value { IsTrue result → (row t : ℕ) → row < rows → t < stride
         → pixel_from kernel.now border.now replace plane.now y x row t

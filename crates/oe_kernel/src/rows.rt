@@ -3,8 +3,8 @@ ghost use Rattle.std.specs.Prelude.{◌≡◌, ◌<◌, ◌≤◌, ◌+◌, leng
 ghost use Rattle.oe_cell.specs.Exact.{cell_of_lowest};
 ghost use Rattle.oe_cell.specs.declared.cell.Cell.{Cell};
 ghost use Rattle.oe_kernel.specs.Kernels.{largest_size};
-ghost use Rattle.oe_kernel.specs.Convolution.{pixel_number, border_number, row_added, reach, CoversWindow, IsPositionIn, longest_side};
-ghost use Rattle.oe_kernel.specs.Rows.{beside, bordered, in_row, pixel_in};
+ghost use Rattle.oe_kernel.specs.Convolution.{pixel_number, border_number, row_added, reach, CoversWindow, IsPositionIn};
+ghost use Rattle.oe_kernel.specs.Rows.{beside, bordered, in_row, pixel_in, IsWindowOn};
 ghost use Rattle.oe_kernel.specs.Totals.{total_of};
 
 use crate::Border;
@@ -55,9 +55,8 @@ fn with_rest(total: Total, values: &[Frac], pixels: &[Cell], replace: Frac, inde
     requires same_length { length values.now ≡ length pixels.now }
     requires within { index ≤ length values.now }
     ensures { (start : Cell) → total_of total
-        ≡ row_added (beside values.now pixels.now replace) index start
-        → total_of result ≡ row_added (beside values.now pixels.now replace) (length values.now)
-        start }
+        ≡ row_added (beside values.now pixels.now replace) index start → total_of result
+        ≡ row_added (beside values.now pixels.now replace) (length values.now) start }
 {
     let mut sum = total;
     for i in index..values.len() {
@@ -104,10 +103,7 @@ fn with_positions(
     side: u32,
     x: u32,
 ) -> Total
-    requires some { 0 < length values.now }
-    requires most { length values.now ≤ largest_size }
-    requires side { side ≤ longest_side }
-    requires x { x < side }
+    requires window { IsWindowOn side x (length values.now) }
     requires held { CoversWindow border.now x (length values.now) side from
         (from + length pixels.now) }
     ensures { total_of result
@@ -161,10 +157,7 @@ pub(crate) fn with_row(
     side: u32,
     x: u32,
 ) -> Total
-    requires some { 0 < length values.now }
-    requires most { length values.now ≤ largest_size }
-    requires side { side ≤ longest_side }
-    requires x { x < side }
+    requires window { IsWindowOn side x (length values.now) }
     requires held { CoversWindow border.now x (length values.now) side from
         (from + length pixels.now) }
     ensures { total_of result

@@ -1,12 +1,11 @@
 // Cells of a row at once: by machine numbers where the pixels are whole and small, else one by one.
-ghost use Rattle.std.specs.Prelude.{◌≡◌, ◌<◌, ◌≤◌, ◌+◌, ◌*◌, ◌^◌, ℕ, length, unsigned_abs, IsTrue, IfSome};
-ghost use Rattle.std.specs.List.{slice_index_or};
+ghost use Rattle.std.specs.Prelude.{◌≡◌, ◌<◌, ◌≤◌, ◌+◌, ℕ, length, IsTrue, IfSome};
 ghost use Rattle.oe_cell.specs.Exact.{cell_of_lowest};
-ghost use Rattle.oe_cell.specs.declared.cell.Cell.TheVariants.{Empty};
-ghost use Rattle.oe_kernel.specs.Convolution.{rows_added, weighted, convolved, WholePlane, IsPartOf, IsPlane, CoversWindow, IsAmount};
-ghost use Rattle.oe_kernel.specs.Rows.{whole_plane_of};
-ghost use Rattle.oe_kernel.specs.declared.strip.TheConstants.{STRIP, STRIP_PIXELS};
-ghost use Rattle.oe_kernel.specs.Strips.{at, weight_of, AreWhole, CoversPixels};
+ghost use Rattle.oe_kernel.specs.Blocks.{cell_at, cells_from, HasRowOfWindows, IsConvolvedRow, IsStrip, KeepsBefore};
+ghost use Rattle.oe_kernel.specs.Convolution.{IsAmount};
+ghost use Rattle.oe_kernel.specs.Rows.{box_sum};
+ghost use Rattle.oe_kernel.specs.declared.strip.TheConstants.{STRIP_PIXELS};
+ghost use Rattle.oe_kernel.specs.Strips.{at, AreInRange, IsBoundFor};
 
 use crate::pixels::unpack_row;
 use crate::sums::{add_values, bound_of, clear, write_cells};
@@ -32,24 +31,14 @@ fn sum_strip(
     pixels: &mut [i64],
     sums: &mut [i64],
 ) -> bool
-    requires plane { IsPlane plane.now }
-    requires x_in { x < plane.now.side_x }
-    requires y_in { y < plane.now.side_y }
+    requires windows { HasRowOfWindows kernel.now border.now plane.now x y (length sums.old) }
     requires any { 0 < length sums.old }
     requires few { length pixels.old ≤ STRIP_PIXELS }
     requires same { length pixels.old + 1 ≡ length sums.old + kernel.now.width }
-    requires rows { CoversWindow border.now y kernel.now.height plane.now.side_y plane.now.from_y
-        plane.now.to_y }
-    requires covered { CoversPixels border.now x kernel.now.width (length pixels.old)
-        plane.now.side_x plane.now.from_x plane.now.to_x }
-    requires whole { AreWhole kernel.now.values }
-    requires fits { weight_of kernel.now.values 0 (length kernel.now.values) * bound < 2 ^ 63 }
-    ensures value { IsTrue result → (k : ℕ) → k < length sums.old
-        → cell_of_lowest (at sums.new k) 1
-        ≡ rows_added (weighted kernel.now border.now replace (whole_plane_of plane.now) y (x + k))
-        kernel.now.width kernel.now.height }
-    ensures size { IsTrue result → (k : ℕ) → k < length sums.old → unsigned_abs (at sums.new k)
-        < 2 ^ 63 }
+    requires bound { IsBoundFor kernel.now.values bound }
+    ensures value { IsTrue result → (k : ℕ) → k < length sums.old → cell_of_lowest (at sums.new k) 1
+        ≡ box_sum kernel.now border.now replace plane.now y (x + k) }
+    ensures size { IsTrue result → AreInRange sums.new }
 {
     clear(sums);
     let count = pixels.len();
@@ -79,20 +68,11 @@ fn convolve_each(
     count: usize,
     out: &mut [Cell],
 )
-    requires plane { IsPlane plane.now }
+    requires windows { HasRowOfWindows kernel.now border.now plane.now x y count }
     requires end { start + count ≤ length out.old }
-    requires x_in { x + count ≤ plane.now.side_x }
-    requires y_in { y < plane.now.side_y }
-    requires rows { CoversWindow border.now y kernel.now.height plane.now.side_y plane.now.from_y
-        plane.now.to_y }
-    requires columns { (k : ℕ) → k < count
-        → CoversWindow border.now (x + k) kernel.now.width plane.now.side_x plane.now.from_x
-        plane.now.to_x }
-    ensures value { (whole : WholePlane) → IsPartOf plane.now whole → (k : ℕ) → k < count
-        → slice_index_or out.new (start + k) Empty
-        ≡ convolved kernel.now factor border.now replace whole y (x + k) }
-    ensures before { (k : ℕ) → k < start → slice_index_or out.new k Empty
-        ≡ slice_index_or out.old k Empty }
+    ensures value { IsConvolvedRow kernel.now factor border.now replace plane.now
+        x y count (cells_from out.new start) }
+    ensures before { KeepsBefore start out.old out.new }
 {
     for k in 0..count {
         out[start + k] = convolve_at(kernel, factor, *border, replace, plane, x + k as u32, y);
@@ -113,25 +93,11 @@ fn fast_strip(
     count: usize,
     out: &mut [Cell],
 ) -> bool
-    requires plane { IsPlane plane.now }
-    requires any { 0 < count }
-    requires most { count ≤ STRIP }
-    requires end { start + count ≤ length out.old }
-    requires x_in { x + count ≤ plane.now.side_x }
-    requires y_in { y < plane.now.side_y }
-    requires rows { CoversWindow border.now y kernel.now.height plane.now.side_y plane.now.from_y
-        plane.now.to_y }
-    requires columns { (k : ℕ) → k < count
-        → CoversWindow border.now (x + k) kernel.now.width plane.now.side_x plane.now.from_x
-        plane.now.to_x }
-    requires whole { AreWhole kernel.now.values }
-    requires fits { weight_of kernel.now.values 0 (length kernel.now.values) * bound < 2 ^ 63 }
-    ensures value { IsTrue result → (whole : WholePlane) → IsPartOf plane.now whole → (k : ℕ) → k
-        < count
-        → slice_index_or out.new (start + k) Empty
-        ≡ convolved kernel.now factor border.now replace whole y (x + k) }
-    ensures before { (k : ℕ) → k < start → slice_index_or out.new k Empty
-        ≡ slice_index_or out.old k Empty }
+    requires strip { IsStrip kernel.now border.now plane.now x y count start out.old }
+    requires bound { IsBoundFor kernel.now.values bound }
+    ensures value { IsTrue result → IsConvolvedRow kernel.now factor border.now replace plane.now
+        x y count (cells_from out.new start) }
+    ensures before { KeepsBefore start out.old out.new }
 {
     let mut pixels = [0i64; STRIP_PIXELS];
     let mut sums = [0i64; STRIP];
@@ -168,25 +134,11 @@ fn convolve_strip(
     count: usize,
     out: &mut [Cell],
 )
-    requires plane { IsPlane plane.now }
-    requires any { 0 < count }
-    requires most { count ≤ STRIP }
-    requires end { start + count ≤ length out.old }
-    requires x_in { x + count ≤ plane.now.side_x }
-    requires y_in { y < plane.now.side_y }
-    requires rows { CoversWindow border.now y kernel.now.height plane.now.side_y plane.now.from_y
-        plane.now.to_y }
-    requires columns { (k : ℕ) → k < count
-        → CoversWindow border.now (x + k) kernel.now.width plane.now.side_x plane.now.from_x
-        plane.now.to_x }
-    requires whole { IfSome bound (λ most. AreWhole kernel.now.values) }
-    requires fits { IfSome bound
-        (λ most. weight_of kernel.now.values 0 (length kernel.now.values) * most < 2 ^ 63) }
-    ensures value { (whole : WholePlane) → IsPartOf plane.now whole → (k : ℕ) → k < count
-        → slice_index_or out.new (start + k) Empty
-        ≡ convolved kernel.now factor border.now replace whole y (x + k) }
-    ensures before { (k : ℕ) → k < start → slice_index_or out.new k Empty
-        ≡ slice_index_or out.old k Empty }
+    requires strip { IsStrip kernel.now border.now plane.now x y count start out.old }
+    requires bound { IfSome bound (IsBoundFor kernel.now.values) }
+    ensures value { IsConvolvedRow kernel.now factor border.now replace plane.now
+        x y count (cells_from out.new start) }
+    ensures before { KeepsBefore start out.old out.new }
 {
     if let Some(bound) = bound {
         if fast_strip(
@@ -214,23 +166,12 @@ pub(crate) fn convolve_strips(
     count: usize,
     out: &mut [Cell],
 )
-    requires plane { IsPlane plane.now }
+    requires windows { HasRowOfWindows kernel.now border.now plane.now x y count }
     requires end { start + count ≤ length out.old }
-    requires x_in { x + count ≤ plane.now.side_x }
-    requires y_in { y < plane.now.side_y }
-    requires rows { CoversWindow border.now y kernel.now.height plane.now.side_y plane.now.from_y
-        plane.now.to_y }
-    requires columns { (k : ℕ) → k < count
-        → CoversWindow border.now (x + k) kernel.now.width plane.now.side_x plane.now.from_x
-        plane.now.to_x }
-    requires whole { IfSome bound (λ most. AreWhole kernel.now.values) }
-    requires fits { IfSome bound
-        (λ most. weight_of kernel.now.values 0 (length kernel.now.values) * most < 2 ^ 63) }
-    ensures value { (whole : WholePlane) → IsPartOf plane.now whole → (k : ℕ) → k < count
-        → slice_index_or out.new (start + k) Empty
-        ≡ convolved kernel.now factor border.now replace whole y (x + k) }
-    ensures before { (k : ℕ) → k < start → slice_index_or out.new k Empty
-        ≡ slice_index_or out.old k Empty }
+    requires bound { IfSome bound (IsBoundFor kernel.now.values) }
+    ensures value { IsConvolvedRow kernel.now factor border.now replace plane.now
+        x y count (cells_from out.new start) }
+    ensures before { KeepsBefore start out.old out.new }
 {
     for strip in 0..(count + STRIP - 1) / STRIP {
         let first = strip * STRIP;
@@ -255,20 +196,12 @@ pub fn convolve_row(
     y: u32,
     out: &mut [Cell],
 )
-    requires plane { IsPlane plane.now }
-    requires x_in { from + length out.old ≤ plane.now.side_x }
-    requires y_in { y < plane.now.side_y }
     // the box holds each position that the border rule gives
-    requires rows { CoversWindow border y kernel.now.height plane.now.side_y plane.now.from_y
-        plane.now.to_y }
-    requires columns { (k : ℕ) → k < length out.old
-        → CoversWindow border (from + k) kernel.now.width plane.now.side_x plane.now.from_x
-        plane.now.to_x }
+    requires windows { HasRowOfWindows kernel.now border plane.now from y (length out.old) }
     // each cell is that of the definition, for every whole plane that the box is a part of
-    ensures value { (whole : WholePlane) → IsPartOf plane.now whole → (k : ℕ) → k < length out.old
-        → slice_index_or out.new k Empty
-        ≡ convolved kernel.now factor border replace whole y (from + k) }
-    ensures amounts { (k : ℕ) → k < length out.old → IsAmount (slice_index_or out.new k Empty) }
+    ensures value { IsConvolvedRow kernel.now factor border replace plane.now
+        from y (length out.old) (cell_at out.new) }
+    ensures amounts { (k : ℕ) → k < length out.old → IsAmount (cell_at out.new k) }
 {
     let bound = bound_of(kernel);
     let count = out.len();

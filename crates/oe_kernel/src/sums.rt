@@ -1,11 +1,11 @@
 // Sums of whole pixels, in machine numbers that have room for them.
 ghost use Rattle.std.specs.Prelude.{◌≡◌, ◌<◌, ◌≤◌, ◌+◌, ◌*◌, ◌^◌, ℕ, pos, ◌+ℤ◌, ◌*ℤ◌, length, unsigned_abs, IfSome};
-ghost use Rattle.std.specs.List.{slice_index_or};
 ghost use Rattle.oe_cell.specs.Exact.{cell_of_lowest};
 ghost use Rattle.oe_cell.specs.Operations.{multiply_of};
-ghost use Rattle.oe_cell.specs.declared.cell.Cell.TheVariants.{Number, Empty};
+ghost use Rattle.oe_cell.specs.declared.cell.Cell.TheVariants.{Number};
+ghost use Rattle.oe_kernel.specs.Blocks.{cell_at, KeepsBefore};
 ghost use Rattle.oe_kernel.specs.Convolution.{row_added};
-ghost use Rattle.oe_kernel.specs.Strips.{at, weight_of, AreWhole, AreWithin, times_pixel};
+ghost use Rattle.oe_kernel.specs.Strips.{at, weight_of, times_pixel, AreInRange, AreWhole, AreWithin, IsBoundFor};
 
 use crate::Kernel;
 use oe_cell::{Cell, Frac, multiply, whole_cell};
@@ -16,9 +16,7 @@ const LARGEST_NUMBER: u64 = 9223372036854775807;
 /// How large whole pixels may be, so that no sum of their products with the kernel's values passes 63 bits. None comes
 /// where a value is not whole, or their sizes add up to more.
 pub(crate) fn bound_of(kernel: &Kernel) -> Option<u64>
-    ensures whole { IfSome result (λ bound. AreWhole kernel.now.values) }
-    ensures fits { IfSome result
-        (λ bound. weight_of kernel.now.values 0 (length kernel.now.values) * bound < 2 ^ 63) }
+    ensures { IfSome result (IsBoundFor kernel.now.values) }
 {
     let values = kernel.values();
     let mut weight = 0u64;
@@ -96,8 +94,7 @@ pub(crate) fn add_values(sums: &mut [i64], pixels: &[i64], values: &[Frac], boun
     requires fits { (k : ℕ) → k < length sums.old
         → unsigned_abs (at sums.old k) + weight_of values.now 0 (length values.now) * bound
         < 2 ^ 63 }
-    ensures value { (k : ℕ) → k < length sums.old
-        → cell_of_lowest (at sums.new k) 1
+    ensures value { (k : ℕ) → k < length sums.old → cell_of_lowest (at sums.new k) 1
         ≡ row_added (times_pixel values.now pixels.now k) (length values.now)
         (cell_of_lowest (at sums.old k) 1) }
     ensures size { (k : ℕ) → k < length sums.old
@@ -125,12 +122,10 @@ fn scale(sum: i64, factor: Frac) -> Cell
 /// Writes the cell of each sum times the factor, from the index `start` of `out` on.
 pub(crate) fn write_cells(sums: &[i64], factor: Frac, start: usize, out: &mut [Cell])
     requires end { start + length sums.now ≤ length out.old }
-    requires size { (k : ℕ) → k < length sums.now → unsigned_abs (at sums.now k) < 2 ^ 63 }
-    ensures value { (k : ℕ) → k < length sums.now
-        → slice_index_or out.new (start + k) Empty
+    requires size { AreInRange sums.now }
+    ensures value { (k : ℕ) → k < length sums.now → cell_at out.new (start + k)
         ≡ multiply_of (cell_of_lowest (at sums.now k) 1) (Number factor) }
-    ensures before { (k : ℕ) → k < start → slice_index_or out.new k Empty
-        ≡ slice_index_or out.old k Empty }
+    ensures before { KeepsBefore start out.old out.new }
 {
     for k in 0..sums.len() {
         out[start + k] = scale(sums[k], factor);

@@ -6,19 +6,27 @@ use Rattle.oe_kernel.proofs.ProgressLemmas.{rows_more, row_before, rows_end}
 use Rattle.oe_kernel.proofs.block.convolve_block.Goals as goal
 use Rattle.oe_kernel.proofs.block.convolve_block.Goals.{then-left-most, else-left-most}
 
-pub convolve_band-requires-clause-end : goal.convolve_band-requires-clause-end
-convolve_band-requires-clause-end c =
-    let some : ℕ = c.if-left-most.band in
-    let within : c.loop-row.row + some ≤ c.args.rows = elim c.if-left-most.branch [ then-left-most w ↦ omega arith | else-left-most w ↦ omega arith ] in
-    let ends : c.loop-row.row * c.args.columns + some * c.args.columns ≤ c.args.rows * c.args.columns = rows_end c.loop-row.row some c.args.rows c.args.columns within in
-    omega arith
-
-pub convolve_band-requires-clause-rows_covered : goal.convolve_band-requires-clause-rows_covered
-convolve_band-requires-clause-rows_covered c = λ row h.
+pub convolve_band-requires-clause-band : goal.convolve_band-requires-clause-band
+convolve_band-requires-clause-band c =
     let n : ℕ = c.loop-row.row in
-    let within : n + row < c.args.rows = elim c.if-left-most.branch [ then-left-most w ↦ omega arith | else-left-most w ↦ omega arith ] in
-    let same : c.args.y + (n + row) ≡ c.args.y + n + row = omega arith in
-    subst (λ (y : ℕ). CoversWindow c.args.border y c.args.kernel.now.height c.args.plane.now.side_y c.args.plane.now.from_y c.args.plane.now.to_y) same (c.requires.rows_covered (n + row) within)
+    let some : ℕ = c.if-left-most.band in
+    let any : 0 < some = elim c.if-left-most.branch [ then-left-most w ↦ omega arith | else-left-most w ↦ omega arith ] in
+    let within : n + some ≤ c.args.rows = elim c.if-left-most.branch [ then-left-most w ↦ omega arith | else-left-most w ↦ omega arith ] in
+    let ends : n * c.args.columns + some * c.args.columns ≤ c.args.rows * c.args.columns = rows_end n some c.args.rows c.args.columns within in
+    record {
+      windows = record {
+        plane = c.requires.windows.plane;
+        x_in = c.requires.windows.x_in;
+        y_in = omega arith;
+        rows_covered = λ row h.
+            let same : c.args.y + (n + row) ≡ c.args.y + n + row = omega arith in
+            subst (λ (y : ℕ). CoversWindow c.args.border y c.args.kernel.now.height c.args.plane.now.side_y c.args.plane.now.from_y c.args.plane.now.to_y) same (c.requires.windows.rows_covered (n + row) (omega arith));
+        columns_covered = c.requires.windows.columns_covered;
+      };
+      some_rows = any;
+      some_columns = omega arith;
+      end = omega arith;
+    }
 
 pub loop-row-preserved : goal.loop-row-preserved
 loop-row-preserved c =

@@ -32,7 +32,7 @@ add_values-requires-clause-fits c = λ t h.
     let grows : weight_of k.values 0 (i * w + w) ≤ weight_of k.values 0 (length k.values) = weight_of-grows k.values 0 (i * w + w) (length k.values) in_values in
     let had : unsigned_abs (at c.loop-i.sums t) ≤ weight_of k.values 0 (i * w) * c.args.bound = c.loop-i.invariant.size t h in
     let most : unsigned_abs (at c.loop-i.sums t) + weight_of row 0 (length row) * c.args.bound ≤ 0 + weight_of k.values 0 (length k.values) * c.args.bound = with_next (unsigned_abs (at c.loop-i.sums t)) 0 (weight_of k.values 0 (i * w)) (weight_of row 0 (length row)) (weight_of k.values 0 (length k.values)) c.args.bound (omega arith) (omega arith) in
-    omega (arith, c.requires.fits)
+    omega (arith, c.requires.pixels.bounded.fits)
 
 pub loop-i-preserved : goal.loop-i-preserved
 loop-i-preserved c =

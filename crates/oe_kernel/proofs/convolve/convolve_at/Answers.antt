@@ -25,7 +25,7 @@ returns-clause-value c = λ whole part.
     let k = c.args.kernel.now in
     let all : c.loop-i.i ≡ k.height = omega arith in
     let cells = weighted k c.args.border c.args.replace (whole_plane_of c.args.plane.now) c.args.y c.args.x in
-    let total : c.cell_of.result ≡ rows_added (weighted k c.args.border c.args.replace whole c.args.y c.args.x) k.width k.height = c.cell_of.ensures ∙ c.loop-i.invariant ∙ ap (λ (n : ℕ). rows_added cells k.width n) all ∙ rows_added-same cells (weighted k c.args.border c.args.replace whole c.args.y c.args.x) k.width k.height (λ i j i_in j_in. weighted-same k c.args.border c.args.replace c.args.plane.now whole c.args.y c.args.x i j part c.requires.rows c.requires.columns i_in j_in) in
+    let total : c.cell_of.result ≡ rows_added (weighted k c.args.border c.args.replace whole c.args.y c.args.x) k.width k.height = c.cell_of.ensures ∙ c.loop-i.invariant ∙ ap (λ (n : ℕ). rows_added cells k.width n) all ∙ rows_added-same cells (weighted k c.args.border c.args.replace whole c.args.y c.args.x) k.width k.height (λ i j i_in j_in. weighted-same k c.args.border c.args.replace c.args.plane.now whole c.args.y c.args.x i j part c.requires.window.rows c.requires.window.columns i_in j_in) in
     c.multiply.ensures.value ∙ ap (λ (t : Cell). multiply_of t (Number c.args.factor)) total
 
 pub returns-clause-amount : goal.returns-clause-amount

@@ -10,11 +10,11 @@ use Rattle.oe_kernel.proofs.pixels.unpack_columns.Goals as goal
 
 pub overflow_sub-first-2 : goal.overflow_sub-first-2
 overflow_sub-first-2 c =
-    (covered_inside c.args.border.now c.args.x c.args.size c.args.count c.args.side c.args.from (c.args.from + length c.args.cells.now) c.requires.any (omega arith) (omega arith) c.requires.covered).0
+    (covered_inside c.args.border.now c.args.x c.args.size c.args.count c.args.side c.args.from (c.args.from + length c.args.cells.now) c.requires.some (omega arith) (omega arith) c.requires.pixels.covered).0
 
 pub slice_bounds-unpack-end : goal.slice_bounds-unpack-end
 slice_bounds-unpack-end c =
-    let held = covered_inside c.args.border.now c.args.x c.args.size c.args.count c.args.side c.args.from (c.args.from + length c.args.cells.now) c.requires.any (omega arith) (omega arith) c.requires.covered in
+    let held = covered_inside c.args.border.now c.args.x c.args.size c.args.count c.args.side c.args.from (c.args.from + length c.args.cells.now) c.requires.some (omega arith) (omega arith) c.requires.pixels.covered in
     let start : c.args.from ≤ c.args.x - radius_of c.args.size = held.0 in
     let end : c.args.x - radius_of c.args.size + c.args.count ≤ c.args.from + length c.args.cells.now = held.1 in
     let fits : c.args.x - radius_of c.args.size - c.args.from + c.args.count ≤ length c.args.cells.now = omega arith in
@@ -22,7 +22,7 @@ slice_bounds-unpack-end c =
 
 pub returns-clause-value : goal.returns-clause-value
 returns-clause-value c = λ yes t h.
-    let held = covered_inside c.args.border.now c.args.x c.args.size c.args.count c.args.side c.args.from (c.args.from + length c.args.cells.now) c.requires.any (omega arith) (omega arith) c.requires.covered in
+    let held = covered_inside c.args.border.now c.args.x c.args.size c.args.count c.args.side c.args.from (c.args.from + length c.args.cells.now) c.requires.some (omega arith) (omega arith) c.requires.pixels.covered in
     let start : c.args.from ≤ c.args.x - radius_of c.args.size = held.0 in
     let first : ℕ = c.args.x - radius_of c.args.size - c.args.from in
     let position : border_position c.args.border.now (reach c.args.x t c.args.size) c.args.side ≡ Some (c.args.x - radius_of c.args.size + t) = pixel_position c.args.border.now c.args.x t c.args.size c.args.side (omega arith) (omega arith) in

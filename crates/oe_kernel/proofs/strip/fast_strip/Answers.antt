@@ -1,16 +1,10 @@
-use Rattle.std.proofs.Common.{◌+◌, ◌-◌, arith, rules, get_or}
+use Rattle.std.proofs.Common.{◌+◌, rules, get_or}
 use Rattle.oe_cell.specs.Exact.{cell_of_lowest}
 use Rattle.oe_cell.specs.declared.cell.Cell.TheVariants.{Empty}
 use Rattle.oe_kernel.specs.Strips.{at}
 use Rattle.oe_kernel.proofs.StripLemmas.{strip_convolved}
-use Rattle.oe_kernel.proofs.WindowLemmas.{CoversPixels-windows}
 use Rattle.oe_kernel.proofs.strip.fast_strip.Goals as goal
-
-pub sum_strip-requires-clause-covered : goal.sum_strip-requires-clause-covered
-sum_strip-requires-clause-covered c = record {
-  each = λ t h. (CoversPixels-windows c.args.border.now c.args.x c.args.count c.args.kernel.now.width (c.args.count + c.width.result - 1) c.args.plane.now.side_x c.args.plane.now.from_x c.args.plane.now.to_x c.requires.columns (omega arith) c.requires.any (omega arith)).each t (search rules);
-}
 
 pub returns-clause-value : goal.returns-clause-value
 returns-clause-value c = λ yes whole part k h.
-    strip_convolved c.args.kernel.now c.args.factor c.args.border.now c.args.replace c.args.plane.now whole c.args.y (c.args.x + k) (get_or c.write_cells.new.out (c.args.start + k) Empty) (cell_of_lowest (at c.sum_strip.new.sums k) 1) part c.requires.rows (c.requires.columns k h) (c.sum_strip.ensures.value c.if-not-sum_strip.false k (search rules)) (c.write_cells.ensures.value k (search rules))
+    strip_convolved c.args.kernel.now c.args.factor c.args.border.now c.args.replace c.args.plane.now whole c.args.y (c.args.x + k) (get_or c.write_cells.new.out (c.args.start + k) Empty) (cell_of_lowest (at c.sum_strip.new.sums k) 1) part c.requires.strip.windows.rows (c.requires.strip.windows.columns k h) (c.sum_strip.ensures.value c.if-not-sum_strip.false k (search rules)) (c.write_cells.ensures.value k (search rules))

@@ -10,6 +10,7 @@ use Rattle.oe_kernel.specs.Strips.{at, weight_of, times_pixel}
 use Rattle.oe_kernel.proofs.SumLemmas.{row_added-same, rows_added-none, rows_added-more}
 use Rattle.oe_kernel.proofs.TotalLemmas.{total_of-zero}
 use Rattle.oe_kernel.proofs.StripLemmas.{weight_of-grows, with_next, row_end, row_whole, row_more, strip_cell}
+use Rattle.oe_kernel.proofs.WindowLemmas.{CoversPixels-windows}
 use Rattle.oe_kernel.proofs.strip.sum_strip.Goals as goal
 
 zero_more : (n : ℕ) → 0 + n ≡ n
@@ -20,6 +21,20 @@ loop-i-init c = record {
   same = λ k h. ap (λ (z : ℤ). cell_of_lowest z 1) (c.clear.ensures k (omega arith)) ∙ total_of-zero ∙ sym (rows_added-none _ _);
   size = λ k h. let none : unsigned_abs (at c.clear.new.sums k) ≡ 0 = ap unsigned_abs (c.clear.ensures k (omega arith)) in omega arith;
 }
+
+pub unpack_row-requires-clause-pixels : goal.unpack_row-requires-clause-pixels
+unpack_row-requires-clause-pixels c =
+    let windows = c.requires.windows in
+    record {
+      plane = windows.plane;
+      x_in = omega arith;
+      y_in = windows.y_in;
+      row_most = omega arith;
+      row_covered = windows.rows.each c.loop-i.i (omega arith);
+      some = omega arith;
+      most = omega arith;
+      columns_covered = CoversPixels-windows c.args.border.now c.args.x (length c.args.sums.now) c.args.kernel.now.width _ c.args.plane.now.side_x c.args.plane.now.from_x c.args.plane.now.to_x windows.columns (omega arith) (omega arith) (omega arith);
+    }
 
 pub add_values-requires : goal.add_values-requires
 add_values-requires c =
@@ -37,12 +52,12 @@ add_values-requires c =
     let grows : weight_of k.values 0 (i * w + w) ≤ weight_of k.values 0 (length k.values) = weight_of-grows k.values 0 (i * w + w) (length k.values) in_values in
     record {
       same = omega arith;
-      whole = λ j h. row_whole k.values row (i * w) w c.requires.whole c.row.ensures.value in_values j (omega arith);
+      whole = λ j h. row_whole k.values row (i * w) w c.requires.bound.whole c.row.ensures.value in_values j (omega arith);
       within = λ t h. subst (λ (n : ℕ). unsigned_abs (at c.unpack_row.new.pixels n) ≤ c.args.bound) (zero_more t) (c.unpack_row.ensures.within c.if-not-unpack_row.false t (omega arith));
       fits = λ t h.
           let had : unsigned_abs (at c.loop-i.sums t) ≤ weight_of k.values 0 (i * w) * c.args.bound = c.loop-i.invariant.size t (omega arith) in
           let most : unsigned_abs (at c.loop-i.sums t) + weight_of row 0 (length row) * c.args.bound ≤ 0 + weight_of k.values 0 (length k.values) * c.args.bound = with_next (unsigned_abs (at c.loop-i.sums t)) 0 (weight_of k.values 0 (i * w)) (weight_of row 0 (length row)) (weight_of k.values 0 (length k.values)) c.args.bound (omega arith) (omega arith) in
-          omega (arith, c.requires.fits);
+          omega (arith, c.requires.bound.fits);
     }
 
 pub loop-i-preserved : goal.loop-i-preserved

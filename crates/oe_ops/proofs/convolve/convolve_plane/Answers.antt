@@ -14,36 +14,21 @@ plane_of-plane-requires-clause-inside c =
     let reads = reads_plane c.args.kernel.now c.args.factor c.args.border.now c.args.replace c.args.shape.now c.args.slice.now.window c.args.window.now c.width-width.ensures.valid c.requires.valid c.requires.within c.requires.inside c.requires.need c.requires.one (omega (arith, c.requires.some, c.requires.length)) in
     corner_in c.args.slice.now.window _ reads.inside
 
-pub convolve_block-requires-clause-plane : goal.convolve_block-requires-clause-plane
-convolve_block-requires-clause-plane c =
-    let reads = reads_plane c.args.kernel.now c.args.factor c.args.border.now c.args.replace c.args.shape.now c.args.slice.now.window c.args.window.now c.width-width.ensures.valid c.requires.valid c.requires.within c.requires.inside c.requires.need c.requires.one (omega (arith, c.requires.some, c.requires.length)) in
-    is_plane c.args.slice.now _ _ _ _ _ _ c.plane_of-plane.ensures reads.sides reads.inside
-
-pub convolve_block-requires-clause-x_in : goal.convolve_block-requires-clause-x_in
-convolve_block-requires-clause-x_in c =
-    let reads = reads_plane c.args.kernel.now c.args.factor c.args.border.now c.args.replace c.args.shape.now c.args.slice.now.window c.args.window.now c.width-width.ensures.valid c.requires.valid c.requires.within c.requires.inside c.requires.need c.requires.one (omega (arith, c.requires.some, c.requires.length)) in
-    omega (arith, reads.x_order, reads.x_in, c.plane_of-plane.ensures.side_x_is)
-
-pub convolve_block-requires-clause-y_in : goal.convolve_block-requires-clause-y_in
-convolve_block-requires-clause-y_in c =
-    let reads = reads_plane c.args.kernel.now c.args.factor c.args.border.now c.args.replace c.args.shape.now c.args.slice.now.window c.args.window.now c.width-width.ensures.valid c.requires.valid c.requires.within c.requires.inside c.requires.need c.requires.one (omega (arith, c.requires.some, c.requires.length)) in
-    omega (arith, reads.y_order, reads.y_in, c.plane_of-plane.ensures.side_y_is)
-
 pub convolve_block-requires-clause-counted : goal.convolve_block-requires-clause-counted
 convolve_block-requires-clause-counted c =
     block_count c.args.window.now c.requires.one ∙ sym c.requires.length
 
-pub convolve_block-requires-clause-rows_covered : goal.convolve_block-requires-clause-rows_covered
-convolve_block-requires-clause-rows_covered c = λ row lt.
+pub convolve_block-requires-clause-windows : goal.convolve_block-requires-clause-windows
+convolve_block-requires-clause-windows c =
     let reads = reads_plane c.args.kernel.now c.args.factor c.args.border.now c.args.replace c.args.shape.now c.args.slice.now.window c.args.window.now c.width-width.ensures.valid c.requires.valid c.requires.within c.requires.inside c.requires.need c.requires.one (omega (arith, c.requires.some, c.requires.length)) in
     let h = c.plane_of-plane.ensures in
-    rw (h.side_y_is, h.from_y, h.to_y) (reads.rows row lt)
-
-pub convolve_block-requires-clause-columns_covered : goal.convolve_block-requires-clause-columns_covered
-convolve_block-requires-clause-columns_covered c = λ k lt.
-    let reads = reads_plane c.args.kernel.now c.args.factor c.args.border.now c.args.replace c.args.shape.now c.args.slice.now.window c.args.window.now c.width-width.ensures.valid c.requires.valid c.requires.within c.requires.inside c.requires.need c.requires.one (omega (arith, c.requires.some, c.requires.length)) in
-    let h = c.plane_of-plane.ensures in
-    rw (h.side_x_is, h.from_x, h.to_x) (reads.columns k lt)
+    record {
+      plane = is_plane c.args.slice.now _ _ _ _ _ _ h reads.sides reads.inside;
+      x_in = omega (arith, reads.x_order, reads.x_in, h.side_x_is);
+      y_in = omega (arith, reads.y_order, reads.y_in, h.side_y_is);
+      rows_covered = λ row lt. rw (h.side_y_is, h.from_y, h.to_y) (reads.rows row lt);
+      columns_covered = λ k lt. rw (h.side_x_is, h.from_x, h.to_x) (reads.columns k lt);
+    }
 
 pub returns-clause-value : goal.returns-clause-value
 returns-clause-value c = λ cube whole same on.
