@@ -26,6 +26,7 @@ use Rattle.oe_window.specs.Cells.{cells_on}
 use Rattle.oe_window.specs.Windows.{Holds, position_count, positions, span_length, whole_window}
 use Rattle.oe_window.specs.declared.window.Window.{Window}
 use Rattle.oe_window.proofs.WindowLemmas.{IsFilled, length-positions, within_from_holds}
+use Rattle.oe_ops.specs.Calls.{IsResolverOf}
 use Rattle.oe_ops.specs.Needs.{HasLabelsBeside, HasLabelsOf, HoldsNeed, IsInReach, IsNeed, Needs, argument_shape}
 use Rattle.oe_ops.specs.Nodes.{HasScratch, IsOnOne, TakesInputs}
 use Rattle.oe_ops.specs.Slices.{TakesPairs}
@@ -154,13 +155,17 @@ module _ (shape one two : Dimensions) (first second : Slice) (window : Window) w
 
 -- ---- a resolver
 
-pub resolver_keeps : (r : Option Callback) (one two : List Cell) → IfSome r (λ c. KeepsKind c × TakesPairs c one two) → IfSome r KeepsKind
-resolver_keeps None one two h = tt
-resolver_keeps (Some c) one two h = h.0
+pub resolver_fits : (r : Option Callback) (one two : Slice) → IfSome r (λ c. KeepsKind c × TakesPairs c one.cells.now two.cells.now) → IfSome r (IsResolverOf one two)
+resolver_fits None one two h = tt
+resolver_fits (Some c) one two h = record { keeps = h.0; takes = h.1 }
 
-pub resolver_takes : (r : Option Callback) (one two : List Cell) → IfSome r (λ c. KeepsKind c × TakesPairs c one two) → IfSome r (λ c. TakesPairs c one two)
+pub resolver_keeps : (r : Option Callback) (one two : Slice) → IfSome r (IsResolverOf one two) → IfSome r KeepsKind
+resolver_keeps None one two h = tt
+resolver_keeps (Some c) one two h = h.keeps
+
+pub resolver_takes : (r : Option Callback) (one two : Slice) → IfSome r (IsResolverOf one two) → IfSome r (λ c. TakesPairs c one.cells.now two.cells.now)
 resolver_takes None one two h = tt
-resolver_takes (Some c) one two h = h.1
+resolver_takes (Some c) one two h = h.takes
 
 -- ---- room
 

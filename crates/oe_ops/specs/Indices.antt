@@ -1,17 +1,17 @@
 -- Where the labels at a position of a result stand in an argument, which may lack dimensions of the result.
-use Rattle.std.specs.Prelude.{◌≡◌, ℕ, ◌+◌, ◌-◌, ◌≤◌, Bool, List, Option, Some, IfSome}
+use Rattle.std.specs.Prelude.{◌≡◌, ◌<◌, ℕ, ◌+◌, ◌-◌, ◌≤◌, Bool, List, Option, Some, IfSome}
 use Rattle.std.specs.Option.{option_and_then, option_map}
 use Rattle.oe_cell.specs.declared.cell.Cell.{Cell}
 use Rattle.oe_dims.specs.Cube.{index_along}
-use Rattle.oe_dims.specs.Dimensions.{Dimensions}
+use Rattle.oe_dims.specs.Dimensions.{Dimensions, IsShape}
 use Rattle.oe_dims.specs.Indices.{same_number}
 use Rattle.oe_dims.specs.Names.{same_name}
-use Rattle.oe_dims.specs.Positions.{Position, label_of}
+use Rattle.oe_dims.specs.Positions.{IsPosition, Position, label_of}
 use Rattle.oe_dims.specs.declared.kind.Kind.{Kind}
 use Rattle.oe_dims.specs.declared.kind.Kind.TheVariants.{Time, Bands, Y, X}
-use Rattle.oe_window.specs.Windows.{IsIn}
+use Rattle.oe_window.specs.Windows.{IsIn, extent_along}
 use Rattle.oe_requests.specs.Labels.{only_along}
-use Rattle.oe_ops.specs.Slices.{at_indices, cell_of}
+use Rattle.oe_ops.specs.Slices.{IsCounted, at_indices, cell_of}
 use Rattle.oe_ops.specs.declared.slice.Slice.{Slice}
 use Rattle.oe_ops.specs.declared.run.Run.{Run}
 use Rattle.oe_ops.specs.declared.source.PlaneIndices.{PlaneIndices}
@@ -38,6 +38,11 @@ row_in shape argument p =
 -- the position at an index of a row
 abbrev pub position_on : RowIndices → ℕ → Position
 position_on row x = at_indices row.t row.band row.y x
+
+-- the cell that a slice of the argument lists on a row, at the label at an index of the result along x
+abbrev pub cell_on_row : Dimensions → Dimensions → Slice → RowIndices → ℕ → Option Cell
+cell_on_row shape argument slice row x =
+    option_map (λ i. cell_of slice (position_on row i)) (index_in_argument X shape argument x)
 
 -- the position in the argument of the labels at a position of the result; none where the argument has no such tuple
 abbrev pub position_in : Dimensions → Dimensions → Position → Option Position
@@ -67,3 +72,25 @@ pub record AreIndicesAt (shape argument : Dimensions) (plane : PlaneIndices) (p 
   pub band : plane.band ≡ index_in_argument Bands shape argument p.band
   pub y : IsOnRun Y shape argument plane.y p.y
   pub x : IsOnRun X shape argument plane.x p.x
+
+-- what is found for a plane is right at a position of the result, and the slice has what the argument has there
+pub record IsFindable (shape argument : Dimensions) (slice : Slice) (plane : PlaneIndices) (p : Position) : Type 0 where
+  pub inside : IsPosition shape p
+  pub indices : AreIndicesAt shape argument plane p
+  pub held : IsHeld shape argument slice p
+
+-- so many labels of a row of the result, from an index on along x, are looked for on a row of the argument: the slice
+-- has those that the argument has
+pub record HasRow (shape argument : Dimensions) (slice : Slice) (row : RowIndices) (x count : ℕ) : Type 0 where
+  pub valid : IsShape shape
+  pub counted : IsCounted slice
+  pub inside : x + count ≤ extent_along shape X
+  pub held : (k i : ℕ) → k < count → index_in_argument X shape argument (x + k) ≡ Some i
+      → IsIn slice.window (position_on row i)
+
+-- there is one, and they are on a run
+pub record HasRowOnRun (shape argument : Dimensions) (slice : Slice) (run : Run) (row : RowIndices) (x count : ℕ)
+    : Type 0 where
+  pub labels : HasRow shape argument slice row x count
+  pub some : 0 < count
+  pub on_run : (k : ℕ) → k < count → IsOnRun X shape argument run (x + k)

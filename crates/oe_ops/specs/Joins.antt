@@ -1,6 +1,9 @@
 -- The cells of two rows as one, where each has a label or has not.
 use Rattle.std.specs.Prelude.{◌≡◌, ℕ, true, Option, Some, None, is_some}
 use Rattle.oe_cell.specs.declared.cell.Cell.{Cell}
+use Rattle.oe_dims.specs.Dimensions.{Dimensions}
+use Rattle.oe_dims.specs.declared.kind.Kind.TheVariants.{X}
+use Rattle.oe_ops.specs.Indices.{index_in_argument}
 
 -- of the cells of both rows at a label, and a third where both have it: the one of the row that has the label; the
 -- first, where none has it
@@ -8,6 +11,11 @@ abbrev pub where_found : Option ℕ → Option ℕ → Cell → Cell → Cell �
 where_found one None a b both = a
 where_found None (Some j) a b both = b
 where_found (Some i) (Some j) a b both = both
+
+-- the same of the label at an index along x of a result of two arguments
+abbrev pub where_found_at : Dimensions → Dimensions → Dimensions → ℕ → Cell → Cell → Cell → Cell
+where_found_at shape one two x =
+    where_found (index_in_argument X shape one x) (index_in_argument X shape two x)
 
 -- both rows have the label
 pub record AreBothFound (one two : Option ℕ) : Type 0 where

@@ -6,5 +6,6 @@ pub mod Planes
 pub mod Spans
 pub mod Joins
 pub mod Nodes
+pub mod Calls
 pub mod Loads
 pub mod Sums

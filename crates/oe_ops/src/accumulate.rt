@@ -1,21 +1,19 @@
 // `apply_dimension` by `cumsum`: running sums along t.
-ghost use Rattle.std.specs.Prelude.{◌≡◌, ◌≢◌, ◌⊎◌, ◌+◌, ◌-◌, ◌*◌, ◌^◌, ◌<◌, ◌≤◌, ◌++◌, ◌∷◌, [], ℕ, Bool, List, length, map, slice_index_or};
+ghost use Rattle.std.specs.Prelude.{◌≡◌, ◌≢◌, ◌⊎◌, ◌+◌, ◌*◌, ◌<◌, ◌≤◌, ℕ, length, map};
 ghost use Rattle.std.specs.List.{All};
 ghost use Rattle.oe_cell.specs.declared.cell.Cell.{Cell};
 ghost use Rattle.oe_cell.specs.declared.cell.Cell.TheVariants.{Empty};
 ghost use Rattle.oe_cube.specs.Kinds.{IsOfKind};
-ghost use Rattle.oe_dims.specs.Cube.{Cube, IsCube};
-ghost use Rattle.oe_dims.specs.Dimensions.{IsShape};
 ghost use Rattle.oe_dims.specs.Positions.{Position};
 ghost use Rattle.oe_dims.specs.declared.kind.CellKind.{CellKind};
 ghost use Rattle.oe_dims.specs.declared.kind.Kind.TheVariants.{Time, X};
-ghost use Rattle.oe_periods.specs.Sums.{HasSummed, running_sum};
 ghost use Rattle.oe_window.specs.Cells.{cells_on};
-ghost use Rattle.oe_window.specs.Windows.{Holds, IsIn, extent_along, number_in, position_count, positions, span_length, whole_window};
-ghost use Rattle.oe_ops.specs.Needs.{HasLabelsBeside, HoldsNeed};
-ghost use Rattle.oe_ops.specs.Slices.{IsCounted, IsOn, along_x, at_indices};
+ghost use Rattle.oe_window.specs.Windows.{IsIn, extent_along, position_count, positions, span_length};
+ghost use Rattle.oe_ops.specs.Calls.{ForEachCube, HasRoomOn, IsSliceFor};
+ghost use Rattle.oe_ops.specs.Needs.{HasLabelsBeside};
+ghost use Rattle.oe_ops.specs.Slices.{IsCounted, along_x, at_indices};
 ghost use Rattle.oe_meanings.specs.Meaning.{accumulated};
-ghost use Rattle.oe_ops.specs.Sums.{HoldsAllBefore, sum_at};
+ghost use Rattle.oe_ops.specs.Sums.{AreRunningSums, HoldsAllBefore, IsRowOf, KeepsWhere, cell_on, sum_at};
 
 use crate::slice::{Slice, indices, number_on, row_of};
 use oe_cell::Cell;
@@ -33,15 +31,12 @@ pub fn eval_accumulate(
     out: &mut [Cell],
     scratch: &mut [Cell],
 )
-    requires valid { IsShape shape.now }
-    requires within { Holds (whole_window shape.now) window.now }
-    requires counted { IsCounted slice }
-    requires need { HoldsNeed (HasLabelsBeside Time shape.now shape.now) window.now slice.window }
-    requires length { length out.old ≡ position_count window.now }
+    requires slice { IsSliceFor (HasLabelsBeside Time shape.now shape.now)
+        window.now shape.now slice }
+    requires out { HasRoomOn shape.now window.now out.old }
     requires room { 2 * extent_along shape.now X ≤ length scratch.old }
-    ensures value { (cube : Cube Cell) → IsCube cube → cube.shape ≡ shape.now
-        → IsOn cube slice.entry
-        → out.new ≡ cells_on Empty (accumulated ignore cube) window.now }
+    ensures value { ForEachCube shape.now slice.entry
+        (λ cube. out.new ≡ cells_on Empty (accumulated ignore cube) window.now) }
     ensures kinds { (kind : CellKind) → All (IsOfKind kind) slice.entry.cells.now
         → All (IsOfKind kind) out.new }
 {
@@ -82,10 +77,8 @@ fn sum_lines(
     requires length { length out.old ≡ position_count window.now }
     requires room { 2 * span_length window.now.x ≤ length scratch.old }
     ensures sums { (p : Position) → IsIn window.now p → p.band ≡ band
-        → slice_index_or out.new (number_in window.now p) Empty ≡ sum_at ignore slice.now p }
-    ensures others { (p : Position) → IsIn window.now p → p.band ≢ band
-        → slice_index_or out.new (number_in window.now p) Empty
-        ≡ slice_index_or out.old (number_in window.now p) Empty }
+        → cell_on window.now out.new p ≡ sum_at ignore slice.now p }
+    ensures others { KeepsWhere (λ p. p.band ≢ band) window.now out.old out.new }
 {
     for y in window.y.from..window.y.to {
         sum_line(ignore, slice, window, band, y, out, scratch);
@@ -110,10 +103,8 @@ fn sum_line(
     requires length { length out.old ≡ position_count window.now }
     requires room { 2 * span_length window.now.x ≤ length scratch.old }
     ensures sums { (p : Position) → IsIn window.now p → p.band ≡ band → p.y ≡ y
-        → slice_index_or out.new (number_in window.now p) Empty ≡ sum_at ignore slice.now p }
-    ensures others { (p : Position) → IsIn window.now p → (p.band ≢ band) ⊎ (p.y ≢ y)
-        → slice_index_or out.new (number_in window.now p) Empty
-        ≡ slice_index_or out.old (number_in window.now p) Empty }
+        → cell_on window.now out.new p ≡ sum_at ignore slice.now p }
+    ensures others { KeepsWhere (λ p. (p.band ≢ band) ⊎ (p.y ≢ y)) window.now out.old out.new }
 {
     let width = indices(window.x);
     let (sums, rest) = scratch.split_at_mut(width);
@@ -137,24 +128,14 @@ fn write_row(
     y: u32,
     out: &mut [Cell],
 )
-    requires some { 0 < length cells.now }
-    requires width { length cells.now ≡ span_length window.now.x }
-    requires sums { length sums.now ≡ length cells.now }
-    requires marks { length marks.now ≡ length cells.now }
+    requires row { IsRowOf window.now cells.now sums.now marks.now }
     requires inside { window.now.t.from ≤ t → (k : ℕ) → k < length cells.now
         → IsIn window.now (along_x (at_indices t band y window.now.x.from) k) }
     requires length { length out.old ≡ position_count window.now }
-    ensures written { window.now.t.from ≤ t
-        → (k : ℕ) → k < length cells.now → (ignore : Bool) (before : List Cell)
-        → HasSummed ignore (before ++ slice_index_or cells.now k Empty ∷ [])
-        (slice_index_or sums.now k Empty) (slice_index_or marks.now k Empty)
-        → slice_index_or out.new
-        (number_in window.now (along_x (at_indices t band y window.now.x.from) k)) Empty
-        ≡ running_sum ignore before (slice_index_or cells.now k Empty) }
-    ensures others { (p : Position) → IsIn window.now p
-        → (p.t ≢ t) ⊎ ((p.band ≢ band) ⊎ (p.y ≢ y))
-        → slice_index_or out.new (number_in window.now p) Empty
-        ≡ slice_index_or out.old (number_in window.now p) Empty }
+    ensures written { window.now.t.from ≤ t → AreRunningSums cells.now sums.now marks.now
+        (λ k. cell_on window.now out.new (along_x (at_indices t band y window.now.x.from) k)) }
+    ensures others { KeepsWhere (λ p. (p.t ≢ t) ⊎ ((p.band ≢ band) ⊎ (p.y ≢ y)))
+        window.now out.old out.new }
 {
     if t >= window.t.from {
         put_row(cells, sums, marks, window, t, band, y, out);
@@ -172,23 +153,14 @@ fn put_row(
     y: u32,
     out: &mut [Cell],
 )
-    requires some { 0 < length cells.now }
-    requires width { length cells.now ≡ span_length window.now.x }
-    requires sums { length sums.now ≡ length cells.now }
-    requires marks { length marks.now ≡ length cells.now }
+    requires row { IsRowOf window.now cells.now sums.now marks.now }
     requires inside { (k : ℕ) → k < length cells.now
         → IsIn window.now (along_x (at_indices t band y window.now.x.from) k) }
     requires length { length out.old ≡ position_count window.now }
-    ensures written { (k : ℕ) → k < length cells.now → (ignore : Bool) (before : List Cell)
-        → HasSummed ignore (before ++ slice_index_or cells.now k Empty ∷ [])
-        (slice_index_or sums.now k Empty) (slice_index_or marks.now k Empty)
-        → slice_index_or out.new
-        (number_in window.now (along_x (at_indices t band y window.now.x.from) k)) Empty
-        ≡ running_sum ignore before (slice_index_or cells.now k Empty) }
-    ensures others { (p : Position) → IsIn window.now p
-        → (p.t ≢ t) ⊎ ((p.band ≢ band) ⊎ (p.y ≢ y))
-        → slice_index_or out.new (number_in window.now p) Empty
-        ≡ slice_index_or out.old (number_in window.now p) Empty }
+    ensures written { AreRunningSums cells.now sums.now marks.now
+        (λ k. cell_on window.now out.new (along_x (at_indices t band y window.now.x.from) k)) }
+    ensures others { KeepsWhere (λ p. (p.t ≢ t) ⊎ ((p.band ≢ band) ⊎ (p.y ≢ y)))
+        window.now out.old out.new }
 {
     let first = number_on(window, t, band, y, window.x.from);
     let part = &mut out[first..first + cells.len()];

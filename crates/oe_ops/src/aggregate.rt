@@ -1,24 +1,21 @@
 // `aggregate_temporal`: the lists of cells inside each interval by a callback.
-ghost use Rattle.std.specs.Prelude.{◌≡◌, true, ℕ, ◌+◌, ◌*◌, ◌<◌, ◌≤◌, Some, length, slice_get};
+ghost use Rattle.std.specs.Prelude.{◌≡◌, true, ◌+◌, ◌*◌, ◌<◌, ◌≤◌, Some, length, slice_get};
 ghost use Rattle.std.specs.List.{All};
 ghost use Rattle.oe_cell.specs.declared.cell.Cell.{Cell};
 ghost use Rattle.oe_cell.specs.declared.cell.Cell.TheVariants.{Empty};
 ghost use Rattle.oe_cube.specs.Kinds.{IsOfKind};
-ghost use Rattle.oe_dims.specs.Cube.{Cube, IsCube};
-ghost use Rattle.oe_dims.specs.Dimensions.{IsShape};
 ghost use Rattle.oe_dims.specs.Indices.{same_number};
 ghost use Rattle.oe_dims.specs.declared.kind.Kind.{Kind};
-ghost use Rattle.oe_expr.specs.Callback.{KeepsKind, callback_kind};
+ghost use Rattle.oe_expr.specs.Callback.{callback_kind};
 ghost use Rattle.oe_requests.specs.Labels.{are_distinct};
 ghost use Rattle.oe_meanings.specs.Meaning.{aggregated};
-ghost use Rattle.oe_requests.specs.Operations.{aggregated_shape};
 ghost use Rattle.oe_meanings.specs.ValidShapes.{labels_of};
 ghost use Rattle.oe_requests.specs.declared.extent.Interval.{Interval};
 ghost use Rattle.oe_window.specs.Cells.{cells_on};
-ghost use Rattle.oe_window.specs.Windows.{Holds, IsAlong, extent_along, position_count, whole_window};
-ghost use Rattle.oe_ops.specs.Lists.{TakesIntervals, interval_labelled, is_labelled_at};
-ghost use Rattle.oe_ops.specs.Needs.{HasLabelsBeside, HoldsNeed, part_at_time};
-ghost use Rattle.oe_ops.specs.Slices.{IsCounted, IsOn};
+ghost use Rattle.oe_window.specs.Windows.{IsAlong, extent_along};
+ghost use Rattle.oe_ops.specs.Calls.{ForEachCube, HasRoomOn, IsAggregation, IsSliceFor};
+ghost use Rattle.oe_ops.specs.Lists.{interval_labelled, is_labelled_at};
+ghost use Rattle.oe_ops.specs.Needs.{HasLabelsBeside, part_at_time};
 
 use crate::list::{ListRows, stride_along};
 use crate::needs::span_at;
@@ -101,22 +98,15 @@ fn eval_interval(
     out: &mut [Cell],
     scratch: &mut [Cell],
 )
-    requires valid { IsShape argument.now }
-    requires shape_valid { IsShape shape.now }
-    requires aggregated { shape.now ≡ aggregated_shape intervals.now argument.now }
-    requires keeps { KeepsKind expr.now }
-    requires takes { TakesIntervals expr.now intervals.now argument.now slice.cells.now }
+    requires aggregation { IsAggregation intervals.now expr.now shape.now argument.now slice }
+    requires slice { IsSliceFor (HasLabelsBeside Kind.Time shape.now argument.now)
+        window.now argument.now slice }
+    requires out { HasRoomOn shape.now window.now out.old }
     requires one { window.now.t.to ≡ window.now.t.from + 1 }
-    requires within { Holds (whole_window shape.now) window.now }
-    requires counted { IsCounted slice }
-    requires need { HoldsNeed (HasLabelsBeside Kind.Time shape.now argument.now) window.now
-        slice.window }
     requires some { 0 < length out.old }
-    requires length { length out.old ≡ position_count window.now }
     requires room { 192 + 2 * extent_along argument.now Kind.Time ≤ length scratch.old }
-    ensures value { (cube : Cube Cell) → IsCube cube → cube.shape ≡ argument.now
-        → IsOn cube slice.entry
-        → out.new ≡ cells_on Empty (aggregated intervals.now expr.now cube) window.now }
+    ensures value { ForEachCube argument.now slice.entry
+        (λ cube. out.new ≡ cells_on Empty (aggregated intervals.now expr.now cube) window.now) }
     ensures kinds { All (IsOfKind (callback_kind expr.now)) out.new }
 {
     let label = shape.label_at(Kind::Time, window.t.from);
@@ -159,20 +149,13 @@ pub fn eval_aggregate(
     out: &mut [Cell],
     scratch: &mut [Cell],
 )
-    requires valid { IsShape argument.now }
-    requires shape_valid { IsShape shape.now }
-    requires aggregated { shape.now ≡ aggregated_shape intervals.now argument.now }
-    requires keeps { KeepsKind expr.now }
-    requires takes { TakesIntervals expr.now intervals.now argument.now slice.cells.now }
-    requires within { Holds (whole_window shape.now) window.now }
-    requires counted { IsCounted slice }
-    requires need { HoldsNeed (HasLabelsBeside Kind.Time shape.now argument.now) window.now
-        slice.window }
-    requires length { length out.old ≡ position_count window.now }
+    requires aggregation { IsAggregation intervals.now expr.now shape.now argument.now slice }
+    requires slice { IsSliceFor (HasLabelsBeside Kind.Time shape.now argument.now)
+        window.now argument.now slice }
+    requires out { HasRoomOn shape.now window.now out.old }
     requires room { 192 + 2 * extent_along argument.now Kind.Time ≤ length scratch.old }
-    ensures value { (cube : Cube Cell) → IsCube cube → cube.shape ≡ argument.now
-        → IsOn cube slice.entry
-        → out.new ≡ cells_on Empty (aggregated intervals.now expr.now cube) window.now }
+    ensures value { ForEachCube argument.now slice.entry
+        (λ cube. out.new ≡ cells_on Empty (aggregated intervals.now expr.now cube) window.now) }
     ensures kinds { All (IsOfKind (callback_kind expr.now)) out.new }
 {
     if out.is_empty() {
@@ -194,21 +177,14 @@ fn eval_intervals(
     out: &mut [Cell],
     scratch: &mut [Cell],
 )
-    requires valid { IsShape argument.now }
-    requires shape_valid { IsShape shape.now }
-    requires aggregated { shape.now ≡ aggregated_shape intervals.now argument.now }
-    requires keeps { KeepsKind expr.now }
-    requires takes { TakesIntervals expr.now intervals.now argument.now slice.cells.now }
-    requires within { Holds (whole_window shape.now) window.now }
-    requires counted { IsCounted slice }
-    requires need { HoldsNeed (HasLabelsBeside Kind.Time shape.now argument.now) window.now
-        slice.window }
+    requires aggregation { IsAggregation intervals.now expr.now shape.now argument.now slice }
+    requires slice { IsSliceFor (HasLabelsBeside Kind.Time shape.now argument.now)
+        window.now argument.now slice }
+    requires out { HasRoomOn shape.now window.now out.old }
     requires some { 0 < length out.old }
-    requires length { length out.old ≡ position_count window.now }
     requires room { 192 + 2 * extent_along argument.now Kind.Time ≤ length scratch.old }
-    ensures value { (cube : Cube Cell) → IsCube cube → cube.shape ≡ argument.now
-        → IsOn cube slice.entry
-        → out.new ≡ cells_on Empty (aggregated intervals.now expr.now cube) window.now }
+    ensures value { ForEachCube argument.now slice.entry
+        (λ cube. out.new ≡ cells_on Empty (aggregated intervals.now expr.now cube) window.now) }
     ensures kinds { All (IsOfKind (callback_kind expr.now)) out.new }
 {
     let area = stride_along(window, Kind::Time);

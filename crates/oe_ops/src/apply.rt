@@ -4,14 +4,12 @@ ghost use Rattle.std.specs.List.{All};
 ghost use Rattle.oe_cell.specs.declared.cell.Cell.{Cell};
 ghost use Rattle.oe_cell.specs.declared.cell.Cell.TheVariants.{Empty};
 ghost use Rattle.oe_cube.specs.Kinds.{IsOfKind};
-ghost use Rattle.oe_dims.specs.Cube.{Cube, IsCube};
-ghost use Rattle.oe_dims.specs.Dimensions.{IsShape};
 ghost use Rattle.oe_expr.specs.Callback.{KeepsKind, callback_kind};
 ghost use Rattle.oe_meanings.specs.Meaning.{applied};
 ghost use Rattle.oe_window.specs.Cells.{cells_on};
-ghost use Rattle.oe_window.specs.Windows.{Holds, position_count, whole_window};
-ghost use Rattle.oe_ops.specs.Needs.{HasLabelsOf, HoldsNeed};
-ghost use Rattle.oe_ops.specs.Slices.{IsCounted, IsOn, TakesCells};
+ghost use Rattle.oe_ops.specs.Calls.{ForEachCube, HasRoomOn, IsSliceFor};
+ghost use Rattle.oe_ops.specs.Needs.{HasLabelsOf};
+ghost use Rattle.oe_ops.specs.Slices.{IsCounted, TakesCells};
 
 use crate::rows::{Rows, fill};
 use crate::slice::{Slice, row_of};
@@ -64,16 +62,13 @@ pub fn eval_apply(
     out: &mut [Cell],
     scratch: &mut [Cell],
 )
-    requires valid { IsShape shape.now }
     requires keeps { KeepsKind expr.now }
     requires takes { TakesCells expr.now slice.cells.now }
-    requires within { Holds (whole_window shape.now) window.now }
-    requires counted { IsCounted slice }
-    requires need { HoldsNeed (HasLabelsOf shape.now shape.now) window.now slice.window }
-    requires length { length out.old ≡ position_count window.now }
+    requires slice { IsSliceFor (HasLabelsOf shape.now shape.now) window.now shape.now slice }
+    requires out { HasRoomOn shape.now window.now out.old }
     requires room { 192 ≤ length scratch.old }
-    ensures value { (cube : Cube Cell) → IsCube cube → cube.shape ≡ shape.now
-        → IsOn cube slice.entry → out.new ≡ cells_on Empty (applied expr.now cube) window.now }
+    ensures value { ForEachCube shape.now slice.entry
+        (λ cube. out.new ≡ cells_on Empty (applied expr.now cube) window.now) }
     ensures kinds { All (IsOfKind (callback_kind expr.now)) out.new }
 {
     let _shape = shape;

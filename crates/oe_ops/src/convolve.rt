@@ -4,17 +4,16 @@ ghost use Rattle.std.specs.List.{All};
 ghost use Rattle.oe_cell.specs.declared.cell.Cell.{Cell};
 ghost use Rattle.oe_cell.specs.declared.cell.Cell.TheVariants.{Empty};
 ghost use Rattle.oe_cube.specs.Kinds.{IsOfKind};
-ghost use Rattle.oe_dims.specs.Cube.{Cube, IsCube};
-ghost use Rattle.oe_dims.specs.Dimensions.{IsShape};
 ghost use Rattle.oe_dims.specs.declared.kind.CellKind.TheVariants.{Numbers};
 ghost use Rattle.oe_dims.specs.declared.kind.Kind.TheVariants.{X, Y};
 ghost use Rattle.oe_meanings.specs.Meaning.{convolution};
 ghost use Rattle.oe_requests.specs.Operations.{convolve};
 ghost use Rattle.oe_window.specs.Cells.{cells_on};
-ghost use Rattle.oe_window.specs.Windows.{Holds, IsIn, extent_along, position_count, whole_window};
-ghost use Rattle.oe_ops.specs.Needs.{HoldsNeed, Needs, plane_window};
+ghost use Rattle.oe_window.specs.Windows.{Holds, IsIn, extent_along, whole_window};
+ghost use Rattle.oe_ops.specs.Calls.{ForEachCube, HasRoomOn, IsSliceFor};
+ghost use Rattle.oe_ops.specs.Needs.{Needs, plane_window};
 ghost use Rattle.oe_ops.specs.Planes.{IsPlaneOf};
-ghost use Rattle.oe_ops.specs.Slices.{IsCounted, IsOn, at_indices};
+ghost use Rattle.oe_ops.specs.Slices.{IsCounted, at_indices};
 
 use crate::slice::{Slice, indices, number};
 use oe_cell::{Cell, Frac};
@@ -65,19 +64,15 @@ fn convolve_plane(
     window: &Window,
     out: &mut [Cell],
 )
-    requires valid { IsShape shape.now }
-    requires within { Holds (whole_window shape.now) window.now }
-    requires one { window.now ≡ plane_window window.now window.now.t.from window.now.bands.from }
-    requires some { 0 < length out.old }
-    requires counted { IsCounted slice.now }
-    requires inside { Holds (whole_window shape.now) slice.now.window }
-    requires need { HoldsNeed
+    requires slice { IsSliceFor
         (Needs (convolve kernel.now factor border.now replace) (shape.now ∷ []) 0)
-        window.now slice.now.window }
-    requires length { length out.old ≡ position_count window.now }
-    ensures value { (cube : Cube Cell) → IsCube cube → cube.shape ≡ shape.now → IsOn cube slice.now
-        → out.new
-        ≡ cells_on Empty (convolution kernel.now factor border.now replace cube) window.now }
+        window.now shape.now slice.now }
+    requires inside { Holds (whole_window shape.now) slice.now.window }
+    requires one { window.now ≡ plane_window window.now window.now.t.from window.now.bands.from }
+    requires out { HasRoomOn shape.now window.now out.old }
+    requires some { 0 < length out.old }
+    ensures value { ForEachCube shape.now slice.now (λ cube. out.new
+        ≡ cells_on Empty (convolution kernel.now factor border.now replace cube) window.now) }
     ensures kinds { All (IsOfKind Numbers) out.new }
 {
     let _width = kernel.width();
@@ -108,16 +103,13 @@ pub fn eval_convolve(
     window: &Window,
     out: &mut [Cell],
 )
-    requires valid { IsShape shape.now }
-    requires within { Holds (whole_window shape.now) window.now }
-    requires counted { IsCounted slice }
+    requires slice { IsSliceFor
+        (Needs (convolve kernel.now factor border replace) (shape.now ∷ []) 0)
+        window.now shape.now slice }
     requires inside { Holds (whole_window shape.now) slice.window }
-    requires need { HoldsNeed (Needs (convolve kernel.now factor border replace) (shape.now ∷ []) 0)
-        window.now slice.window }
-    requires length { length out.old ≡ position_count window.now }
-    ensures value { (cube : Cube Cell) → IsCube cube → cube.shape ≡ shape.now
-        → IsOn cube slice.entry → out.new
-        ≡ cells_on Empty (convolution kernel.now factor border replace cube) window.now }
+    requires out { HasRoomOn shape.now window.now out.old }
+    ensures value { ForEachCube shape.now slice.entry (λ cube. out.new
+        ≡ cells_on Empty (convolution kernel.now factor border replace cube) window.now) }
     ensures kinds { All (IsOfKind Numbers) out.new }
 {
     let mut done = 0;

@@ -4,14 +4,13 @@ ghost use Rattle.oe_cell.specs.declared.cell.Cell.{Cell};
 ghost use Rattle.oe_cell.specs.declared.cell.Cell.TheVariants.{Empty};
 ghost use Rattle.std.specs.List.{All};
 ghost use Rattle.oe_cube.specs.Kinds.{IsOfKind};
-ghost use Rattle.oe_dims.specs.Cube.{Cube, IsCube};
 ghost use Rattle.oe_dims.specs.declared.kind.CellKind.{CellKind};
 ghost use Rattle.oe_dims.specs.Dimensions.{IsShape};
 ghost use Rattle.oe_meanings.specs.Meaning.{covered, covered_by};
 ghost use Rattle.oe_window.specs.Cells.{cells_on};
-ghost use Rattle.oe_window.specs.Windows.{Holds, position_count, whole_window};
-ghost use Rattle.oe_ops.specs.Needs.{HasLabelsOf, HoldsNeed};
-ghost use Rattle.oe_ops.specs.Slices.{IsCounted, IsOn};
+ghost use Rattle.oe_ops.specs.Calls.{ForEachTwo, HasRoomOn, IsSliceFor};
+ghost use Rattle.oe_ops.specs.Needs.{HasLabelsOf};
+ghost use Rattle.oe_ops.specs.Slices.{IsCounted};
 
 use crate::rows::{Planes, Rows, fill, fill_planes};
 use crate::slice::{Slice, row_of};
@@ -156,18 +155,12 @@ pub fn eval_cover(
     out: &mut [Cell],
     scratch: &mut [Cell],
 )
-    requires valid { IsShape shape.now }
-    requires mask_valid { IsShape mask_shape.now }
-    requires within { Holds (whole_window shape.now) window.now }
-    requires counted { IsCounted slice }
-    requires mask_counted { IsCounted mask }
-    requires need { HoldsNeed (HasLabelsOf shape.now shape.now) window.now slice.window }
-    requires mask_need { HoldsNeed (HasLabelsOf shape.now mask_shape.now) window.now mask.window }
-    requires length { length out.old ≡ position_count window.now }
-    ensures value { (cube mask_cube : Cube Cell) → IsCube cube → cube.shape ≡ shape.now
-        → IsOn cube slice.entry → IsCube mask_cube → mask_cube.shape ≡ mask_shape.now
-        → IsOn mask_cube mask.entry
-        → out.new ≡ cells_on Empty (covered replacement cube mask_cube) window.now }
+    requires slice { IsSliceFor (HasLabelsOf shape.now shape.now) window.now shape.now slice }
+    requires mask { IsSliceFor (HasLabelsOf shape.now mask_shape.now)
+        window.now mask_shape.now mask }
+    requires out { HasRoomOn shape.now window.now out.old }
+    ensures value { ForEachTwo shape.now slice.entry mask_shape.now mask.entry
+        (λ cube mask. out.new ≡ cells_on Empty (covered replacement cube mask) window.now) }
     ensures kinds { (kind : CellKind) → All (IsOfKind kind) slice.entry.cells.now
         → IsOfKind kind replacement → All (IsOfKind kind) out.new }
 {

@@ -1,16 +1,14 @@
 // `save_result`: a cube as it is.
-ghost use Rattle.std.specs.Prelude.{◌≡◌, length};
+ghost use Rattle.std.specs.Prelude.{◌≡◌};
 ghost use Rattle.std.specs.List.{All};
 ghost use Rattle.oe_cell.specs.declared.cell.Cell.{Cell};
 ghost use Rattle.oe_cell.specs.declared.cell.Cell.TheVariants.{Empty};
 ghost use Rattle.oe_cube.specs.Kinds.{IsOfKind};
-ghost use Rattle.oe_dims.specs.Cube.{Cube, IsCube};
-ghost use Rattle.oe_dims.specs.Dimensions.{IsShape};
 ghost use Rattle.oe_dims.specs.declared.kind.CellKind.{CellKind};
 ghost use Rattle.oe_window.specs.Cells.{cells_on};
-ghost use Rattle.oe_window.specs.Windows.{Holds, position_count, whole_window};
-ghost use Rattle.oe_ops.specs.Needs.{HasLabelsOf, HoldsNeed};
-ghost use Rattle.oe_ops.specs.Slices.{IsCounted, IsOn};
+ghost use Rattle.oe_ops.specs.Calls.{ForEachCube, HasRoomOn, IsSliceFor};
+ghost use Rattle.oe_ops.specs.Needs.{HasLabelsOf};
+ghost use Rattle.oe_ops.specs.Slices.{IsCounted};
 
 use crate::rows::{Rows, fill};
 use crate::slice::{Slice, row_of};
@@ -48,13 +46,10 @@ pub fn eval_give_back(
     out: &mut [Cell],
     scratch: &mut [Cell],
 )
-    requires valid { IsShape shape.now }
-    requires within { Holds (whole_window shape.now) window.now }
-    requires counted { IsCounted slice }
-    requires need { HoldsNeed (HasLabelsOf shape.now shape.now) window.now slice.window }
-    requires length { length out.old ≡ position_count window.now }
-    ensures value { (cube : Cube Cell) → IsCube cube → cube.shape ≡ shape.now
-        → IsOn cube slice.entry → out.new ≡ cells_on Empty cube window.now }
+    requires slice { IsSliceFor (HasLabelsOf shape.now shape.now) window.now shape.now slice }
+    requires out { HasRoomOn shape.now window.now out.old }
+    ensures value { ForEachCube shape.now slice.entry
+        (λ cube. out.new ≡ cells_on Empty cube window.now) }
     ensures kinds { (kind : CellKind) → All (IsOfKind kind) slice.entry.cells.now
         → All (IsOfKind kind) out.new }
 {

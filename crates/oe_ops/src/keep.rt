@@ -1,5 +1,5 @@
 // Filters, loads and results that are saved: cells by their labels.
-ghost use Rattle.std.specs.Prelude.{◌≡◌, length};
+ghost use Rattle.std.specs.Prelude.{◌≡◌};
 ghost use Rattle.oe_cell.specs.declared.cell.Cell.{Cell};
 ghost use Rattle.oe_cell.specs.declared.cell.Cell.TheVariants.{Empty};
 ghost use Rattle.std.specs.List.{All};
@@ -10,8 +10,8 @@ ghost use Rattle.oe_dims.specs.Dimensions.{IsShape};
 ghost use Rattle.oe_requests.specs.Extents.{Restriction, kept_shape};
 ghost use Rattle.oe_meanings.specs.Meaning.{restricted_cube};
 ghost use Rattle.oe_window.specs.Cells.{cells_on};
-ghost use Rattle.oe_window.specs.Windows.{Holds, position_count, whole_window};
-ghost use Rattle.oe_ops.specs.Needs.{HasLabelsOf, HoldsNeed};
+ghost use Rattle.oe_ops.specs.Calls.{HasRoomOn, IsSliceFor};
+ghost use Rattle.oe_ops.specs.Needs.{HasLabelsOf};
 ghost use Rattle.oe_ops.specs.Slices.{IsCounted, IsOn};
 
 use crate::rows::{Planes, Rows, fill, fill_planes};
@@ -88,11 +88,8 @@ pub fn eval_keep(
     out: &mut [Cell],
     scratch: &mut [Cell],
 )
-    requires valid { IsShape argument.now }
-    requires within { Holds (whole_window shape.now) window.now }
-    requires counted { IsCounted slice }
-    requires need { HoldsNeed (HasLabelsOf shape.now argument.now) window.now slice.window }
-    requires length { length out.old ≡ position_count window.now }
+    requires slice { IsSliceFor (HasLabelsOf shape.now argument.now) window.now argument.now slice }
+    requires out { HasRoomOn shape.now window.now out.old }
     ensures value { (cube : Cube Cell) (r : Restriction) → IsCube cube → cube.shape ≡ argument.now
         → kept_shape r argument.now ≡ shape.now → IsOn cube slice.entry
         → out.new ≡ cells_on Empty (restricted_cube r cube) window.now }

@@ -1,23 +1,22 @@
 // `merge_cubes`: the cells of two cubes.
 ghost use Rattle.std.specs.Prelude.{◌≡◌, ℕ, ◌+◌, ◌*◌, ◌<◌, ◌≤◌, IfSome, IsTrue, Some, length, slice_index_or};
 ghost use Rattle.std.specs.List.{All};
-ghost use Rattle.std.specs.Option.{option_map};
 ghost use Rattle.oe_cell.specs.declared.cell.Cell.{Cell};
 ghost use Rattle.oe_cell.specs.declared.cell.Cell.TheVariants.{Empty};
 ghost use Rattle.oe_cube.specs.Kinds.{IsOfKind};
-ghost use Rattle.oe_dims.specs.Cube.{Cube, IsCube};
 ghost use Rattle.oe_dims.specs.declared.kind.CellKind.{CellKind};
 ghost use Rattle.oe_dims.specs.declared.kind.Kind.{Kind};
 ghost use Rattle.oe_dims.specs.Dimensions.{IsShape};
-ghost use Rattle.oe_expr.specs.Callback.{KeepsKind, callback_kind};
+ghost use Rattle.oe_expr.specs.Callback.{callback_kind};
 ghost use Rattle.oe_requests.specs.Labels.{merged_shape};
 ghost use Rattle.oe_meanings.specs.Meaning.{joined, merged};
 ghost use Rattle.oe_window.specs.Cells.{cells_on};
-ghost use Rattle.oe_window.specs.Windows.{Holds, IsIn, extent_along, position_count, span_length, whole_window};
-ghost use Rattle.oe_ops.specs.Indices.{IsOnRun, index_in_argument, position_on};
-ghost use Rattle.oe_ops.specs.Joins.{AreBothFound, where_found};
-ghost use Rattle.oe_ops.specs.Needs.{HasLabelsOf, HoldsNeed};
-ghost use Rattle.oe_ops.specs.Slices.{IsCounted, IsOn, TakesPairs, cell_of};
+ghost use Rattle.oe_window.specs.Windows.{extent_along, span_length};
+ghost use Rattle.oe_ops.specs.Calls.{ForEachTwoInputs, HasRoomOn, IsInputFor, IsResolverOf};
+ghost use Rattle.oe_ops.specs.Indices.{HasRowOnRun, cell_on_row, index_in_argument};
+ghost use Rattle.oe_ops.specs.Joins.{AreBothFound, where_found_at};
+ghost use Rattle.oe_ops.specs.Needs.{HasLabelsOf};
+ghost use Rattle.oe_ops.specs.Slices.{TakesPairs};
 
 use crate::rows::{Planes, Rows, fill, fill_planes};
 use crate::run::Run;
@@ -94,9 +93,8 @@ fn resolve_row(
 /// has it.
 fn cell_where(one: &Source, two: &Source, x: u32, a: Cell, b: Cell, both: Cell) -> Cell
     requires { x < extent_along one.now.shape.now Kind.X }
-    ensures { result ≡ where_found
-        (index_in_argument Kind.X one.now.shape.now one.now.argument.now x)
-        (index_in_argument Kind.X one.now.shape.now two.now.argument.now x) a b both }
+    ensures { result ≡ where_found_at one.now.shape.now one.now.argument.now two.now.argument.now
+        x a b both }
 {
     let first = index_in(one.shape, one.argument, Kind::X, x);
     let second = index_in(one.shape, two.argument, Kind::X, x);
@@ -121,12 +119,11 @@ fn mend_row(
     requires inside { x + length out.old ≤ extent_along one.now.shape.now Kind.X }
     requires ones_as_many { length ones.now ≡ length out.old }
     requires twos_as_many { length twos.now ≡ length out.old }
-    requires all { IsTrue all → (k : ℕ) → k < length out.old
-        → AreBothFound (index_in_argument Kind.X one.now.shape.now one.now.argument.now (x + k))
+    requires all { IsTrue all → (k : ℕ) → k < length out.old → AreBothFound
+        (index_in_argument Kind.X one.now.shape.now one.now.argument.now (x + k))
         (index_in_argument Kind.X one.now.shape.now two.now.argument.now (x + k)) }
     ensures { (k : ℕ) → k < length out.old → slice_index_or out.new k Empty
-        ≡ where_found (index_in_argument Kind.X one.now.shape.now one.now.argument.now (x + k))
-        (index_in_argument Kind.X one.now.shape.now two.now.argument.now (x + k))
+        ≡ where_found_at one.now.shape.now one.now.argument.now two.now.argument.now (x + k)
         (slice_index_or ones.now k Empty) (slice_index_or twos.now k Empty)
         (slice_index_or out.old k Empty) }
 {
@@ -149,30 +146,16 @@ fn join_row(
     out: &mut [Cell],
     scratch: &mut [Cell],
 )
-    requires some { 0 < length out.old }
-    requires valid { IsShape one.now.shape.now }
     requires takes { IfSome resolver.now
         (λ c. TakesPairs c one.now.slice.cells.now two.now.slice.cells.now) }
-    requires counted { IsCounted one.now.slice }
-    requires two_counted { IsCounted two.now.slice }
-    requires inside { x + length out.old ≤ extent_along one.now.shape.now Kind.X }
-    requires on_run { (k : ℕ) → k < length out.old
-        → IsOnRun Kind.X one.now.shape.now one.now.argument.now runs.0 (x + k) }
-    requires two_on_run { (k : ℕ) → k < length out.old
-        → IsOnRun Kind.X one.now.shape.now two.now.argument.now runs.1 (x + k) }
-    requires held { (k i : ℕ) → k < length out.old
-        → index_in_argument Kind.X one.now.shape.now one.now.argument.now (x + k) ≡ Some i
-        → IsIn one.now.slice.window (position_on rows.0 i) }
-    requires two_held { (k i : ℕ) → k < length out.old
-        → index_in_argument Kind.X one.now.shape.now two.now.argument.now (x + k) ≡ Some i
-        → IsIn two.now.slice.window (position_on rows.1 i) }
+    requires one { HasRowOnRun one.now.shape.now one.now.argument.now one.now.slice
+        runs.0 rows.0 x (length out.old) }
+    requires two { HasRowOnRun one.now.shape.now two.now.argument.now two.now.slice
+        runs.1 rows.1 x (length out.old) }
     requires room { 2 * length out.old + 192 ≤ length scratch.old }
-    ensures { (k : ℕ) → k < length out.old → slice_index_or out.new k Empty
-        ≡ joined resolver.now
-        (option_map (λ i. cell_of one.now.slice (position_on rows.0 i))
-        (index_in_argument Kind.X one.now.shape.now one.now.argument.now (x + k)))
-        (option_map (λ i. cell_of two.now.slice (position_on rows.1 i))
-        (index_in_argument Kind.X one.now.shape.now two.now.argument.now (x + k))) }
+    ensures { (k : ℕ) → k < length out.old → slice_index_or out.new k Empty ≡ joined resolver.now
+        (cell_on_row one.now.shape.now one.now.argument.now one.now.slice rows.0 (x + k))
+        (cell_on_row one.now.shape.now two.now.argument.now two.now.slice rows.1 (x + k)) }
 {
     let two = Source {
         shape: one.shape,
@@ -285,24 +268,14 @@ pub fn eval_merge(
     out: &mut [Cell],
     scratch: &mut [Cell],
 )
-    requires valid { IsShape one.shape.now }
-    requires two_valid { IsShape two.shape.now }
     requires merged { shape.now ≡ merged_shape one.shape.now two.shape.now }
-    requires keeps { IfSome resolver.now KeepsKind }
-    requires takes { IfSome resolver.now (λ c. TakesPairs c one.slice.cells.now
-        two.slice.cells.now) }
-    requires within { Holds (whole_window shape.now) window.now }
-    requires counted { IsCounted one.slice }
-    requires two_counted { IsCounted two.slice }
-    requires need { HoldsNeed (HasLabelsOf shape.now one.shape.now) window.now one.slice.window }
-    requires two_need { HoldsNeed (HasLabelsOf shape.now two.shape.now) window.now
-        two.slice.window }
-    requires length { length out.old ≡ position_count window.now }
+    requires resolver { IfSome resolver.now (IsResolverOf one.slice two.slice) }
+    requires one { IsInputFor (HasLabelsOf shape.now one.shape.now) window.now one }
+    requires two { IsInputFor (HasLabelsOf shape.now two.shape.now) window.now two }
+    requires out { HasRoomOn shape.now window.now out.old }
     requires room { 2 * span_length window.now.x + 192 ≤ length scratch.old }
-    ensures value { (first second : Cube Cell) → IsCube first → first.shape ≡ one.entry.shape.now
-        → IsOn first one.entry.slice → IsCube second → second.shape ≡ two.entry.shape.now
-        → IsOn second two.entry.slice
-        → out.new ≡ cells_on Empty (merged resolver.now first second) window.now }
+    ensures value { ForEachTwoInputs one.entry two.entry
+        (λ first second. out.new ≡ cells_on Empty (merged resolver.now first second) window.now) }
     ensures kinds { (kind : CellKind) → All (IsOfKind kind) one.entry.slice.cells.now
         → All (IsOfKind kind) two.entry.slice.cells.now
         → IfSome resolver.now (λ c. callback_kind c ≡ kind) → All (IsOfKind kind) out.new }

@@ -4,17 +4,16 @@ ghost use Rattle.std.specs.List.{All};
 ghost use Rattle.oe_cell.specs.declared.cell.Cell.{Cell};
 ghost use Rattle.oe_cell.specs.declared.cell.Cell.TheVariants.{Empty};
 ghost use Rattle.oe_cube.specs.Kinds.{IsOfKind};
-ghost use Rattle.oe_dims.specs.Cube.{Cube, IsCube};
 ghost use Rattle.oe_dims.specs.Dimensions.{Dimensions, IsShape};
 ghost use Rattle.oe_dims.specs.declared.kind.CellKind.{CellKind};
 ghost use Rattle.oe_meanings.specs.Meaning.{cube_of};
 ghost use Rattle.oe_requests.specs.Operations.{operation_kind, shape_of};
 ghost use Rattle.oe_requests.specs.PlainRequests.{plain_operation};
 ghost use Rattle.oe_window.specs.Cells.{cells_on};
-ghost use Rattle.oe_window.specs.Windows.{Holds, position_count, whole_window};
-ghost use Rattle.oe_ops.specs.Needs.{HoldsNeed, IsNeed, Needs, argument_shape};
-ghost use Rattle.oe_ops.specs.Nodes.{FitsFirstKind, HasScratch, IsConvolution, TakesInputs};
-ghost use Rattle.oe_ops.specs.Slices.{IsCounted, IsOn};
+ghost use Rattle.oe_window.specs.Windows.{Holds, whole_window};
+ghost use Rattle.oe_ops.specs.Calls.{AreInputsFor, ForEachTwoInputs, HasRoomOn, WorksOn};
+ghost use Rattle.oe_ops.specs.Needs.{IsNeed, Needs, argument_shape};
+ghost use Rattle.oe_ops.specs.Nodes.{FitsFirstKind, HasScratch, IsConvolution};
 
 use crate::accumulate::eval_accumulate;
 use crate::aggregate::eval_aggregate;
@@ -66,29 +65,14 @@ pub fn eval_node(
     out: &mut [Cell],
     scratch: &mut [Cell],
 )
-    requires valid { IsShape one.shape.now }
-    requires two_valid { IsShape two.shape.now }
-    requires shape_valid { IsShape shape.now }
-    requires shape_is { shape.now
-        ≡ shape_of (plain_operation operation.now) (one.shape.now ∷ two.shape.now ∷ []) }
-    requires takes { TakesInputs (plain_operation operation.now) one.shape.now one.slice.cells.now
-        two.slice.cells.now }
-    requires within { Holds (whole_window shape.now) window.now }
+    requires works { WorksOn (plain_operation operation.now) shape.now one two }
+    requires inputs { AreInputsFor (plain_operation operation.now) window.now one two }
     requires inside { Holds (whole_window one.shape.now) one.slice.window }
-    requires counted { IsCounted one.slice }
-    requires two_counted { IsCounted two.slice }
-    requires need { HoldsNeed (Needs (plain_operation operation.now)
-        (one.shape.now ∷ two.shape.now ∷ []) 0) window.now one.slice.window }
-    requires two_need { HoldsNeed (Needs (plain_operation operation.now)
-        (one.shape.now ∷ two.shape.now ∷ []) 1) window.now two.slice.window }
-    requires length { length out.old ≡ position_count window.now }
+    requires out { HasRoomOn shape.now window.now out.old }
     requires room { HasScratch one.shape.now (length scratch.old) }
     requires shape_room { HasScratch shape.now (length scratch.old) }
-    ensures value { (first second : Cube Cell) → IsCube first → first.shape ≡ one.entry.shape.now
-        → IsOn first one.entry.slice → IsCube second → second.shape ≡ two.entry.shape.now
-        → IsOn second two.entry.slice
-        → out.new ≡ cells_on Empty
-        (cube_of (plain_operation operation.now) (first ∷ second ∷ [])) window.now }
+    ensures value { ForEachTwoInputs one.entry two.entry (λ first second. out.new ≡ cells_on Empty
+        (cube_of (plain_operation operation.now) (first ∷ second ∷ [])) window.now) }
     ensures kinds { (kind : CellKind) → All (IsOfKind kind) one.entry.slice.cells.now
         → FitsFirstKind (plain_operation operation.now) kind two.entry.slice.cells.now
         → All (IsOfKind (operation_kind (plain_operation operation.now) (kind ∷ []))) out.new }

@@ -4,17 +4,14 @@ ghost use Rattle.std.specs.List.{All};
 ghost use Rattle.oe_cell.specs.declared.cell.Cell.{Cell};
 ghost use Rattle.oe_cell.specs.declared.cell.Cell.TheVariants.{Empty};
 ghost use Rattle.oe_cube.specs.Kinds.{IsOfKind};
-ghost use Rattle.oe_dims.specs.Cube.{Cube, IsCube};
-ghost use Rattle.oe_dims.specs.Dimensions.{IsShape};
 ghost use Rattle.oe_expr.specs.Callback.{KeepsKind, callback_kind};
 ghost use Rattle.oe_expr.specs.Scope.{count_labels};
 ghost use Rattle.oe_meanings.specs.Meaning.{reduced};
 ghost use Rattle.oe_requests.specs.Operations.{labels_along, without_dimension};
 ghost use Rattle.oe_window.specs.Cells.{cells_on};
-ghost use Rattle.oe_window.specs.Windows.{Holds, extent_along, position_count, whole_window};
+ghost use Rattle.oe_ops.specs.Calls.{ForEachCube, HasRoomOn, IsSliceFor};
 ghost use Rattle.oe_ops.specs.Lists.{TakesLists};
-ghost use Rattle.oe_ops.specs.Needs.{HasLabelsBeside, HoldsNeed};
-ghost use Rattle.oe_ops.specs.Slices.{IsCounted, IsOn};
+ghost use Rattle.oe_ops.specs.Needs.{HasLabelsBeside};
 
 use crate::list::ListRows;
 use crate::rows::fill;
@@ -47,19 +44,15 @@ pub fn eval_reduce(
     out: &mut [Cell],
     scratch: &mut [Cell],
 )
-    requires valid { IsShape argument.now }
     requires without { shape.now ≡ without_dimension along argument.now }
     requires keeps { KeepsKind expr.now }
     requires takes { TakesLists expr.now along argument.now slice.cells.now }
-    requires within { Holds (whole_window shape.now) window.now }
-    requires counted { IsCounted slice }
-    requires need { HoldsNeed (HasLabelsBeside along shape.now argument.now) window.now
-        slice.window }
-    requires length { length out.old ≡ position_count window.now }
+    requires slice { IsSliceFor (HasLabelsBeside along shape.now argument.now)
+        window.now argument.now slice }
+    requires out { HasRoomOn shape.now window.now out.old }
     requires room { 192 + 2 * count_labels (labels_along along argument.now) ≤ length scratch.old }
-    ensures value { (cube : Cube Cell) → IsCube cube → cube.shape ≡ argument.now
-        → IsOn cube slice.entry
-        → out.new ≡ cells_on Empty (reduced along expr.now cube) window.now }
+    ensures value { ForEachCube argument.now slice.entry
+        (λ cube. out.new ≡ cells_on Empty (reduced along expr.now cube) window.now) }
     ensures kinds { All (IsOfKind (callback_kind expr.now)) out.new }
 {
     let _shape = shape;

@@ -1,16 +1,15 @@
 // The cells of an argument at the labels of a result.
-ghost use Rattle.std.specs.Prelude.{◌≡◌, ℕ, ◌+◌, ◌<◌, ◌≤◌, IsTrue, true, is_some, Some};
+ghost use Rattle.std.specs.Prelude.{◌≡◌, ℕ, ◌+◌, ◌<◌, IsTrue, true, is_some, Some};
 ghost use Rattle.std.specs.Prelude.{length, slice_index_or, unwrap_or};
-ghost use Rattle.std.specs.Option.{option_map};
 ghost use Rattle.oe_cell.specs.declared.cell.Cell.TheVariants.{Empty};
 ghost use Rattle.oe_dims.specs.declared.kind.Kind.{Kind};
 ghost use Rattle.oe_dims.specs.Dimensions.{IsShape};
 ghost use Rattle.oe_dims.specs.Positions.{IsPosition, Position};
 ghost use Rattle.oe_window.specs.Windows.{IsIn, extent_along, position_count};
-ghost use Rattle.oe_ops.specs.Indices.{AreIndicesAt, IsHeld, IsOnRun};
-ghost use Rattle.oe_ops.specs.Indices.{found_in, index_in_argument, position_on, row_in};
+ghost use Rattle.oe_ops.specs.Indices.{AreIndicesAt, HasRow, HasRowOnRun, IsFindable, IsOnRun};
+ghost use Rattle.oe_ops.specs.Indices.{cell_on_row, found_in, index_in_argument, position_on, row_in};
 ghost use Rattle.oe_ops.specs.Needs.{plane_window};
-ghost use Rattle.oe_ops.specs.Slices.{IsCounted, along_x, at_indices, cell_of};
+ghost use Rattle.oe_ops.specs.Slices.{IsCounted, along_x, at_indices};
 
 use crate::run::{Run, index_by, run_of};
 use crate::slice::{Slice, cell_of, row_of};
@@ -105,8 +104,8 @@ fn found_at(source: &Source, row: RowIndices, x: u32) -> Cell
     requires held { (i : ℕ)
         → index_in_argument Kind.X source.now.shape.now source.now.argument.now x ≡ Some i
         → IsIn source.now.slice.window (position_on row i) }
-    ensures { result ≡ unwrap_or (option_map (λ i. cell_of source.now.slice (position_on row i))
-        (index_in_argument Kind.X source.now.shape.now source.now.argument.now x)) Empty }
+    ensures { result ≡ unwrap_or (cell_on_row source.now.shape.now source.now.argument.now
+        source.now.slice row x) Empty }
 {
     match index_in(source.shape, source.argument, Kind::X, x) {
         None => Cell::Empty,
@@ -116,15 +115,11 @@ fn found_at(source: &Source, row: RowIndices, x: u32) -> Cell
 
 /// The cells of a row, one label after the other.
 fn found_each(source: &Source, row: RowIndices, x: u32, out: &mut [Cell])
-    requires valid { IsShape source.now.shape.now }
-    requires counted { IsCounted source.now.slice }
-    requires inside { x + length out.old ≤ extent_along source.now.shape.now Kind.X }
-    requires held { (k i : ℕ) → k < length out.old
-        → index_in_argument Kind.X source.now.shape.now source.now.argument.now (x + k) ≡ Some i
-        → IsIn source.now.slice.window (position_on row i) }
+    requires labels { HasRow source.now.shape.now source.now.argument.now source.now.slice
+        row x (length out.old) }
     ensures { (k : ℕ) → k < length out.old → slice_index_or out.new k Empty
-        ≡ unwrap_or (option_map (λ i. cell_of source.now.slice (position_on row i))
-        (index_in_argument Kind.X source.now.shape.now source.now.argument.now (x + k))) Empty }
+        ≡ unwrap_or (cell_on_row source.now.shape.now source.now.argument.now source.now.slice
+        row (x + k)) Empty }
 {
     for k in 0..out.len() {
         out[k] = found_at(source, row, x + k as u32);
@@ -134,18 +129,11 @@ fn found_each(source: &Source, row: RowIndices, x: u32, out: &mut [Cell])
 /// The cells of a row, and whether each label along `x` is sure to be found: one cell where the argument has no
 /// dimension `x`, one piece of the slice where the labels are a run of the argument's, and else each by itself.
 pub(crate) fn found_on(source: &Source, run: Run, row: RowIndices, x: u32, out: &mut [Cell]) -> bool
-    requires valid { IsShape source.now.shape.now }
-    requires some { 0 < length out.old }
-    requires counted { IsCounted source.now.slice }
-    requires inside { x + length out.old ≤ extent_along source.now.shape.now Kind.X }
-    requires on_run { (k : ℕ) → k < length out.old
-        → IsOnRun Kind.X source.now.shape.now source.now.argument.now run (x + k) }
-    requires held { (k i : ℕ) → k < length out.old
-        → index_in_argument Kind.X source.now.shape.now source.now.argument.now (x + k) ≡ Some i
-        → IsIn source.now.slice.window (position_on row i) }
+    requires labels { HasRowOnRun source.now.shape.now source.now.argument.now source.now.slice
+        run row x (length out.old) }
     ensures value { (k : ℕ) → k < length out.old → slice_index_or out.new k Empty
-        ≡ unwrap_or (option_map (λ i. cell_of source.now.slice (position_on row i))
-        (index_in_argument Kind.X source.now.shape.now source.now.argument.now (x + k))) Empty }
+        ≡ unwrap_or (cell_on_row source.now.shape.now source.now.argument.now source.now.slice
+        row (x + k)) Empty }
     ensures all { IsTrue result → (k : ℕ) → k < length out.old
         → is_some (index_in_argument Kind.X source.now.shape.now source.now.argument.now (x + k))
         ≡ true }
@@ -189,14 +177,8 @@ pub(crate) fn found_row(
     requires valid { IsShape source.now.shape.now }
     requires argument_valid { IsShape source.now.argument.now }
     requires counted { IsCounted source.now.slice }
-    requires inside { (k : ℕ) → k < length out.old
-        → IsPosition source.now.shape.now (along_x (at_indices t band y x) k) }
-    requires indices { (k : ℕ) → k < length out.old
-        → AreIndicesAt source.now.shape.now source.now.argument.now plane.now
-        (along_x (at_indices t band y x) k) }
-    requires held { (k : ℕ) → k < length out.old
-        → IsHeld source.now.shape.now source.now.argument.now source.now.slice
-        (along_x (at_indices t band y x) k) }
+    requires each { (k : ℕ) → k < length out.old → IsFindable source.now.shape.now
+        source.now.argument.now source.now.slice plane.now (along_x (at_indices t band y x) k) }
     ensures { (k : ℕ) → k < length out.old → slice_index_or out.new k Empty
         ≡ unwrap_or (found_in source.now.shape.now source.now.argument.now source.now.slice
         (along_x (at_indices t band y x) k)) Empty }

@@ -25,7 +25,7 @@ overflow_add-first c =
     let n = c.loop-number.number in
     let area = c.stride_along-area.result in
     let date = is_date w c.window_at-part.result n c.index_after.result area (omega (arith, c.loop-number-test.true, c.indices-number-end.ensures)) c.stride_along-area.ensures c.index_after.ensures c.window_at-part.ensures in
-    omega (arith, date.ends, c.requires.length, c.loop-number.auto.out)
+    omega (arith, date.ends, c.requires.out.counted, c.loop-number.auto.out)
 
 pub slice_bounds-eval_interval-end : goal.slice_bounds-eval_interval-end
 slice_bounds-eval_interval-end c =
@@ -33,7 +33,7 @@ slice_bounds-eval_interval-end c =
     let n = c.loop-number.number in
     let area = c.stride_along-area.result in
     let date = is_date w c.window_at-part.result n c.index_after.result area (omega (arith, c.loop-number-test.true, c.indices-number-end.ensures)) c.stride_along-area.ensures c.index_after.ensures c.window_at-part.ensures in
-    omega (arith, date.ends, c.requires.length, c.loop-number.auto.out)
+    omega (arith, date.ends, c.requires.out.counted, c.loop-number.auto.out)
 
 pub eval_interval-requires-clause-one : goal.eval_interval-requires-clause-one
 eval_interval-requires-clause-one c =
@@ -43,21 +43,29 @@ eval_interval-requires-clause-one c =
     let date = is_date w c.window_at-part.result n c.index_after.result area (omega (arith, c.loop-number-test.true, c.indices-number-end.ensures)) c.stride_along-area.ensures c.index_after.ensures c.window_at-part.ensures in
     date.one
 
-pub eval_interval-requires-clause-within : goal.eval_interval-requires-clause-within
-eval_interval-requires-clause-within c =
+pub eval_interval-requires-clause-slice : goal.eval_interval-requires-clause-slice
+eval_interval-requires-clause-slice c =
     let w = c.args.window.now in
     let n = c.loop-number.number in
     let area = c.stride_along-area.result in
     let date = is_date w c.window_at-part.result n c.index_after.result area (omega (arith, c.loop-number-test.true, c.indices-number-end.ensures)) c.stride_along-area.ensures c.index_after.ensures c.window_at-part.ensures in
-    date_within (whole_window c.args.shape.now) w c.window_at-part.result n area date c.requires.within
+    record {
+      valid = c.requires.slice.valid;
+      counted = c.requires.slice.counted;
+      need = date_need (HasLabelsBeside Time c.args.shape.now c.args.argument.now) w c.window_at-part.result c.args.slice.window n area date c.requires.slice.need;
+    }
 
-pub eval_interval-requires-clause-need : goal.eval_interval-requires-clause-need
-eval_interval-requires-clause-need c =
+pub eval_interval-requires-clause-out : goal.eval_interval-requires-clause-out
+eval_interval-requires-clause-out c =
     let w = c.args.window.now in
     let n = c.loop-number.number in
     let area = c.stride_along-area.result in
     let date = is_date w c.window_at-part.result n c.index_after.result area (omega (arith, c.loop-number-test.true, c.indices-number-end.ensures)) c.stride_along-area.ensures c.index_after.ensures c.window_at-part.ensures in
-    date_need (HasLabelsBeside Time c.args.shape.now c.args.argument.now) w c.window_at-part.result c.args.slice.window n area date c.requires.need
+    let fits : n * area + area ≤ length c.loop-number.out = omega (arith, date.ends, c.requires.out.counted, c.loop-number.auto.out) in
+    record {
+      within = date_within (whole_window c.args.shape.now) w c.window_at-part.result n area date c.requires.out.within;
+      counted = length-part c.loop-number.out (n * area) area fits ∙ sym date.size;
+    }
 
 pub eval_interval-requires-clause-some : goal.eval_interval-requires-clause-some
 eval_interval-requires-clause-some c =
@@ -65,20 +73,11 @@ eval_interval-requires-clause-some c =
     let n = c.loop-number.number in
     let area = c.stride_along-area.result in
     let date = is_date w c.window_at-part.result n c.index_after.result area (omega (arith, c.loop-number-test.true, c.indices-number-end.ensures)) c.stride_along-area.ensures c.index_after.ensures c.window_at-part.ensures in
-    let fits : n * area + area ≤ length c.loop-number.out = omega (arith, date.ends, c.requires.length, c.loop-number.auto.out) in
-    let more : 0 < position_count w = omega (arith, c.requires.some, c.requires.length) in
+    let fits : n * area + area ≤ length c.loop-number.out = omega (arith, date.ends, c.requires.out.counted, c.loop-number.auto.out) in
+    let more : 0 < position_count w = omega (arith, c.requires.some, c.requires.out.counted) in
     let some = area_some w area more c.stride_along-area.ensures in
     let long = length-part c.loop-number.out (n * area) area fits in
     omega (arith, some, long)
-
-pub eval_interval-requires-clause-length : goal.eval_interval-requires-clause-length
-eval_interval-requires-clause-length c =
-    let w = c.args.window.now in
-    let n = c.loop-number.number in
-    let area = c.stride_along-area.result in
-    let date = is_date w c.window_at-part.result n c.index_after.result area (omega (arith, c.loop-number-test.true, c.indices-number-end.ensures)) c.stride_along-area.ensures c.index_after.ensures c.window_at-part.ensures in
-    let fits : n * area + area ≤ length c.loop-number.out = omega (arith, date.ends, c.requires.length, c.loop-number.auto.out) in
-    length-part c.loop-number.out (n * area) area fits ∙ sym date.size
 
 pub loop-number-preserved : goal.loop-number-preserved
 loop-number-preserved c =
@@ -86,7 +85,7 @@ loop-number-preserved c =
     let n = c.loop-number.number in
     let area = c.stride_along-area.result in
     let date = is_date w c.window_at-part.result n c.index_after.result area (omega (arith, c.loop-number-test.true, c.indices-number-end.ensures)) c.stride_along-area.ensures c.index_after.ensures c.window_at-part.ensures in
-    let fits : n * area + area ≤ length c.loop-number.out = omega (arith, date.ends, c.requires.length, c.loop-number.auto.out) in
+    let fits : n * area + area ≤ length c.loop-number.out = omega (arith, date.ends, c.requires.out.counted, c.loop-number.auto.out) in
     let size = length-part c.loop-number.out (n * area) area fits in
     let long : length c.eval_interval.new.out ≡ area = omega (arith, size, c.eval_interval.auto.out) in
     record {
@@ -105,7 +104,7 @@ returns-clause-value c = λ cube whole same on.
     let all = cells_on Empty (aggregated c.args.intervals.now c.args.expr.now cube) w in
     let ended : c.loop-number.number ≡ span_length w.t = omega (arith, c.loop-number-test.false, c.indices-number-end.ensures, c.loop-number.auto.number-end) in
     let done = all_done w c.loop-number.number c.stride_along-area.result ended c.stride_along-area.ensures in
-    sym (front_all c.loop-number.out (c.loop-number.number * c.stride_along-area.result) (omega (arith, done, c.requires.length, c.loop-number.auto.out)))
+    sym (front_all c.loop-number.out (c.loop-number.number * c.stride_along-area.result) (omega (arith, done, c.requires.out.counted, c.loop-number.auto.out)))
     ∙ c.loop-number.invariant.value cube whole same on
     ∙ front_all all (c.loop-number.number * c.stride_along-area.result) (omega (arith, done, length-cells_on Empty (aggregated c.args.intervals.now c.args.expr.now cube) w))
 
@@ -114,4 +113,4 @@ returns-clause-kinds c =
     let w = c.args.window.now in
     let ended : c.loop-number.number ≡ span_length w.t = omega (arith, c.loop-number-test.false, c.indices-number-end.ensures, c.loop-number.auto.number-end) in
     let done = all_done w c.loop-number.number c.stride_along-area.result ended c.stride_along-area.ensures in
-    subst (All (IsOfKind (callback_kind c.args.expr.now))) (front_all c.loop-number.out (c.loop-number.number * c.stride_along-area.result) (omega (arith, done, c.requires.length, c.loop-number.auto.out))) c.loop-number.invariant.kinds
+    subst (All (IsOfKind (callback_kind c.args.expr.now))) (front_all c.loop-number.out (c.loop-number.number * c.stride_along-area.result) (omega (arith, done, c.requires.out.counted, c.loop-number.auto.out))) c.loop-number.invariant.kinds

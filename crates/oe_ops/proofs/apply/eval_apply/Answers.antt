@@ -11,15 +11,15 @@ use Rattle.oe_ops.proofs.apply.eval_apply.Goals as goal
 
 pub fill-requires-clause-serves : goal.fill-requires-clause-serves
 fill-requires-clause-serves c = λ p h. (
-  c.requires.counted,
-  own_inside c.args.shape.now c.args.slice c.args.window.now c.requires.within c.requires.need p h,
+  c.requires.slice.counted,
+  own_inside c.args.shape.now c.args.slice c.args.window.now c.requires.out.within c.requires.slice.need p h,
   taken_at c.args.expr.now c.args.slice p c.requires.takes,
 )
 
 pub returns-clause-value : goal.returns-clause-value
 returns-clause-value c = λ cube whole same on.
     c.fill.ensures
-    ∙ applied_is c.args.expr.now cube c.args.slice c.args.window.now c.args.shape.now same c.requires.valid whole on c.requires.within c.requires.need
+    ∙ applied_is c.args.expr.now cube c.args.slice c.args.window.now c.args.shape.now same c.requires.slice.valid whole on c.requires.out.within c.requires.slice.need
 
 pub returns-clause-kinds : goal.returns-clause-kinds
 returns-clause-kinds c =

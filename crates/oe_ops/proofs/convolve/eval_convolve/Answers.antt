@@ -18,7 +18,7 @@ size-count-requires c =
     let w = c.args.window.now in
     let n = c.loop-number.number in
     let piece = piece_of w c.plane-plane.result n c.planes-number-end.result c.plane-plane.ensures.value c.planes-number-end.ensures.value c.planes-number-end.ensures.all c.loop-number-test.true in
-    omega (arith, piece.counted, piece.within, c.requires.length)
+    omega (arith, piece.counted, piece.within, c.requires.out.counted)
 
 pub overflow_add-part : goal.overflow_add-part
 overflow_add-part c =
@@ -27,7 +27,7 @@ overflow_add-part c =
     let piece = piece_of w c.plane-plane.result n c.planes-number-end.result c.plane-plane.ensures.value c.planes-number-end.ensures.value c.planes-number-end.ensures.all c.loop-number-test.true in
     let size = c.size-count.ensures.value in
     let done = c.loop-number.invariant.done_is in
-    let counted = c.loop-number.auto.out ∙ c.requires.length in
+    let counted = c.loop-number.auto.out ∙ c.requires.out.counted in
     omega (arith, size, done, counted, piece.counted, piece.within)
 
 pub slice_bounds-part-end : goal.slice_bounds-part-end
@@ -37,12 +37,21 @@ slice_bounds-part-end c =
     let piece = piece_of w c.plane-plane.result n c.planes-number-end.result c.plane-plane.ensures.value c.planes-number-end.ensures.value c.planes-number-end.ensures.all c.loop-number-test.true in
     let size = c.size-count.ensures.value in
     let done = c.loop-number.invariant.done_is in
-    let counted = c.loop-number.auto.out ∙ c.requires.length in
+    let counted = c.loop-number.auto.out ∙ c.requires.out.counted in
     omega (arith, size, done, counted, piece.counted, piece.within)
 
-pub convolve_plane-requires-clause-within : goal.convolve_plane-requires-clause-within
-convolve_plane-requires-clause-within c =
-    λ p h. c.requires.within p (c.plane-plane.ensures.part.inside p h)
+pub convolve_plane-requires-clause-out : goal.convolve_plane-requires-clause-out
+convolve_plane-requires-clause-out c =
+    let w = c.args.window.now in
+    let n = c.loop-number.number in
+    let piece = piece_of w c.plane-plane.result n c.planes-number-end.result c.plane-plane.ensures.value c.planes-number-end.ensures.value c.planes-number-end.ensures.all c.loop-number-test.true in
+    let size = c.size-count.ensures.value in
+    let done = c.loop-number.invariant.done_is in
+    let counted = c.loop-number.auto.out ∙ c.requires.out.counted in
+    record {
+      within = λ p h. c.requires.out.within p (c.plane-plane.ensures.part.inside p h);
+      counted = length-part c.loop-number.out c.loop-number.done c.size-count.result (omega (arith, size, done, counted, piece.counted, piece.within)) ∙ size;
+    }
 
 pub convolve_plane-requires-clause-some : goal.convolve_plane-requires-clause-some
 convolve_plane-requires-clause-some c =
@@ -51,13 +60,16 @@ convolve_plane-requires-clause-some c =
     let piece = piece_of w c.plane-plane.result n c.planes-number-end.result c.plane-plane.ensures.value c.planes-number-end.ensures.value c.planes-number-end.ensures.all c.loop-number-test.true in
     let size = c.size-count.ensures.value in
     let done = c.loop-number.invariant.done_is in
-    let counted = c.loop-number.auto.out ∙ c.requires.length in
+    let counted = c.loop-number.auto.out ∙ c.requires.out.counted in
     let long = length-part c.loop-number.out c.loop-number.done c.size-count.result (omega (arith, size, done, counted, piece.counted, piece.within)) in
     omega (arith, long, size, piece.counted, piece.some)
 
-pub convolve_plane-requires-clause-need : goal.convolve_plane-requires-clause-need
-convolve_plane-requires-clause-need c =
-    λ p q h needed. c.requires.need p q (c.plane-plane.ensures.part.inside p h) needed
+pub convolve_plane-requires-clause-slice : goal.convolve_plane-requires-clause-slice
+convolve_plane-requires-clause-slice c = record {
+  valid = c.requires.slice.valid;
+  counted = c.requires.slice.counted;
+  need = λ p q h needed. c.requires.slice.need p q (c.plane-plane.ensures.part.inside p h) needed;
+}
 
 pub overflow_add-done : goal.overflow_add-done
 overflow_add-done c =
@@ -66,7 +78,7 @@ overflow_add-done c =
     let piece = piece_of w c.plane-plane.result n c.planes-number-end.result c.plane-plane.ensures.value c.planes-number-end.ensures.value c.planes-number-end.ensures.all c.loop-number-test.true in
     let size = c.size-count.ensures.value in
     let done = c.loop-number.invariant.done_is in
-    let counted = c.loop-number.auto.out ∙ c.requires.length in
+    let counted = c.loop-number.auto.out ∙ c.requires.out.counted in
     omega (arith, size, done, counted, piece.counted, piece.within)
 
 pub loop-number-preserved : goal.loop-number-preserved
@@ -76,7 +88,7 @@ loop-number-preserved c =
     let piece = piece_of w c.plane-plane.result n c.planes-number-end.result c.plane-plane.ensures.value c.planes-number-end.ensures.value c.planes-number-end.ensures.all c.loop-number-test.true in
     let size = c.size-count.ensures.value in
     let done = c.loop-number.invariant.done_is in
-    let counted = c.loop-number.auto.out ∙ c.requires.length in
+    let counted = c.loop-number.auto.out ∙ c.requires.out.counted in
     let plane = c.plane-plane.result in
     let before = c.loop-number.out in
     let k = c.loop-number.done in
@@ -107,7 +119,7 @@ returns-clause-value c = λ cube whole same on.
     let out = c.loop-number.out in
     let end : c.loop-number.number ≡ c.planes-number-end.result = omega (arith, c.loop-number-test.false, c.loop-number.auto.number-end) in
     let all : c.loop-number.done ≡ position_count w = c.loop-number.invariant.done_is ∙ (ap (λ (m : ℕ). m * plane_size w) end ∙ c.planes-number-end.ensures.all) in
-    let whole_out : take c.loop-number.done out ≡ out = take_all c.loop-number.done out (omega (arith, all, c.loop-number.auto.out, c.requires.length)) in
+    let whole_out : take c.loop-number.done out ≡ out = take_all c.loop-number.done out (omega (arith, all, c.loop-number.auto.out, c.requires.out.counted)) in
     sym whole_out ∙ c.loop-number.invariant.value cube whole same on ∙ take_all c.loop-number.done cells (omega (arith, all, total))
 
 pub returns-clause-kinds : goal.returns-clause-kinds
@@ -116,5 +128,5 @@ returns-clause-kinds c =
     let out = c.loop-number.out in
     let end : c.loop-number.number ≡ c.planes-number-end.result = omega (arith, c.loop-number-test.false, c.loop-number.auto.number-end) in
     let all : c.loop-number.done ≡ position_count w = c.loop-number.invariant.done_is ∙ (ap (λ (m : ℕ). m * plane_size w) end ∙ c.planes-number-end.ensures.all) in
-    let whole_out : take c.loop-number.done out ≡ out = take_all c.loop-number.done out (omega (arith, all, c.loop-number.auto.out, c.requires.length)) in
+    let whole_out : take c.loop-number.done out ≡ out = take_all c.loop-number.done out (omega (arith, all, c.loop-number.auto.out, c.requires.out.counted)) in
     subst (All (IsOfKind Numbers)) whole_out c.loop-number.invariant.kinds

@@ -14,18 +14,18 @@ use Rattle.oe_ops.proofs.cover.eval_cover.Goals as goal
 
 pub fill_planes-requires-clause-serves : goal.fill_planes-requires-clause-serves
 fill_planes-requires-clause-serves c = λ p h. (
-  c.requires.counted,
-  own_inside c.args.shape.now c.args.slice c.args.window.now c.requires.within c.requires.need p h,
-  c.requires.mask_counted,
-  c.requires.mask_valid,
-  position_in c.args.shape.now p (c.requires.within p h),
-  are_held c.args.shape.now c.args.mask_shape.now c.args.mask c.args.window.now c.requires.mask_need p h,
+  c.requires.slice.counted,
+  own_inside c.args.shape.now c.args.slice c.args.window.now c.requires.out.within c.requires.slice.need p h,
+  c.requires.mask.counted,
+  c.requires.mask.valid,
+  position_in c.args.shape.now p (c.requires.out.within p h),
+  are_held c.args.shape.now c.args.mask_shape.now c.args.mask c.args.window.now c.requires.mask.need p h,
 )
 
 pub returns-clause-value : goal.returns-clause-value
 returns-clause-value c = λ cube mask whole same on mask_whole mask_same mask_on.
     c.fill_planes.ensures
-    ∙ covered_is c.args.replacement cube mask c.args.slice c.args.mask c.args.window.now c.args.shape.now c.args.mask_shape.now same mask_same c.requires.valid whole on c.requires.mask_valid mask_whole mask_on c.requires.within c.requires.need c.requires.mask_need
+    ∙ covered_is c.args.replacement cube mask c.args.slice c.args.mask c.args.window.now c.args.shape.now c.args.mask_shape.now same mask_same c.requires.slice.valid whole on c.requires.mask.valid mask_whole mask_on c.requires.out.within c.requires.slice.need c.requires.mask.need
 
 pub returns-clause-kinds : goal.returns-clause-kinds
 returns-clause-kinds c = λ kind h other.

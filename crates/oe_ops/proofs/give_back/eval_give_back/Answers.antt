@@ -8,11 +8,11 @@ use Rattle.oe_ops.proofs.give_back.eval_give_back.Goals as goal
 
 pub fill-requires-clause-serves : goal.fill-requires-clause-serves
 fill-requires-clause-serves c = λ p h.
-    (c.requires.counted, own_inside c.args.shape.now c.args.slice c.args.window.now c.requires.within c.requires.need p h)
+    (c.requires.slice.counted, own_inside c.args.shape.now c.args.slice c.args.window.now c.requires.out.within c.requires.slice.need p h)
 
 pub returns-clause-value : goal.returns-clause-value
 returns-clause-value c = λ cube whole same on.
-    c.fill.ensures ∙ given_is cube c.args.slice c.args.window.now c.args.shape.now on c.requires.within c.requires.need
+    c.fill.ensures ∙ given_is cube c.args.slice c.args.window.now c.args.shape.now on c.requires.out.within c.requires.slice.need
 
 pub returns-clause-kinds : goal.returns-clause-kinds
 returns-clause-kinds c = λ kind h.

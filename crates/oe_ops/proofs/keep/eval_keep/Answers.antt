@@ -10,16 +10,16 @@ use Rattle.oe_ops.proofs.keep.eval_keep.Goals as goal
 
 pub fill_planes-requires-clause-serves : goal.fill_planes-requires-clause-serves
 fill_planes-requires-clause-serves c = λ p h. (
-  c.requires.counted,
-  c.requires.valid,
-  position_in c.args.shape.now p (c.requires.within p h),
-  are_held c.args.shape.now c.args.argument.now c.args.slice c.args.window.now c.requires.need p h,
+  c.requires.slice.counted,
+  c.requires.slice.valid,
+  position_in c.args.shape.now p (c.requires.out.within p h),
+  are_held c.args.shape.now c.args.argument.now c.args.slice c.args.window.now c.requires.slice.need p h,
 )
 
 pub returns-clause-value : goal.returns-clause-value
 returns-clause-value c = λ cube r whole same is on.
     c.fill_planes.ensures
-    ∙ kept_is cube r c.args.slice c.args.window.now c.args.shape.now c.args.argument.now same is c.requires.valid whole on c.requires.within c.requires.need
+    ∙ kept_is cube r c.args.slice c.args.window.now c.args.shape.now c.args.argument.now same is c.requires.slice.valid whole on c.requires.out.within c.requires.slice.need
 
 pub returns-clause-kinds : goal.returns-clause-kinds
 returns-clause-kinds c = λ kind h.

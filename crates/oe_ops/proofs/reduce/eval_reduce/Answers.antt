@@ -13,10 +13,10 @@ pub fill-requires-clause-serves : goal.fill-requires-clause-serves
 fill-requires-clause-serves c = λ p h.
     let along = c.args.along in
     let d = c.args.argument.now in
-    let holds = subst (λ (s : Dimensions). Holds (whole_window s) c.args.window.now) c.requires.without c.requires.within in
-    let need = subst (λ (s : Dimensions). HoldsNeed (HasLabelsBeside along s d) c.args.window.now c.args.slice.window) c.requires.without c.requires.need in
+    let holds = subst (λ (s : Dimensions). Holds (whole_window s) c.args.window.now) c.requires.without c.requires.out.within in
+    let need = subst (λ (s : Dimensions). HoldsNeed (HasLabelsBeside along s d) c.args.window.now c.args.slice.window) c.requires.without c.requires.slice.need in
     rw c.labels_count.ensures (
-      c.requires.counted,
+      c.requires.slice.counted,
       takes_list c.args.expr.now along d c.args.slice.cells.now c.requires.takes,
       first_along_x d c.args.window.now along p holds h,
       λ i lt. held_along along d c.args.window.now c.args.slice p i holds need h lt,
@@ -26,7 +26,7 @@ pub returns-clause-value : goal.returns-clause-value
 returns-clause-value c = λ cube whole same on.
     c.fill.ensures
     ∙ ap (λ n. map (λ p. value_of_list c.args.expr.now 0 (list_from c.args.slice c.args.along 0 n p)) (positions c.args.window.now)) c.labels_count.ensures
-    ∙ reduced_is c.args.along c.args.expr.now cube c.args.slice c.args.window.now c.args.shape.now c.args.argument.now same c.requires.without c.requires.takes c.requires.valid whole on c.requires.within c.requires.need
+    ∙ reduced_is c.args.along c.args.expr.now cube c.args.slice c.args.window.now c.args.shape.now c.args.argument.now same c.requires.without c.requires.takes c.requires.slice.valid whole on c.requires.out.within c.requires.slice.need
 
 pub returns-clause-kinds : goal.returns-clause-kinds
 returns-clause-kinds c =

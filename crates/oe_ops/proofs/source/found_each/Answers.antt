@@ -11,13 +11,13 @@ use Rattle.oe_ops.proofs.source.found_each.Goals as goal
 
 pub overflow_cast-k : goal.overflow_cast-k
 overflow_cast-k c =
-    let extents = extents_of_shape c.args.source.now.shape.now c.requires.valid in
-    omega (arith, extents.x, c.requires.inside)
+    let extents = extents_of_shape c.args.source.now.shape.now c.requires.labels.valid in
+    omega (arith, extents.x, c.requires.labels.inside)
 
 pub overflow_add-x : goal.overflow_add-x
 overflow_add-x c =
-    let extents = extents_of_shape c.args.source.now.shape.now c.requires.valid in
-    omega (arith, extents.x, c.requires.inside)
+    let extents = extents_of_shape c.args.source.now.shape.now c.requires.labels.valid in
+    omega (arith, extents.x, c.requires.labels.inside)
 
 pub loop-k-preserved : goal.loop-k-preserved
 loop-k-preserved c =

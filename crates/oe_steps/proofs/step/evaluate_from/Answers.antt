@@ -9,55 +9,56 @@ use Rattle.oe_steps.proofs.EvalLemmas.{cube_at, cube_shape_at, fits_goal, inside
 use Rattle.oe_steps.specs.Steps.{cell_kind_at}
 use Rattle.oe_steps.proofs.step.evaluate_from.Goals as goal
 
-pub eval_node-requires-clause-shape_is : goal.eval_node-requires-clause-shape_is
-eval_node-requires-clause-shape_is c =
+pub eval_node-requires-clause-works : goal.eval_node-requires-clause-works
+eval_node-requires-clause-works c =
     let graph = c.args.checked.now in
     let schedule = c.args.schedule.now in
     let operates : operation_of_node graph (node_at schedule c.args.operands.step) ≡ Some (plain_operation c.operation-operation.result.now) =
     ap (operation_of_node graph) (sym c.node.ensures) ∙ c.operation-operation.ensures in
-    shape_goal graph schedule c.requires.schedule c.args.operands.step c.requires.step c.requires.works c.args.operands.first c.args.operands.second
-    c.requires.arguments (plain_operation c.operation-operation.result.now) operates c.shape_of-3.result.now c.shape_of.result.now
-    c.shape_of-2.result.now c.shape_of-3.ensures.value c.shape_of.ensures.value c.shape_of-2.ensures.value
-
-pub eval_node-requires-clause-takes : goal.eval_node-requires-clause-takes
-eval_node-requires-clause-takes c =
-    let graph = c.args.checked.now in
-    let schedule = c.args.schedule.now in
-    let operates : operation_of_node graph (node_at schedule c.args.operands.step) ≡ Some (plain_operation c.operation-operation.result.now) =
-    ap (operation_of_node graph) (sym c.node.ensures) ∙ c.operation-operation.ensures in
-    takes_goal graph schedule c.requires.schedule c.args.operands.step c.requires.step c.requires.works c.args.operands.first c.args.operands.second
-    c.requires.arguments (plain_operation c.operation-operation.result.now) operates c.shape_of.result.now c.args.first.now
-    c.args.second.now c.shape_of.ensures.value c.requires.first.of_kind c.requires.second.of_kind
-
-pub eval_node-requires-clause-within : goal.eval_node-requires-clause-within
-eval_node-requires-clause-within c =
-    inside_at c.args.checked.now c.args.schedule.now c.requires.schedule c.args.windows.now c.requires.windows c.args.operands.step
-    c.shape_of-3.result.now (window_at c.args.windows.now c.args.operands.step) c.requires.step c.shape_of-3.ensures.value refl
+    record {
+      shape_valid = c.shape_of-3.ensures.valid;
+      shape_is = shape_goal graph schedule c.requires.schedule c.args.operands.step c.requires.step c.requires.works c.args.operands.first c.args.operands.second
+          c.requires.arguments (plain_operation c.operation-operation.result.now) operates c.shape_of-3.result.now c.shape_of.result.now
+          c.shape_of-2.result.now c.shape_of-3.ensures.value c.shape_of.ensures.value c.shape_of-2.ensures.value;
+      takes = takes_goal graph schedule c.requires.schedule c.args.operands.step c.requires.step c.requires.works c.args.operands.first c.args.operands.second
+          c.requires.arguments (plain_operation c.operation-operation.result.now) operates c.shape_of.result.now c.args.first.now
+          c.args.second.now c.shape_of.ensures.value c.requires.first.of_kind c.requires.second.of_kind;
+    }
 
 pub eval_node-requires-clause-inside : goal.eval_node-requires-clause-inside
 eval_node-requires-clause-inside c =
     inside_at c.args.checked.now c.args.schedule.now c.requires.schedule c.args.windows.now c.requires.windows c.args.operands.first
     c.shape_of.result.now (window_at c.args.windows.now c.args.operands.first) c.requires.first.within c.shape_of.ensures.value refl
 
-pub eval_node-requires-clause-need : goal.eval_node-requires-clause-need
-eval_node-requires-clause-need c =
+pub eval_node-requires-clause-inputs : goal.eval_node-requires-clause-inputs
+eval_node-requires-clause-inputs c =
     let graph = c.args.checked.now in
     let schedule = c.args.schedule.now in
     let operates : operation_of_node graph (node_at schedule c.args.operands.step) ≡ Some (plain_operation c.operation-operation.result.now) =
     ap (operation_of_node graph) (sym c.node.ensures) ∙ c.operation-operation.ensures in
-    need_goal graph schedule c.requires.schedule c.args.operands.step c.requires.step c.requires.works c.args.operands.first c.args.operands.second
-    c.requires.arguments (plain_operation c.operation-operation.result.now) operates c.args.windows.now c.requires.windows c.shape_of.result.now c.shape_of-2.result.now (window_at c.args.windows.now c.args.operands.first)
-    c.shape_of.ensures.value c.shape_of-2.ensures.value refl
+    record {
+      first = record {
+        valid = c.shape_of.ensures.valid;
+        counted = c.requires.first.counted;
+        need = need_goal graph schedule c.requires.schedule c.args.operands.step c.requires.step c.requires.works c.args.operands.first c.args.operands.second
+            c.requires.arguments (plain_operation c.operation-operation.result.now) operates c.args.windows.now c.requires.windows c.shape_of.result.now c.shape_of-2.result.now (window_at c.args.windows.now c.args.operands.first)
+            c.shape_of.ensures.value c.shape_of-2.ensures.value refl;
+      };
+      second = record {
+        valid = c.shape_of-2.ensures.valid;
+        counted = c.requires.second.counted;
+        need = second_goal graph schedule c.requires.schedule c.args.operands.step c.requires.step c.requires.works c.args.operands.first c.args.operands.second
+            c.requires.arguments (plain_operation c.operation-operation.result.now) operates c.args.windows.now c.requires.windows c.shape_of.result.now c.shape_of-2.result.now (window_at c.args.windows.now c.args.operands.second)
+            c.shape_of.ensures.value c.shape_of-2.ensures.value refl;
+      };
+    }
 
-pub eval_node-requires-clause-two_need : goal.eval_node-requires-clause-two_need
-eval_node-requires-clause-two_need c =
-    let graph = c.args.checked.now in
-    let schedule = c.args.schedule.now in
-    let operates : operation_of_node graph (node_at schedule c.args.operands.step) ≡ Some (plain_operation c.operation-operation.result.now) =
-    ap (operation_of_node graph) (sym c.node.ensures) ∙ c.operation-operation.ensures in
-    second_goal graph schedule c.requires.schedule c.args.operands.step c.requires.step c.requires.works c.args.operands.first c.args.operands.second
-    c.requires.arguments (plain_operation c.operation-operation.result.now) operates c.args.windows.now c.requires.windows c.shape_of.result.now c.shape_of-2.result.now (window_at c.args.windows.now c.args.operands.second)
-    c.shape_of.ensures.value c.shape_of-2.ensures.value refl
+pub eval_node-requires-clause-out : goal.eval_node-requires-clause-out
+eval_node-requires-clause-out c = record {
+  within = inside_at c.args.checked.now c.args.schedule.now c.requires.schedule c.args.windows.now c.requires.windows c.args.operands.step
+      c.shape_of-3.result.now (window_at c.args.windows.now c.args.operands.step) c.requires.step c.shape_of-3.ensures.value refl;
+  counted = c.requires.out;
+}
 
 pub eval_node-requires-clause-room : goal.eval_node-requires-clause-room
 eval_node-requires-clause-room c =

@@ -1,4 +1,4 @@
-use Rattle.std.proofs.Common.{◌∙◌, sym, ap}
+use Rattle.std.proofs.Common.{◌-◌, ◌∙◌, length, sym, ap, arith}
 use Rattle.oe_meanings.specs.Meaning.{joined}
 use Rattle.oe_ops.specs.Indices.{found_in}
 use Rattle.oe_ops.specs.Slices.{along_x, at_indices}
@@ -6,37 +6,51 @@ use Rattle.oe_ops.proofs.FoundLemmas.{found_on_row, not_on_row, on_row}
 use Rattle.oe_ops.proofs.MergeLemmas.{only_first, only_second}
 use Rattle.oe_ops.proofs.merge.MergedRowsRows.row.Goals as goal
 
-pub found_row-requires-clause-indices : goal.found_row-requires-clause-indices
-found_row-requires-clause-indices c = λ k lt. (c.requires.serves k lt).9
+pub found_row-requires-clause-each : goal.found_row-requires-clause-each
+found_row-requires-clause-each c = λ k lt. let all = c.requires.serves k lt in record { inside = all.8; indices = all.9; held = all.11 }
 
-pub found_row-requires-clause-held : goal.found_row-requires-clause-held
-found_row-requires-clause-held c = λ k lt. (c.requires.serves k lt).11
+pub found_row-requires-in-None-Some-clause-each : goal.found_row-requires-in-None-Some-clause-each
+found_row-requires-in-None-Some-clause-each c = λ k lt. let all = c.requires.serves k lt in record { inside = all.8; indices = all.10; held = all.12 }
 
-pub found_row-requires-in-None-Some-clause-indices : goal.found_row-requires-in-None-Some-clause-indices
-found_row-requires-in-None-Some-clause-indices c = λ k lt. (c.requires.serves k lt).10
+pub join_row-requires-clause-one : goal.join_row-requires-clause-one
+join_row-requires-clause-one c =
+    let cubes = c.args.self.now.cubes in
+    let first = c.requires.serves 0 c.requires.some in
+    let last = c.requires.serves (length c.args.out.now - 1) (omega (arith, c.requires.some)) in
+    record {
+      labels = record {
+        valid = first.2;
+        counted = first.0;
+        inside = omega (arith, last.8.x, c.requires.some);
+        held = λ k i lt e.
+            let all = c.requires.serves k lt in
+            all.11 _
+            (on_row cubes.one.shape.now cubes.one.argument.now (along_x (at_indices c.args.t c.args.band c.args.y c.args.x) k) c.in-Some-Some.first i
+            (sym (c.row_in-first.ensures c.args.t c.args.band all.9.t all.9.band) ∙ c.in-Some-Some.is-0) e);
+      };
+      some = c.requires.some;
+      on_run = λ k lt. (c.requires.serves k lt).9.x;
+    }
 
-pub found_row-requires-in-None-Some-clause-held : goal.found_row-requires-in-None-Some-clause-held
-found_row-requires-in-None-Some-clause-held c = λ k lt. (c.requires.serves k lt).12
-
-pub join_row-requires-clause-on_run : goal.join_row-requires-clause-on_run
-join_row-requires-clause-on_run c = λ k lt. (c.requires.serves k lt).9.x
-
-pub join_row-requires-clause-two_on_run : goal.join_row-requires-clause-two_on_run
-join_row-requires-clause-two_on_run c = λ k lt. (c.requires.serves k lt).10.x
-
-pub join_row-requires-clause-held : goal.join_row-requires-clause-held
-join_row-requires-clause-held c = λ k i lt e.
-    let all = c.requires.serves k lt in
-    all.11 _
-    (on_row c.args.self.now.cubes.one.shape.now c.args.self.now.cubes.one.argument.now (along_x (at_indices c.args.t c.args.band c.args.y c.args.x) k) c.in-Some-Some.first i
-    (sym (c.row_in-first.ensures c.args.t c.args.band all.9.t all.9.band) ∙ c.in-Some-Some.is-0) e)
-
-pub join_row-requires-clause-two_held : goal.join_row-requires-clause-two_held
-join_row-requires-clause-two_held c = λ k i lt e.
-    let all = c.requires.serves k lt in
-    all.12 _
-    (on_row c.args.self.now.cubes.one.shape.now c.args.self.now.cubes.other.now (along_x (at_indices c.args.t c.args.band c.args.y c.args.x) k) c.in-Some-Some.second i
-    (sym (c.row_in-second.ensures c.args.t c.args.band all.10.t all.10.band) ∙ c.in-Some-Some.is-1) e)
+pub join_row-requires-clause-two : goal.join_row-requires-clause-two
+join_row-requires-clause-two c =
+    let cubes = c.args.self.now.cubes in
+    let first = c.requires.serves 0 c.requires.some in
+    let last = c.requires.serves (length c.args.out.now - 1) (omega (arith, c.requires.some)) in
+    record {
+      labels = record {
+        valid = first.2;
+        counted = first.1;
+        inside = omega (arith, last.8.x, c.requires.some);
+        held = λ k i lt e.
+            let all = c.requires.serves k lt in
+            all.12 _
+            (on_row cubes.one.shape.now cubes.other.now (along_x (at_indices c.args.t c.args.band c.args.y c.args.x) k) c.in-Some-Some.second i
+            (sym (c.row_in-second.ensures c.args.t c.args.band all.10.t all.10.band) ∙ c.in-Some-Some.is-1) e);
+      };
+      some = c.requires.some;
+      on_run = λ k lt. (c.requires.serves k lt).10.x;
+    }
 
 pub returns-in_default-None : goal.returns-in_default-None
 returns-in_default-None c = λ k lt.
