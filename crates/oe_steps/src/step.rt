@@ -12,7 +12,7 @@ ghost use Rattle.oe_plan.specs.Steps.{arguments_of_node};
 ghost use Rattle.oe_plan.specs.Windows.{window_at};
 ghost use Rattle.oe_steps.specs.Steps.{AreArguments, AreCells, AreOfKind, HaveRoomFor, buffer_cells_at, cell_kind_at};
 ghost use Rattle.oe_steps.specs.Buffers.{buffer_at, buffer_beside, lists_of};
-ghost use Rattle.oe_steps.specs.Inputs.{AreNodeCells, IsInput};
+ghost use Rattle.oe_steps.specs.Inputs.{GivesNodeCells, WorksOnCells, cells_of_step};
 
 use oe_cell::Cell;
 use oe_check::Checked;
@@ -144,21 +144,13 @@ fn evaluate_from(
     out: &mut [Cell],
     scratch: &mut [Cell],
 )
-    requires schedule { IsSchedule checked.now schedule.now }
-    requires step { operands.step < length schedule.now.order.steps }
-    requires works { is_load_at checked.now schedule.now operands.step ≡ false }
-    requires windows { AreWindowsFor checked.now schedule.now windows.now }
-    requires arguments { AreArguments checked.now schedule.now operands.step operands.first
-        operands.second }
-    requires first { IsInput checked.now schedule.now windows.now operands.first first.now }
-    requires second { IsInput checked.now schedule.now windows.now operands.second second.now }
+    requires works { WorksOnCells checked.now schedule.now windows.now operands.step
+        operands.first operands.second first.now second.now }
     requires out { length out.old ≡ position_count (window_at windows.now operands.step) }
     requires scratch { length scratch.old ≡ scratch_of checked.now }
     ensures kinds { All (IsOfKind (cell_kind_at checked.now schedule.now operands.step)) out.new }
-    ensures value { (collections : Collections) → AreCollectionsOf checked.now collections
-        → AreNodeCells collections checked.now schedule.now windows.now operands.first first.now
-        → AreNodeCells collections checked.now schedule.now windows.now operands.second second.now
-        → AreNodeCells collections checked.now schedule.now windows.now operands.step out.new }
+    ensures value { GivesNodeCells checked.now schedule.now windows.now operands.step
+        operands.first operands.second first.now second.now out.new }
 {
     let one = Input {
         shape: shape_of(checked, schedule, operands.first),
@@ -198,25 +190,16 @@ fn evaluate_into(
     buffer: &mut [Cell],
     scratch: &mut [Cell],
 )
-    requires schedule { IsSchedule checked.now schedule.now }
-    requires step { operands.step < length schedule.now.order.steps }
-    requires works { is_load_at checked.now schedule.now operands.step ≡ false }
-    requires windows { AreWindowsFor checked.now schedule.now windows.now }
-    requires arguments { AreArguments checked.now schedule.now operands.step operands.first
-        operands.second }
-    requires first { IsInput checked.now schedule.now windows.now operands.first first.now }
-    requires second { IsInput checked.now schedule.now windows.now operands.second second.now }
+    requires works { WorksOnCells checked.now schedule.now windows.now operands.step
+        operands.first operands.second first.now second.now }
     requires few { position_count (window_at windows.now operands.step) < 2 ^ 64 }
     requires room { position_count (window_at windows.now operands.step) ≤ length buffer.old }
     requires within { operands.step < length windows.now }
     requires scratch { length scratch.old ≡ scratch_of checked.now }
     ensures kinds { All (IsOfKind (cell_kind_at checked.now schedule.now operands.step))
-        (take (position_count (window_at windows.now operands.step)) buffer.new) }
-    ensures value { (collections : Collections) → AreCollectionsOf checked.now collections
-        → AreNodeCells collections checked.now schedule.now windows.now operands.first first.now
-        → AreNodeCells collections checked.now schedule.now windows.now operands.second second.now
-        → AreNodeCells collections checked.now schedule.now windows.now operands.step
-        (take (position_count (window_at windows.now operands.step)) buffer.new) }
+        (cells_of_step windows.now operands.step buffer.new) }
+    ensures value { GivesNodeCells checked.now schedule.now windows.now operands.step operands.first
+        operands.second first.now second.now (cells_of_step windows.now operands.step buffer.new) }
 {
     let count = size(&windows[operands.step as usize]) as usize;
     let out = &mut buffer[..count];

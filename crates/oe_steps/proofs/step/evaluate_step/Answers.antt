@@ -121,8 +121,8 @@ front_beside-two-requires-clause-room c =
     let b_other : b_slot ≢ slot = λ e. taken_apart graph schedule is step c.requires.step c.requires.works second.0 b second.1 (e ∙ c.slot.ensures.value) in
     beside_long buffers before own after slot schedule.order.width _ parts c.requires.room b_slot (slot_below graph schedule is b b_in) b_other
 
-pub evaluate_into-requires-clause-first : goal.evaluate_into-requires-clause-first
-evaluate_into-requires-clause-first c =
+pub evaluate_into-requires-clause-works : goal.evaluate_into-requires-clause-works
+evaluate_into-requires-clause-works c =
     let graph = c.args.checked.now in
     let schedule = c.args.schedule.now in
     let is = c.requires.schedule in
@@ -150,38 +150,18 @@ evaluate_into-requires-clause-first c =
     let n = position_count (window_at c.args.windows.now a) in
     let is_one : c.front_beside-one.result.now ≡ buffer_cells_at schedule c.args.windows.now (lists_of buffers) a =
     c.front_beside-one.ensures ∙ ap (take n) (part_beside buffers before own after slot parts a_slot a_other) in
-    is_input graph schedule is c.args.windows.now c.requires.windows (lists_of buffers) c.requires.room a a_in c.front_beside-one.result.now is_one (c.requires.kinds 0 a takes)
-
-pub evaluate_into-requires-clause-second : goal.evaluate_into-requires-clause-second
-evaluate_into-requires-clause-second c =
-    let graph = c.args.checked.now in
-    let schedule = c.args.schedule.now in
-    let is = c.requires.schedule in
-    let step = c.args.step in
-    let buffers = c.args.buffers.now in
-    let before = c.split_at_mut-before.result.0.now in
-    let own = c.split_at_mut-own.result.0.now in
-    let after = c.split_at_mut-own.result.1.now in
-    let slot = c.slot.result in
-    let parts : AreParts buffers before own after slot = record {
-      whole = c.split_at_mut-before.ensures.value ∙ ap (λ r. before ++ r) c.split_at_mut-own.ensures.value;
-      front = c.split_at_mut-before.ensures.front_len;
-      one = c.split_at_mut-own.ensures.front_len;
-    } in
-    let a = c.inputs_of-first.result.0 in
-    let b = c.inputs_of-first.result.1 in
-    let takes = c.inputs_of-first.ensures.first_taken in
-    let second = second_takes graph schedule is step c.requires.step c.requires.works a b c.inputs_of-first.ensures in
-    let a_in : a < length schedule.order.steps = omega (arith, takes.earlier, c.requires.step) in
-    let b_in : b < length schedule.order.steps = omega (arith, second.1.earlier, c.requires.step) in
-    let a_slot = get_or schedule.order.slots a 0 in
-    let b_slot = get_or schedule.order.slots b 0 in
-    let a_other : a_slot ≢ slot = λ e. taken_apart graph schedule is step c.requires.step c.requires.works 0 a takes (e ∙ c.slot.ensures.value) in
-    let b_other : b_slot ≢ slot = λ e. taken_apart graph schedule is step c.requires.step c.requires.works second.0 b second.1 (e ∙ c.slot.ensures.value) in
     let m = position_count (window_at c.args.windows.now b) in
     let is_two : c.front_beside-two.result.now ≡ buffer_cells_at schedule c.args.windows.now (lists_of buffers) b =
     c.front_beside-two.ensures ∙ ap (take m) (part_beside buffers before own after slot parts b_slot b_other) in
-    is_input graph schedule is c.args.windows.now c.requires.windows (lists_of buffers) c.requires.room b b_in c.front_beside-two.result.now is_two (c.requires.kinds second.0 b second.1)
+    record {
+      scheduled = is;
+      step_in = c.requires.step;
+      computes = c.requires.works;
+      windows_fit = c.requires.windows;
+      arguments = c.inputs_of-first.ensures;
+      first_input = is_input graph schedule is c.args.windows.now c.requires.windows (lists_of buffers) c.requires.room a a_in c.front_beside-one.result.now is_one (c.requires.kinds 0 a takes);
+      second_input = is_input graph schedule is c.args.windows.now c.requires.windows (lists_of buffers) c.requires.room b b_in c.front_beside-two.result.now is_two (c.requires.kinds second.0 b second.1);
+    }
 
 pub evaluate_into-requires-clause-few : goal.evaluate_into-requires-clause-few
 evaluate_into-requires-clause-few c =
