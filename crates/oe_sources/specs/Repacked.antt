@@ -1,18 +1,22 @@
 -- The cube file that is written of a mounted collection, and why it is not.
-use Rattle.std.specs.Prelude.{◌≡◌, ℕ, ◌+◌, ◌*◌, ◌<◌, ◌≤◌, ◌⊎◌, List, Option, take, drop, IfSome}
+use Rattle.std.specs.Prelude.{◌≡◌, ℕ, ◌+◌, ◌-◌, ◌*◌, ◌^◌, ◌<◌, ◌≤◌, ◌⊎◌, List, Option, Result, length, take, drop, IfSome}
 use Rattle.std.specs.List.{Contains, range_with_len}
+use Rattle.oe_cell.specs.declared.cell.Cell.{Cell}
 use Rattle.oe_dims.specs.Dimensions.{Dimensions, cell_count, extent, most_labels}
-use Rattle.oe_outside.specs.Visible.{AppendsPrefix}
-use Rattle.oe_sources.specs.Packed.{AppendsPacked, AreLeastWidths, IsPacked, plane_size}
-use Rattle.oe_sources.specs.Source.{Contents, Source}
+use Rattle.oe_outside.specs.Faults.{HasCauseOf}
+use Rattle.oe_outside.specs.Visible.{Appends, AppendsPrefix}
+use Rattle.oe_sources.specs.Catalogue.{Row, source_at}
+use Rattle.oe_sources.specs.Packed.{AppendsPacked, AreLeastWidths, IsPacked, plane_size, section_records}
+use Rattle.oe_sources.specs.Source.{AreCellsOf, Contents, Source}
 use Rattle.oe_sources.specs.declared.repacking.Part.{Part}
 use Rattle.oe_sources.specs.declared.repacking.RepackFail.{RepackFail}
 use Rattle.oe_sources.specs.declared.repacking.RepackFail.TheVariants.{SourceFailed, SourceDamaged, SinkFailed, OutOfMemory}
 use Rattle.oe_sources.specs.declared.repacking.Sides.{Sides}
-use Rattle.oe_wide.specs.Wide.{AllFitIn, IsLeastWidth}
+use Rattle.oe_wide.specs.Wide.{AllFitIn, IsLeastWidth, records_in}
 use Rattle.oe_wide.specs.declared.width.Width.{Width}
 use Rattle.oe_window.specs.Runs.{window_numbers}
 use Rattle.oe_window.specs.Windows.{position_count, span_at}
+use Rattle.oe_window.specs.declared.window.Window.{Window}
 
 -- ---- what was written
 
@@ -35,6 +39,34 @@ LeavesWritten id source before after (SourceDamaged number) = IfSome source.cont
 LeavesWritten id source before after SinkFailed = AppendsPartOfRepacked id source before after
 LeavesWritten id source before after OutOfMemory = after ≡ before
 
+-- ---- sections
+
+-- the cells of a section of a source
+abbrev pub section_cells : Source → ℕ → Contents → List Cell
+section_cells source section c = take (plane_size source.shape) (drop (section * plane_size source.shape) c.cells)
+
+-- where the cells of a source are visible, those of a section all have records in a width
+abbrev pub FitsSection : Source → ℕ → Width → Type 0
+FitsSection source section width = IfSome source.contents (λ c. AllFitIn width (section_cells source section c))
+
+-- their records in the width follow what was written, or a prefix of them does
+abbrev pub AppendsSection : Source → ℕ → Width → Option (List ℕ) → Option (List ℕ) → Type 0
+AppendsSection source section width before after =
+    IfSome source.contents (λ c. Appends before (records_in width (section_cells source section c)) after)
+
+abbrev pub AppendsPartOfSection : Source → ℕ → Width → Option (List ℕ) → Option (List ℕ) → Type 0
+AppendsPartOfSection source section width before after =
+    IfSome source.contents (λ c. AppendsPrefix before (records_in width (section_cells source section c)) after)
+
+-- the records of all sections in their widths do, or a prefix of them
+abbrev pub AppendsSections : Source → List Width → Option (List ℕ) → Option (List ℕ) → Type 0
+AppendsSections source widths before after =
+    IfSome source.contents (λ c. Appends before (section_records (plane_size source.shape) widths c.cells) after)
+
+abbrev pub AppendsPartOfSections : Source → List Width → Option (List ℕ) → Option (List ℕ) → Type 0
+AppendsPartOfSections source widths before after =
+    IfSome source.contents (λ c. AppendsPrefix before (section_records (plane_size source.shape) widths c.cells) after)
+
 -- ---- damage
 
 -- none of so many positions is damaged, by their row-major numbers from a first one on
@@ -53,6 +85,15 @@ TellsRepackDamage source (SourceDamaged number) =
     IfSome source.contents (λ c. (number < cell_count source.shape) × Contains c.damaged number)
 TellsRepackDamage source SinkFailed = Unit {0}
 TellsRepackDamage source OutOfMemory = Unit {0}
+
+-- what it says of the source of a row
+abbrev pub TellsDamageAt : List Row → ℕ → RepackFail → Type 0
+TellsDamageAt rows place = TellsRepackDamage (source_at rows place)
+
+-- a read of the source of a row fails only where its fault counter rises
+abbrev pub HasReadCause : {T : Type 0} → List Row → ℕ → List Row → Result T RepackFail → Type 0
+HasReadCause before place after result =
+    HasCauseOf SourceFailed (source_at before place).faults (source_at after place).faults result
 
 -- a refusal of a read
 abbrev pub IsReadRefusal : RepackFail → Type 0
@@ -73,7 +114,25 @@ pub record AreWidthsOf (shape : Dimensions) (contents : Contents) (widths : List
   pub least : AreLeastWidths (plane_size shape) widths contents.cells
   pub undamaged : AreUndamaged contents 0 (cell_count shape)
 
+-- where the cells of a source are visible, the widths are those of its sections, or the width is that of one
+abbrev pub HasWidths : Source → List Width → Type 0
+HasWidths source widths = IfSome source.contents (λ c. AreWidthsOf source.shape c widths)
+
+abbrev pub HasSectionWidth : Source → ℕ → Width → Type 0
+HasSectionWidth source section width =
+    IfSome source.contents (λ c. IsWidthFrom c (section * plane_size source.shape) (plane_size source.shape) width)
+
 -- ---- the parts of a section
+
+-- where the cells of a source are visible, these are those on a window
+abbrev pub GivesCells : Source → Window → List Cell → Type 0
+GivesCells source window cells = IfSome source.contents (λ c. AreCellsOf source.shape c window cells)
+
+-- there is a section of this number in the source of a row, and a number for the one behind it
+pub record IsSectionAt (rows : List Row) (place section : ℕ) : Type 0 where
+  pub mounted : place < length rows
+  pub below : section < extent (source_at rows place).shape.t
+  pub last : section < 2 ^ 32 - 1
 
 -- how many indices a section of a cube has along bands, y and x
 pub record AreSidesOf (d : Dimensions) (sides : Sides) : Type 0 where

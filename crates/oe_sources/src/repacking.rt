@@ -1,15 +1,12 @@
 // Mounted collections written as cube files.
-ghost use Rattle.std.specs.Prelude.{◌≡◌, ◌≢◌, ◌≤◌, ◌<◌, ◌^◌, ◌+◌, ◌-◌, ◌*◌, length, take, drop, true, vec_len, ◌↔◌, IsTrue, IfErr, IfOk, IfSome, OnOk};
+ghost use Rattle.std.specs.Prelude.{◌≡◌, ◌≢◌, ◌≤◌, ◌<◌, ◌^◌, ◌+◌, ◌-◌, ◌*◌, length, take, true, vec_len, ◌↔◌, IsTrue, IfErr, IfOk, OnOk};
 ghost use Rattle.oe_dims.specs.Dimensions.{extent, most_labels};
 ghost use Rattle.oe_dims.specs.Names.{is_name};
 ghost use Rattle.oe_outside.specs.Faults.{HasCauseOf};
-ghost use Rattle.oe_outside.specs.Visible.{Appends, AppendsPrefix};
 ghost use Rattle.oe_sources.specs.Catalogue.{OnlyReads, source_at};
 ghost use Rattle.oe_sources.specs.CatalogueRows.{rows_in};
-ghost use Rattle.oe_sources.specs.Packed.{plane_size, section_records};
-ghost use Rattle.oe_sources.specs.Repacked.{AppendsRepacked, AreSidesOf, AreWidthsOf, IsNextPart, IsReadRefusal, IsUndamaged, IsWidthFrom, LeavesWritten, TellsRepackDamage};
-ghost use Rattle.oe_sources.specs.Source.{AreCellsOf};
-ghost use Rattle.oe_wide.specs.Wide.{AllFitIn, records_in};
+ghost use Rattle.oe_sources.specs.Repacked.{AppendsPartOfSection, AppendsPartOfSections, AppendsRepacked, AppendsSection, AppendsSections, AreSidesOf, FitsSection, GivesCells, HasReadCause, HasSectionWidth, HasWidths, IsNextPart, IsReadRefusal, IsSectionAt, IsUndamaged, LeavesWritten, TellsDamageAt};
+ghost use Rattle.oe_wide.specs.Wide.{AllFitIn};
 ghost use Rattle.oe_window.specs.Windows.{Holds, extent_along, position_count, whole_window};
 
 use crate::head::section_count;
@@ -67,16 +64,13 @@ pub fn repack<O: Sink, G: Gate>(
     requires mounted { place < length (rows_in seen catalogue.old) }
     requires id { is_name id.now ≡ true }
     ensures written { OnOk result (AppendsRepacked id.now
-        (source_at (rows_in seen catalogue.old) place)
-        (O.written out.old) (O.written out.new)) }
+        (source_at (rows_in seen catalogue.old) place) (O.written out.old) (O.written out.new)) }
     ensures undamaged { OnOk result (IsUndamaged (source_at (rows_in seen catalogue.old) place)) }
     ensures left { IfErr result (LeavesWritten id.now (source_at (rows_in seen catalogue.old) place)
         (O.written out.old) (O.written out.new)) }
-    ensures damage { IfErr result
-        (TellsRepackDamage (source_at (rows_in seen catalogue.old) place)) }
-    ensures source { HasCauseOf RepackFail.SourceFailed
-        (source_at (rows_in seen catalogue.old) place).faults
-        (source_at (rows_in seen catalogue.new) place).faults result }
+    ensures damage { IfErr result (TellsDamageAt (rows_in seen catalogue.old) place) }
+    ensures source { HasReadCause (rows_in seen catalogue.old) place
+        (rows_in seen catalogue.new) result }
     ensures sink { HasCauseOf RepackFail.SinkFailed (O.faults out.old) (O.faults out.new) result }
     ensures only { OnlyReads (rows_in seen catalogue.old) place (rows_in seen catalogue.new) }
 {
@@ -128,15 +122,12 @@ fn find_widths<G: Gate>(
     requires enough { length cells.old ≡ 65536 }
     ensures counted { IfOk result (λ widths.
         length widths.items ≡ extent (source_at (rows_in seen catalogue.old) place).shape.t) }
-    ensures widths { IfOk result (λ widths.
-        IfSome (source_at (rows_in seen catalogue.old) place).contents (λ c. AreWidthsOf
-        (source_at (rows_in seen catalogue.old) place).shape c widths.items)) }
+    ensures widths { IfOk result
+        (λ widths. HasWidths (source_at (rows_in seen catalogue.old) place) widths.items) }
     ensures refusal { IfErr result (λ e. e ≢ RepackFail.SinkFailed) }
-    ensures damage { IfErr result
-        (TellsRepackDamage (source_at (rows_in seen catalogue.old) place)) }
-    ensures cause { HasCauseOf RepackFail.SourceFailed
-        (source_at (rows_in seen catalogue.old) place).faults
-        (source_at (rows_in seen catalogue.new) place).faults result }
+    ensures damage { IfErr result (TellsDamageAt (rows_in seen catalogue.old) place) }
+    ensures cause { HasReadCause (rows_in seen catalogue.old) place
+        (rows_in seen catalogue.new) result }
     ensures only { OnlyReads (rows_in seen catalogue.old) place (rows_in seen catalogue.new) }
     ensures room { length cells.new ≡ length cells.old }
 {
@@ -163,20 +154,14 @@ fn section_width(
     section: u32,
     cells: &mut [Cell],
 ) -> Result<Width, RepackFail>
-    requires mounted { place < length (rows_in seen catalogue.old) }
-    requires section { section < extent (source_at (rows_in seen catalogue.old) place).shape.t }
-    requires last { section < 2 ^ 32 - 1 }
+    requires section { IsSectionAt (rows_in seen catalogue.old) place section }
     requires enough { length cells.old ≡ 65536 }
-    ensures width { IfOk result (λ width.
-        IfSome (source_at (rows_in seen catalogue.old) place).contents (λ c. IsWidthFrom c
-        (section * plane_size (source_at (rows_in seen catalogue.old) place).shape)
-        (plane_size (source_at (rows_in seen catalogue.old) place).shape) width)) }
+    ensures width { IfOk result
+        (HasSectionWidth (source_at (rows_in seen catalogue.old) place) section) }
     ensures refusal { IfErr result IsReadRefusal }
-    ensures damage { IfErr result
-        (TellsRepackDamage (source_at (rows_in seen catalogue.old) place)) }
-    ensures cause { HasCauseOf RepackFail.SourceFailed
-        (source_at (rows_in seen catalogue.old) place).faults
-        (source_at (rows_in seen catalogue.new) place).faults result }
+    ensures damage { IfErr result (TellsDamageAt (rows_in seen catalogue.old) place) }
+    ensures cause { HasReadCause (rows_in seen catalogue.old) place
+        (rows_in seen catalogue.new) result }
     ensures only { OnlyReads (rows_in seen catalogue.old) place (rows_in seen catalogue.new) }
     ensures room { length cells.new ≡ length cells.old }
 {
@@ -209,26 +194,18 @@ fn write_all<O: Sink, G: Gate>(
     requires mounted { place < length (rows_in seen catalogue.old) }
     requires counted { length widths.now
         ≡ extent (source_at (rows_in seen catalogue.old) place).shape.t }
-    requires widths { IfSome (source_at (rows_in seen catalogue.old) place).contents
-        (λ c. AreWidthsOf (source_at (rows_in seen catalogue.old) place).shape c widths.now) }
+    requires widths { HasWidths (source_at (rows_in seen catalogue.old) place) widths.now }
     requires enough { length cells.old ≡ 65536 }
     requires buffer { vec_len buffer.old ≡ 65536 }
-    ensures written { OnOk result
-        (IfSome (source_at (rows_in seen catalogue.old) place).contents (λ c.
-        Appends (O.written out.old)
-        (section_records (plane_size (source_at (rows_in seen catalogue.old) place).shape)
-        widths.now c.cells) (O.written out.new))) }
-    ensures left { IfErr result (λ _.
-        IfSome (source_at (rows_in seen catalogue.old) place).contents (λ c.
-        AppendsPrefix (O.written out.old)
-        (section_records (plane_size (source_at (rows_in seen catalogue.old) place).shape)
-        widths.now c.cells) (O.written out.new))) }
+    ensures written { OnOk result (AppendsSections (source_at (rows_in seen catalogue.old) place)
+        widths.now (O.written out.old) (O.written out.new)) }
+    ensures left { IfErr result (λ _. AppendsPartOfSections
+        (source_at (rows_in seen catalogue.old) place)
+        widths.now (O.written out.old) (O.written out.new)) }
     ensures refusal { IfErr result (λ e. e ≢ RepackFail.OutOfMemory) }
-    ensures damage { IfErr result
-        (TellsRepackDamage (source_at (rows_in seen catalogue.old) place)) }
-    ensures source { HasCauseOf RepackFail.SourceFailed
-        (source_at (rows_in seen catalogue.old) place).faults
-        (source_at (rows_in seen catalogue.new) place).faults result }
+    ensures damage { IfErr result (TellsDamageAt (rows_in seen catalogue.old) place) }
+    ensures source { HasReadCause (rows_in seen catalogue.old) place
+        (rows_in seen catalogue.new) result }
     ensures sink { HasCauseOf RepackFail.SinkFailed (O.faults out.old) (O.faults out.new) result }
     ensures only { OnlyReads (rows_in seen catalogue.old) place (rows_in seen catalogue.new) }
 {
@@ -254,33 +231,19 @@ fn write_one<O: Sink>(
     cells: &mut [Cell],
     buffer: &mut Vec<u8>,
 ) -> Result<(), RepackFail>
-    requires mounted { place < length (rows_in seen catalogue.old) }
-    requires section { section < extent (source_at (rows_in seen catalogue.old) place).shape.t }
-    requires last { section < 2 ^ 32 - 1 }
-    requires fit { IfSome (source_at (rows_in seen catalogue.old) place).contents (λ c.
-        AllFitIn width (take (plane_size (source_at (rows_in seen catalogue.old) place).shape)
-        (drop (section * plane_size (source_at (rows_in seen catalogue.old) place).shape)
-        c.cells))) }
+    requires section { IsSectionAt (rows_in seen catalogue.old) place section }
+    requires fit { FitsSection (source_at (rows_in seen catalogue.old) place) section width }
     requires enough { length cells.old ≡ 65536 }
     requires buffer { vec_len buffer.old ≡ 65536 }
-    ensures written { OnOk result
-        (IfSome (source_at (rows_in seen catalogue.old) place).contents (λ c.
-        Appends (O.written out.old) (records_in width
-        (take (plane_size (source_at (rows_in seen catalogue.old) place).shape)
-        (drop (section * plane_size (source_at (rows_in seen catalogue.old) place).shape)
-        c.cells))) (O.written out.new))) }
-    ensures left { IfErr result (λ _.
-        IfSome (source_at (rows_in seen catalogue.old) place).contents (λ c.
-        AppendsPrefix (O.written out.old) (records_in width
-        (take (plane_size (source_at (rows_in seen catalogue.old) place).shape)
-        (drop (section * plane_size (source_at (rows_in seen catalogue.old) place).shape)
-        c.cells))) (O.written out.new))) }
+    ensures written { OnOk result (AppendsSection (source_at (rows_in seen catalogue.old) place)
+        section width (O.written out.old) (O.written out.new)) }
+    ensures left { IfErr result (λ _. AppendsPartOfSection
+        (source_at (rows_in seen catalogue.old) place)
+        section width (O.written out.old) (O.written out.new)) }
     ensures refusal { IfErr result (λ e. e ≢ RepackFail.OutOfMemory) }
-    ensures damage { IfErr result
-        (TellsRepackDamage (source_at (rows_in seen catalogue.old) place)) }
-    ensures source { HasCauseOf RepackFail.SourceFailed
-        (source_at (rows_in seen catalogue.old) place).faults
-        (source_at (rows_in seen catalogue.new) place).faults result }
+    ensures damage { IfErr result (TellsDamageAt (rows_in seen catalogue.old) place) }
+    ensures source { HasReadCause (rows_in seen catalogue.old) place
+        (rows_in seen catalogue.new) result }
     ensures sink { HasCauseOf RepackFail.SinkFailed (O.faults out.old) (O.faults out.new) result }
     ensures only { OnlyReads (rows_in seen catalogue.old) place (rows_in seen catalogue.new) }
     ensures room { length cells.new ≡ length cells.old }
@@ -328,16 +291,12 @@ fn read_part(
         (whole_window (source_at (rows_in seen catalogue.old) place).shape) window.now }
     requires few { position_count window.now ≤ length cells.old }
     ensures counted { IfOk result (λ count. count ≡ position_count window.now) }
-    ensures given { IfOk result (λ count.
-        IfSome (source_at (rows_in seen catalogue.old) place).contents (λ c. AreCellsOf
-        (source_at (rows_in seen catalogue.old) place).shape c window.now
-        (take count cells.new))) }
+    ensures given { IfOk result (λ count. GivesCells
+        (source_at (rows_in seen catalogue.old) place) window.now (take count cells.new)) }
     ensures refusal { IfErr result IsReadRefusal }
-    ensures damage { IfErr result
-        (TellsRepackDamage (source_at (rows_in seen catalogue.old) place)) }
-    ensures cause { HasCauseOf RepackFail.SourceFailed
-        (source_at (rows_in seen catalogue.old) place).faults
-        (source_at (rows_in seen catalogue.new) place).faults result }
+    ensures damage { IfErr result (TellsDamageAt (rows_in seen catalogue.old) place) }
+    ensures cause { HasReadCause (rows_in seen catalogue.old) place
+        (rows_in seen catalogue.new) result }
     ensures only { OnlyReads (rows_in seen catalogue.old) place (rows_in seen catalogue.new) }
     ensures room { length cells.new ≡ length cells.old }
 {

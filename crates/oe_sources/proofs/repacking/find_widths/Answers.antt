@@ -17,8 +17,15 @@ loop-section-init g c = record {
   widths = widths_begin _ _ _ c.in-Ok.ensures.items;
 }
 
-pub section_width-requires-clause-mounted : goal.section_width-requires-clause-mounted
-section_width-requires-clause-mounted g c = still_mounted _ _ c.args.place c.loop-section.invariant.reads c.requires.mounted
+pub section_width-requires-clause-section : goal.section_width-requires-clause-section
+section_width-requires-clause-section g c =
+    let reads = c.loop-section.invariant.reads in
+    let count : c.section_count-count.result ≡ extent c.shape.result.now.t = c.section_count-count.ensures in
+    record {
+      mounted = still_mounted _ _ c.args.place reads c.requires.mounted;
+      below = omega (arith, c.loop-section-test.true, count, ap (λ (d : Dimensions). extent d.t) c.shape.ensures.value, ap (λ (d : Dimensions). extent d.t) reads.shape);
+      last = omega (arith, c.loop-section-test.true);
+    }
 
 pub returns-in_err-width-clause-only : goal.returns-in_err-width-clause-only
 returns-in_err-width-clause-only g c = reads_on _ _ _ c.args.place c.loop-section.invariant.reads c.section_width.ensures.only

@@ -13,7 +13,7 @@ loop-done-init g c = record {
 }
 
 pub read_part-requires-clause-mounted : goal.read_part-requires-clause-mounted
-read_part-requires-clause-mounted g c = still_mounted _ _ c.args.place c.loop-done.invariant.reads c.requires.mounted
+read_part-requires-clause-mounted g c = still_mounted _ _ c.args.place c.loop-done.invariant.reads c.requires.section.mounted
 
 pub returns-in-Err-clause-only : goal.returns-in-Err-clause-only
 returns-in-Err-clause-only g c = reads_on _ _ _ c.args.place c.loop-done.invariant.reads c.read_part.ensures.only
@@ -34,7 +34,7 @@ loop-done-preserved g c =
       width = width_goes _ _ s c.args.section c.loop-done.done part (take count cells) c.loop-done.width c.common_width.result c.wider-width.result
           (cells_counted _ _ _ c.shape.ensures.sound)
           (subst (λ (d : Dimensions). AreSidesOf d s) c.shape.ensures.value c.sides_of-sides.ensures)
-          next c.requires.section
+          next c.requires.section.below
           (given_before _ _ c.args.place reads part.window (take count cells) c.in-Ok.ensures.given)
           c.wider-width.ensures c.common_width.ensures c.loop-done.invariant.width;
     }

@@ -18,8 +18,15 @@ loop-section-init g c = record {
   written = sections_begin _ _ 0 c.args.widths.now;
 }
 
-pub write_one-requires-clause-mounted : goal.write_one-requires-clause-mounted
-write_one-requires-clause-mounted g c = still_mounted _ _ c.args.place c.loop-section.invariant.reads c.requires.mounted
+pub write_one-requires-clause-section : goal.write_one-requires-clause-section
+write_one-requires-clause-section g c =
+    let reads = c.loop-section.invariant.reads in
+    let count : c.section_count-count.result ≡ extent c.shape.result.now.t = c.section_count-count.ensures in
+    record {
+      mounted = still_mounted _ _ c.args.place reads c.requires.mounted;
+      below = omega (arith, c.loop-section-test.true, count, ap (λ (d : Dimensions). extent d.t) c.shape.ensures.value, ap (λ (d : Dimensions). extent d.t) reads.shape);
+      last = omega (arith, c.loop-section-test.true);
+    }
 
 pub write_one-requires-clause-fit : goal.write_one-requires-clause-fit
 write_one-requires-clause-fit g c =

@@ -17,7 +17,7 @@ loop-done-init g c = record {
 }
 
 pub read_part-requires-clause-mounted : goal.read_part-requires-clause-mounted
-read_part-requires-clause-mounted g c = still_mounted _ _ c.args.place c.loop-done.invariant.reads c.requires.mounted
+read_part-requires-clause-mounted g c = still_mounted _ _ c.args.place c.loop-done.invariant.reads c.requires.section.mounted
 
 pub returns-in-Err-clause-left : goal.returns-in-Err-clause-left
 returns-in-Err-clause-left g c = records_left _ _ _ (c.loop-done.done * c.sides_of-sides.result.x) c.args.width _ _ c.loop-done.invariant.written
@@ -40,7 +40,7 @@ returns-then-not-all_fit-clause-damage g c =
     part_fits_width _ _ s c.args.section c.loop-done.done part cells c.args.width
     (cells_counted _ _ _ c.shape.ensures.sound)
     (subst (λ (d : Dimensions). AreSidesOf d s) c.shape.ensures.value c.sides_of-sides.ensures)
-    c.part_from-part.ensures c.requires.section
+    c.part_from-part.ensures c.requires.section.below
     (given_before _ _ c.args.place reads part.window cells c.in-Ok.ensures.given)
     c.requires.fit (λ (fit : AllFitIn c.args.width cells). cc (c.all_fit.ensures.1 fit, c.if-not-all_fit.true)) _
 
@@ -56,7 +56,7 @@ returns-in-Err-write_section-clause-left g c =
     records_stop _ _ s c.args.section c.loop-done.done part cells c.args.width _ _ _
     (cells_counted _ _ _ c.shape.ensures.sound)
     (subst (λ (d : Dimensions). AreSidesOf d s) c.shape.ensures.value c.sides_of-sides.ensures)
-    c.part_from-part.ensures c.requires.section
+    c.part_from-part.ensures c.requires.section.below
     (given_before _ _ c.args.place reads part.window cells c.in-Ok.ensures.given)
     c.loop-done.invariant.written c.in-Err-write_section.ensures.prefix
 
@@ -80,7 +80,7 @@ loop-done-preserved g c =
       written = records_go _ _ s c.args.section c.loop-done.done part cells c.args.width _ _ _
           (cells_counted _ _ _ c.shape.ensures.sound)
           (subst (λ (d : Dimensions). AreSidesOf d s) c.shape.ensures.value c.sides_of-sides.ensures)
-          next c.requires.section
+          next c.requires.section.below
           (given_before _ _ c.args.place reads part.window cells c.in-Ok.ensures.given)
           c.loop-done.invariant.written c.in-Ok-write_section.ensures.appended;
     }
