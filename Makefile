@@ -35,6 +35,7 @@ examples:
 	@[ -z '$(STANDING)' ] || examples/edges $(STANDING)
 	@[ -z '$(STANDING)' ] || ! command -v $(PYTHON) > /dev/null || $(PYTHON) examples/progress $(STANDING)
 	@[ -z '$(STANDING)' ] || ! command -v $(PYTHON) > /dev/null || $(PYTHON) -B examples/parts $(STANDING)
+	@[ -z '$(STANDING)' ] || ! command -v $(PYTHON) > /dev/null || $(PYTHON) -B examples/workers $(STANDING)
 	@[ -z '$(STANDING)' ] || ! command -v $(PYTHON) > /dev/null || $(PYTHON) examples/client-check $(STANDING)
 	@[ -z '$(STANDING)' ] || ! command -v curl > /dev/null || examples/service/session $(STANDING)
 	@[ -z '$(STANDING)' ] || ! command -v curl > /dev/null || examples/service/replies $(STANDING) > /dev/null
