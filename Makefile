@@ -18,7 +18,8 @@ help:
 	@echo 'make run       runs the program on examples/graphs/greenest.json and prints the text of the result, and a table'
 	@echo 'make examples  runs all graphs of examples/graphs against their texts; the proved program at its edges, as client and server'
 	@echo 'make program   proves and builds the program, by as many processes as there are processors'
-	@echo 'make bench     runs the proved program on a year of 12 dates, 4 bands and 1000 x 1000 pixels (needs python3)'
+	@echo 'make bench     runs the proved program on a year of 12 dates, 4 bands and 1000 x 1000 pixels (needs python3), and'
+	@echo '               where there is xarray the same work by that'
 	@echo 'make test      the gate: every proof, edits that must be refused, every test, the program by two compilers'
 	@echo 'make tools-test  tests tools/cubes (needs python3); a part of `make test`'
 	@echo 'make edits     tries all edits that must be refused; with CRATE=oe_cell those of a crate'
@@ -48,8 +49,10 @@ program:
 	{ tools/prove openeo $(JOBS) && cd crates/openeo && rt run --jobs $(JOBS) -- --version; } > $(LOG) 2>&1 \
 	  || { echo 'the program was not built' >&2; exit 1; }
 
+# Where Python has xarray, dask and scipy, the same work in floating point stands below.
 bench: program
-	@bench/year.py $(PROGRAM)
+	@$(PYTHON) -B bench/year.py $(PROGRAM)
+	@! $(PYTHON) -c 'import dask.array, scipy.ndimage, xarray' 2> /dev/null || $(PYTHON) -B bench/year_xarray.py 4
 
 # The gate: every proof, the edits *.edit that must be refused, every test, and the program twice. Beside it the tool that
 # takes cubes in and out, of which nothing is proved.
