@@ -1,4 +1,8 @@
-"""The order in which `tools/prove` proves crates, and when it stops, by an `rt` that only writes down how it is called."""
+"""The order in which `tools/prove` proves crates, where, and when it stops, by an `rt` that proves nothing.
+
+It writes down how it is called, wants the libraries of its crate where it works, and that no other works there, and
+makes a library of one more line than the last time.
+"""
 import os
 import shutil
 import subprocess
@@ -9,8 +13,19 @@ from common import ROOT
 
 RT = """#!/bin/sh
 crate=$(basename "$PWD")
+for it in $(sed -n "s/:.*//p" ../../crates.txt | grep -v "#"); do
+  [ -d "../$it/src" ] || { echo "no folder of $it"; exit 1; }
+done
+mkdir ../../busy || exit 1
 echo "$crate $*" >> "$CALLS"
+for it in $(sed -n "s/^$crate://p" ../../crates.txt); do
+  [ "$it" = kit_crate ] || [ -s ../$it/out/rlib/$it ] || { echo "no library $it for $crate"; exit 1; }
+done
+sleep 0.2
+rmdir ../../busy
 [ "$crate" != "$FAILS" ] || { echo "no proof of $crate"; exit 1; }
+mkdir -p out/rlib
+echo built >> out/rlib/$crate
 """
 # A diamond with a crate beside it: `app` stands on all but `other`, `long` has the longest chain behind it.
 CRATES = """# what each crate stands on
@@ -63,10 +78,22 @@ class Prove(unittest.TestCase):
         self.assertEqual(calls, wanted)
 
     def test_processors(self):
-        """Eight processors: one crate takes four, which is the most; of six that two wait for, each takes three."""
+        """Of eight one crate takes four, the most; of six that two wait for each takes three, of three the longest chain two."""
         self.assertEqual(self.prove("app", "8")[3][0], "low lib --jobs 4")
         calls = self.prove("app", "6")[3]
         self.assertEqual((calls[0], sorted(calls[1:3])), ("low lib --jobs 4", ["long lib --jobs 3", "short lib --jobs 3"]))
+        calls = self.prove("app", "3")[3]
+        self.assertEqual((calls[0], sorted(calls[1:3])), ("low lib --jobs 3", ["long lib --jobs 2", "short lib --jobs 1"]))
+
+    def test_libraries(self):
+        """Each crate has its libraries, what it made stands in its own out/, and is there again the next time; no copy is left."""
+        for times in (1, 2):
+            status, out, said, calls = self.prove("app", "3")
+            self.assertEqual((status, said, len(calls)), (0, "", 4), out)
+            for crate in ("low", "long", "above", "short"):
+                with open(f"{self.root}/crates/{crate}/out/rlib/{crate}", encoding="utf-8") as file:
+                    self.assertEqual(file.read(), times * "built\n")
+            self.assertEqual(os.listdir(f"{self.root}/crates/app/out"), [])
 
     def test_failure(self):
         """What stands on a crate that is not proved is not begun, and what rt said of it is printed."""
