@@ -2,9 +2,9 @@
 use Rattle.std.proofs.Common.{◌≡◌, ℕ, zero, suc, ◌+◌, ◌<◌, ◌⊎◌, inl, inr, List, [], ◌∷◌, ◌++◌, Option, None, length, map, take, get_or, slice_index_or, refl, sym, ap, ◌∙◌, subst, Contains, arith}
 use Rattle.std.proofs.lemmas.List.{take_more}
 use Rattle.std.proofs.lemmas.List.Elements.{Contains-append_left, Contains-push, Contains-push_cases}
-use Rattle.oe_graph.specs.Faults.{least}
+use Rattle.oe_graph.specs.Faults.{least, IsLeastFault}
 use Rattle.oe_graph.specs.declared.fault.Fault.{Fault}
-use Rattle.oe_graph.proofs.LeastLemmas.{IsLeastOf, IsLeastOf-iff, IsLeastOf-least, Either, OneOf}
+use Rattle.oe_graph.proofs.LeastLemmas.{IsLeastFault-iff, IsLeastFault-least, Either, OneOf}
 
 module _ {X : Type 0} where
   pub first_there : (x : X) (xs : List X) → Contains (x ∷ xs) x
@@ -80,15 +80,15 @@ module _ {X : Type 0} (Of : X → Fault → Type 0) where
   out : (xs : List X) (x : X) (f : Fault) → OneOf Of (xs ++ x ∷ []) f → Either (OneOf Of xs) (Of x) f
   out xs x f o = out_by xs x f o.one o.has (Contains-push_cases xs x o.one o.is_there)
 
-  pub least_none : IsLeastOf (OneOf Of []) None
+  pub least_none : IsLeastFault (OneOf Of []) None
   least_none = λ f o. absurd (none_there o.one o.is_there)
 
   pub least_more : (xs : List X) (i : ℕ) (x : X) (found new : Option Fault) → i < length xs → x ≡ get_or xs i x
-      → IsLeastOf (OneOf Of (take i xs)) found → IsLeastOf (Of x) new
-      → IsLeastOf (OneOf Of (take (i + 1) xs)) (least found new)
+      → IsLeastFault (OneOf Of (take i xs)) found → IsLeastFault (Of x) new
+      → IsLeastFault (OneOf Of (take (i + 1) xs)) (least found new)
   least_more xs i x found new more is p q =
-      subst (λ ys. IsLeastOf (OneOf Of ys) (least found new))
+      subst (λ ys. IsLeastFault (OneOf Of ys) (least found new))
       (sym (take_pushed xs i x more is))
-      (IsLeastOf-iff (Either (OneOf Of (take i xs)) (Of x)) (OneOf Of (take i xs ++ x ∷ [])) (least found new)
+      (IsLeastFault-iff (Either (OneOf Of (take i xs)) (Of x)) (OneOf Of (take i xs ++ x ∷ [])) (least found new)
       (into (take i xs) x) (out (take i xs) x)
-      (IsLeastOf-least (OneOf Of (take i xs)) (Of x) found new p q))
+      (IsLeastFault-least (OneOf Of (take i xs)) (Of x) found new p q))

@@ -6,7 +6,7 @@ use Rattle.std.proofs.lemmas.Cmp.{nat_list_cmp_total, tied_itself}
 use Rattle.oe_dims.specs.Names.{is_name_before, names_rise}
 use Rattle.oe_dims.proofs.NameOrderLemmas.{tail_rises}
 use Rattle.oe_graph.specs.Codes.{phase_of, number_in_phase}
-use Rattle.oe_graph.specs.Faults.{is_before}
+use Rattle.oe_graph.specs.Faults.{is_before, IsLeastFault}
 use Rattle.oe_graph.specs.Plain.{plain_node, plain_nodes}
 use Rattle.oe_graph.specs.Printed.{ids_of}
 use Rattle.oe_graph.specs.References.{each_node}
@@ -15,9 +15,9 @@ use Rattle.oe_graph.specs.declared.code.Code.{Code}
 use Rattle.oe_graph.specs.declared.code.Code.TheVariants.{ProcessUnsupported, ProcessRecursive}
 use Rattle.oe_graph.specs.declared.fault.Fault.{Fault}
 use Rattle.oe_graph.specs.declared.tree.Node.{Node}
-use Rattle.oe_graph.proofs.LeastLemmas.{IsLeastOf, IsLeastOf-iff, before_not_after, not_before_itself}
+use Rattle.oe_graph.proofs.LeastLemmas.{IsLeastFault-iff, before_not_after, not_before_itself}
 use Rattle.oe_calls.specs.Faults as faults
-use Rattle.oe_calls.specs.Faults.{StandsWithStored, IsLeastFault}
+use Rattle.oe_calls.specs.Faults.{StandsWithStored}
 use Rattle.oe_calls.specs.Reached.{IsCallFault, IsCodeOf, unsupported, recursive, faultless, IsUnsupported, IsRecursive}
 use Rattle.oe_calls.proofs.Along.{first_there, later_there, none_there, there_cases, map_there}
 use Rattle.oe_graph.proofs.ReferenceGraphLemmas.{each_nodes}
@@ -95,10 +95,10 @@ module _ (stored : List PlainStored) where
   ]
 
   pub first_least : (ns : List PlainNode) (o : Option Fault) → names_rise (map (λ (n : PlainNode). n.id) ns) ≡ true → First ns o
-      → IsLeastOf (OfCalls ns) o
+      → IsLeastFault (OfCalls ns) o
   first_least ns o rise at_end = λ f c. none_there c.node c.is_node
   first_least ns o rise (skip {n = n} {ns = ms} fine rest) =
-      IsLeastOf-iff (OfCalls ms) (OfCalls (n ∷ ms)) o (further n ms) (λ f c. later_only n ms f fine c)
+      IsLeastFault-iff (OfCalls ms) (OfCalls (n ∷ ms)) o (further n ms) (λ f c. later_only n ms f fine c)
       (first_least ms o (tail_rises n.id (map (λ (m : PlainNode). m.id) ms) rise) rest)
   first_least ns o rise (here {n = n} {ns = ms} {code = code} is) = (
     record { node = n; is_node = first_there n ms; at = refl; has = has_code n code is },
@@ -149,9 +149,9 @@ module _ (stored : List PlainStored) where
       subst (λ xs. StandsWithStored stored g f.code xs) (sym c.at) (stands_by c.node f.code c.is_node c.has),
     )
 
-    pub call_least : (o : Option Fault) → IsLeastOf (OfCalls (each_node g.nodes)) o → IsLeastFault (IsCallFault stored g) o
+    pub call_least : (o : Option Fault) → IsLeastFault (OfCalls (each_node g.nodes)) o → IsLeastFault (IsCallFault stored g) o
     call_least o is =
-        IsLeastOf-iff (OfCalls (each_node g.nodes)) (IsCallFault stored g) o fault_of
+        IsLeastFault-iff (OfCalls (each_node g.nodes)) (IsCallFault stored g) o fault_of
         (λ f c. call_of f.code f.node c.1 c.0) is
 
 pub ids_are : (ns : List PlainNode) → ids_of (nodes_from_list ns) ≡ map (λ (n : PlainNode). n.id) ns
@@ -162,6 +162,6 @@ pub first_call : (stored : List PlainStored) (g : PlainGraph) (ns : List Node) (
     → names_rise (ids_of g.nodes) ≡ true → First stored (map plain_node ns) o → IsLeastFault (IsCallFault stored g) o
 first_call stored g ns o is rise first =
     let each : each_node g.nodes ≡ map plain_node ns = ap each_node is ∙ each_nodes (map plain_node ns) in
-    call_least stored g o (subst (λ (ms : List PlainNode). IsLeastOf (OfCalls stored ms) o) (sym each)
+    call_least stored g o (subst (λ (ms : List PlainNode). IsLeastFault (OfCalls stored ms) o) (sym each)
     (first_least stored (map plain_node ns) o
     (sym (ap names_rise (ap ids_of is ∙ ids_are (map plain_node ns))) ∙ rise) first))

@@ -1,6 +1,6 @@
 -- Where each fault of the processes that a graph calls, of its size and of its names stands: one case for each row of
 -- the table of faults.
-use Rattle.std.specs.Prelude.{◌≡◌, ◌<◌, ℕ, Bool, false, List, [], ◌∷◌, length, map, Some, None, Contains, Option}
+use Rattle.std.specs.Prelude.{◌≡◌, ◌<◌, ℕ, Bool, false, List, [], ◌∷◌, length, map, Some, None, Contains}
 use Rattle.oe_graph.specs.Form.{node_name, callback_name}
 use Rattle.oe_graph.specs.Printed.{ids_of, names_of, node_count}
 use Rattle.oe_graph.specs.References.{each_node, references_named, parameters_named, callbacks_in, callbacks_named, Leads}
@@ -10,8 +10,6 @@ use Rattle.oe_graph.specs.declared.code.Code.{Code}
 use Rattle.oe_graph.specs.declared.code.Code.TheVariants.{ProcessUnsupported, ProcessRecursive, GraphTooLarge, ArgumentUnknown, ProcessParameterMissing, ParameterUnknown, NodeUnknown, GraphCycle}
 use Rattle.oe_calls.specs.Calls.{callee, may_stand, parameters_of, Brings, ReachesProcess, CallsReach}
 use Rattle.oe_calls.specs.Rounds.{expanded_by, expanded}
-use Rattle.oe_graph.specs.Faults.{is_before}
-use Rattle.oe_graph.specs.declared.fault.Fault.{Fault}
 
 -- most nodes of an expanded main graph, and of an expanded callback
 abbrev pub most_main_nodes : ℕ
@@ -100,10 +98,3 @@ pub data StandsWithStored (stored : List PlainStored) (g : PlainGraph) : Code �
   graph_cycle : {n : PlainNode} {name : List ℕ} (has : HasNode stored (expanded stored g) n name)
       → Leads has.object n.id n.id
       → StandsWithStored stored g GraphCycle name
-
--- ---- the least fault
-
--- an answer is the least of the faults that a predicate has, or none where it has none
-abbrev pub IsLeastFault : (Fault → Type 0) → Option Fault → Type 0
-IsLeastFault P None = (f : Fault) → ¬ P f
-IsLeastFault P (Some f) = P f × ((g : Fault) → P g → is_before g f ≡ false)

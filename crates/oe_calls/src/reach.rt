@@ -7,7 +7,7 @@ ghost use Rattle.oe_graph.specs.Plain.{plain_arg, plain_args, plain_graph, plain
 ghost use Rattle.oe_order.specs.Graph.{graph_of, RefersWithin};
 ghost use Rattle.oe_order.specs.Order.{contains};
 ghost use Rattle.oe_calls.specs.HasCall as spec;
-ghost use Rattle.oe_calls.specs.Faults.{IsLeastFault};
+ghost use Rattle.oe_graph.specs.Faults.{IsLeastFault};
 ghost use Rattle.oe_calls.specs.Reached as reached;
 ghost use Rattle.oe_graph.specs.Valid.{AreValidStored};
 

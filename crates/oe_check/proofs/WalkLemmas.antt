@@ -4,7 +4,7 @@ use Rattle.std.proofs.Common.{◌≡◌, ◌≢◌, ◌⊎◌, inl, inr, ℕ, ze
 use Rattle.std.proofs.lemmas.Bool.{cases_eq}
 use Rattle.std.proofs.lemmas.Option.{slice_get-get_or}
 use Rattle.oe_dims.specs.declared.dims.DimsRow.{DimsRow}
-use Rattle.oe_graph.specs.Faults.{IsLeast, is_before, least}
+use Rattle.oe_graph.specs.Faults.{IsLeast, is_before, least, IsLeastFault}
 use Rattle.oe_graph.specs.Plain.{plain_nodes}
 use Rattle.oe_graph.specs.Printed.{node_count}
 use Rattle.oe_graph.specs.Indices.{reference_graph}
@@ -15,7 +15,7 @@ use Rattle.oe_graph.specs.declared.fault.Fault.{Fault}
 use Rattle.oe_graph.specs.declared.tree.Node.{Node}
 use Rattle.oe_order.specs.Graph.{graph_of}
 use Rattle.oe_order.specs.declared.Links.{Links}
-use Rattle.oe_graph.proofs.LeastLemmas.{IsLeastOf, IsLeastOf-iff, IsLeastOf-least, Either}
+use Rattle.oe_graph.proofs.LeastLemmas.{IsLeastFault-iff, IsLeastFault-least, Either}
 use Rattle.oe_expr.proofs.NodeLemmas.{node_is, index_of_node}
 use Rattle.oe_expr.proofs.StateLemmas.{within_nodes}
 use Rattle.oe_meanings.specs.Graphs.{outline_at, operation_at}
@@ -240,16 +240,16 @@ module _ (rows : List DimsRow) (nodes : Nodes) (is : AreResolved nodes) where
             let same : n ≡ m = one_node nodes is n index m at is_named in
             clean fault.code fault.node (subst (λ (x : PlainNode). StandsHere rows (outline_at rows nodes) x fault.code fault.node) same s)
 
-        to_of : (s : List State) (o : Option Fault) → IsLeastSeen rows nodes s o → IsLeastOf (StandsSeen rows nodes s) o
+        to_of : (s : List State) (o : Option Fault) → IsLeastSeen rows nodes s o → IsLeastFault (StandsSeen rows nodes s) o
         to_of s None h = h
         to_of s (Some f) h = h
 
-        of_to : (s : List State) (o : Option Fault) → IsLeastOf (StandsSeen rows nodes s) o → IsLeastSeen rows nodes s o
+        of_to : (s : List State) (o : Option Fault) → IsLeastFault (StandsSeen rows nodes s) o → IsLeastSeen rows nodes s o
         of_to s None h = h
         of_to s (Some f) h = h
 
         module _ (fault : Fault) (stands : IsLeast (StandsHere rows (outline_at rows nodes) n) fault) where
-          least_here : IsLeastOf (λ (f : Fault). StandsAt rows nodes n.id f.code f.node) (Some fault)
+          least_here : IsLeastFault (λ (f : Fault). StandsAt rows nodes n.id f.code f.node) (Some fault)
           least_here = (
             stands_here sound_so fault.code fault.node stands.stands,
             λ other s. stands.least other (here_stands other.code other.node s),
@@ -258,9 +258,9 @@ module _ (rows : List DimsRow) (nodes : Nodes) (is : AreResolved nodes) where
           new_least : IsLeastSeen rows nodes (set states index Faulty) (least found (Some fault))
           new_least =
               of_to (set states index Faulty) (least found (Some fault))
-              (IsLeastOf-iff (Either (StandsSeen rows nodes states) (λ (f : Fault). StandsAt rows nodes n.id f.code f.node))
+              (IsLeastFault-iff (Either (StandsSeen rows nodes states) (λ (f : Fault). StandsAt rows nodes n.id f.code f.node))
               (StandsSeen rows nodes (set states index Faulty)) (least found (Some fault)) there (λ f s. which Faulty f s)
-              (IsLeastOf-least (StandsSeen rows nodes states) (λ (f : Fault). StandsAt rows nodes n.id f.code f.node) found (Some fault)
+              (IsLeastFault-least (StandsSeen rows nodes states) (λ (f : Fault). StandsAt rows nodes n.id f.code f.node) found (Some fault)
               (to_of states found w.least) least_here))
             where
               there : (f : Fault) → Either (StandsSeen rows nodes states) (λ (g : Fault). StandsAt rows nodes n.id g.code g.node) f

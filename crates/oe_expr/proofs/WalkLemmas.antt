@@ -7,7 +7,7 @@ use Rattle.std.proofs.lemmas.Option.{slice_get_within, slice_get-get_or}
 use Rattle.oe_cell.specs.declared.cell.Cell.{Cell}
 use Rattle.oe_dims.proofs.FlatMapLemmas.{slice_get-append_left}
 use Rattle.oe_dims.specs.declared.kind.CellKind.{CellKind}
-use Rattle.oe_graph.specs.Faults.{is_before, least}
+use Rattle.oe_graph.specs.Faults.{is_before, least, IsLeastFault}
 use Rattle.oe_graph.specs.Form as form
 use Rattle.oe_graph.specs.Plain.{plain_nodes}
 use Rattle.oe_graph.specs.Indices.{indices_named}
@@ -16,7 +16,7 @@ use Rattle.oe_graph.specs.Tree.{Nodes, PlainNode}
 use Rattle.oe_graph.specs.declared.code.Code.{Code}
 use Rattle.oe_graph.specs.declared.fault.Fault.{Fault}
 use Rattle.oe_graph.specs.declared.tree.Node.{Node}
-use Rattle.oe_graph.proofs.LeastLemmas.{IsLeastOf, IsLeastOf-iff, IsLeastOf-least, IsLeastOf-one, Either}
+use Rattle.oe_graph.proofs.LeastLemmas.{IsLeastFault-iff, IsLeastFault-least, IsLeastFault-one, Either}
 use Rattle.oe_graph.proofs.ReferenceGraphLemmas.{indices_from}
 use Rattle.oe_graph.proofs.ResolvedLemmas.{NodeAt, node_referred, node_below}
 use Rattle.oe_expr.specs.NodeKinds.{kind_at}
@@ -310,11 +310,11 @@ module _ (scope : PlainScope) (context : Cell) (nodes : List Node) (path : List 
       same_parts a b same_code same_node =
           ap (λ c. record { code = c; node = a.node }) same_code ∙ ap (λ m. record { code = b.code; node = m }) same_node
 
-      to_of : (s : List State) (o : Option Fault) → IsLeastSeen scope context nodes path s o → IsLeastOf (StandsSeen scope context nodes path s) o
+      to_of : (s : List State) (o : Option Fault) → IsLeastSeen scope context nodes path s o → IsLeastFault (StandsSeen scope context nodes path s) o
       to_of s None h = h
       to_of s (Some f) h = h
 
-      of_to : (s : List State) (o : Option Fault) → IsLeastOf (StandsSeen scope context nodes path s) o → IsLeastSeen scope context nodes path s o
+      of_to : (s : List State) (o : Option Fault) → IsLeastFault (StandsSeen scope context nodes path s) o → IsLeastSeen scope context nodes path s o
       of_to s None h = h
       of_to s (Some f) h = h
 
@@ -331,9 +331,9 @@ module _ (scope : PlainScope) (context : Cell) (nodes : List Node) (path : List 
           → IsLeastSeen scope context nodes path (set states index Faulty) (least found (Some fault))
       new_least fault stands named =
           of_to (set states index Faulty) (least found (Some fault))
-          (IsLeastOf-iff (Either (StandsSeen scope context nodes path states) (λ g. g ≡ fault)) (StandsSeen scope context nodes path (set states index Faulty))
+          (IsLeastFault-iff (Either (StandsSeen scope context nodes path states) (λ g. g ≡ fault)) (StandsSeen scope context nodes path (set states index Faulty))
           (least found (Some fault)) there back
-          (IsLeastOf-least (StandsSeen scope context nodes path states) (λ g. g ≡ fault) found (Some fault) (to_of states found w.least) (IsLeastOf-one fault)))
+          (IsLeastFault-least (StandsSeen scope context nodes path states) (λ g. g ≡ fault) found (Some fault) (to_of states found w.least) (IsLeastFault-one fault)))
         where
           here : StandsSeen scope context nodes path (set states index Faulty) fault
           here = record {

@@ -7,7 +7,7 @@ use Rattle.std.specs.Cmp.Lexicographic.{slice_cmp}
 use Rattle.std.specs.Ordering.{ordering_reverse, ordering_then, is_lt, is_gt}
 use Rattle.std.proofs.lemmas.Cmp.{upto, nat_cmp_total, nat_list_cmp_total, on_total, then_total, tied_itself}
 use Rattle.oe_graph.specs.Codes.{phase_of, number_in_phase}
-use Rattle.oe_graph.specs.Faults.{fault_cmp, is_before, least, least_from, IsLeast}
+use Rattle.oe_graph.specs.Faults.{fault_cmp, is_before, least, least_from, IsLeast, IsLeastFault}
 use Rattle.oe_graph.specs.declared.code.Code.{Code}
 use Rattle.oe_graph.specs.declared.code.Code.TheVariants.{InputTooLong, GraphUnreadable, ProcessGraphMissing, NodeInvalid, ResultNodeCount, ParametersInvalid, ProcessUnsupported, ProcessRecursive, GraphTooLarge, ArgumentUnknown, ProcessParameterMissing, ParameterUnknown, NodeUnknown, GraphCycle, ProcessParameterInvalid, CollectionNotFound, CrsUnsupported, FormatUnsupported, DimensionNotAvailable, TemporalExtentEmpty, BandFilterParameterMissing, BandNotAvailable, KernelDimensionsUneven, KernelTooLarge, DistinctDimensionLabelsRequired, MergeDimensionsDiffer, OverlapResolverMissing, MaskDimensionsDiffer, ArrayElementParameterMissing, ArrayElementParameterConflict, ArrayElementNotAvailable, CellKindInvalid, CubeTooLarge}
 use Rattle.oe_graph.specs.declared.fault.Fault.{Fault}
@@ -54,21 +54,16 @@ not_before_itself a = not_before_itself_by a (is_before a a) refl
 
 -- ---- the least of the faults that a predicate has
 
--- an answer is the least fault of those that stand, or none where none stands
-abbrev pub IsLeastOf : (Fault → Type 0) → Option Fault → Type 0
-IsLeastOf P None = (f : Fault) → ¬ P f
-IsLeastOf P (Some f) = P f × ((g : Fault) → P g → is_before g f ≡ false)
-
-pub IsLeastOf-iff : (P Q : Fault → Type 0) (o : Option Fault)
-    → ((f : Fault) → P f → Q f) → ((f : Fault) → Q f → P f) → IsLeastOf P o → IsLeastOf Q o
-IsLeastOf-iff P Q None there back none = λ f q. none f (back f q)
-IsLeastOf-iff P Q (Some f) there back least = (there f least.0, λ g q. least.1 g (back g q))
+pub IsLeastFault-iff : (P Q : Fault → Type 0) (o : Option Fault)
+    → ((f : Fault) → P f → Q f) → ((f : Fault) → Q f → P f) → IsLeastFault P o → IsLeastFault Q o
+IsLeastFault-iff P Q None there back none = λ f q. none f (back f q)
+IsLeastFault-iff P Q (Some f) there back least = (there f least.0, λ g q. least.1 g (back g q))
 
 abbrev pub Either : (Fault → Type 0) → (Fault → Type 0) → Fault → Type 0
 Either P Q f = P f ⊎ Q f
 
 both : (P Q : Fault → Type 0) (a b : Fault) (first : Bool) → is_before b a ≡ first
-    → IsLeastOf P (Some a) → IsLeastOf Q (Some b) → IsLeastOf (Either P Q) (if first then Some b else Some a)
+    → IsLeastFault P (Some a) → IsLeastFault Q (Some b) → IsLeastFault (Either P Q) (if first then Some b else Some a)
 both P Q a b true is p q = (
   inr q.0,
   λ g either. elim either [
@@ -84,24 +79,24 @@ both P Q a b false is p q = (
   ],
 )
 
-pub IsLeastOf-least : (P Q : Fault → Type 0) (a b : Option Fault)
-    → IsLeastOf P a → IsLeastOf Q b → IsLeastOf (Either P Q) (least a b)
-IsLeastOf-least P Q None None p q = λ f either. elim either [ inl left ↦ p f left | inr right ↦ q f right ]
-IsLeastOf-least P Q None (Some b) p q =
+pub IsLeastFault-least : (P Q : Fault → Type 0) (a b : Option Fault)
+    → IsLeastFault P a → IsLeastFault Q b → IsLeastFault (Either P Q) (least a b)
+IsLeastFault-least P Q None None p q = λ f either. elim either [ inl left ↦ p f left | inr right ↦ q f right ]
+IsLeastFault-least P Q None (Some b) p q =
     (inr q.0, λ g either. elim either [ inl left ↦ absurd (p g left) | inr right ↦ q.1 g right ])
-IsLeastOf-least P Q (Some a) None p q =
+IsLeastFault-least P Q (Some a) None p q =
     (inl p.0, λ g either. elim either [ inl left ↦ p.1 g left | inr right ↦ absurd (q g right) ])
-IsLeastOf-least P Q (Some a) (Some b) p q = both P Q a b (is_before b a) refl p q
+IsLeastFault-least P Q (Some a) (Some b) p q = both P Q a b (is_before b a) refl p q
 
 -- ---- what a least fault says
 
 abbrev pub Standing : (Code → List ℕ → Type 0) → Fault → Type 0
 Standing Stands f = Stands f.code f.node
 
-pub to_least : (Stands : Code → List ℕ → Type 0) (f : Fault) → IsLeastOf (Standing Stands) (Some f) → IsLeast Stands f
+pub to_least : (Stands : Code → List ℕ → Type 0) (f : Fault) → IsLeastFault (Standing Stands) (Some f) → IsLeast Stands f
 to_least Stands f is = record { stands = is.0; least = is.1 }
 
-pub of_least : (Stands : Code → List ℕ → Type 0) (f : Fault) → IsLeast Stands f → IsLeastOf (Standing Stands) (Some f)
+pub of_least : (Stands : Code → List ℕ → Type 0) (f : Fault) → IsLeast Stands f → IsLeastFault (Standing Stands) (Some f)
 of_least Stands f is = (is.stands, is.least)
 
 leads : (o p : Ordering) → Less ≡ o → is_lt (ordering_then o p) ≡ true
@@ -193,9 +188,9 @@ IsLeast-unique Stands a b one other = neither_before a b (other.least a one.stan
 -- ---- several phases
 
 -- a fault of an earlier phase hides all those of later ones
-pub IsLeastOf-earlier : (P Q : Fault → Type 0) (f : Fault) → IsLeastOf P (Some f)
-    → ((g : Fault) → Q g → phase_of f.code < phase_of g.code) → IsLeastOf (Either P Q) (Some f)
-IsLeastOf-earlier P Q f is later = (
+pub IsLeastFault-earlier : (P Q : Fault → Type 0) (f : Fault) → IsLeastFault P (Some f)
+    → ((g : Fault) → Q g → phase_of f.code < phase_of g.code) → IsLeastFault (Either P Q) (Some f)
+IsLeastFault-earlier P Q f is later = (
   inl is.0,
   λ g either. elim either [
     | inl left ↦ is.1 g left
@@ -204,8 +199,8 @@ IsLeastOf-earlier P Q f is later = (
 )
 
 -- just one fault
-pub IsLeastOf-one : (f : Fault) → IsLeastOf (λ g. g ≡ f) (Some f)
-IsLeastOf-one f = (refl, λ g is. subst (λ h. is_before h f ≡ false) (sym is) (not_before_itself f))
+pub IsLeastFault-one : (f : Fault) → IsLeastFault (λ g. g ≡ f) (Some f)
+IsLeastFault-one f = (refl, λ g is. subst (λ h. is_before h f ≡ false) (sym is) (not_before_itself f))
 
 -- ---- along a list
 
@@ -245,14 +240,14 @@ module _ {X : Type 0} where
   none_there y has = let below = has.1 in absurd (omega arith)
 
   -- what a pass along a list finds
-  pub IsLeastOf-from : (Of : X → Fault → Type 0) (step : X → Option Fault) (xs : List X) (P : Fault → Type 0) (found : Option Fault)
-      → ((x : X) → Contains xs x → IsLeastOf (Of x) (step x)) → IsLeastOf P found
-      → IsLeastOf (Either P (OneOf Of xs)) (least_from step found xs)
-  IsLeastOf-from Of step [] P found each is =
-      IsLeastOf-iff P (Either P (OneOf Of [])) found (λ f p. inl p)
+  pub IsLeastFault-from : (Of : X → Fault → Type 0) (step : X → Option Fault) (xs : List X) (P : Fault → Type 0) (found : Option Fault)
+      → ((x : X) → Contains xs x → IsLeastFault (Of x) (step x)) → IsLeastFault P found
+      → IsLeastFault (Either P (OneOf Of xs)) (least_from step found xs)
+  IsLeastFault-from Of step [] P found each is =
+      IsLeastFault-iff P (Either P (OneOf Of [])) found (λ f p. inl p)
       (λ f either. elim either [ inl p ↦ p | inr o ↦ absurd (none_there o.one o.is_there) ]) is
-  IsLeastOf-from Of step (x ∷ xs) P found each is =
-      IsLeastOf-iff (Either (Either P (Of x)) (OneOf Of xs)) (Either P (OneOf Of (x ∷ xs)))
+  IsLeastFault-from Of step (x ∷ xs) P found each is =
+      IsLeastFault-iff (Either (Either P (Of x)) (OneOf Of xs)) (Either P (OneOf Of (x ∷ xs)))
       (least_from step (least found (step x)) xs) (to_list Of P x xs) (of_list Of P x xs)
-      (IsLeastOf-from Of step xs (Either P (Of x)) (least found (step x)) (λ y there. each y (later_there x xs y there))
-      (IsLeastOf-least P (Of x) found (step x) is (each x (first_there x xs))))
+      (IsLeastFault-from Of step xs (Either P (Of x)) (least found (step x)) (λ y there. each y (later_there x xs y there))
+      (IsLeastFault-least P (Of x) found (step x) is (each x (first_there x xs))))

@@ -3,7 +3,7 @@ use Rattle.std.proofs.Common.{◌≡◌, ◌≢◌, inl, inr, ℕ, ◌<◌, ◌�
 use Rattle.serde_json.specs.Data.{Data, null, boolean, number, string, array, object, Members, depth}
 use Rattle.serde_json.specs.Find.{as_object}
 use Rattle.serde_json.specs.Read.{max_depth, read}
-use Rattle.oe_graph.specs.Faults.{least, IsLeast, is_before}
+use Rattle.oe_graph.specs.Faults.{least, IsLeast, is_before, IsLeastFault}
 use Rattle.oe_graph.specs.Form as form
 use Rattle.oe_graph.specs.Form.{nodes_in, is_absent_or, IsNamedWithin, IsGraphObject, IsReading, StandsIn, Stands, most_input}
 use Rattle.oe_graph.specs.Parameters.{are_parameters, StandsStored, of_graph, parameters_invalid}
@@ -14,7 +14,7 @@ use Rattle.oe_graph.specs.declared.fault.Fault.{Fault}
 use Rattle.oe_graph.specs.declared.fault.Refusal.{Refusal}
 use Rattle.oe_graph.specs.declared.fault.Refusal.TheVariants as refusal
 use Rattle.oe_graph.specs.Read.{IsFault, PrecedesParameters}
-use Rattle.oe_graph.proofs.LeastLemmas.{IsLeastOf, IsLeastOf-iff, IsLeastOf-least, Either, not_before_itself, to_least}
+use Rattle.oe_graph.proofs.LeastLemmas.{IsLeastFault-iff, IsLeastFault-least, Either, not_before_itself, to_least}
 use Rattle.oe_graph.proofs.WalkLemmas.{at_code, Local, id_invalid, node_invalid, miscounted, FaultIn, same_members, graph_least}
 
 -- ---- in a value
@@ -64,20 +64,20 @@ value_out d main is code node (form.result_node_count g other) = in_main d main 
 
 -- of a value with a graph, what the pass finds
 pub value_least : (d : Data) (main : Members) → nodes_in d ≡ Some main
-    → IsLeastOf (λ f. StandsIn d f.code f.node) (graph_fault [] main)
+    → IsLeastFault (λ f. StandsIn d f.code f.node) (graph_fault [] main)
 value_least d main is =
-    IsLeastOf-iff (FaultIn main []) (λ f. StandsIn d f.code f.node) (graph_fault [] main)
+    IsLeastFault-iff (FaultIn main []) (λ f. StandsIn d f.code f.node) (graph_fault [] main)
     (value_into d main is) (λ f s. value_out d main is f.code f.node s) (graph_least main [])
 
 pub value_refused : (d : Data) (main : Members) → nodes_in d ≡ Some main → (f : Fault) → Some f ≡ graph_fault [] main
     → IsLeast (StandsIn d) f
 value_refused d main is f found =
-    to_least (StandsIn d) f (subst (IsLeastOf (λ f. StandsIn d f.code f.node)) (sym found) (value_least d main is))
+    to_least (StandsIn d) f (subst (IsLeastFault (λ f. StandsIn d f.code f.node)) (sym found) (value_least d main is))
 
 pub value_valid : (d : Data) (main : Members) → nodes_in d ≡ Some main → None ≡ graph_fault [] main
     → (code : Code) (node : List ℕ) → ¬ StandsIn d code node
 value_valid d main is found code node =
-    subst (IsLeastOf (λ f. StandsIn d f.code f.node)) (sym found) (value_least d main is) (at_code code node)
+    subst (IsLeastFault (λ f. StandsIn d f.code f.node)) (sym found) (value_least d main is) (at_code code node)
 
 missing_only : (d : Data) → nodes_in d ≡ None → as_object d ≢ None → (code : Code) (node : List ℕ) → StandsIn d code node
     → is_before (at_code code node) (at_code ProcessGraphMissing []) ≡ false
@@ -199,11 +199,11 @@ not_wrong : (d : Data) → is_absent_or are_parameters (codes "parameters") d �
 not_wrong d is f (wrong fails) = absurd (true≢false (sym is ∙ fails))
 
 wrong_by : (d : Data) (fits : Bool) → is_absent_or are_parameters (codes "parameters") d ≡ fits
-    → IsLeastOf (Wrong d) (if fits then None else fault_at ParametersInvalid [])
+    → IsLeastFault (Wrong d) (if fits then None else fault_at ParametersInvalid [])
 wrong_by d true is = not_wrong d is
 wrong_by d false is = (wrong is, no_less_wrong d)
 
-wrong_least : (d : Data) → IsLeastOf (Wrong d) (parameters_fault d)
+wrong_least : (d : Data) → IsLeastFault (Wrong d) (parameters_fault d)
 wrong_least d = wrong_by d (is_absent_or are_parameters (codes "parameters") d) refl
 
 -- a refusal of the graph alone, where none of the parameters can come before it
@@ -230,23 +230,23 @@ module _ (bytes : List ℕ) (d : Data) (r : IsReading bytes d) (small : length b
       inr (wrong (subst (λ x. is_absent_or are_parameters (codes "parameters") x ≡ false) (same_value bytes e d q r) fails))
 
   both_least : (main : Members) → nodes_in d ≡ Some main
-      → IsLeastOf (λ f. StandsStored bytes f.code f.node) (least (graph_fault [] main) (parameters_fault d))
+      → IsLeastFault (λ f. StandsStored bytes f.code f.node) (least (graph_fault [] main) (parameters_fault d))
   both_least main is =
-      IsLeastOf-iff (Either (λ f. StandsIn d f.code f.node) (Wrong d)) (λ f. StandsStored bytes f.code f.node)
+      IsLeastFault-iff (Either (λ f. StandsIn d f.code f.node) (Wrong d)) (λ f. StandsStored bytes f.code f.node)
       (least (graph_fault [] main) (parameters_fault d)) stored_into (λ f s. stored_out f.code f.node s)
-      (IsLeastOf-least (λ f. StandsIn d f.code f.node) (Wrong d) (graph_fault [] main) (parameters_fault d)
+      (IsLeastFault-least (λ f. StandsIn d f.code f.node) (Wrong d) (graph_fault [] main) (parameters_fault d)
       (value_least d main is) (wrong_least d))
 
   -- of a value with a graph, the lesser one of the graph's and of the parameters'
   pub stored_least : (main : Members) → nodes_in d ≡ Some main → (f : Fault)
       → Some f ≡ least (graph_fault [] main) (parameters_fault d) → IsLeast (StandsStored bytes) f
   stored_least main is f found =
-      to_least (StandsStored bytes) f (subst (IsLeastOf (λ f. StandsStored bytes f.code f.node)) (sym found) (both_least main is))
+      to_least (StandsStored bytes) f (subst (IsLeastFault (λ f. StandsStored bytes f.code f.node)) (sym found) (both_least main is))
 
   pub stored_valid : (main : Members) → nodes_in d ≡ Some main → None ≡ least (graph_fault [] main) (parameters_fault d)
       → (code : Code) (node : List ℕ) → ¬ StandsStored bytes code node
   stored_valid main is found code node =
-      subst (IsLeastOf (λ f. StandsStored bytes f.code f.node)) (sym found) (both_least main is) (at_code code node)
+      subst (IsLeastFault (λ f. StandsStored bytes f.code f.node)) (sym found) (both_least main is) (at_code code node)
 
 pub reading_of : (d e : Data) (text s : List ℕ) → text ≡ s → IsUtf8 s → d ≡ e → (depth d ≤ max_depth → read s ≡ Some d)
     → depth e ≤ max_depth → IsReading text e

@@ -17,7 +17,7 @@ use Rattle.oe_graph.specs.Valid.{is_valid, are_valid, are_valid_named, are_valid
 use Rattle.oe_graph.specs.Walked.{graph_fault}
 use Rattle.oe_graph.specs.declared.fault.Fault.{Fault}
 use Rattle.oe_graph.proofs.AsReadLemmas.{read_as_read, nodes_as_read}
-use Rattle.oe_graph.proofs.LeastLemmas.{IsLeastOf}
+use Rattle.oe_graph.specs.Faults.{IsLeastFault}
 use Rattle.oe_graph.proofs.PrintableLemmas.{main_printable}
 use Rattle.oe_graph.proofs.ReadLemmas.{value_least}
 
@@ -86,7 +86,7 @@ IsPrintable-valid g h = argument_valid (tree.callback g.nodes g.result) h
 
 -- ---- a graph that is read
 
-no_least : (P : Fault → Type 0) (o : Option Fault) → IsLeastOf P o → ((f : Fault) → ¬ P f) → o ≡ None
+no_least : (P : Fault → Type 0) (o : Option Fault) → IsLeastFault P o → ((f : Fault) → ¬ P f) → o ≡ None
 no_least P None least none = refl
 no_least P (Some f) least none = absurd (none f least.0)
 

@@ -2,7 +2,7 @@
 use Rattle.std.proofs.Common.{◌≡◌, ◌≢◌, ◌⊎◌, inl, inr, ℕ, zero, suc, max, ◌+◌, ◌≤◌, ◌==◌, List, [], ◌∷◌, codes, Bool, true, false, if◌then◌else◌, Option, Some, None, option_and_then, refl, sym, ap, ◌∙◌, subst, true≢false, arith, eqb-true, eq-eqb}
 use Rattle.serde_json.specs.Data.{Data, Members, no_members, member, depth, members_depth}
 use Rattle.oe_dims.specs.Names.{is_name}
-use Rattle.oe_graph.specs.Faults.{least, IsLeast, is_before}
+use Rattle.oe_graph.specs.Faults.{least, IsLeast, is_before, IsLeastFault}
 use Rattle.oe_graph.specs.Form.{is_node, arguments_in, nodes_in, result_count, node_name, callback_name, IsMember, first, later, IsNamedWithin, itself, in_callback}
 use Rattle.oe_graph.specs.Walked.{fault_at, count_fault, own_fault, node_fault, nodes_fault, inside_fault, callbacks_fault, callback_fault, graph_fault}
 use Rattle.oe_graph.specs.declared.code.Code.{Code}
@@ -10,7 +10,7 @@ use Rattle.oe_graph.specs.declared.code.Code.TheVariants.{NodeInvalid, ResultNod
 use Rattle.oe_graph.specs.declared.fault.Fault.{Fault}
 use Rattle.oe_graph.proofs.Depths.{inner_depth, member_depth_of}
 use Rattle.oe_graph.proofs.Finds.{inside_with, inside_without, callback_with, callback_without}
-use Rattle.oe_graph.proofs.LeastLemmas.{IsLeastOf, IsLeastOf-iff, IsLeastOf-least, Either, not_before_itself}
+use Rattle.oe_graph.proofs.LeastLemmas.{IsLeastFault-iff, IsLeastFault-least, Either, not_before_itself}
 
 abbrev pub at_code : Code → List ℕ → Fault
 at_code code node = record { code = code; node = node }
@@ -94,38 +94,38 @@ module _ (Of : List ℕ → Data → Fault → Type 0) (step : List ℕ → Data
     (pass_more : (found : Option Fault) (k : List ℕ) (d : Data) (rest : Members)
     → pass found (member k d rest) ≡ pass (least found (step k d)) rest) where
   pub pass_least : (ms : Members) (P : Fault → Type 0) (found : Option Fault)
-      → ((k : List ℕ) (d : Data) → IsMember k d ms → IsLeastOf (Of k d) (step k d))
-      → IsLeastOf P found → IsLeastOf (Either P (Among Of ms)) (pass found ms)
+      → ((k : List ℕ) (d : Data) → IsMember k d ms → IsLeastFault (Of k d) (step k d))
+      → IsLeastFault P found → IsLeastFault (Either P (Among Of ms)) (pass found ms)
   pass_least no_members P found each is =
-      subst (IsLeastOf (Either P (Among Of no_members))) (sym (pass_none found))
-      (IsLeastOf-iff P (Either P (Among Of no_members)) found (λ f p. inl p)
+      subst (IsLeastFault (Either P (Among Of no_members))) (sym (pass_none found))
+      (IsLeastFault-iff P (Either P (Among Of no_members)) found (λ f p. inl p)
       (λ f e. elim e [ inl p ↦ p | inr a ↦ absurd (no_member a.is_member) ]) is)
   pass_least (member k d rest) P found each is =
-      subst (IsLeastOf (Either P (Among Of (member k d rest)))) (sym (pass_more found k d rest))
-      (IsLeastOf-iff (Either (Either P (Of k d)) (Among Of rest)) (Either P (Among Of (member k d rest)))
+      subst (IsLeastFault (Either P (Among Of (member k d rest)))) (sym (pass_more found k d rest))
+      (IsLeastFault-iff (Either (Either P (Of k d)) (Among Of rest)) (Either P (Among Of (member k d rest)))
       (pass (least found (step k d)) rest)
       (into Of P k d rest) (out_of Of P k d rest)
       (pass_least rest (Either P (Of k d)) (least found (step k d)) (λ j e m. each j e (later m))
-      (IsLeastOf-least P (Of k d) found (step k d) is (each k d first))))
+      (IsLeastFault-least P (Of k d) found (step k d) is (each k d first))))
 
 -- ---- one node, where the faults of the graph objects in it are known
 
 -- the least fault of a graph object is the one that the pass finds
 abbrev IsFound : Members → List ℕ → Type 0
-IsFound nodes at = IsLeastOf (FaultIn nodes at) (graph_fault at nodes)
+IsFound nodes at = IsLeastFault (FaultIn nodes at) (graph_fault at nodes)
 
 pub same_members : (ms ns : Members) (o : Option Members) → o ≡ Some ms → o ≡ Some ns → ms ≡ ns
 same_members ms ns o a b = let both : Some ms ≡ Some ns = sym a ∙ b in cc
 
 callback_by : (name a : List ℕ) (value : Data) (o : Option Members) → nodes_in value ≡ o
     → ((inner : Members) → nodes_in value ≡ Some inner → IsFound inner (callback_name name a))
-    → IsLeastOf (OfCallback name a value) (callback_fault (callback_name name a) value)
+    → IsLeastFault (OfCallback name a value) (callback_fault (callback_name name a) value)
 callback_by name a value None is found =
-    subst (IsLeastOf (OfCallback name a value)) (callback_without (callback_name name a) value (sym is))
+    subst (IsLeastFault (OfCallback name a value)) (callback_without (callback_name name a) value (sym is))
     (λ f c. let both : None ≡ Some c.inner = sym is ∙ c.is_callback in absurd cc)
 callback_by name a value (Some inner) is found =
-    subst (IsLeastOf (OfCallback name a value)) (callback_with (callback_name name a) value inner (sym is))
-    (IsLeastOf-iff (FaultIn inner (callback_name name a)) (OfCallback name a value) (graph_fault (callback_name name a) inner)
+    subst (IsLeastFault (OfCallback name a value)) (callback_with (callback_name name a) value inner (sym is))
+    (IsLeastFault-iff (FaultIn inner (callback_name name a)) (OfCallback name a value) (graph_fault (callback_name name a) inner)
     (λ f inside. record { inner = inner; is_callback = is; inside = inside })
     (λ f c. subst (λ ms. FaultIn ms (callback_name name a) f) (same_members c.inner inner (nodes_in value) c.is_callback is) c.inside)
     (found inner is))
@@ -133,23 +133,23 @@ callback_by name a value (Some inner) is found =
 callbacks_least : (name : List ℕ) (ms : Members)
     → ((a : List ℕ) (value : Data) → IsMember a value ms → (inner : Members) → nodes_in value ≡ Some inner
     → IsFound inner (callback_name name a))
-    → IsLeastOf (Among (OfCallback name) ms) (callbacks_fault name None ms)
+    → IsLeastFault (Among (OfCallback name) ms) (callbacks_fault name None ms)
 callbacks_least name ms found =
-    IsLeastOf-iff (Either (λ f. ⊥) (Among (OfCallback name) ms)) (Among (OfCallback name) ms) (callbacks_fault name None ms)
+    IsLeastFault-iff (Either (λ f. ⊥) (Among (OfCallback name) ms)) (Among (OfCallback name) ms) (callbacks_fault name None ms)
     (λ f e. elim e [ inl none ↦ absurd none | inr a ↦ a ]) (λ f a. inr a)
     (pass_least (OfCallback name) (λ a value. callback_fault (callback_name name a) value) (callbacks_fault name)
     (λ o. refl) (λ o k d rest. refl) ms (λ f. ⊥) None
     (λ a value m. callback_by name a value (nodes_in value) refl (found a value m)) (λ f none. none))
 
 arguments_by : (name : List ℕ) (d : Data) (o : Option Members) → arguments_in d ≡ o
-    → ((ms : Members) → arguments_in d ≡ Some ms → IsLeastOf (Among (OfCallback name) ms) (callbacks_fault name None ms))
-    → IsLeastOf (OfArguments name d) (inside_fault name d)
+    → ((ms : Members) → arguments_in d ≡ Some ms → IsLeastFault (Among (OfCallback name) ms) (callbacks_fault name None ms))
+    → IsLeastFault (OfArguments name d) (inside_fault name d)
 arguments_by name d None is found =
-    subst (IsLeastOf (OfArguments name d)) (inside_without name d (sym is))
+    subst (IsLeastFault (OfArguments name d)) (inside_without name d (sym is))
     (λ f c. let both : None ≡ Some c.arguments = sym is ∙ c.is_arguments in absurd cc)
 arguments_by name d (Some ms) is found =
-    subst (IsLeastOf (OfArguments name d)) (inside_with name d ms (sym is))
-    (IsLeastOf-iff (Among (OfCallback name) ms) (OfArguments name d) (callbacks_fault name None ms)
+    subst (IsLeastFault (OfArguments name d)) (inside_with name d ms (sym is))
+    (IsLeastFault-iff (Among (OfCallback name) ms) (OfArguments name d) (callbacks_fault name None ms)
     (λ f among. record { arguments = ms; is_arguments = is; among = among })
     (λ f c. subst (λ ns. Among (OfCallback name) ns f) (same_members c.arguments ms (arguments_in d) c.is_arguments is) c.among)
     (found ms is))
@@ -161,7 +161,7 @@ no_less_own : (name : List ℕ) (d : Data) (f : Fault) → Own name d f → is_b
 no_less_own name d f (own is) = not_before_itself (at_code NodeInvalid name)
 
 own_by : (name : List ℕ) (d : Data) (b : Bool) → is_node d ≡ b
-    → IsLeastOf (Own name d) (if b then None else fault_at NodeInvalid name)
+    → IsLeastFault (Own name d) (if b then None else fault_at NodeInvalid name)
 own_by name d true is = not_own name d is
 own_by name d false is = (own is, no_less_own name d)
 
@@ -183,14 +183,14 @@ no_less_id at id d is f (by_itself valid o) = absurd (true≢false (sym valid �
 no_less_id at id d is f (inside valid o) = absurd (true≢false (sym valid ∙ is))
 
 node_by : (at id : List ℕ) (d : Data) (b : Bool) → is_name id ≡ b
-    → IsLeastOf (OfArguments (node_name at id) d) (inside_fault (node_name at id) d)
-    → IsLeastOf (OfNode at id d)
+    → IsLeastFault (OfArguments (node_name at id) d) (inside_fault (node_name at id) d)
+    → IsLeastFault (OfNode at id d)
     (if b then least (own_fault (node_name at id) d) (inside_fault (node_name at id) d) else fault_at NodeInvalid at)
 node_by at id d true is inner =
-    IsLeastOf-iff (Either (Own (node_name at id) d) (OfArguments (node_name at id) d)) (OfNode at id d)
+    IsLeastFault-iff (Either (Own (node_name at id) d) (OfArguments (node_name at id) d)) (OfNode at id d)
     (least (own_fault (node_name at id) d) (inside_fault (node_name at id) d))
     (node_into at id d is) (node_out at id d is)
-    (IsLeastOf-least (Own (node_name at id) d) (OfArguments (node_name at id) d) (own_fault (node_name at id) d)
+    (IsLeastFault-least (Own (node_name at id) d) (OfArguments (node_name at id) d) (own_fault (node_name at id) d)
     (inside_fault (node_name at id) d) (own_by (node_name at id) d (is_node d) refl) inner)
 node_by at id d false is inner = (of_id is, no_less_id at id d is)
 
@@ -204,7 +204,7 @@ no_less_miscount : (nodes : Members) (at : List ℕ) (f : Fault) → Miscount no
 no_less_miscount nodes at f (miscount other) = not_before_itself (at_code ResultNodeCount at)
 
 count_by : (nodes : Members) (at : List ℕ) (b : Bool) → (result_count nodes == 1) ≡ b
-    → IsLeastOf (Miscount nodes at) (if b then None else fault_at ResultNodeCount at)
+    → IsLeastFault (Miscount nodes at) (if b then None else fault_at ResultNodeCount at)
 count_by nodes at true is = not_miscounted nodes at (eqb-true (result_count nodes) 1 is)
 count_by nodes at false is =
     (miscount (λ one. absurd (true≢false (sym (eq-eqb (result_count nodes) 1 one) ∙ is))), no_less_miscount nodes at)
@@ -274,7 +274,7 @@ object_by : (nodes : Members) (at : List ℕ)
     → ((inner : Members) (name : List ℕ) → members_depth inner + 1 ≤ members_depth nodes → IsFound inner name)
     → IsFound nodes at
 object_by nodes at found =
-    IsLeastOf-iff (Faults nodes at) (FaultIn nodes at) (graph_fault at nodes) (faults_into nodes at) (faults_out nodes at)
+    IsLeastFault-iff (Faults nodes at) (FaultIn nodes at) (graph_fault at nodes) (faults_into nodes at) (faults_out nodes at)
     (pass_least (OfNode at) (λ id d. node_fault at id d (inside_fault (node_name at id) d)) (nodes_fault at)
     (λ o. refl) (λ o k d rest. refl) nodes (Miscount nodes at) (count_fault at nodes)
     (λ id d m. node_by at id d (is_name id) refl
@@ -291,5 +291,5 @@ least_to zero nodes at fits = object_by nodes at (λ inner name deeper. absurd (
 least_to (suc n) nodes at fits = object_by nodes at (λ inner name deeper. least_to n inner name (omega arith))
 
 -- the pass over a graph object finds the least of the faults in it
-pub graph_least : (nodes : Members) (at : List ℕ) → IsLeastOf (FaultIn nodes at) (graph_fault at nodes)
+pub graph_least : (nodes : Members) (at : List ℕ) → IsLeastFault (FaultIn nodes at) (graph_fault at nodes)
 graph_least nodes at = least_to (members_depth nodes) nodes at (omega arith)

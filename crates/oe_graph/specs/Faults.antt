@@ -22,6 +22,11 @@ pub record IsLeast (Stands : Code → List ℕ → Type 0) (fault : Fault) : Typ
   pub stands : Stands fault.code fault.node
   pub least : (other : Fault) → Stands other.code other.node → is_before other fault ≡ false
 
+-- an answer is the least of the faults of which a predicate is true, or none where it is true of none
+abbrev pub IsLeastFault : (Fault → Type 0) → Option Fault → Type 0
+IsLeastFault P None = (f : Fault) → ¬ P f
+IsLeastFault P (Some f) = P f × ((g : Fault) → P g → is_before g f ≡ false)
+
 -- the one of two that is reported
 abbrev pub least : Option Fault → Option Fault → Option Fault
 least None b = b

@@ -10,7 +10,7 @@ use Rattle.std.proofs.lemmas.Option.{slice_get-map}
 use Rattle.oe_dims.specs.Names.{is_name_before, names_rise, same_name}
 use Rattle.oe_dims.proofs.NameOrderLemmas.{before_trans, tail_rises}
 use Rattle.oe_expr.specs.Requests.{flag_in, passes, read}
-use Rattle.oe_graph.specs.Faults.{is_before}
+use Rattle.oe_graph.specs.Faults.{is_before, IsLeastFault}
 use Rattle.oe_graph.specs.Form.{callback_name, node_name}
 use Rattle.oe_graph.specs.Plain.{plain_graph, plain_named, plain_node, plain_nodes}
 use Rattle.oe_graph.specs.Printed.{ids_of}
@@ -21,7 +21,7 @@ use Rattle.oe_graph.specs.declared.code.Code.TheVariants.{ProcessParameterInvali
 use Rattle.oe_graph.specs.declared.fault.Fault.{Fault}
 use Rattle.oe_graph.specs.declared.tree.Graph.{Graph, out-Graph}
 use Rattle.oe_graph.specs.declared.tree.Node.{Node}
-use Rattle.oe_graph.proofs.LeastLemmas.{IsLeastOf, IsLeastOf-iff, before_not_after, not_before_itself}
+use Rattle.oe_graph.proofs.LeastLemmas.{IsLeastFault-iff, before_not_after, not_before_itself}
 use Rattle.oe_graph.proofs.PartLemmas.{graph_parts, node_parts}
 use Rattle.oe_expr.proofs.StateLemmas.{each_plain, plain_id}
 use Rattle.oe_requests.proofs.InsideLemmas.{begins}
@@ -95,10 +95,10 @@ module _ (id : List ℕ) where
     | inr later ↦ record { node = s.node; is_node = later; refused = s.refused; is = s.is }
   ]
 
-  first_least : (ns : List PlainNode) (o : Option Fault) → names_rise (map the_id ns) ≡ true → First ns o → IsLeastOf (OfSums ns) o
+  first_least : (ns : List PlainNode) (o : Option Fault) → names_rise (map the_id ns) ≡ true → First ns o → IsLeastFault (OfSums ns) o
   first_least ns o rise at_end = λ f s. no_node s.node s.is_node
   first_least ns o rise (skip {n = n} {ns = ms} fine rest) =
-      IsLeastOf-iff (OfSums ms) (OfSums (n ∷ ms)) o (further n ms) (λ f s. later_only n ms f fine s)
+      IsLeastFault-iff (OfSums ms) (OfSums (n ∷ ms)) o (further n ms) (λ f s. later_only n ms f fine s)
       (first_least ms o (tail_rises n.id (map the_id ms) rise) rest)
   first_least ns o rise (here {n = n} {ns = ms} refused) = (
     record { node = n; is_node = first_of n ms; refused = refused; is = refl },
@@ -127,7 +127,7 @@ module _ (id : List ℕ) where
       is = ap (λ (c : Code). record { code = c; node = name }) s.code_is ∙ ap (λ (x : List ℕ). record { code = ProcessParameterInvalid; node = x }) s.name_is;
     }
 
-    sums_fault_is : (o : Option Fault) → IsLeastOf (OfSums (each_node g.nodes)) o → IsSumsFault g id o
+    sums_fault_is : (o : Option Fault) → IsLeastFault (OfSums (each_node g.nodes)) o → IsSumsFault g id o
     sums_fault_is None none = λ code name s. none (record { code = code; node = name }) (of_stands code name s)
     sums_fault_is (Some f) least = record { stands = to_stands f least.0; least = λ other s. least.1 other (of_stands other.code other.node s) }
 
@@ -145,7 +145,7 @@ pub first_sum : (id : List ℕ) (ns : List Node) (index : ℕ) (o : Option Fault
     → First id (map plain_node ns) o → IsSumsFault (record { nodes = plain_nodes ns; result = index }) id o
 first_sum id ns index o rise first =
     sums_fault_is id (record { nodes = plain_nodes ns; result = index }) o
-    (subst (λ ms. IsLeastOf (OfSums id ms) o) (sym (each_plain ns))
+    (subst (λ ms. IsLeastFault (OfSums id ms) o) (sym (each_plain ns))
     (first_least id (map plain_node ns) o (ap names_rise (sym (ids_are ns)) ∙ rise) first))
 
 -- ---- a loop over nodes

@@ -8,14 +8,14 @@ use Rattle.std.proofs.lemmas.Cmp.{nat_list_cmp_total, tied_itself}
 use Rattle.std.proofs.lemmas.List.Elements.{Contains-append_left, Contains-append_right, Contains-append_cases}
 use Rattle.oe_dims.specs.Names.{same_name}
 use Rattle.oe_dims.proofs.OrderLemmas.{same_name_is, same_name_refl}
-use Rattle.oe_graph.specs.Faults.{is_before}
+use Rattle.oe_graph.specs.Faults.{is_before, IsLeastFault}
 use Rattle.oe_graph.specs.Printed.{ids_of, names_of}
 use Rattle.oe_graph.specs.References.{argument_named, references_in, references_named, references_each, parameters_in, parameters_named, parameters_each, Leads}
 use Rattle.oe_graph.specs.Tree.{Argument, null, flag, whole, inexact, text, list, object, from_node, from_parameter, callback, ListValues, no_arguments, argument, Named, no_named, named, Nodes, PlainNode, PlainParameter, PlainStored}
 use Rattle.oe_graph.specs.declared.code.Code.{Code}
 use Rattle.oe_graph.specs.declared.code.Code.TheVariants.{ArgumentUnknown, ProcessParameterMissing, ParameterUnknown, NodeUnknown, GraphCycle}
 use Rattle.oe_graph.specs.declared.fault.Fault.{Fault}
-use Rattle.oe_graph.proofs.LeastLemmas.{IsLeastOf, IsLeastOf-iff}
+use Rattle.oe_graph.proofs.LeastLemmas.{IsLeastFault-iff}
 use Rattle.oe_calls.specs.Calls.{parameters_of}
 use Rattle.oe_calls.specs.Faults.{names_among}
 use Rattle.oe_resolve.specs.NameFaults.{has_unknown, has_unknown_argument, is_missing, lacks_parameter, sees, see_each, see_named, knows, know_each, know_named, first_code, node_code, HasFault, argument_unknown, process_parameter_missing, parameter_unknown, node_unknown, graph_cycle, OfItself, IsMark}
@@ -320,7 +320,7 @@ module _ (at : List ℕ) where
   no_row d (r5 is) = true≢false (sym is)
 
   rows_least : (b1 b2 b3 b4 b5 : Bool)
-      → IsLeastOf (IsRow b1 b2 b3 b4 b5 at) (option_map (λ code. record { code = code; node = at }) (first_code b1 b2 b3 b4 b5))
+      → IsLeastFault (IsRow b1 b2 b3 b4 b5 at) (option_map (λ code. record { code = code; node = at }) (first_code b1 b2 b3 b4 b5))
   rows_least true b2 b3 b4 b5 = ((r1 refl, refl), after true b2 b3 b4 b5 ArgumentUnknown (after1 true b2 b3 b4 b5))
   rows_least false true b3 b4 b5 = ((r2 refl, refl), after false true b3 b4 b5 ProcessParameterMissing (after2 true b3 b4 b5))
   rows_least false false true b4 b5 = ((r3 refl, refl), after false false true b4 b5 ParameterUnknown (after3 true b4 b5))
@@ -384,10 +384,10 @@ module _ (stored : List PlainStored) (last : Bool) (scope : List (List ℕ)) (no
 
 pub own_least : (stored : List PlainStored) (last : Bool) (scope : List (List ℕ)) (nodes : Nodes) (n : PlainNode) (mark : Bool)
     (at : List ℕ) → IsMark last nodes n mark
-    → IsLeastOf (OfItself stored last at scope nodes n)
+    → IsLeastFault (OfItself stored last at scope nodes n)
     (option_map (λ code. record { code = code; node = at }) (node_code stored last scope n (know_named (ids_of nodes) n.arguments) mark))
 own_least stored last scope nodes n mark at marked =
-    IsLeastOf-iff
+    IsLeastFault-iff
     (λ f. TestRow stored last scope nodes n mark f.code × (f.node ≡ at))
     (OfItself stored last at scope nodes n)
     (option_map (λ code. record { code = code; node = at }) (node_code stored last scope n (know_named (ids_of nodes) n.arguments) mark))

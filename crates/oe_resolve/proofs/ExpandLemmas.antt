@@ -2,7 +2,7 @@
 use Rattle.std.proofs.Common.{◌≡◌, ℕ, zero, suc, ◌+◌, ◌-◌, ◌<◌, ◌≤◌, ◌⊎◌, inl, inr, Bool, true, false, List, [], Option, Some, None, is_some, option_map, Contains, map, refl, sym, ap, ◌∙◌, subst, true≢false, arith}
 use Rattle.oe_dims.specs.Names.{names_rise}
 use Rattle.oe_graph.specs.Codes.{phase_of}
-use Rattle.oe_graph.specs.Faults.{least}
+use Rattle.oe_graph.specs.Faults.{least, IsLeastFault}
 use Rattle.oe_graph.specs.Plain.{plain_graph}
 use Rattle.oe_graph.specs.Printed.{ids_of}
 use Rattle.oe_graph.specs.Resolved as resolved
@@ -10,7 +10,7 @@ use Rattle.oe_graph.specs.Tree.{Nodes, PlainGraph, PlainNode, PlainStored}
 use Rattle.oe_graph.specs.declared.code.Code.{Code}
 use Rattle.oe_graph.specs.declared.fault.Fault.{Fault}
 use Rattle.oe_graph.specs.declared.tree.Graph.{Graph}
-use Rattle.oe_graph.proofs.LeastLemmas.{IsLeastOf, IsLeastOf-iff, IsLeastOf-least, Either}
+use Rattle.oe_graph.proofs.LeastLemmas.{IsLeastFault-iff, IsLeastFault-least, Either}
 use Rattle.oe_calls.specs.HasCall.{nodes_call}
 use Rattle.oe_calls.specs.Calls.{callee}
 use Rattle.oe_resolve.specs.Expansion.{IsNameFault, IsExpansion, IsEarly, IsSettled}
@@ -83,7 +83,7 @@ rise_of g valid inner inside =
 -- ---- the least fault so far
 
 module _ (stored : List PlainStored) (g : PlainGraph) where
-  pub early_none : IsLeastOf (IsEarly stored g 0) None
+  pub early_none : IsLeastFault (IsEarly stored g 0) None
   early_none = λ f e. let below = e.below in absurd (omega arith)
 
   early_into : (times : ℕ) (f : Fault) → Either (IsEarly stored g times) (λ h. OfObject stored false h [] [] (expanded_by times stored g).nodes) f
@@ -102,14 +102,14 @@ module _ (stored : List PlainStored) (g : PlainGraph) where
   early_out_by times round f has (inl below) = inl (record { round = round; below = below; has = has })
   early_out_by times round f has (inr is) = inr (subst (λ k. OfObject stored false f [] [] (expanded_by k stored g).nodes) is has)
 
-  pub early_more : (times : ℕ) (fault found : Option Fault) → IsLeastOf (IsEarly stored g times) fault
-      → IsLeastOf (λ f. OfObject stored false f [] [] (expanded_by times stored g).nodes) found
-      → IsLeastOf (IsEarly stored g (times + 1)) (least fault found)
+  pub early_more : (times : ℕ) (fault found : Option Fault) → IsLeastFault (IsEarly stored g times) fault
+      → IsLeastFault (λ f. OfObject stored false f [] [] (expanded_by times stored g).nodes) found
+      → IsLeastFault (IsEarly stored g (times + 1)) (least fault found)
   early_more times fault found early is =
-      IsLeastOf-iff (Either (IsEarly stored g times) (λ f. OfObject stored false f [] [] (expanded_by times stored g).nodes))
+      IsLeastFault-iff (Either (IsEarly stored g times) (λ f. OfObject stored false f [] [] (expanded_by times stored g).nodes))
       (IsEarly stored g (times + 1)) (least fault found) (early_into times)
       (λ f e. early_out_by times e.round f e.has (round_cases e.round times e.below))
-      (IsLeastOf-least (IsEarly stored g times) (λ f. OfObject stored false f [] [] (expanded_by times stored g).nodes) fault found early is)
+      (IsLeastFault-least (IsEarly stored g times) (λ f. OfObject stored false f [] [] (expanded_by times stored g).nodes) fault found early is)
 
   -- ---- all rounds
 
@@ -183,20 +183,20 @@ module _ (stored : List PlainStored) (g : PlainGraph) where
     found_all f (earlier k has) = round_found f k has (past_or_early k is.times)
     found_all f (last_round has) = inr (subst (λ (h : PlainGraph). OfObject stored true f [] [] h.nodes) (sym all_rounds) has)
 
-    pub all_faults : IsLeastOf LastFault found → IsLeastOf (IsNameFault stored g) (least fault found)
+    pub all_faults : IsLeastFault LastFault found → IsLeastFault (IsNameFault stored g) (least fault found)
     all_faults last =
-        IsLeastOf-iff (Either (IsEarly stored g is.times) LastFault) (IsNameFault stored g) (least fault found) stands_all
+        IsLeastFault-iff (Either (IsEarly stored g is.times) LastFault) (IsNameFault stored g) (least fault found) stands_all
         (λ f stands. found_all f (in_round stored g f.code f.node stands.1 stands.0))
-        (IsLeastOf-least (IsEarly stored g is.times) LastFault fault found is.early last)
+        (IsLeastFault-least (IsEarly stored g is.times) LastFault fault found is.early last)
 
-none_by : (P : Fault → Type 0) (o : Option Fault) → IsLeastOf P o → is_some o ≡ false → (f : Fault) → ¬ P f
+none_by : (P : Fault → Type 0) (o : Option Fault) → IsLeastFault P o → is_some o ≡ false → (f : Fault) → ¬ P f
 none_by P None least none = least
 none_by P (Some f) least none = absurd (true≢false none)
 
 -- a graph that calls no stored process and has no fault of names is its own expansion
 pub itself_expanded : (stored : List PlainStored) (g : Graph) (o : Option Fault) → AreValidStored stored → IsValidGraph (plain_graph g)
     → IsWithinLimits (plain_graph g)
-    → nodes_call stored (plain_graph g).nodes ≡ false → IsLeastOf (λ f. OfObject stored true f [] [] (plain_graph g).nodes) o
+    → nodes_call stored (plain_graph g).nodes ≡ false → IsLeastFault (λ f. OfObject stored true f [] [] (plain_graph g).nodes) o
     → is_some o ≡ false → IsExpansion stored (plain_graph g) (g, None)
 itself_expanded stored written o stored_valid valid within no_call least none =
     let g = plain_graph written in

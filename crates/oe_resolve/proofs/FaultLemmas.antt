@@ -2,7 +2,7 @@
 use Rattle.std.proofs.Common.{◌≡◌, ℕ, zero, suc, ◌<◌, ◌⊎◌, inl, inr, Bool, true, false, List, [], ◌∷◌, Option, Some, None, is_some, Contains, length, map, option_map, get_or, slice_get, slice_index_or, refl, sym, ap, ◌∙◌, subst, true≢false, arith}
 use Rattle.std.proofs.lemmas.List.Elements.{Contains-append_left, Contains-append_right, Contains-append_cases}
 use Rattle.oe_dims.specs.Names.{names_rise}
-use Rattle.oe_graph.specs.Faults.{least}
+use Rattle.oe_graph.specs.Faults.{least, IsLeastFault}
 use Rattle.oe_graph.specs.Form.{node_name, callback_name}
 use Rattle.oe_graph.specs.Plain.{plain_arg, plain_args, plain_named, plain_node, plain_nodes, plain_pair}
 use Rattle.oe_graph.specs.Printed.{ids_of}
@@ -14,7 +14,7 @@ use Rattle.oe_graph.specs.declared.tree.Arg.{Arg}
 use Rattle.oe_graph.specs.declared.tree.Arg.TheVariants as variant
 use Rattle.oe_graph.specs.declared.tree.Graph.{Graph, out-Graph}
 use Rattle.oe_graph.specs.declared.tree.Node.{Node}
-use Rattle.oe_graph.proofs.LeastLemmas.{IsLeastOf, IsLeastOf-iff, IsLeastOf-least, OneOf}
+use Rattle.oe_graph.proofs.LeastLemmas.{IsLeastFault-iff, IsLeastFault-least, OneOf}
 use Rattle.oe_graph.proofs.PartLemmas.{node_parts}
 use Rattle.oe_calls.specs.Calls.{callee}
 use Rattle.oe_calls.specs.Faults.{each_argument}
@@ -131,10 +131,10 @@ each_named (m ∷ ms) = ap (λ rest. m ∷ rest) (each_named ms)
 module _ (stored : List PlainStored) (last : Bool) where
   -- of the arguments of a node
   pub arguments_least : (node_at : List ℕ) (scope : List (List ℕ)) (ms : List (List ℕ × Arg)) (o : Option Fault)
-      → IsLeastOf (OneOf (λ (m : List ℕ × Arg). OfArgument stored last node_at m.0 scope (plain_arg m.1)) ms) o
-      → IsLeastOf (OfArguments stored last node_at scope (plain_named ms)) o
+      → IsLeastFault (OneOf (λ (m : List ℕ × Arg). OfArgument stored last node_at m.0 scope (plain_arg m.1)) ms) o
+      → IsLeastFault (OfArguments stored last node_at scope (plain_named ms)) o
   arguments_least node_at scope ms o is =
-      IsLeastOf-iff (OneOf (λ (m : List ℕ × Arg). OfArgument stored last node_at m.0 scope (plain_arg m.1)) ms)
+      IsLeastFault-iff (OneOf (λ (m : List ℕ × Arg). OfArgument stored last node_at m.0 scope (plain_arg m.1)) ms)
       (OfArguments stored last node_at scope (plain_named ms)) o
       (λ f one.
       let there = map_there plain_pair ms one.one one.is_there in record {
@@ -150,10 +150,10 @@ module _ (stored : List PlainStored) (last : Bool) where
 
   -- of the values of a list, and of the members of an object
   pub items_least : (node_at name : List ℕ) (scope : List (List ℕ)) (xs : List Arg) (o : Option Fault)
-      → IsLeastOf (OneOf (λ (a : Arg). OfArgument stored last node_at name scope (plain_arg a)) xs) o
-      → IsLeastOf (OfArgument stored last node_at name scope (list (plain_args xs))) o
+      → IsLeastFault (OneOf (λ (a : Arg). OfArgument stored last node_at name scope (plain_arg a)) xs) o
+      → IsLeastFault (OfArgument stored last node_at name scope (list (plain_args xs))) o
   items_least node_at name scope xs o is =
-      IsLeastOf-iff (OneOf (λ (a : Arg). OfArgument stored last node_at name scope (plain_arg a)) xs)
+      IsLeastFault-iff (OneOf (λ (a : Arg). OfArgument stored last node_at name scope (plain_arg a)) xs)
       (OfArgument stored last node_at name scope (list (plain_args xs))) o
       (λ f one. record {
         graph = one.has.graph;
@@ -168,10 +168,10 @@ module _ (stored : List PlainStored) (last : Bool) where
       }) is
 
   pub members_least : (node_at name : List ℕ) (scope : List (List ℕ)) (ms : List (List ℕ × Arg)) (o : Option Fault)
-      → IsLeastOf (OneOf (λ (m : List ℕ × Arg). OfArgument stored last node_at name scope (plain_arg m.1)) ms) o
-      → IsLeastOf (OfArgument stored last node_at name scope (object (plain_named ms))) o
+      → IsLeastFault (OneOf (λ (m : List ℕ × Arg). OfArgument stored last node_at name scope (plain_arg m.1)) ms) o
+      → IsLeastFault (OfArgument stored last node_at name scope (object (plain_named ms))) o
   members_least node_at name scope ms o is =
-      IsLeastOf-iff (OneOf (λ (m : List ℕ × Arg). OfArgument stored last node_at name scope (plain_arg m.1)) ms)
+      IsLeastFault-iff (OneOf (λ (m : List ℕ × Arg). OfArgument stored last node_at name scope (plain_arg m.1)) ms)
       (OfArgument stored last node_at name scope (object (plain_named ms))) o
       (λ f one. record {
         graph = one.has.graph;
@@ -186,10 +186,10 @@ module _ (stored : List PlainStored) (last : Bool) where
       }) is
 
   pub callback_least : (node_at name : List ℕ) (scope : List (List ℕ)) (g : PlainGraph) (o : Option Fault)
-      → IsLeastOf (λ f. OfObject stored last f (callback_name node_at name) scope g.nodes) o
-      → IsLeastOf (OfArgument stored last node_at name scope (callback g.nodes g.result)) o
+      → IsLeastFault (λ f. OfObject stored last f (callback_name node_at name) scope g.nodes) o
+      → IsLeastFault (OfArgument stored last node_at name scope (callback g.nodes g.result)) o
   callback_least node_at name scope g o is =
-      IsLeastOf-iff (λ f. OfObject stored last f (callback_name node_at name) scope g.nodes)
+      IsLeastFault-iff (λ f. OfObject stored last f (callback_name node_at name) scope g.nodes)
       (OfArgument stored last node_at name scope (callback g.nodes g.result)) o
       (λ f has. record { graph = g; is_there = first_there g []; has = has })
       (λ f of. elim (there_cases g [] of.graph of.is_there) [
@@ -198,7 +198,7 @@ module _ (stored : List PlainStored) (last : Bool) where
       ]) is
 
   pub none_least : (node_at name : List ℕ) (scope : List (List ℕ)) (a : Argument) → callbacks_in a ≡ []
-      → IsLeastOf (OfArgument stored last node_at name scope a) None
+      → IsLeastFault (OfArgument stored last node_at name scope a) None
   none_least node_at name scope a empty =
       λ f of. absurd (none_there of.graph (subst (λ gs. Contains gs of.graph) empty of.is_there))
 
@@ -225,10 +225,10 @@ module _ (stored : List PlainStored) (last : Bool) where
   }
 
   pub object_least : (name : List ℕ) (scope : List (List ℕ)) (ns : List Node) (o : Option Fault)
-      → IsLeastOf (OneOf (λ (n : Node). OfNode stored last name scope (plain_nodes ns) (plain_node n)) ns) o
-      → IsLeastOf (λ f. OfObject stored last f name scope (plain_nodes ns)) o
+      → IsLeastFault (OneOf (λ (n : Node). OfNode stored last name scope (plain_nodes ns) (plain_node n)) ns) o
+      → IsLeastFault (λ f. OfObject stored last f name scope (plain_nodes ns)) o
   object_least name scope ns o is =
-      IsLeastOf-iff (OneOf (λ (n : Node). OfNode stored last name scope (plain_nodes ns) (plain_node n)) ns)
+      IsLeastFault-iff (OneOf (λ (n : Node). OfNode stored last name scope (plain_nodes ns) (plain_node n)) ns)
       (λ f. OfObject stored last f name scope (plain_nodes ns)) o
       (λ f one. of_node name scope (plain_nodes ns) (plain_node one.one) f
       (subst (λ ms. Contains ms (plain_node one.one)) (sym (each_nodes (map plain_node ns))) (map_there plain_node ns one.one one.is_there))
@@ -245,28 +245,28 @@ module _ (stored : List PlainStored) (last : Bool) where
   pub callback_argument : (node_at name at : List ℕ) (scope : List (List ℕ)) (a : Arg) (g : Graph) (o : Option Fault)
       → a ≡ variant.Callback g → at ≡ callback_name node_at name
       → (IdsRise (plain_nodes (out-Graph g).nodes.items)
-      → IsLeastOf (λ f. OfObject stored last f at scope (plain_nodes (out-Graph g).nodes.items)) o)
-      → IdsRiseIn (callbacks_in (plain_arg a)) → IsLeastOf (OfArgument stored last node_at name scope (plain_arg a)) o
+      → IsLeastFault (λ f. OfObject stored last f at scope (plain_nodes (out-Graph g).nodes.items)) o)
+      → IdsRiseIn (callbacks_in (plain_arg a)) → IsLeastFault (OfArgument stored last node_at name scope (plain_arg a)) o
   callback_argument node_at name at scope a g o is same found rise =
       let ns = plain_nodes (out-Graph g).nodes.items in
       let h : PlainGraph = record { nodes = ns; result = (out-Graph g).result } in
       let whole : plain_arg a ≡ callback h.nodes h.result = callback_is a g is in
       let inner : IdsRise ns = subst (λ p. IdsRiseIn (callbacks_in p)) whole rise h (first_there h []) in
-      subst (λ p. IsLeastOf (OfArgument stored last node_at name scope p) o) (sym whole)
+      subst (λ p. IsLeastFault (OfArgument stored last node_at name scope p) o) (sym whole)
       (callback_least node_at name scope h o
-      (subst (λ n. IsLeastOf (λ f. OfObject stored last f n scope ns) o) same (found inner)))
+      (subst (λ n. IsLeastFault (λ f. OfObject stored last f n scope ns) o) same (found inner)))
 
   -- of a node by itself
   own_is : (name : List ℕ) (scope : List (List ℕ)) (nodes : Nodes) (n : Node) (known mark : Bool) (own : Option Fault) (at : List ℕ)
       → at ≡ node_name name n.id
       → own ≡ option_map (λ code. record { code = code; node = at }) (node_code stored last scope (plain_node n) known mark)
       → known ≡ know_named (ids_of nodes) (plain_node n).arguments → IsMark last nodes (plain_node n) mark
-      → IsLeastOf (OfItself stored last (node_name name (plain_node n).id) scope nodes (plain_node n)) own
+      → IsLeastFault (OfItself stored last (node_name name (plain_node n).id) scope nodes (plain_node n)) own
   own_is name scope nodes n known mark own at called_at is knows marked =
       let m = plain_node n in
       let called : at ≡ node_name name m.id = called_at ∙ ap (λ (k : PlainNode). node_name name k.id) (sym (node_parts n)) in
-      subst (λ a. IsLeastOf (OfItself stored last a scope nodes m) own) called
-      (subst (IsLeastOf (OfItself stored last at scope nodes m))
+      subst (λ a. IsLeastFault (OfItself stored last a scope nodes m) own) called
+      (subst (IsLeastFault (OfItself stored last at scope nodes m))
       (sym (is ∙ ap (λ b. option_map (λ code. record { code = code; node = at }) (node_code stored last scope m b mark)) knows))
       (own_least stored last scope nodes m mark at marked))
 
@@ -289,12 +289,12 @@ module _ (stored : List PlainStored) (last : Bool) where
       → is_some (callee stored n.namespace n.process_id) ≡ true → at ≡ node_name name n.id
       → own ≡ option_map (λ code. record { code = code; node = at }) (node_code stored last scope (plain_node n) known mark)
       → known ≡ know_named (ids_of nodes) (plain_node n).arguments → IsMark last nodes (plain_node n) mark
-      → IsLeastOf (OfNode stored last name scope nodes (plain_node n)) own
+      → IsLeastFault (OfNode stored last name scope nodes (plain_node n)) own
   call_least name scope nodes n known mark own at call called_at is knows marked =
       let m = plain_node n in
       let calls : is_some (callee stored m.namespace m.process_id) ≡ true =
       ap (λ (k : PlainNode). is_some (callee stored k.namespace k.process_id)) (node_parts n) ∙ call in
-      IsLeastOf-iff (OfItself stored last (node_name name m.id) scope nodes m) (OfNode stored last name scope nodes m) own
+      IsLeastFault-iff (OfItself stored last (node_name name m.id) scope nodes m) (OfNode stored last name scope nodes m) own
       (λ f has. inl has)
       (λ f has. own_only m has (called_none (callee stored m.namespace m.process_id) calls))
       (own_is name scope nodes n known mark own at called_at is knows marked)
@@ -310,19 +310,19 @@ module _ (stored : List PlainStored) (last : Bool) where
       → at ≡ node_name name n.id → inner_scope ≡ scope_inside (plain_node n) scope
       → own ≡ option_map (λ code. record { code = code; node = at }) (node_code stored last scope (plain_node n) known mark)
       → known ≡ know_named (ids_of nodes) (plain_node n).arguments → IsMark last nodes (plain_node n) mark
-      → IsLeastOf (OfArguments stored last at inner_scope (plain_named n.arguments.items)) inner
-      → IsLeastOf (OfNode stored last name scope nodes (plain_node n)) (least own inner)
+      → IsLeastFault (OfArguments stored last at inner_scope (plain_named n.arguments.items)) inner
+      → IsLeastFault (OfNode stored last name scope nodes (plain_node n)) (least own inner)
   node_least name scope nodes n known mark own inner at inner_scope no_call called_at scoped is knows marked found =
       let m = plain_node n in
       let called : at ≡ node_name name m.id = called_at ∙ ap (λ (k : PlainNode). node_name name k.id) (sym (node_parts n)) in
       let none : callee stored m.namespace m.process_id ≡ None =
       uncalled (callee stored m.namespace m.process_id)
       (ap (λ (k : PlainNode). is_some (callee stored k.namespace k.process_id)) (node_parts n) ∙ no_call) in
-      let arguments : IsLeastOf (OfArguments stored last (node_name name m.id) (scope_inside m scope) m.arguments) inner =
-      subst (λ a. IsLeastOf (OfArguments stored last a (scope_inside m scope) m.arguments) inner) called
-      (subst (λ sc. IsLeastOf (OfArguments stored last at sc m.arguments) inner) scoped
-      (subst (λ (k : PlainNode). IsLeastOf (OfArguments stored last at inner_scope k.arguments) inner) (sym (node_parts n)) found)) in
-      IsLeastOf-least (OfItself stored last (node_name name m.id) scope nodes m) (Inner name scope m) own inner
+      let arguments : IsLeastFault (OfArguments stored last (node_name name m.id) (scope_inside m scope) m.arguments) inner =
+      subst (λ a. IsLeastFault (OfArguments stored last a (scope_inside m scope) m.arguments) inner) called
+      (subst (λ sc. IsLeastFault (OfArguments stored last at sc m.arguments) inner) scoped
+      (subst (λ (k : PlainNode). IsLeastFault (OfArguments stored last at inner_scope k.arguments) inner) (sym (node_parts n)) found)) in
+      IsLeastFault-least (OfItself stored last (node_name name m.id) scope nodes m) (Inner name scope m) own inner
       (own_is name scope nodes n known mark own at called_at is knows marked)
-      (IsLeastOf-iff (OfArguments stored last (node_name name m.id) (scope_inside m scope) m.arguments) (Inner name scope m) inner
+      (IsLeastFault-iff (OfArguments stored last (node_name name m.id) (scope_inside m scope) m.arguments) (Inner name scope m) inner
       (λ f has. (none, has)) (λ f has. has.1) arguments)

@@ -1,15 +1,15 @@
 -- Which fault is refused: those of calls come before that of size, and this one before those of names.
 use Rattle.std.proofs.Common.{◌≡◌, ◌<◌, ℕ, ◌⊎◌, inl, inr, List, [], Option, Some, None, refl, sym, ap, ◌∙◌, subst, arith}
 use Rattle.oe_graph.specs.Codes.{phase_of}
-use Rattle.oe_graph.specs.Faults.{is_before, IsLeast}
+use Rattle.oe_graph.specs.Faults.{is_before, IsLeast, IsLeastFault}
 use Rattle.oe_graph.specs.Tree.{PlainGraph, PlainStored}
 use Rattle.oe_graph.specs.declared.code.Code.{Code}
 use Rattle.oe_graph.specs.declared.code.Code.TheVariants.{GraphTooLarge}
 use Rattle.oe_graph.specs.declared.fault.Fault.{Fault}
-use Rattle.oe_graph.proofs.LeastLemmas.{IsLeastOf, IsLeastOf-earlier, IsLeastOf-one, Either}
+use Rattle.oe_graph.proofs.LeastLemmas.{IsLeastFault-earlier, IsLeastFault-one, Either}
 use Rattle.oe_resolve.specs.Expansion.{IsNameFault}
 use Rattle.oe_calls.specs.Faults as faults
-use Rattle.oe_calls.specs.Faults.{StandsWithStored, IsLeastFault}
+use Rattle.oe_calls.specs.Faults.{StandsWithStored}
 use Rattle.oe_calls.specs.Reached.{IsCallFault}
 
 module _ (stored : List PlainStored) (g : PlainGraph) where
@@ -47,7 +47,7 @@ module _ (stored : List PlainStored) (g : PlainGraph) where
       → IsLeast (StandsWithStored stored g) f
   of_calls_least o f is found =
       let own : IsLeastFault (IsCallFault stored g) (Some f) = subst (IsLeastFault (IsCallFault stored g)) found is in
-      let all = IsLeastOf-earlier (IsCallFault stored g) Later f own (λ h later. omega (arith, own.0.0, later.0)) in
+      let all = IsLeastFault-earlier (IsCallFault stored g) Later f own (λ h later. omega (arith, own.0.0, later.0)) in
       record {
         stands = own.0.1;
         least = λ other stands. all.1 other (call_or_later other stands);
@@ -75,7 +75,7 @@ module _ (stored : List PlainStored) (g : PlainGraph) where
     pub of_size_least : (at : List ℕ) → at ≡ [] → StandsWithStored stored g GraphTooLarge []
         → IsLeast (StandsWithStored stored g) (record { code = GraphTooLarge; node = at })
     of_size_least at empty has =
-        let all = IsLeastOf-earlier (λ f. f ≡ too_large) Named too_large (IsLeastOf-one too_large) (λ h named. omega (arith, named.0)) in
+        let all = IsLeastFault-earlier (λ f. f ≡ too_large) Named too_large (IsLeastFault-one too_large) (λ h named. omega (arith, named.0)) in
         subst (λ xs. IsLeast (StandsWithStored stored g) (record { code = GraphTooLarge; node = xs })) (sym empty) (record {
           stands = has;
           least = λ other stands. all.1 other (size_or_name other stands);

@@ -1,13 +1,14 @@
 -- For private functions. What expanding gives: the graph after all rounds, within its limits, and the least fault of
 -- names.
 use Rattle.std.specs.Prelude.{◌≡◌, ◌<◌, ◌≤◌, ◌+◌, ℕ, false, List, [], Option}
+use Rattle.oe_graph.specs.Faults.{IsLeastFault}
 use Rattle.oe_graph.specs.Codes.{phase_of}
 use Rattle.oe_graph.specs.Tree.{PlainGraph, PlainStored}
 use Rattle.oe_graph.specs.Plain.{plain_graph}
 use Rattle.oe_graph.specs.declared.fault.Fault.{Fault}
 use Rattle.oe_graph.specs.declared.tree.Graph.{Graph}
 use Rattle.oe_calls.specs.HasCall.{nodes_call}
-use Rattle.oe_calls.specs.Faults.{StandsWithStored, IsLeastFault}
+use Rattle.oe_calls.specs.Faults.{StandsWithStored}
 use Rattle.oe_resolve.specs.NameFaults.{OfObject}
 use Rattle.oe_calls.specs.Rounds.{expanded_by, expanded, most_rounds}
 use Rattle.oe_calls.specs.Sizes.{IsWithinLimits}

@@ -2,6 +2,7 @@
 ghost use Rattle.std.specs.Prelude.{◌≡◌, ◌<◌, ◌^◌, true, false, length, IfOk, [], map, option_map};
 ghost use Rattle.std.specs.List.{list_any};
 ghost use Rattle.oe_dims.specs.Names.{same_name, names_rise};
+ghost use Rattle.oe_graph.specs.Faults.{IsLeastFault};
 ghost use Rattle.oe_graph.specs.Catalogue.{parameter_of, plain_parameter as plain_of};
 ghost use Rattle.oe_graph.specs.Indices.{reference_graph};
 ghost use Rattle.oe_graph.specs.Plain.{plain_arg, plain_args, plain_graph, plain_named, plain_node, plain_nodes, plain_parameter, plain_stored};
@@ -11,7 +12,7 @@ ghost use Rattle.oe_graph.specs.Resolved as resolved;
 ghost use Rattle.oe_graph.specs.Tree as tree;
 ghost use Rattle.oe_order.specs.Graph.{graph_of};
 ghost use Rattle.oe_calls.specs.Calls.{parameters_of, row_meant};
-ghost use Rattle.oe_calls.specs.Faults.{names_among, IsLeastFault};
+ghost use Rattle.oe_calls.specs.Faults.{names_among};
 ghost use Rattle.oe_resolve.specs.NameFaults as spec;
 ghost use Rattle.oe_resolve.specs.NameFaults.{AreMarks, IsMark, IdsRise, IdsRiseIn, OfArgument, OfArguments, OfNode, OfObject};
 ghost use Rattle.oe_calls.specs.PlainValues.{names_behind};

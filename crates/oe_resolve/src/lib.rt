@@ -7,6 +7,7 @@ mod defaults;
 mod faults_of_names;
 
 ghost use Rattle.std.specs.Prelude.{◌≡◌, ℕ, true, List, [], None, IfOk, IfErr, Contains, map};
+ghost use Rattle.oe_graph.specs.Faults.{IsLeastFault};
 ghost use Rattle.oe_graph.specs.declared.code.Code.{Code};
 ghost use Rattle.oe_graph.specs.Plain.{plain_graph, plain_stored};
 ghost use Rattle.oe_graph.specs.Read.{IsFault};
@@ -14,7 +15,7 @@ ghost use Rattle.oe_graph.specs.References.{each_node};
 ghost use Rattle.oe_graph.specs.Resolved.{IsResolved};
 ghost use Rattle.oe_graph.specs.Tree.{PlainGraph, PlainNode, PlainStored};
 ghost use Rattle.oe_calls.specs.Calls.{Calls};
-ghost use Rattle.oe_calls.specs.Faults.{StandsWithStored, IsLeastFault};
+ghost use Rattle.oe_calls.specs.Faults.{StandsWithStored};
 ghost use Rattle.oe_calls.specs.HasCall.{nodes_call};
 ghost use Rattle.oe_resolve.specs.Expansion.{IsExpansion, IsSettled};
 ghost use Rattle.oe_resolve.specs.Filled as spec;

@@ -13,7 +13,7 @@ use Rattle.oe_graph.specs.Tree.{Argument, Named, no_named, named, Nodes, PlainGr
 use Rattle.oe_graph.specs.declared.code.Code.{Code}
 use Rattle.oe_graph.specs.declared.code.Code.TheVariants.{GraphTooLarge}
 use Rattle.oe_graph.specs.declared.fault.Fault.{Fault}
-use Rattle.oe_graph.proofs.LeastLemmas.{IsLeastOf}
+use Rattle.oe_graph.specs.Faults.{IsLeastFault}
 use Rattle.oe_calls.specs.Calls as calls
 use Rattle.oe_calls.specs.Calls.{callee, CallsReach}
 use Rattle.oe_calls.specs.Faults as faults
@@ -147,7 +147,7 @@ without : (last : Bool) (scope : List (List ℕ)) (nodes : Nodes) (n : PlainNode
     → node_code [] last scope n (know_named (ids_of nodes) n.arguments) false ≡ None
     → (f : Fault) → ¬ OfItself [] last at scope nodes n f
 without last scope nodes n at acyclic none =
-    subst (λ (code : Option Code). IsLeastOf (OfItself [] last at scope nodes n) (option_map (λ c. record { code = c; node = at }) code)) none
+    subst (λ (code : Option Code). IsLeastFault (OfItself [] last at scope nodes n) (option_map (λ c. record { code = c; node = at }) code)) none
     (own_least [] last scope nodes n false at (unmarked last nodes n acyclic))
 
 main_acyclic : (id : List ℕ) → ¬ Leads main_nodes id id

@@ -1,7 +1,7 @@
 use Rattle.std.proofs.Common.{◌≡◌, ◌<◌, ◌≤◌, ◌+◌, ℕ, zero, suc, true, false, List, [], length, map, refl, sym, ap, ◌∙◌, subst, arith}
 use Rattle.std.proofs.lemmas.List.{length-map}
 use Rattle.std.proofs.lemmas.Result.{IfOk-weaker}
-use Rattle.oe_graph.proofs.LeastLemmas.{IsLeastOf}
+use Rattle.oe_graph.specs.Faults.{IsLeastFault}
 use Rattle.oe_graph.specs.Plain.{plain_graph, plain_stored}
 use Rattle.oe_graph.specs.Tree.{PlainGraph, PlainStored}
 use Rattle.oe_calls.specs.HasCall.{nodes_call}
@@ -58,9 +58,9 @@ loop-times-preserved c =
           ∙ ap (λ xs. rounds.round xs (plain_graph c.loop-times.expanded)) cleared
           ∙ ap (rounds.round (map rounds.cleared_stored stored)) c.loop-times.invariant.1
           ∙ ap (λ k. expanded_by k stored g) next,
-      subst (IsLeastOf (IsEarly stored g (times + 1))) (sym c.least-fault.ensures)
+      subst (IsLeastFault (IsEarly stored g (times + 1))) (sym c.least-fault.ensures)
           (early_more stored g times c.loop-times.fault c.in_ok-found.found c.loop-times.invariant.2
-          (subst (λ (h : PlainGraph). IsLeastOf (λ f. OfObject stored false f [] [] h.nodes) c.in_ok-found.found) c.loop-times.invariant.1 c.in_ok-found.ensures)),
+          (subst (λ (h : PlainGraph). IsLeastFault (λ f. OfObject stored false f [] [] h.nodes) c.in_ok-found.found) c.loop-times.invariant.1 c.in_ok-found.ensures)),
       λ below. called,
       c.in_ok-expanded.ensures.within,
     )

@@ -2,7 +2,7 @@ use Rattle.std.proofs.Common.{◌≡◌, ◌<◌, ◌≤◌, ◌-◌, true, leng
 use Rattle.oe_graph.specs.Plain.{plain_graph, plain_stored}
 use Rattle.oe_calls.specs.HasCall.{nodes_call}
 use Rattle.oe_resolve.specs.Expansion.{IsEarly}
-use Rattle.oe_calls.specs.Faults.{IsLeastFault}
+use Rattle.oe_graph.specs.Faults.{IsLeastFault}
 use Rattle.oe_calls.specs.Rounds.{expanded_by, cleared_graph}
 use Rattle.oe_calls.specs.Sizes.{IsWithinLimits}
 use Rattle.oe_resolve.proofs.expand.Given as goal

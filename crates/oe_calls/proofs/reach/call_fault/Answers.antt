@@ -6,7 +6,7 @@ use Rattle.oe_graph.specs.declared.code.Code.{Code}
 use Rattle.oe_graph.specs.declared.fault.Fault.{Fault}
 use Rattle.oe_graph.specs.declared.tree.Node.{Node}
 use Rattle.oe_graph.proofs.PartLemmas.{graph_parts, node_parts}
-use Rattle.oe_calls.specs.Faults.{IsLeastFault}
+use Rattle.oe_graph.specs.Faults.{IsLeastFault}
 use Rattle.oe_calls.specs.Reached.{IsCallFault, IsCodeOf}
 use Rattle.oe_calls.proofs.Tests.{at_next}
 use Rattle.oe_calls.proofs.FirstCallLemmas.{First, at_end, skip, here, first_call}

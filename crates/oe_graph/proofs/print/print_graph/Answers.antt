@@ -9,7 +9,7 @@ use Rattle.oe_graph.specs.Printed.{graph_data, nodes_data, IsPrintable}
 use Rattle.oe_graph.specs.Read.{Reads, IsFaultless}
 use Rattle.oe_graph.specs.Tree as tree
 use Rattle.oe_graph.specs.Tree.{PlainGraph}
-use Rattle.oe_graph.proofs.LeastLemmas.{IsLeastOf}
+use Rattle.oe_graph.specs.Faults.{IsLeastFault}
 use Rattle.oe_graph.proofs.WalkLemmas.{at_code}
 use Rattle.oe_graph.proofs.ReadLemmas.{value_least, bytes_valid, reading_of}
 use Rattle.oe_graph.proofs.PrintLemmas.{argument_no_float}
@@ -27,7 +27,7 @@ returns-clause-text c =
 faultless : (g : PlainGraph) → IsPrintable g → IsFaultless (StandsIn (graph_data g))
 faultless g printable code node stands =
     let nodes = nodes_data 0 g.result g.nodes no_members in
-    let none = subst (λ o. IsLeastOf (λ f. StandsIn (graph_data g) f.code f.node) o) (graph_whole g.nodes g.result printable)
+    let none = subst (λ o. IsLeastFault (λ f. StandsIn (graph_data g) f.code f.node) o) (graph_whole g.nodes g.result printable)
     (value_least (graph_data g) nodes refl) in
     none (at_code code node) stands
 

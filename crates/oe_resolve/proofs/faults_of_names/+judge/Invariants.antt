@@ -3,7 +3,7 @@ use Rattle.oe_graph.proofs.LeastLemmas.{OneOf}
 use Rattle.oe_graph.specs.Plain.{plain_arg, plain_args, plain_named, plain_node, plain_nodes, plain_stored}
 use Rattle.oe_graph.specs.References.{callbacks_each, callbacks_named}
 use Rattle.oe_resolve.specs.NameFaults.{IdsRise, IdsRiseIn, OfArgument, OfNode}
-use Rattle.oe_calls.specs.Faults.{IsLeastFault}
+use Rattle.oe_graph.specs.Faults.{IsLeastFault}
 use Rattle.oe_calls.specs.PlainValues.{names_behind}
 use Rattle.oe_resolve.proofs.faults_of_names.+judge.Given as goal
 

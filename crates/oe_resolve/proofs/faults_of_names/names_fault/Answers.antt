@@ -4,7 +4,7 @@ use Rattle.oe_graph.specs.Plain.{plain_graph, plain_nodes, plain_stored}
 use Rattle.oe_graph.specs.Tree.{PlainGraph}
 use Rattle.oe_graph.proofs.PartLemmas.{graph_parts}
 use Rattle.oe_resolve.specs.NameFaults.{IdsRise, OfObject}
-use Rattle.oe_calls.specs.Faults.{IsLeastFault}
+use Rattle.oe_graph.specs.Faults.{IsLeastFault}
 use Rattle.oe_resolve.proofs.faults_of_names.names_fault.Goals as goal
 
 pub returns : goal.returns
