@@ -10,7 +10,7 @@ use Rattle.oe_graph.specs.declared.fault.Refusal.{Refusal}
 use Rattle.oe_graph.specs.declared.fault.Refusal.TheVariants as refusal
 use Rattle.oe_judge.specs.Judged.{StandsWithCollections, of_names, of_cubes, checked_over}
 use Rattle.oe_calls.specs.Faults as names
-use Rattle.oe_resolve.specs.Filled.{resolved}
+use Rattle.oe_resolve.specs.Defaults.{resolved}
 use Rattle.oe_check.specs.Checked.{CheckedGraph}
 use Rattle.oe_meanings.specs.Stands as cubes
 

@@ -5,7 +5,7 @@ use Rattle.oe_graph.specs.Read.{IsFaultless}
 use Rattle.oe_graph.specs.Tree.{PlainGraph, PlainStored}
 use Rattle.oe_graph.specs.declared.code.Code.{Code}
 use Rattle.oe_calls.specs.Faults as names
-use Rattle.oe_resolve.specs.Filled.{resolved}
+use Rattle.oe_resolve.specs.Defaults.{resolved}
 use Rattle.oe_check.specs.Checked.{CheckedGraph}
 use Rattle.oe_meanings.specs.Stands as cubes
 

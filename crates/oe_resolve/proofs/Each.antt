@@ -5,7 +5,7 @@ use Rattle.oe_graph.specs.Plain.{plain_arg, plain_args, plain_named, plain_nodes
 use Rattle.oe_graph.specs.declared.tree.Arg.{Arg}
 use Rattle.oe_graph.specs.declared.tree.Node.{Node}
 use Rattle.oe_calls.specs.Rounds as rounds
-use Rattle.oe_resolve.specs.Filled as filled
+use Rattle.oe_resolve.specs.Defaults as defaults
 use Rattle.oe_calls.proofs.Each.{member_by}
 
 pub cleared_each : (ids : List (List ℕ)) (xs : List Arg)
@@ -25,19 +25,19 @@ cleared_nodes ids (n ∷ ns) =
     let m = rounds.cleared_node ids (plain_node n) in
     ap (node m.id m.process_id m.namespace m.arguments) (cleared_nodes ids ns)
 
-pub filled_each : (xs : List Arg)
-    → values_from_list (map (λ a. filled.filled (plain_arg a)) xs) ≡ filled.filled_each (plain_args xs)
-filled_each [] = refl
-filled_each (a ∷ xs) = ap (argument (filled.filled (plain_arg a))) (filled_each xs)
+pub each_with_defaults : (xs : List Arg)
+    → values_from_list (map (λ a. defaults.with_defaults (plain_arg a)) xs) ≡ defaults.each_with_defaults (plain_args xs)
+each_with_defaults [] = refl
+each_with_defaults (a ∷ xs) = ap (argument (defaults.with_defaults (plain_arg a))) (each_with_defaults xs)
 
-pub filled_named : (ms : List (List ℕ × Arg))
-    → named_from_list (map (member_by filled.filled) ms) ≡ filled.filled_named (plain_named ms)
-filled_named [] = refl
-filled_named (m ∷ ms) = ap (named m.0 (filled.filled (plain_arg m.1))) (filled_named ms)
+pub named_with_defaults : (ms : List (List ℕ × Arg))
+    → named_from_list (map (member_by defaults.with_defaults) ms) ≡ defaults.named_with_defaults (plain_named ms)
+named_with_defaults [] = refl
+named_with_defaults (m ∷ ms) = ap (named m.0 (defaults.with_defaults (plain_arg m.1))) (named_with_defaults ms)
 
-pub filled_nodes : (ns : List Node)
-    → nodes_from_list (map (λ n. filled.filled_node (plain_node n)) ns) ≡ filled.filled_nodes (plain_nodes ns)
-filled_nodes [] = refl
-filled_nodes (n ∷ ns) =
-    let m = filled.filled_node (plain_node n) in
-    ap (node m.id m.process_id m.namespace m.arguments) (filled_nodes ns)
+pub nodes_with_defaults : (ns : List Node)
+    → nodes_from_list (map (λ n. defaults.node_with_defaults (plain_node n)) ns) ≡ defaults.nodes_with_defaults (plain_nodes ns)
+nodes_with_defaults [] = refl
+nodes_with_defaults (n ∷ ns) =
+    let m = defaults.node_with_defaults (plain_node n) in
+    ap (node m.id m.process_id m.namespace m.arguments) (nodes_with_defaults ns)

@@ -18,7 +18,7 @@ use Rattle.oe_graph.specs.declared.code.Code.{Code}
 use Rattle.oe_calls.specs.HasCall.{nodes_call}
 use Rattle.oe_calls.specs.Calls.{callee, may_stand, stands_in, holds_fitting, calls_fitting, HoldsNode, itself, by_callback, Calls, ReachesProcess, calls, onwards, CallsReach, directly, Brings, by_call}
 use Rattle.oe_calls.specs.Faults.{StandsWithStored, process_unsupported, process_recursive, graph_too_large, callback_too_large, most_main_nodes, most_callback_nodes}
-use Rattle.oe_resolve.specs.Filled.{resolved}
+use Rattle.oe_resolve.specs.Defaults.{resolved}
 use Rattle.oe_calls.specs.Rounds as rounds
 use Rattle.oe_calls.specs.Rounds.{cleared_stored, cleared_graph, under_id, expanded_by, expanded, most_rounds}
 use Rattle.oe_graph.specs.Valid.{IsValidGraph, IsValidStored, AreValidStored}

@@ -6,7 +6,7 @@ use Rattle.oe_graph.specs.Plain.{plain_arg, plain_named}
 use Rattle.oe_graph.specs.Printed.{names_of}
 use Rattle.oe_graph.specs.Tree.{named}
 use Rattle.oe_graph.specs.declared.tree.Arg.{Arg}
-use Rattle.oe_resolve.specs.Filled.{put_argument}
+use Rattle.oe_resolve.specs.Defaults.{put_argument}
 use Rattle.oe_calls.specs.Rounds.{index_among}
 
 argument_step : (before : Bool) (name : List ℕ) (a : Arg) (m : List ℕ × Arg) (ms : List (List ℕ × Arg)) (i : ℕ)

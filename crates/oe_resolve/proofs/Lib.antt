@@ -1,6 +1,6 @@
 pub mod Each
 pub mod InsertLemmas
-pub mod FilledLemmas
+pub mod DefaultLemmas
 pub mod ResolvingLemmas
 pub mod ExpansionLemmas
 mod Worked

@@ -6,9 +6,9 @@ use Rattle.oe_graph.specs.Tree.{Nodes, PlainGraph, PlainNode, PlainStored}
 use Rattle.oe_calls.specs.HasCall.{nodes_call}
 use Rattle.oe_calls.specs.Calls as calls
 use Rattle.oe_calls.specs.Calls.{callee, Calls, HoldsNode}
-use Rattle.oe_resolve.specs.Filled.{filled_nodes, resolved}
+use Rattle.oe_resolve.specs.Defaults.{nodes_with_defaults, resolved}
 use Rattle.oe_calls.specs.Rounds.{expanded}
-use Rattle.oe_resolve.proofs.ResolvingLemmas.{within_filled, node_unfilled}
+use Rattle.oe_resolve.proofs.ResolvingLemmas.{within_before, node_before}
 use Rattle.oe_calls.proofs.UncalledLemmas.{node_uncalled, within_uncalled}
 
 -- the graph object in which a node stands that another holds
@@ -39,11 +39,11 @@ pub calls_none : (stored : List PlainStored) (g : PlainGraph) → nodes_call sto
     → (n : PlainNode) (s : PlainStored) → Contains (each_node (resolved stored g).nodes) n → ¬ Calls stored n s
 calls_none stored g no_call n s has call =
     let e = expanded stored g in
-    let at = held n call.caller call.holds false [] (filled_nodes e.nodes) e.result has in
-    let w = within_filled at.in_callback at.scope at.nodes at.result false [] (filled_nodes e.nodes) e.result e.nodes at.within refl in
-    let m = node_unfilled w.unfilled at.nodes call.caller w.is_filled at.has in
-    let none = (node_uncalled stored w.unfilled m.of
-    (within_uncalled stored at.in_callback at.scope w.unfilled at.result false [] e.nodes e.result w.within no_call) m.has).0 in
+    let at = held n call.caller call.holds false [] (nodes_with_defaults e.nodes) e.result has in
+    let w = within_before at.in_callback at.scope at.nodes at.result false [] (nodes_with_defaults e.nodes) e.result e.nodes at.within refl in
+    let m = node_before w.before at.nodes call.caller w.is_with_defaults at.has in
+    let none = (node_uncalled stored w.before m.of
+    (within_uncalled stored at.in_callback at.scope w.before at.result false [] e.nodes e.result w.within no_call) m.has).0 in
     let same : callee stored call.caller.namespace call.caller.process_id ≡ None =
     ap (λ (k : PlainNode). callee stored k.namespace k.process_id) (sym m.is) ∙ none in
     let both : None ≡ Some s = sym same ∙ call.calls in

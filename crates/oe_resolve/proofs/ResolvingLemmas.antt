@@ -1,5 +1,5 @@
--- Where no fault stands in a graph, and its expansion is in order, fits its sizes and calls no stored process, the filled
--- graph is resolved.
+-- Where no fault stands in a graph, and its expansion is in order, fits its sizes and calls no stored process, the graph
+-- with defaults is resolved.
 use Rattle.std.proofs.Common.{◌≡◌, inl, inr, ℕ, suc, ◌<◌, ◌≤◌, ◌||◌, not, Bool, true, false, if◌then◌else◌, List, [], ◌∷◌, ◌++◌, map, Contains, Decides, Option, Some, None, is_some, option_map, refl, sym, ap, ◌∙◌, subst, true≢false}
 use Rattle.std.specs.Option.{option_map_or, option_or}
 use Rattle.std.specs.Set.{is_member}
@@ -20,10 +20,10 @@ use Rattle.oe_calls.specs.HasCall.{nodes_call}
 use Rattle.oe_calls.specs.Calls.{callee, means_catalogue, row_meant, stands_in, parameters_of}
 use Rattle.oe_calls.specs.Faults as faults
 use Rattle.oe_calls.specs.Faults.{each_argument, HasNode, names_among, StandsWithStored, argument_unknown, process_parameter_missing, parameter_unknown, node_unknown, graph_cycle}
-use Rattle.oe_resolve.specs.Filled.{parameters_named, filled, filled_each, filled_named, filled_nodes, filled_node, filled_graph, put_defaults, resolved}
+use Rattle.oe_resolve.specs.Defaults.{parameters_named, with_defaults, each_with_defaults, named_with_defaults, nodes_with_defaults, node_with_defaults, graph_with_defaults, put_defaults, resolved}
 use Rattle.oe_calls.specs.Rounds.{expanded, most_rounds}
 use Rattle.oe_calls.proofs.Along.{none_there, in_first, later_there, Image, in_map, map_there}
-use Rattle.oe_resolve.proofs.FilledLemmas.{the_names, references-defaults, parameters-defaults, callbacks-defaults, names-defaults, names-given, names_rise-defaults}
+use Rattle.oe_resolve.proofs.DefaultLemmas.{the_names, references-defaults, parameters-defaults, callbacks-defaults, names-defaults, names-given, names_rise-defaults}
 use Rattle.oe_calls.proofs.UncalledLemmas.{node_uncalled, callback_uncalled}
 use Rattle.oe_calls.proofs.OrderLemmas.{IsOrderedObject, EachObject}
 
@@ -41,102 +41,102 @@ decide_by xs x false decides not_not = absurd (not_not (λ has. true≢false (sy
 pub stands_among : (xs : List (List ℕ)) (x : List ℕ) → ((Contains xs x → ⊥) → ⊥) → Contains xs x
 stands_among xs x not_not = decide_by xs x (is_member same_name xs x) (is_member-Decides name_decides xs x) not_not
 
--- ---- what filling keeps
+-- ---- what defaults keep
 
-pub each_node-filled : (nodes : Nodes) → each_node (filled_nodes nodes) ≡ map filled_node (each_node nodes)
-each_node-filled no_nodes = refl
-each_node-filled (node id p s args rest) =
-    ap (λ xs. filled_node (record { id = id; process_id = p; namespace = s; arguments = args }) ∷ xs) (each_node-filled rest)
+pub each_node-with_defaults : (nodes : Nodes) → each_node (nodes_with_defaults nodes) ≡ map node_with_defaults (each_node nodes)
+each_node-with_defaults no_nodes = refl
+each_node-with_defaults (node id p s args rest) =
+    ap (λ xs. node_with_defaults (record { id = id; process_id = p; namespace = s; arguments = args }) ∷ xs) (each_node-with_defaults rest)
 
-pub ids_of-filled : (nodes : Nodes) → ids_of (filled_nodes nodes) ≡ ids_of nodes
-ids_of-filled no_nodes = refl
-ids_of-filled (node id p s args rest) = ap (λ xs. id ∷ xs) (ids_of-filled rest)
+pub ids_of-with_defaults : (nodes : Nodes) → ids_of (nodes_with_defaults nodes) ≡ ids_of nodes
+ids_of-with_defaults no_nodes = refl
+ids_of-with_defaults (node id p s args rest) = ap (λ xs. id ∷ xs) (ids_of-with_defaults rest)
 
-pub node_count-filled : (nodes : Nodes) → node_count (filled_nodes nodes) ≡ node_count nodes
-node_count-filled no_nodes = refl
-node_count-filled (node id p s args rest) = ap suc (node_count-filled rest)
+pub node_count-with_defaults : (nodes : Nodes) → node_count (nodes_with_defaults nodes) ≡ node_count nodes
+node_count-with_defaults no_nodes = refl
+node_count-with_defaults (node id p s args rest) = ap suc (node_count-with_defaults rest)
 
-pub names_of-filled : (ms : Named) → names_of (filled_named ms) ≡ names_of ms
-names_of-filled no_named = refl
-names_of-filled (named k a rest) = ap (λ xs. k ∷ xs) (names_of-filled rest)
-
-mutual
-  references-filled : (a : Argument) → references_in (filled a) ≡ references_in a
-  references-filled null = refl
-  references-filled (flag b) = refl
-  references-filled (whole z) = refl
-  references-filled inexact = refl
-  references-filled (text s) = refl
-  references-filled (list rest) = references_each-filled rest
-  references-filled (object ms) = references_named-filled ms
-  references-filled (from_node id) = refl
-  references-filled (from_parameter name) = refl
-  references-filled (callback ns result) = refl
-
-  references_each-filled : (rest : ListValues) → references_each (filled_each rest) ≡ references_each rest
-  references_each-filled no_arguments = refl
-  references_each-filled (argument a rest) =
-      ap (λ xs. xs ++ references_each (filled_each rest)) (references-filled a)
-      ∙ ap (λ xs. references_in a ++ xs) (references_each-filled rest)
-
-  pub references_named-filled : (ms : Named) → references_named (filled_named ms) ≡ references_named ms
-  references_named-filled no_named = refl
-  references_named-filled (named k a rest) =
-      ap (λ xs. xs ++ references_named (filled_named rest)) (references-filled a)
-      ∙ ap (λ xs. references_in a ++ xs) (references_named-filled rest)
+pub names_of-with_defaults : (ms : Named) → names_of (named_with_defaults ms) ≡ names_of ms
+names_of-with_defaults no_named = refl
+names_of-with_defaults (named k a rest) = ap (λ xs. k ∷ xs) (names_of-with_defaults rest)
 
 mutual
-  parameters-filled : (a : Argument) → parameters_in (filled a) ≡ parameters_in a
-  parameters-filled null = refl
-  parameters-filled (flag b) = refl
-  parameters-filled (whole z) = refl
-  parameters-filled inexact = refl
-  parameters-filled (text s) = refl
-  parameters-filled (list rest) = parameters_each-filled rest
-  parameters-filled (object ms) = parameters_named-filled ms
-  parameters-filled (from_node id) = refl
-  parameters-filled (from_parameter name) = refl
-  parameters-filled (callback ns result) = refl
+  references-with_defaults : (a : Argument) → references_in (with_defaults a) ≡ references_in a
+  references-with_defaults null = refl
+  references-with_defaults (flag b) = refl
+  references-with_defaults (whole z) = refl
+  references-with_defaults inexact = refl
+  references-with_defaults (text s) = refl
+  references-with_defaults (list rest) = references_each-with_defaults rest
+  references-with_defaults (object ms) = references_named-with_defaults ms
+  references-with_defaults (from_node id) = refl
+  references-with_defaults (from_parameter name) = refl
+  references-with_defaults (callback ns result) = refl
 
-  parameters_each-filled : (rest : ListValues) → parameters_each (filled_each rest) ≡ parameters_each rest
-  parameters_each-filled no_arguments = refl
-  parameters_each-filled (argument a rest) =
-      ap (λ xs. xs ++ parameters_each (filled_each rest)) (parameters-filled a)
-      ∙ ap (λ xs. parameters_in a ++ xs) (parameters_each-filled rest)
+  references_each-with_defaults : (rest : ListValues) → references_each (each_with_defaults rest) ≡ references_each rest
+  references_each-with_defaults no_arguments = refl
+  references_each-with_defaults (argument a rest) =
+      ap (λ xs. xs ++ references_each (each_with_defaults rest)) (references-with_defaults a)
+      ∙ ap (λ xs. references_in a ++ xs) (references_each-with_defaults rest)
 
-  pub parameters_named-filled : (ms : Named)
-      → named_references.parameters_named (filled_named ms) ≡ named_references.parameters_named ms
-  parameters_named-filled no_named = refl
-  parameters_named-filled (named k a rest) =
-      ap (λ xs. xs ++ named_references.parameters_named (filled_named rest)) (parameters-filled a)
-      ∙ ap (λ xs. parameters_in a ++ xs) (parameters_named-filled rest)
+  pub references_named-with_defaults : (ms : Named) → references_named (named_with_defaults ms) ≡ references_named ms
+  references_named-with_defaults no_named = refl
+  references_named-with_defaults (named k a rest) =
+      ap (λ xs. xs ++ references_named (named_with_defaults rest)) (references-with_defaults a)
+      ∙ ap (λ xs. references_in a ++ xs) (references_named-with_defaults rest)
 
 mutual
-  callbacks-filled : (a : Argument) → callbacks_in (filled a) ≡ map filled_graph (callbacks_in a)
-  callbacks-filled null = refl
-  callbacks-filled (flag b) = refl
-  callbacks-filled (whole z) = refl
-  callbacks-filled inexact = refl
-  callbacks-filled (text s) = refl
-  callbacks-filled (list rest) = callbacks_each-filled rest
-  callbacks-filled (object ms) = callbacks_named-filled ms
-  callbacks-filled (from_node id) = refl
-  callbacks-filled (from_parameter name) = refl
-  callbacks-filled (callback ns result) = refl
+  parameters-with_defaults : (a : Argument) → parameters_in (with_defaults a) ≡ parameters_in a
+  parameters-with_defaults null = refl
+  parameters-with_defaults (flag b) = refl
+  parameters-with_defaults (whole z) = refl
+  parameters-with_defaults inexact = refl
+  parameters-with_defaults (text s) = refl
+  parameters-with_defaults (list rest) = parameters_each-with_defaults rest
+  parameters-with_defaults (object ms) = parameters_named-with_defaults ms
+  parameters-with_defaults (from_node id) = refl
+  parameters-with_defaults (from_parameter name) = refl
+  parameters-with_defaults (callback ns result) = refl
 
-  callbacks_each-filled : (rest : ListValues) → callbacks_each (filled_each rest) ≡ map filled_graph (callbacks_each rest)
-  callbacks_each-filled no_arguments = refl
-  callbacks_each-filled (argument a rest) =
-      ap (λ xs. xs ++ callbacks_each (filled_each rest)) (callbacks-filled a)
-      ∙ (ap (λ xs. map filled_graph (callbacks_in a) ++ xs) (callbacks_each-filled rest)
-      ∙ sym (map-append filled_graph (callbacks_in a) (callbacks_each rest)))
+  parameters_each-with_defaults : (rest : ListValues) → parameters_each (each_with_defaults rest) ≡ parameters_each rest
+  parameters_each-with_defaults no_arguments = refl
+  parameters_each-with_defaults (argument a rest) =
+      ap (λ xs. xs ++ parameters_each (each_with_defaults rest)) (parameters-with_defaults a)
+      ∙ ap (λ xs. parameters_in a ++ xs) (parameters_each-with_defaults rest)
 
-  pub callbacks_named-filled : (ms : Named) → callbacks_named (filled_named ms) ≡ map filled_graph (callbacks_named ms)
-  callbacks_named-filled no_named = refl
-  callbacks_named-filled (named k a rest) =
-      ap (λ xs. xs ++ callbacks_named (filled_named rest)) (callbacks-filled a)
-      ∙ (ap (λ xs. map filled_graph (callbacks_in a) ++ xs) (callbacks_named-filled rest)
-      ∙ sym (map-append filled_graph (callbacks_in a) (callbacks_named rest)))
+  pub parameters_named-with_defaults : (ms : Named)
+      → named_references.parameters_named (named_with_defaults ms) ≡ named_references.parameters_named ms
+  parameters_named-with_defaults no_named = refl
+  parameters_named-with_defaults (named k a rest) =
+      ap (λ xs. xs ++ named_references.parameters_named (named_with_defaults rest)) (parameters-with_defaults a)
+      ∙ ap (λ xs. parameters_in a ++ xs) (parameters_named-with_defaults rest)
+
+mutual
+  callbacks-with_defaults : (a : Argument) → callbacks_in (with_defaults a) ≡ map graph_with_defaults (callbacks_in a)
+  callbacks-with_defaults null = refl
+  callbacks-with_defaults (flag b) = refl
+  callbacks-with_defaults (whole z) = refl
+  callbacks-with_defaults inexact = refl
+  callbacks-with_defaults (text s) = refl
+  callbacks-with_defaults (list rest) = callbacks_each-with_defaults rest
+  callbacks-with_defaults (object ms) = callbacks_named-with_defaults ms
+  callbacks-with_defaults (from_node id) = refl
+  callbacks-with_defaults (from_parameter name) = refl
+  callbacks-with_defaults (callback ns result) = refl
+
+  callbacks_each-with_defaults : (rest : ListValues) → callbacks_each (each_with_defaults rest) ≡ map graph_with_defaults (callbacks_each rest)
+  callbacks_each-with_defaults no_arguments = refl
+  callbacks_each-with_defaults (argument a rest) =
+      ap (λ xs. xs ++ callbacks_each (each_with_defaults rest)) (callbacks-with_defaults a)
+      ∙ (ap (λ xs. map graph_with_defaults (callbacks_in a) ++ xs) (callbacks_each-with_defaults rest)
+      ∙ sym (map-append graph_with_defaults (callbacks_in a) (callbacks_each rest)))
+
+  pub callbacks_named-with_defaults : (ms : Named) → callbacks_named (named_with_defaults ms) ≡ map graph_with_defaults (callbacks_named ms)
+  callbacks_named-with_defaults no_named = refl
+  callbacks_named-with_defaults (named k a rest) =
+      ap (λ xs. xs ++ callbacks_named (named_with_defaults rest)) (callbacks-with_defaults a)
+      ∙ (ap (λ xs. map graph_with_defaults (callbacks_in a) ++ xs) (callbacks_named-with_defaults rest)
+      ∙ sym (map-append graph_with_defaults (callbacks_in a) (callbacks_named rest)))
 
 -- the parameters of a row of the catalogue
 abbrev of_row : Option Process → List Parameter
@@ -147,54 +147,54 @@ plain_of_row : (row : Option Process)
 plain_of_row None = refl
 plain_of_row (Some p) = refl
 
--- the arguments of a filled node
-filled_arguments : (n : PlainNode)
-    → (filled_node n).arguments ≡ put_defaults (map plain_parameter (of_row (process_named n.process_id))) (filled_named n.arguments)
-filled_arguments n = ap (λ ps. put_defaults ps (filled_named n.arguments)) (plain_of_row (process_named n.process_id))
+-- the arguments of a node with defaults
+arguments_with_defaults : (n : PlainNode)
+    → (node_with_defaults n).arguments ≡ put_defaults (map plain_parameter (of_row (process_named n.process_id))) (named_with_defaults n.arguments)
+arguments_with_defaults n = ap (λ ps. put_defaults ps (named_with_defaults n.arguments)) (plain_of_row (process_named n.process_id))
 
--- ---- the graph objects of a filled graph are the filled ones of the graph
+-- ---- the graph objects of a graph with defaults are those of the graph, with defaults
 
-pub record FilledWithin (in_callback : Bool) (scope : List (List ℕ)) (nodes : Nodes) (result : ℕ)
+pub record WithinBefore (in_callback : Bool) (scope : List (List ℕ)) (nodes : Nodes) (result : ℕ)
     (outer_in_callback : Bool) (outer_scope : List (List ℕ)) (outer : Nodes) (outer_result : ℕ) : Type 0 where
-  pub unfilled : Nodes
-  pub is_filled : nodes ≡ filled_nodes unfilled
-  pub within : IsScopedWithin in_callback scope unfilled result outer_in_callback outer_scope outer outer_result
+  pub before : Nodes
+  pub is_with_defaults : nodes ≡ nodes_with_defaults before
+  pub within : IsScopedWithin in_callback scope before result outer_in_callback outer_scope outer outer_result
 
-callback_unfilled : (m : PlainNode) (g : PlainGraph) → Contains (callbacks_named (filled_node m).arguments) g
-    → Image filled_graph (callbacks_named m.arguments) g
-callback_unfilled m g has =
-    in_map filled_graph (callbacks_named m.arguments) g
-    (subst (λ gs. Contains gs g) (callbacks_named-filled m.arguments)
-    (callbacks-defaults (of_row (process_named m.process_id)) (filled_named m.arguments) g
-    (subst (λ ms. Contains (callbacks_named ms) g) (filled_arguments m) has)))
+callback_before : (m : PlainNode) (g : PlainGraph) → Contains (callbacks_named (node_with_defaults m).arguments) g
+    → Image graph_with_defaults (callbacks_named m.arguments) g
+callback_before m g has =
+    in_map graph_with_defaults (callbacks_named m.arguments) g
+    (subst (λ gs. Contains gs g) (callbacks_named-with_defaults m.arguments)
+    (callbacks-defaults (of_row (process_named m.process_id)) (named_with_defaults m.arguments) g
+    (subst (λ ms. Contains (callbacks_named ms) g) (arguments_with_defaults m) has)))
 
-pub node_unfilled : (outer whole_outer : Nodes) (n : PlainNode) → whole_outer ≡ filled_nodes outer → Contains (each_node whole_outer) n
-    → Image filled_node (each_node outer) n
-node_unfilled outer whole_outer n is has =
-    in_map filled_node (each_node outer) n
-    (subst (λ ns. Contains ns n) (ap each_node is ∙ each_node-filled outer) has)
+pub node_before : (outer whole_outer : Nodes) (n : PlainNode) → whole_outer ≡ nodes_with_defaults outer → Contains (each_node whole_outer) n
+    → Image node_with_defaults (each_node outer) n
+node_before outer whole_outer n is has =
+    in_map node_with_defaults (each_node outer) n
+    (subst (λ ns. Contains ns n) (ap each_node is ∙ each_node-with_defaults outer) has)
 
-pub within_filled : (in_callback : Bool) (scope : List (List ℕ)) (nodes : Nodes) (result : ℕ)
+pub within_before : (in_callback : Bool) (scope : List (List ℕ)) (nodes : Nodes) (result : ℕ)
     (outer_in_callback : Bool) (outer_scope : List (List ℕ)) (whole_outer : Nodes) (outer_result : ℕ) (outer : Nodes)
     → IsScopedWithin in_callback scope nodes result outer_in_callback outer_scope whole_outer outer_result
-    → whole_outer ≡ filled_nodes outer
-    → FilledWithin in_callback scope nodes result outer_in_callback outer_scope outer outer_result
-within_filled in_callback scope nodes result outer_in_callback outer_scope whole_outer outer_result outer itself is =
-    record { unfilled = outer; is_filled = is; within = itself }
-within_filled in_callback scope nodes result outer_in_callback outer_scope whole_outer outer_result outer (inside {n = n} {g = g} has calls within) is =
-    let m = node_unfilled outer whole_outer n is has in
-    let h = callback_unfilled m.of g (subst (λ (k : PlainNode). Contains (callbacks_named k.arguments) g) (sym m.is) calls) in
-    let deep = within_filled in_callback scope nodes result true (scope_inside n outer_scope) g.nodes g.result h.of.nodes within
+    → whole_outer ≡ nodes_with_defaults outer
+    → WithinBefore in_callback scope nodes result outer_in_callback outer_scope outer outer_result
+within_before in_callback scope nodes result outer_in_callback outer_scope whole_outer outer_result outer itself is =
+    record { before = outer; is_with_defaults = is; within = itself }
+within_before in_callback scope nodes result outer_in_callback outer_scope whole_outer outer_result outer (inside {n = n} {g = g} has calls within) is =
+    let m = node_before outer whole_outer n is has in
+    let h = callback_before m.of g (subst (λ (k : PlainNode). Contains (callbacks_named k.arguments) g) (sym m.is) calls) in
+    let deep = within_before in_callback scope nodes result true (scope_inside n outer_scope) g.nodes g.result h.of.nodes within
     (ap (λ (x : PlainGraph). x.nodes) (sym h.is)) in
     let same_scope : scope_inside n outer_scope ≡ scope_inside m.of outer_scope =
     ap (λ (k : PlainNode). scope_inside k outer_scope) (sym m.is) in
     let same_result : g.result ≡ h.of.result = ap (λ (x : PlainGraph). x.result) (sym h.is) in
     record {
-      unfilled = deep.unfilled;
-      is_filled = deep.is_filled;
+      before = deep.before;
+      is_with_defaults = deep.is_with_defaults;
       within = inside m.has h.has
-          (subst (λ r. IsScopedWithin in_callback scope deep.unfilled result true (scope_inside m.of outer_scope) h.of.nodes r) same_result
-          (subst (λ s. IsScopedWithin in_callback scope deep.unfilled result true s h.of.nodes g.result) same_scope deep.within));
+          (subst (λ r. IsScopedWithin in_callback scope deep.before result true (scope_inside m.of outer_scope) h.of.nodes r) same_result
+          (subst (λ s. IsScopedWithin in_callback scope deep.before result true s h.of.nodes g.result) same_scope deep.within));
     }
 
 -- ---- a graph object has a name
@@ -304,95 +304,95 @@ module _ (stored : List PlainStored) (g : PlainGraph) (faultless : (code : Code)
     is_named = refl;
   }
 
-  unfilled_of : (n : PlainNode) → Contains (each_node (filled_nodes nodes)) n → Image filled_node (each_node nodes) n
-  unfilled_of n has = node_unfilled nodes (filled_nodes nodes) n refl has
+  before_of : (n : PlainNode) → Contains (each_node (nodes_with_defaults nodes)) n → Image node_with_defaults (each_node nodes) n
+  before_of n has = node_before nodes (nodes_with_defaults nodes) n refl has
 
-  filled_references : (m : PlainNode) (id : List ℕ) → Contains (references_named (filled_node m).arguments) id
+  references_before : (m : PlainNode) (id : List ℕ) → Contains (references_named (node_with_defaults m).arguments) id
       → Contains (references_named m.arguments) id
-  filled_references m id has =
-      subst (λ ids. Contains ids id) (references_named-filled m.arguments)
-      (references-defaults (of_row (process_named m.process_id)) (filled_named m.arguments) id
-      (subst (λ ms. Contains (references_named ms) id) (filled_arguments m) has))
+  references_before m id has =
+      subst (λ ids. Contains ids id) (references_named-with_defaults m.arguments)
+      (references-defaults (of_row (process_named m.process_id)) (named_with_defaults m.arguments) id
+      (subst (λ ms. Contains (references_named ms) id) (arguments_with_defaults m) has))
 
-  filled_parameters : (m : PlainNode) (name : List ℕ) → Contains (named_references.parameters_named (filled_node m).arguments) name
+  parameters_before : (m : PlainNode) (name : List ℕ) → Contains (named_references.parameters_named (node_with_defaults m).arguments) name
       → Contains (named_references.parameters_named m.arguments) name
-  filled_parameters m name has =
-      subst (λ ps. Contains ps name) (parameters_named-filled m.arguments)
-      (parameters-defaults (of_row (process_named m.process_id)) (filled_named m.arguments) name
-      (subst (λ ms. Contains (named_references.parameters_named ms) name) (filled_arguments m) has))
+  parameters_before m name has =
+      subst (λ ps. Contains ps name) (parameters_named-with_defaults m.arguments)
+      (parameters-defaults (of_row (process_named m.process_id)) (named_with_defaults m.arguments) name
+      (subst (λ ms. Contains (named_references.parameters_named ms) name) (arguments_with_defaults m) has))
 
-  -- the filled arguments where the row is known
+  -- the arguments with defaults where the row is known
   arguments_by : (m : PlainNode) (p : Process) → process_named m.process_id ≡ Some p
-      → (filled_node m).arguments ≡ put_defaults (map plain_parameter p.parameters) (filled_named m.arguments)
+      → (node_with_defaults m).arguments ≡ put_defaults (map plain_parameter p.parameters) (named_with_defaults m.arguments)
   arguments_by m p is =
-      filled_arguments m ∙ ap (λ row. put_defaults (map plain_parameter (of_row row)) (filled_named m.arguments)) is
+      arguments_with_defaults m ∙ ap (λ row. put_defaults (map plain_parameter (of_row row)) (named_with_defaults m.arguments)) is
 
   given_or_default : (m : PlainNode) (row : RowOf stored in_callback m) → Contains (each_node nodes) m
-      → (q : Parameter) → Contains row.process.parameters q → q.default ≡ None → Contains (names_of (filled_named m.arguments)) q.name
+      → (q : Parameter) → Contains row.process.parameters q → q.default ≡ None → Contains (names_of (named_with_defaults m.arguments)) q.name
   given_or_default m row has q is_parameter none =
-      subst (λ xs. Contains xs q.name) (sym (names_of-filled m.arguments))
+      subst (λ xs. Contains xs q.name) (sym (names_of-with_defaults m.arguments))
       (stands_among (names_of m.arguments) q.name
       (λ missing. faultless _ _ (process_parameter_missing most_rounds (has_node m has) row.parameters
       (map_there plain_parameter row.process.parameters q is_parameter)
       (ap (λ d. option_map literal_value d) none) (ap is_some none) missing)))
 
   has_each_parameter : (m : PlainNode) (row : RowOf stored in_callback m) → Contains (each_node nodes) m
-      → (name : List ℕ) → Contains (parameter_names row.process) name → Contains (names_of (filled_node m).arguments) name
+      → (name : List ℕ) → Contains (parameter_names row.process) name → Contains (names_of (node_with_defaults m).arguments) name
   has_each_parameter m row has name is_parameter =
       let q = in_map (λ (p : Parameter). p.name) row.process.parameters name is_parameter in
-      subst (λ x. Contains (names_of (filled_node m).arguments) x) q.is
+      subst (λ x. Contains (names_of (node_with_defaults m).arguments) x) q.is
       (subst (λ ms. Contains (names_of ms) q.of.name) (sym (arguments_by m row.process row.is_process))
-      (names-given row.process.parameters (filled_named m.arguments) q.of q.has (given_or_default m row has q.of q.has)))
+      (names-given row.process.parameters (named_with_defaults m.arguments) q.of q.has (given_or_default m row has q.of q.has)))
 
   has_no_other_argument : (m : PlainNode) (row : RowOf stored in_callback m) → Contains (each_node nodes) m
-      → (name : List ℕ) → Contains (names_of (filled_node m).arguments) name → Contains (parameter_names row.process) name
+      → (name : List ℕ) → Contains (names_of (node_with_defaults m).arguments) name → Contains (parameter_names row.process) name
   has_no_other_argument m row has name is_argument =
-      elim (names-defaults row.process.parameters (filled_named m.arguments) name
+      elim (names-defaults row.process.parameters (named_with_defaults m.arguments) name
       (subst (λ ms. Contains (names_of ms) name) (arguments_by m row.process row.is_process) is_argument))
       as (λ _. Contains (parameter_names row.process) name) [
         | inl there ↦ there
         | inr given ↦ stands_among (parameter_names row.process) name
             (λ unknown. faultless _ _ (argument_unknown most_rounds (has_node m has) row.parameters
-            (subst (λ xs. Contains xs name) (names_of-filled m.arguments) given)
+            (subst (λ xs. Contains xs name) (names_of-with_defaults m.arguments) given)
             (λ known. unknown (subst (λ xs. Contains xs name) (names_map row.process.parameters) known))))
       ]
 
   resolved_node : (ordered : IsOrderedObject nodes result) (stand : StandInCatalogue stored in_callback nodes result)
       (m : PlainNode) → Contains (each_node nodes) m
-      → IsResolvedNode in_callback scope (ids_of (filled_nodes nodes)) (filled_node m)
+      → IsResolvedNode in_callback scope (ids_of (nodes_with_defaults nodes)) (node_with_defaults m)
   resolved_node ordered stand m has =
       let row = row_of stored in_callback m (stand m has).0 (stand m has).1 in
       record {
         names_rise =
             subst (λ ms. names_rise (names_of ms) ≡ true) (sym (arguments_by m row.process row.is_process))
-            (names_rise-defaults row.process.parameters (filled_named m.arguments)
-            (ap names_rise (names_of-filled m.arguments) ∙ ordered.names_rise m has));
+            (names_rise-defaults row.process.parameters (named_with_defaults m.arguments)
+            (ap names_rise (names_of-with_defaults m.arguments) ∙ ordered.names_rise m has));
         process = row.process;
         is_process = row.is_process;
         stands = row.stands;
         has_each = has_each_parameter m row has;
         has_no_other = has_no_other_argument m row has;
-        names_nodes = λ id refers_to. subst (λ xs. Contains xs id) (sym (ids_of-filled nodes))
+        names_nodes = λ id refers_to. subst (λ xs. Contains xs id) (sym (ids_of-with_defaults nodes))
             (stands_among (ids_of nodes) id
             (λ unknown. faultless _ _ (node_unknown most_rounds (has_node m has)
-            (filled_references m id refers_to) unknown)));
+            (references_before m id refers_to) unknown)));
         names_parameters = λ name refers_to. stands_among scope name
-            (λ unknown. faultless _ _ (parameter_unknown (has_node m has) (filled_parameters m name refers_to) unknown));
+            (λ unknown. faultless _ _ (parameter_unknown (has_node m has) (parameters_before m name refers_to) unknown));
       }
 
-  refers_unfilled : (a b : List ℕ) → Refers (filled_nodes nodes) a b → Refers nodes a b
-  refers_unfilled a b one =
-      let m = unfilled_of one.from one.is_node in
+  refers_before : (a b : List ℕ) → Refers (nodes_with_defaults nodes) a b → Refers nodes a b
+  refers_before a b one =
+      let m = before_of one.from one.is_node in
       record {
         from = m.of;
         is_node = m.has;
         is_named = ap (λ (n : PlainNode). n.id) m.is ∙ one.is_named;
-        refers = filled_references m.of b (subst (λ (n : PlainNode). Contains (references_named n.arguments) b) (sym m.is) one.refers);
+        refers = references_before m.of b (subst (λ (n : PlainNode). Contains (references_named n.arguments) b) (sym m.is) one.refers);
       }
 
-  leads_unfilled : (a b : List ℕ) → Leads (filled_nodes nodes) a b → Leads nodes a b
-  leads_unfilled a b (refers one) = refers (refers_unfilled a b one)
-  leads_unfilled a b (onwards {b = c} one rest) = onwards (refers_unfilled a c one) (leads_unfilled c b rest)
+  leads_before : (a b : List ℕ) → Leads (nodes_with_defaults nodes) a b → Leads nodes a b
+  leads_before a b (refers one) = refers (refers_before a b one)
+  leads_before a b (onwards {b = c} one rest) = onwards (refers_before a c one) (leads_before c b rest)
 
   no_cycle_at : (a b : List ℕ) → Refers nodes a b → Leads nodes a a → ⊥
   no_cycle_at a b one leads =
@@ -408,14 +408,14 @@ module _ (stored : List PlainStored) (g : PlainGraph) (faultless : (code : Code)
 
   resolved_object : IsOrderedObject nodes result → StandInCatalogue stored in_callback nodes result
       → node_count nodes ≤ most_nodes in_callback
-      → IsResolvedObject in_callback scope (filled_nodes nodes) result
+      → IsResolvedObject in_callback scope (nodes_with_defaults nodes) result
   resolved_object ordered stand fits = record {
-    ids_rise = ap names_rise (ids_of-filled nodes) ∙ ordered.ids_rise;
-    has_result = subst (λ count. result < count) (sym (node_count-filled nodes)) ordered.has_result;
-    fits = subst (λ count. count ≤ most_nodes in_callback) (sym (node_count-filled nodes)) fits;
-    each = λ n has. let m = unfilled_of n has in
-        subst (λ k. IsResolvedNode in_callback scope (ids_of (filled_nodes nodes)) k) m.is (resolved_node ordered stand m.of m.has);
-    acyclic = λ id leads. no_cycle id (leads_unfilled id id leads);
+    ids_rise = ap names_rise (ids_of-with_defaults nodes) ∙ ordered.ids_rise;
+    has_result = subst (λ count. result < count) (sym (node_count-with_defaults nodes)) ordered.has_result;
+    fits = subst (λ count. count ≤ most_nodes in_callback) (sym (node_count-with_defaults nodes)) fits;
+    each = λ n has. let m = before_of n has in
+        subst (λ k. IsResolvedNode in_callback scope (ids_of (nodes_with_defaults nodes)) k) m.is (resolved_node ordered stand m.of m.has);
+    acyclic = λ id leads. no_cycle id (leads_before id id leads);
   }
 
 -- ---- the whole graph
@@ -430,9 +430,9 @@ pub resolved-is : (stored : List PlainStored) (g : PlainGraph)
     → IsResolved (resolved stored g)
 resolved-is stored g faultless none ordered fits stand in_callback scope nodes result within =
     let e = expanded stored g in
-    let w = within_filled in_callback scope nodes result false [] (filled_nodes e.nodes) e.result e.nodes within refl in
-    subst (λ ns. IsResolvedObject in_callback scope ns result) (sym w.is_filled)
-    (resolved_object stored g faultless none in_callback scope w.unfilled result w.within
-    (ordered in_callback scope w.unfilled result w.within)
-    (stand in_callback scope w.unfilled result w.within)
-    (fits in_callback scope w.unfilled result w.within))
+    let w = within_before in_callback scope nodes result false [] (nodes_with_defaults e.nodes) e.result e.nodes within refl in
+    subst (λ ns. IsResolvedObject in_callback scope ns result) (sym w.is_with_defaults)
+    (resolved_object stored g faultless none in_callback scope w.before result w.within
+    (ordered in_callback scope w.before result w.within)
+    (stand in_callback scope w.before result w.within)
+    (fits in_callback scope w.before result w.within))

@@ -5,7 +5,7 @@ use Rattle.oe_graph.specs.Tree.{Argument, null, flag, text, whole, list, object,
 use Rattle.oe_calls.specs.Substituted.{values_given, substituted_nodes}
 use Rattle.oe_calls.specs.HasCall.{nodes_call}
 use Rattle.oe_calls.specs.Rounds.{round, expanded_by}
-use Rattle.oe_resolve.specs.Filled.{filled_graph}
+use Rattle.oe_resolve.specs.Defaults.{graph_with_defaults}
 use Rattle.oe_graph.specs.Valid.{is_valid}
 
 abbrev pub one : List ℕ → Argument → Named
@@ -128,8 +128,8 @@ pub substituted-hidden :
 substituted-hidden = refl
 
 -- a default is a plain value, and takes the index that its name has in byte order
-pub filled_graph-apply :
-    filled_graph (record {
+pub graph_with_defaults-apply :
+    graph_with_defaults (record {
       nodes = plain_node (codes "n") (codes "apply")
           (named (codes "data") (from_node (codes "a")) (one (codes "process") null)) no_nodes;
       result = 0;
@@ -139,7 +139,7 @@ pub filled_graph-apply :
           (named (codes "context") null (named (codes "data") (from_node (codes "a")) (one (codes "process") null))) no_nodes;
       result = 0;
     }
-filled_graph-apply = refl
+graph_with_defaults-apply = refl
 
 -- ---- callbacks that are given to calls
 

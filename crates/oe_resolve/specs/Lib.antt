@@ -1,3 +1,3 @@
-pub mod Filled
+pub mod Defaults
 pub mod NameFaults
 pub mod Expansion

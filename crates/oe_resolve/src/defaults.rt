@@ -3,7 +3,7 @@ ghost use Rattle.std.specs.Prelude.{◌≡◌, ◌≤◌, IfOk, OnOk, length, ma
 ghost use Rattle.oe_graph.specs.Plain.{plain_arg, plain_args, plain_named, plain_nodes, plain_node, plain_graph, plain_parameter};
 ghost use Rattle.oe_graph.specs.Printed.{names_of};
 ghost use Rattle.oe_graph.specs.References as named;
-ghost use Rattle.oe_resolve.specs.Filled as spec;
+ghost use Rattle.oe_resolve.specs.Defaults as spec;
 ghost use Rattle.oe_calls.specs.Substituted.{default_of};
 ghost use Rattle.oe_calls.specs.Rounds.{index_among};
 
@@ -14,34 +14,34 @@ use oe_memory::OutOfMemory;
 use std::alloc::Global;
 
 /// A copy of a graph with all defaults, at any depth of callbacks.
-#[cycle(fill)]
-pub fn filled_graph(alloc: Global, graph: &Graph) -> Result<Graph, OutOfMemory>
-    ensures { IfOk result (λ g. plain_graph g ≡ spec.filled_graph (plain_graph graph.now)) }
+#[cycle(defaults)]
+pub fn graph_with_defaults(alloc: Global, graph: &Graph) -> Result<Graph, OutOfMemory>
+    ensures { IfOk result (λ g. plain_graph g ≡ spec.graph_with_defaults (plain_graph graph.now)) }
 {
-    let nodes = filled_nodes(alloc, &graph.nodes)?;
+    let nodes = nodes_with_defaults(alloc, &graph.nodes)?;
     Ok(Graph {
         nodes,
         result: graph.result,
     })
 }
 
-#[cycle(fill)]
-fn filled_nodes(alloc: Global, nodes: &Vec<Node>) -> Result<Vec<Node>, OutOfMemory>
+#[cycle(defaults)]
+fn nodes_with_defaults(alloc: Global, nodes: &Vec<Node>) -> Result<Vec<Node>, OutOfMemory>
     ensures { IfOk result
-        (λ v. plain_nodes v.items ≡ spec.filled_nodes (plain_nodes nodes.now.items)) }
+        (λ v. plain_nodes v.items ≡ spec.nodes_with_defaults (plain_nodes nodes.now.items)) }
 {
     let mut copy = Vec::with_capacity(alloc, nodes.len())?;
     for node in nodes {
-        copy.push(filled_node(alloc, node)?)?;
+        copy.push(node_with_defaults(alloc, node)?)?;
     }
     Ok(copy)
 }
 
-#[cycle(fill)]
-fn filled_node(alloc: Global, node: &Node) -> Result<Node, OutOfMemory>
-    ensures { IfOk result (λ n. plain_node n ≡ spec.filled_node (plain_node node.now)) }
+#[cycle(defaults)]
+fn node_with_defaults(alloc: Global, node: &Node) -> Result<Node, OutOfMemory>
+    ensures { IfOk result (λ n. plain_node n ≡ spec.node_with_defaults (plain_node node.now)) }
 {
-    let mut arguments = filled_named(alloc, &node.arguments)?;
+    let mut arguments = named_with_defaults(alloc, &node.arguments)?;
     put_defaults_of(alloc, node.process_id.as_str(), &mut arguments)?;
     Ok(Node {
         id: node.id.copy()?,
@@ -51,39 +51,42 @@ fn filled_node(alloc: Global, node: &Node) -> Result<Node, OutOfMemory>
     })
 }
 
-#[cycle(fill)]
-fn filled_named(alloc: Global, members: &Vec<(Text, Arg)>) -> Result<Vec<(Text, Arg)>, OutOfMemory>
+#[cycle(defaults)]
+fn named_with_defaults(
+    alloc: Global,
+    members: &Vec<(Text, Arg)>,
+) -> Result<Vec<(Text, Arg)>, OutOfMemory>
     ensures { IfOk result
-        (λ v. plain_named v.items ≡ spec.filled_named (plain_named members.now.items)) }
+        (λ v. plain_named v.items ≡ spec.named_with_defaults (plain_named members.now.items)) }
 {
     let mut copy = Vec::with_capacity(alloc, members.len())?;
     for member in members {
         let name = member.0.copy()?;
-        copy.push((name, filled_arg(alloc, &member.1)?))?;
+        copy.push((name, arg_with_defaults(alloc, &member.1)?))?;
     }
     Ok(copy)
 }
 
-#[cycle(fill)]
-fn filled_args(alloc: Global, items: &Vec<Arg>) -> Result<Vec<Arg>, OutOfMemory>
+#[cycle(defaults)]
+fn args_with_defaults(alloc: Global, items: &Vec<Arg>) -> Result<Vec<Arg>, OutOfMemory>
     ensures { IfOk result
-        (λ v. plain_args v.items ≡ spec.filled_each (plain_args items.now.items)) }
+        (λ v. plain_args v.items ≡ spec.each_with_defaults (plain_args items.now.items)) }
 {
     let mut copy = Vec::with_capacity(alloc, items.len())?;
     for item in items {
-        copy.push(filled_arg(alloc, item)?)?;
+        copy.push(arg_with_defaults(alloc, item)?)?;
     }
     Ok(copy)
 }
 
-#[cycle(fill)]
-fn filled_arg(alloc: Global, arg: &Arg) -> Result<Arg, OutOfMemory>
-    ensures { IfOk result (λ a. plain_arg a ≡ spec.filled (plain_arg arg.now)) }
+#[cycle(defaults)]
+fn arg_with_defaults(alloc: Global, arg: &Arg) -> Result<Arg, OutOfMemory>
+    ensures { IfOk result (λ a. plain_arg a ≡ spec.with_defaults (plain_arg arg.now)) }
 {
     match arg {
-        Arg::List(items) => Ok(Arg::List(filled_args(alloc, items)?)),
-        Arg::Object(members) => Ok(Arg::Object(filled_named(alloc, members)?)),
-        Arg::Callback(graph) => Ok(Arg::Callback(filled_graph(alloc, graph)?)),
+        Arg::List(items) => Ok(Arg::List(args_with_defaults(alloc, items)?)),
+        Arg::Object(members) => Ok(Arg::Object(named_with_defaults(alloc, members)?)),
+        Arg::Callback(graph) => Ok(Arg::Callback(graph_with_defaults(alloc, graph)?)),
         _ => copy_arg(alloc, arg),
     }
 }

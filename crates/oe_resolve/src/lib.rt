@@ -18,7 +18,7 @@ ghost use Rattle.oe_calls.specs.Calls.{Calls};
 ghost use Rattle.oe_calls.specs.Faults.{StandsWithStored};
 ghost use Rattle.oe_calls.specs.HasCall.{nodes_call};
 ghost use Rattle.oe_resolve.specs.Expansion.{IsExpansion, IsSettled};
-ghost use Rattle.oe_resolve.specs.Filled as spec;
+ghost use Rattle.oe_resolve.specs.Defaults as spec;
 ghost use Rattle.oe_resolve.specs.NameFaults.{IdsRise, OfObject};
 ghost use Rattle.oe_calls.specs.Rounds as rounds;
 ghost use Rattle.oe_calls.specs.Sizes.{IsWithinLimits};
@@ -73,13 +73,13 @@ pub fn resolve(alloc: Global, graph: &Graph, stored: &[StoredProcess]) -> Result
     }
     keep_limits(graph)?;
     if is_expanded(alloc, stored, graph)? {
-        return Ok(defaults::filled_graph(alloc, graph)?);
+        return Ok(defaults::graph_with_defaults(alloc, graph)?);
     }
     let (expanded, fault) = expand(alloc, stored, graph)?;
     if let Some(fault) = fault {
         return Err(Refusal::Fault(fault));
     }
-    Ok(defaults::filled_graph(alloc, &expanded)?)
+    Ok(defaults::graph_with_defaults(alloc, &expanded)?)
 }
 
 /// Whether a graph is its own expansion: it calls no stored process, and no fault of names stands in it. Then no

@@ -13,7 +13,7 @@ use Rattle.oe_graph.specs.declared.fault.Fault.{Fault}
 use Rattle.oe_judge.specs.Judged.{StandsWithCollections, having_result, of_cubes, of_names}
 use Rattle.oe_calls.specs.Faults as faults
 use Rattle.oe_calls.specs.Faults.{HasNode, IsWithin, StandsWithStored}
-use Rattle.oe_resolve.specs.Filled.{filled_nodes}
+use Rattle.oe_resolve.specs.Defaults.{nodes_with_defaults}
 use Rattle.oe_calls.specs.Rounds.{expanded_by, cleared_graph, cleared_stored, most_rounds, round_nodes, rounds}
 use Rattle.oe_meanings.specs.Stands as cubes
 use Rattle.oe_http.specs.Plain.{PlainRequest}
@@ -90,7 +90,7 @@ module _ (rows : List DimsRow) (stored : List PlainStored) (g : PlainGraph) (i :
   faults_alike code name (of_names stands) = of_names (names_alike stored i g.result g.nodes code name stands)
   faults_alike code name (of_cubes none stands) =
       of_cubes (λ c n found. none c n (names_alike stored g.result i g.nodes c n found))
-      (subst (λ (m : Nodes). cubes.StandsInGraph rows (filled_nodes m) code name)
+      (subst (λ (m : Nodes). cubes.StandsInGraph rows (nodes_with_defaults m) code name)
       (expanded_alike stored i g.result g.nodes most_rounds) stands)
 
   pub still_sound : IsFaultless (StandsWithCollections rows stored g)

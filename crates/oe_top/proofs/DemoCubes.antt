@@ -24,7 +24,7 @@ use Rattle.oe_graph.specs.Tree as tree
 use Rattle.oe_graph.specs.Tree.{Named, Nodes, PlainGraph, PlainNode}
 use Rattle.oe_kernel.specs.Kernels.{KernelValues}
 use Rattle.oe_kernel.specs.declared.border.Border.TheVariants.{Replicate}
-use Rattle.oe_resolve.specs.Filled.{filled_graph, resolved}
+use Rattle.oe_resolve.specs.Defaults.{graph_with_defaults, resolved}
 use Rattle.oe_calls.specs.Rounds.{most_rounds}
 use Rattle.oe_meanings.specs.Graphs.{outline_at}
 use Rattle.oe_requests.specs.Operations.{Outline}
@@ -82,8 +82,8 @@ filled =
     tree.node (codes "sum") (codes "apply_kernel") None sum_filled (
     tree.node (codes "top") (codes "reduce_dimension") None top_filled tree.no_nodes))
 
-filled_is : (resolved [] demo_plain).nodes ≡ filled
-filled_is = ap (λ (h : PlainGraph). (filled_graph h).nodes) (same_graph most_rounds)
+with_defaults_is : (resolved [] demo_plain).nodes ≡ filled
+with_defaults_is = ap (λ (h : PlainGraph). (graph_with_defaults h).nodes) (same_graph most_rounds)
 
 abbrev load : PlainNode
 load = node_with (codes "load") (codes "load_collection") load_filled
@@ -267,4 +267,4 @@ pub demo_valid : (seed side : ℕ) → side ≤ 1024 → IsFaultless (StandsOver
 demo_valid seed side most =
     let rows = dims_of (demonstration seed side) in
     none_over rows demo_graph demo_plain demo_reads (none_stands rows [] demo_plain names_valid
-    (subst (λ (ns : Nodes). IsFaultless (StandsInGraph rows ns)) (sym filled_is) (cubes_valid side most)))
+    (subst (λ (ns : Nodes). IsFaultless (StandsInGraph rows ns)) (sym with_defaults_is) (cubes_valid side most)))

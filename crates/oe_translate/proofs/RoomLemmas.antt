@@ -11,13 +11,13 @@ use Rattle.oe_graph.specs.Tree.{PlainGraph, PlainNode, PlainStored}
 use Rattle.oe_graph.specs.Valid.{AreValidStored, IsValidGraph}
 use Rattle.oe_calls.specs.Calls.{Calls, CallsReach, ReachesProcess, callee, calls, directly, itself, onwards}
 use Rattle.oe_calls.specs.Faults.{StandsWithStored, graph_too_large, process_recursive}
-use Rattle.oe_resolve.specs.Filled.{filled_node, resolved}
+use Rattle.oe_resolve.specs.Defaults.{node_with_defaults, resolved}
 use Rattle.oe_calls.specs.Rounds.{expanded, expanded_by, cleared_graph, cleared_stored, most_rounds}
 use Rattle.oe_calls.proofs.CountLemmas.{callee_cleared}
 use Rattle.oe_resolve.proofs.ExpansionLemmas.{Chained, expanded_in_order, first, next, none_left}
 use Rattle.oe_calls.proofs.IdLemmas.{InOrder, id_has}
 use Rattle.oe_calls.proofs.PlaceLemmas.{NoCalls, no_calls_in, places_of, settled_after}
-use Rattle.oe_resolve.proofs.ResolvingLemmas.{each_node-filled, ids_of-filled, node_count-filled}
+use Rattle.oe_resolve.proofs.ResolvingLemmas.{each_node-with_defaults, ids_of-with_defaults, node_count-with_defaults}
 use Rattle.oe_calls.proofs.Along.{map_there}
 use Rattle.oe_check.specs.Walked.{IsNodeOf}
 use Rattle.oe_graph.proofs.SearchLemmas.{each_count}
@@ -30,7 +30,7 @@ module _ (stored : List PlainStored) (g : PlainGraph) (stored_valid : AreValidSt
   order = (expanded_in_order stored g stored_valid most_rounds valid).0
 
   among : (id : List ℕ) → Contains (ids_of (resolved stored g).nodes) id → Contains (ids_of (expanded stored g).nodes) id
-  among id has = subst (λ ids. Contains ids id) (ids_of-filled (expanded stored g).nodes) has
+  among id has = subst (λ ids. Contains ids id) (ids_of-with_defaults (expanded stored g).nodes) has
 
   none_there : (n : PlainNode) → IsNodeOf (resolved stored g).nodes n → Contains (ids_of (resolved stored g).nodes) (sum_name n.id) → ⊥
   none_there n has there =
@@ -72,9 +72,9 @@ module _ (stored : List PlainStored) (g : PlainGraph) (stored_valid : AreValidSt
       → option_map cleared_stored o ≡ None
   not_called n has None is = refl
   not_called n has (Some s) is =
-      let there : IsNodeOf (resolved stored g).nodes (filled_node n) =
-      subst (λ ns. Contains ns (filled_node n)) (sym (each_node-filled (expanded stored g).nodes)) (map_there filled_node (each_node (expanded stored g).nodes) n has) in
-      absurd (uncalled (filled_node n) s there (record { caller = filled_node n; holds = itself; calls = is }))
+      let there : IsNodeOf (resolved stored g).nodes (node_with_defaults n) =
+      subst (λ ns. Contains ns (node_with_defaults n)) (sym (each_node-with_defaults (expanded stored g).nodes)) (map_there node_with_defaults (each_node (expanded stored g).nodes) n has) in
+      absurd (uncalled (node_with_defaults n) s there (record { caller = node_with_defaults n; holds = itself; calls = is }))
 
   last_none : NoCalls (map cleared_stored stored) (places_of (expanded stored g).nodes)
   last_none =
@@ -100,7 +100,7 @@ module _ (stored : List PlainStored) (g : PlainGraph) (stored_valid : AreValidSt
   few : (rows : List DimsRow) → HasFewNodes rows (resolved stored g).nodes
   few rows =
       let nodes = (resolved stored g).nodes in
-      omega (arith, count_translations rows nodes (each_node nodes), each_count nodes, node_count-filled (expanded stored g).nodes, few_before)
+      omega (arith, count_translations rows nodes (each_node nodes), each_count nodes, node_count-with_defaults (expanded stored g).nodes, few_before)
 
 pub stays_small : StaysSmall
 stays_small = record { each = λ stored g stored_valid none uncalled rows. few stored g stored_valid none uncalled rows }

@@ -11,7 +11,7 @@ use Rattle.oe_graph.specs.Tree.{Nodes, PlainGraph, PlainNode, PlainStored}
 use Rattle.oe_graph.specs.Valid.{AreValidStored, IsValidGraph}
 use Rattle.oe_calls.specs.Calls.{Calls}
 use Rattle.oe_calls.specs.Faults.{StandsWithStored}
-use Rattle.oe_resolve.specs.Filled.{resolved}
+use Rattle.oe_resolve.specs.Defaults.{resolved}
 use Rattle.oe_check.specs.Checked.{CheckedGraph, AreFaultless}
 use Rattle.oe_meanings.specs.Graphs.{Collections, meaning_at}
 use Rattle.oe_check.specs.Laws.{AreCollectionsOf}

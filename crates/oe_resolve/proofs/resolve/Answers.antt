@@ -5,7 +5,7 @@ use Rattle.oe_graph.specs.Resolved.{IsResolved}
 use Rattle.oe_graph.specs.Tree.{PlainGraph}
 use Rattle.oe_graph.specs.declared.code.Code.TheVariants.{GraphTooLarge}
 use Rattle.oe_calls.specs.Faults.{StandsWithStored}
-use Rattle.oe_resolve.specs.Filled.{filled_graph}
+use Rattle.oe_resolve.specs.Defaults.{graph_with_defaults}
 use Rattle.oe_resolve.proofs.ExpansionLemmas.{resolved-without_fault}
 use Rattle.oe_resolve.proofs.NoCallLemmas.{calls_none}
 use Rattle.oe_resolve.proofs.RefusalLemmas.{of_calls_least, of_size_least, of_names_least, without_fault}
@@ -23,8 +23,8 @@ returns-then-branch-clause-refused c =
 
 pub returns-then-branch-2-clause-graph : goal.returns-then-branch-2-clause-graph
 returns-then-branch-2-clause-graph c =
-    c.in_ok-filled_graph.ensures
-    ∙ ap (λ (h : PlainGraph). filled_graph h) (c.in_ok-is_expanded.ensures c.if-branch-2.true).graph
+    c.in_ok-graph_with_defaults.ensures
+    ∙ ap (λ (h : PlainGraph). graph_with_defaults h) (c.in_ok-is_expanded.ensures c.if-branch-2.true).graph
 
 pub returns-then-branch-2-clause-without_fault : goal.returns-then-branch-2-clause-without_fault
 returns-then-branch-2-clause-without_fault c =
@@ -38,7 +38,7 @@ returns-then-branch-2-clause-resolved c =
     let g = plain_graph c.args.graph.now in
     let expansion = c.in_ok-is_expanded.ensures c.if-branch-2.true in
     subst (λ (h : PlainGraph). IsResolved h)
-    (sym (c.in_ok-filled_graph.ensures ∙ ap (λ (h : PlainGraph). filled_graph h) expansion.graph))
+    (sym (c.in_ok-graph_with_defaults.ensures ∙ ap (λ (h : PlainGraph). graph_with_defaults h) expansion.graph))
     (resolved-without_fault stored g c.requires.stored_valid
     (without_fault stored g c.in_ok-fault.field-0 c.in_ok-fault.ensures
     c.in_default.is (λ has. true≢false (sym (c.in_ok-is_too_large.ensures.1 has) ∙ c.if-branch.false))
@@ -62,7 +62,7 @@ returns-clause-resolved c =
     let stored = map plain_stored c.args.stored.now in
     let g = plain_graph c.args.graph.now in
     subst (λ (h : PlainGraph). IsResolved h)
-    (sym (c.in_ok-filled_graph-2.ensures ∙ ap (λ (h : PlainGraph). filled_graph h) c.in_ok-expanded.ensures.graph))
+    (sym (c.in_ok-graph_with_defaults-2.ensures ∙ ap (λ (h : PlainGraph). graph_with_defaults h) c.in_ok-expanded.ensures.graph))
     (resolved-without_fault stored g c.requires.stored_valid
     (without_fault stored g c.in_ok-fault.field-0 c.in_ok-fault.ensures
     c.in_default.is (λ has. true≢false (sym (c.in_ok-is_too_large.ensures.1 has) ∙ c.if-branch.false))
@@ -74,13 +74,13 @@ returns-then-branch-2-clause-calls_none c n s has =
     let expansion = c.in_ok-is_expanded.ensures c.if-branch-2.true in
     calls_none (map plain_stored c.args.stored.now) (plain_graph c.args.graph.now) expansion.none_left n s
     (subst (λ (h : PlainGraph). Contains (each_node h.nodes) n)
-    (c.in_ok-filled_graph.ensures ∙ ap (λ (h : PlainGraph). filled_graph h) expansion.graph) has)
+    (c.in_ok-graph_with_defaults.ensures ∙ ap (λ (h : PlainGraph). graph_with_defaults h) expansion.graph) has)
 
 pub returns-clause-calls_none : goal.returns-clause-calls_none
 returns-clause-calls_none c n s has =
     calls_none (map plain_stored c.args.stored.now) (plain_graph c.args.graph.now) c.in_ok-expanded.ensures.none_left n s
     (subst (λ (h : PlainGraph). Contains (each_node h.nodes) n)
-    (c.in_ok-filled_graph-2.ensures ∙ ap (λ (h : PlainGraph). filled_graph h) c.in_ok-expanded.ensures.graph) has)
+    (c.in_ok-graph_with_defaults-2.ensures ∙ ap (λ (h : PlainGraph). graph_with_defaults h) c.in_ok-expanded.ensures.graph) has)
 
 pub returns-then-branch-2-clause-within : goal.returns-then-branch-2-clause-within
 returns-then-branch-2-clause-within c = (c.in_ok-is_expanded.ensures c.if-branch-2.true).within

@@ -1,6 +1,6 @@
 use Rattle.std.proofs.Common.{◌≡◌, map, drop}
 use Rattle.oe_graph.specs.Plain.{plain_named, plain_parameter}
-use Rattle.oe_resolve.specs.Filled.{put_defaults}
+use Rattle.oe_resolve.specs.Defaults.{put_defaults}
 use Rattle.oe_resolve.proofs.defaults.put_defaults.Given as goal
 
 abbrev pub invariant-loop-parameter : goal.invariant-loop-parameter

@@ -5,7 +5,7 @@ use Rattle.oe_graph.specs.Catalogue as catalogue
 use Rattle.oe_graph.specs.Plain.{plain_named, plain_process, plain_parameter}
 use Rattle.oe_graph.specs.Tree.{PlainParameter, PlainProcess}
 use Rattle.oe_graph.specs.declared.catalogue.ProcessRow.{ProcessRow}
-use Rattle.oe_resolve.specs.Filled.{put_defaults, parameters_named}
+use Rattle.oe_resolve.specs.Defaults.{put_defaults, parameters_named}
 use Rattle.oe_resolve.proofs.defaults.put_defaults_of.Goals as goal
 
 -- the parameters of a row, or none

@@ -32,38 +32,40 @@ parameters_named process_id =
 
 -- at any depth of callbacks
 abbrev mutual
-  pub filled_nodes : Nodes → Nodes
-  filled_nodes no_nodes = no_nodes
-  filled_nodes (node id process_id namespace arguments rest) =
-      node id process_id namespace (put_defaults (parameters_named process_id) (filled_named arguments))
-      (filled_nodes rest)
+  pub nodes_with_defaults : Nodes → Nodes
+  nodes_with_defaults no_nodes = no_nodes
+  nodes_with_defaults (node id process_id namespace arguments rest) =
+      node id process_id namespace (put_defaults (parameters_named process_id) (named_with_defaults arguments))
+      (nodes_with_defaults rest)
 
-  pub filled_named : Named → Named
-  filled_named no_named = no_named
-  filled_named (named name a rest) = named name (filled a) (filled_named rest)
+  pub named_with_defaults : Named → Named
+  named_with_defaults no_named = no_named
+  named_with_defaults (named name a rest) = named name (with_defaults a) (named_with_defaults rest)
 
-  pub filled : Argument → Argument
-  filled null = null
-  filled (flag b) = flag b
-  filled (whole z) = whole z
-  filled inexact = inexact
-  filled (text s) = text s
-  filled (list rest) = list (filled_each rest)
-  filled (object ms) = object (filled_named ms)
-  filled (from_node id) = from_node id
-  filled (from_parameter name) = from_parameter name
-  filled (callback ns result) = callback (filled_nodes ns) result
+  pub with_defaults : Argument → Argument
+  with_defaults null = null
+  with_defaults (flag b) = flag b
+  with_defaults (whole z) = whole z
+  with_defaults inexact = inexact
+  with_defaults (text s) = text s
+  with_defaults (list rest) = list (each_with_defaults rest)
+  with_defaults (object ms) = object (named_with_defaults ms)
+  with_defaults (from_node id) = from_node id
+  with_defaults (from_parameter name) = from_parameter name
+  with_defaults (callback ns result) = callback (nodes_with_defaults ns) result
 
-  pub filled_each : ListValues → ListValues
-  filled_each no_arguments = no_arguments
-  filled_each (argument a rest) = argument (filled a) (filled_each rest)
+  pub each_with_defaults : ListValues → ListValues
+  each_with_defaults no_arguments = no_arguments
+  each_with_defaults (argument a rest) = argument (with_defaults a) (each_with_defaults rest)
 
-abbrev pub filled_node : PlainNode → PlainNode
-filled_node n = record n { arguments = put_defaults (parameters_named n.process_id) (filled_named n.arguments) }
+abbrev pub node_with_defaults : PlainNode → PlainNode
+node_with_defaults n = record n {
+  arguments = put_defaults (parameters_named n.process_id) (named_with_defaults n.arguments);
+}
 
-abbrev pub filled_graph : PlainGraph → PlainGraph
-filled_graph g = record { nodes = filled_nodes g.nodes; result = g.result }
+abbrev pub graph_with_defaults : PlainGraph → PlainGraph
+graph_with_defaults g = record { nodes = nodes_with_defaults g.nodes; result = g.result }
 
 -- what a graph without a fault resolves to
 abbrev pub resolved : List PlainStored → PlainGraph → PlainGraph
-resolved stored g = filled_graph (expanded stored g)
+resolved stored g = graph_with_defaults (expanded stored g)

@@ -11,7 +11,7 @@ use Rattle.oe_graph.specs.References.{argument_named, references_in, references_
 use Rattle.oe_graph.specs.Tree.{Argument, null, Named, no_named, named, PlainGraph}
 use Rattle.oe_graph.specs.declared.table.Literal.{Literal}
 use Rattle.oe_graph.specs.declared.table.Literal.TheVariants as literal
-use Rattle.oe_resolve.specs.Filled.{put_argument, put_default, put_defaults}
+use Rattle.oe_resolve.specs.Defaults.{put_argument, put_default, put_defaults}
 use Rattle.oe_calls.proofs.Along.{later_there, there_cases, none_there, in_first}
 use Rattle.oe_calls.proofs.NameLemmas.{other_before, starts_after, rise_from, rise_parts}
 
