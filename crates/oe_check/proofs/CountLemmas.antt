@@ -15,7 +15,7 @@ use Rattle.oe_dims.specs.declared.kind.Kind.TheVariants.{Time, Bands, Y, X}
 use Rattle.oe_dims.proofs.IndexLemmas.{same_number_is, same_number_refl}
 use Rattle.oe_dims.proofs.OrderLemmas.{same_name_is, same_name_refl}
 use Rattle.oe_dims.proofs.ShapeLemmas.{numbers_rise, y_falls, bands_differ}
-use Rattle.oe_requests.specs.Labels.{is_below, is_above, insert_label, sorted_labels, new_among, all_in_order, all_bands, merged_shape, are_distinct, are_among, differ_in, differ_along}
+use Rattle.oe_requests.specs.Labels.{is_below, is_above, insert_label, sorted_labels, new_among, all_in_order, all_bands, shape_of_merge, are_distinct, are_among, differ_in, differ_along}
 use Rattle.oe_meanings.proofs.OrderedLemmas.{below_is_order, above_is_order, ordered_differ, rises_stand, falls_stand}
 
 -- ---- counts and tests
@@ -221,7 +221,7 @@ module _ (one two : Dimensions) (h : IsShape one) (k : IsShape two) (first secon
       many_there ℤ same_number same_number_is same_number_refl one.x two.x (numbers_distinct X one x_not_y h) (numbers_distinct X two x_not_y k) first second f s other
 
   pub alike_along : (kind : Kind) → label_count one kind ≡ Some first → label_count two kind ≡ Some second → first ≡ second
-      → not (nat_eq (unwrap_or (label_count (merged_shape one two) kind) 0) first) ≡ differ_along kind one two
+      → not (nat_eq (unwrap_or (label_count (shape_of_merge one two) kind) 0) first) ≡ differ_along kind one two
   alike_along Time f s counts =
       alike_there ℤ same_number same_number_is same_number_refl one.t two.t (numbers_distinct Time one time_not_y h) (numbers_distinct Time two time_not_y k) first second f s
       (all_in_order is_below one.t two.t) (joined_numbers is_below one.t two.t) counts

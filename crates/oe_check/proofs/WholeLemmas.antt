@@ -17,7 +17,7 @@ use Rattle.oe_expr.specs.Requests.{with_both}
 use Rattle.oe_expr.proofs.NodeLemmas.{id_at_is, contains_node}
 use Rattle.oe_check.specs.Checked.{CheckedGraph, outline_of_node, operation_of_node}
 use Rattle.oe_meanings.specs.Graphs.{outline_at, operation_at, request_outline}
-use Rattle.oe_requests.specs.Labels.{merged_shape, differ_along}
+use Rattle.oe_requests.specs.Labels.{shape_of_merge, differ_along}
 use Rattle.oe_check.specs.Links.{index_referred, links_of}
 use Rattle.oe_requests.specs.Operations.{Operation, Outline, no_outline, merge, operation_of, outline_of, dimension_named}
 use Rattle.oe_check.specs.Reach.{needs_whole, input_shapes, whole_of_node}
@@ -86,7 +86,7 @@ pub record Merges (c : CheckedGraph) (index : ℕ) : Type 0 where
   pub arguments_are : order.arguments (links_of c.nodes) index ≡ one ∷ two ∷ []
   pub one_below : one < node_count c.nodes
   pub two_below : two < node_count c.nodes
-  pub merged : (outline_of_node c index).shape ≡ merged_shape (outline_of_node c one).shape (outline_of_node c two).shape
+  pub merged : (outline_of_node c index).shape ≡ shape_of_merge (outline_of_node c one).shape (outline_of_node c two).shape
   pub shapes_are : input_shapes c index ≡ Some ((outline_of_node c one).shape ∷ (outline_of_node c two).shape ∷ [])
 
 module _ (c : CheckedGraph) (resolved : AreResolved c.nodes) (index : ℕ) (below : index < node_count c.nodes) (resolver : Option Callback)
@@ -144,8 +144,8 @@ module _ (c : CheckedGraph) (resolved : AreResolved c.nodes) (index : ℕ) (belo
       two_below = below_of two second;
       merged =
           ap (λ (o : Outline). o.shape) outline_here
-          ∙ (ap (λ (o : Outline). merged_shape o.shape (outline_at c.rows c.nodes two).shape) (sym (outline_of_name one first))
-          ∙ ap (λ (o : Outline). merged_shape (outline_of_node c (index_referred c.nodes one)).shape o.shape) (sym (outline_of_name two second)));
+          ∙ (ap (λ (o : Outline). shape_of_merge o.shape (outline_at c.rows c.nodes two).shape) (sym (outline_of_name one first))
+          ∙ ap (λ (o : Outline). shape_of_merge (outline_of_node c (index_referred c.nodes one)).shape o.shape) (sym (outline_of_name two second)));
       shapes_are =
           ap (λ o. option_map (λ r. map (λ (o : Outline). o.shape) (input_outlines c.rows c.nodes r)) (option_and_then cube_request_at o)) there.is_there
           ∙ (ap (option_map (λ r. map (λ (o : Outline). o.shape) (input_outlines c.rows c.nodes r))) asks
@@ -190,10 +190,10 @@ module _ (c : CheckedGraph) (resolved : AreResolved c.nodes) (index : ℕ) (belo
       shape_second : (outline_of_node c merges.two).shape ≡ second_shape
       shape_second = sym (second_is ∙ ap (λ i. (outline_of_node c i).shape) (second_input two two_is))
 
-      pub merged_here : (outline_of_node c index).shape ≡ merged_shape first_shape second_shape
+      pub merged_here : (outline_of_node c index).shape ≡ shape_of_merge first_shape second_shape
       merged_here =
           merges.merged
-          ∙ (ap (λ d. merged_shape d (outline_of_node c merges.two).shape) shape_first ∙ ap (merged_shape first_shape) shape_second)
+          ∙ (ap (λ d. shape_of_merge d (outline_of_node c merges.two).shape) shape_first ∙ ap (shape_of_merge first_shape) shape_second)
 
       pub whole_here : (along : Kind) (b : Bool) → b ≡ differ_along along first_shape second_shape → whole_of_node c index along ≡ Some b
       whole_here along b e =

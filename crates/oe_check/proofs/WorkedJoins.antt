@@ -8,7 +8,7 @@ use Rattle.oe_dims.specs.declared.kind.CellKind.TheVariants.{Numbers}
 use Rattle.oe_expr.specs.Callback.{Callback}
 use Rattle.oe_expr.specs.Nodes.{down_from}
 use Rattle.oe_expr.specs.Scope as scope
-use Rattle.oe_requests.specs.Labels.{is_below, is_above, sorted_labels, merged_shape}
+use Rattle.oe_requests.specs.Labels.{is_below, is_above, sorted_labels, shape_of_merge}
 use Rattle.oe_meanings.specs.Meaning.{merged, covered}
 use Rattle.oe_check.proofs.WorkedWords.{whole, cells_of, january_1, january_2, january_3, cube_with, shape_with, line, banded, dated, series, single, resolving, under}
 
@@ -22,7 +22,7 @@ from_the_top = refl
 
 -- the reference system of the cube that has one; labels of both
 shape_of_two :
-    merged_shape (series (january_2 ∷ []) []).shape (shape_with (january_1 ∷ january_2 ∷ []) (codes "B1" ∷ []) (pos 0 ∷ []) (pos 0 ∷ []))
+    shape_of_merge (series (january_2 ∷ []) []).shape (shape_with (january_1 ∷ january_2 ∷ []) (codes "B1" ∷ []) (pos 0 ∷ []) (pos 0 ∷ []))
     ≡ shape_with (january_1 ∷ january_2 ∷ []) (codes "B1" ∷ []) (pos 0 ∷ []) (pos 0 ∷ [])
 shape_of_two = refl
 

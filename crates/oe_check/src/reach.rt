@@ -2,7 +2,7 @@
 ghost use Rattle.std.specs.Prelude.{◌≡◌, unwrap_or};
 ghost use Rattle.oe_dims.specs.Dimensions.{label_count};
 ghost use Rattle.oe_requests.specs.Labels as labels;
-ghost use Rattle.oe_requests.specs.Labels.{merged_shape};
+ghost use Rattle.oe_requests.specs.Labels.{shape_of_merge};
 ghost use Rattle.oe_requests.specs.PlainRequests.{plain_operation};
 ghost use Rattle.oe_check.specs.Reach as spec;
 
@@ -45,7 +45,7 @@ fn count_along(along: Kind, shape: &Shape) -> u32
 /// Both cubes have the dimension, and there is a label that only one of them has. How many labels each of them and
 /// their merge have tells it, since the merge has one more for each label of the second that the first lacks.
 pub fn differ_along(along: Kind, one: &Shape, two: &Shape, merged: &Shape) -> bool
-    requires { merged.now ≡ merged_shape one.now two.now }
+    requires { merged.now ≡ shape_of_merge one.now two.now }
     ensures { result ≡ labels.differ_along along one.now two.now }
 {
     match (one.count(along), two.count(along)) {

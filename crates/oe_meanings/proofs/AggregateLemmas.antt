@@ -25,7 +25,7 @@ use Rattle.oe_requests.specs.Extents.{labels_in_time, part_in_time}
 use Rattle.oe_requests.specs.declared.extent.TemporalExtent.{TemporalExtent}
 use Rattle.oe_requests.specs.Labels.{is_below, insert_label, sorted_labels}
 use Rattle.oe_meanings.specs.Meaning.{cell, value_on_list, extent_labelled, instants_inside, cells_at, aggregated}
-use Rattle.oe_requests.specs.Operations.{aggregated_shape}
+use Rattle.oe_requests.specs.Operations.{shape_of_aggregation}
 use Rattle.oe_requests.specs.declared.extent.Interval.{Interval}
 
 -- ---- labels in order are the same labels
@@ -145,4 +145,4 @@ pub aggregated_fits : (kind : CellKind) (intervals : List Interval) (c : Callbac
     → rises (number_labels cube.shape Time) ≡ true → AllOfKind kind cube → AllOfKind (callback_kind c) (aggregated intervals c cube)
 aggregated_fits kind intervals c cube is =
     under_scope (λ k. KeepsKind k → rises (number_labels cube.shape Time) ≡ true → AllOfKind kind cube → AllOfKind (callback_kind k) (aggregated intervals k cube)) c (the_scope kind intervals cube.shape) is
-    (λ keeps up h. tabulated_at _ (aggregated_shape intervals cube.shape) _ (λ tuple inside. tuple_value_fits kind intervals cube h up c.graph c.context keeps tuple tuple.t inside.t))
+    (λ keeps up h. tabulated_at _ (shape_of_aggregation intervals cube.shape) _ (λ tuple inside. tuple_value_fits kind intervals cube h up c.graph c.context keeps tuple tuple.t inside.t))

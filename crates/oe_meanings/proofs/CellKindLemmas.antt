@@ -29,8 +29,8 @@ use Rattle.oe_expr.specs.Scope.{PlainScope, count_labels, labels_in, no_labels}
 use Rattle.oe_expr.specs.declared.scope.ListPart.{ListPart}
 use Rattle.oe_periods.proofs.SumLemmas.{running_sum-numeric, running_sum-logical}
 use Rattle.oe_periods.specs.Sums.{running_sum}
-use Rattle.oe_requests.specs.Extents.{Restriction, kept_shape}
-use Rattle.oe_requests.specs.Labels.{restrict, merged_shape}
+use Rattle.oe_requests.specs.Extents.{Restriction, shape_of_restriction}
+use Rattle.oe_requests.specs.Labels.{restrict, shape_of_merge}
 use Rattle.oe_meanings.specs.Meaning.{cell, value_on_cells, value_on_list, restricted_cube, applied, convolution, reduced, cells_along, tuples_along, cells_at, labels_before, accumulated, joined, merged, covered_by, covered}
 use Rattle.oe_requests.specs.Operations.{labels_along, without_dimension}
 
@@ -110,7 +110,7 @@ under_scope P c given is h = subst (λ s. P (callback_of c.graph s c.context)) (
 -- ---- the processes on one cube
 
 pub kept_fits : (kind : CellKind) (r : Restriction) (cube : Cube Cell) → AllOfKind kind cube → AllOfKind kind (restricted_cube r cube)
-kept_fits kind r cube h = tabulated_fits kind (kept_shape r cube.shape) (cell cube) (λ tuple. cell_fits kind cube tuple h)
+kept_fits kind r cube h = tabulated_fits kind (shape_of_restriction r cube.shape) (cell cube) (λ tuple. cell_fits kind cube tuple h)
 
 pub applied_fits : (kind : CellKind) (c : Callback) (cube : Cube Cell) → c.scope ≡ scope.apply kind → KeepsKind c → AllOfKind kind cube → AllOfKind (callback_kind c) (applied c cube)
 applied_fits kind c cube is =
@@ -202,7 +202,7 @@ joined_fits kind (Some c) None None r h k = null_fits kind
 
 pub merged_fits : (kind : CellKind) (resolver : Option Callback) (one two : Cube Cell) → Resolves kind resolver → AllOfKind kind one → AllOfKind kind two → AllOfKind kind (merged resolver one two)
 merged_fits kind resolver one two r h k =
-    tabulated_fits kind (merged_shape one.shape two.shape) _ (λ tuple. joined_fits kind resolver (at one (restrict one.shape tuple)) (at two (restrict two.shape tuple)) r
+    tabulated_fits kind (shape_of_merge one.shape two.shape) _ (λ tuple. joined_fits kind resolver (at one (restrict one.shape tuple)) (at two (restrict two.shape tuple)) r
     (at_fits kind one (restrict one.shape tuple) h) (at_fits kind two (restrict two.shape tuple) k))
 
 pub resolves : (kind : CellKind) (c : Callback) → c.scope ≡ scope.merge kind → KeepsKind c → callback_kind c ≡ kind → Resolves kind (Some c)

@@ -24,11 +24,11 @@ use Rattle.oe_meanings.proofs.RequestLemmas.{EachOf, of_node_request, outline_lo
 use Rattle.oe_meanings.proofs.SoundLemmas.{nothing_fits, gives_cells_of_kind}
 use Rattle.oe_meanings.proofs.ValidLemmas.{no_dimensions_is_shape, gives_valid_shapes}
 use Rattle.oe_meanings.specs.CellKinds.{HasCellsOfKind}
-use Rattle.oe_requests.specs.Extents.{kept_shape}
-use Rattle.oe_requests.specs.Labels.{merged_shape}
+use Rattle.oe_requests.specs.Extents.{shape_of_restriction}
+use Rattle.oe_requests.specs.Labels.{shape_of_merge}
 use Rattle.oe_meanings.specs.Graphs.{Collections, no_datacube, datacube_of, collection_named, collection_rows, request_inputs, outline_named, outline_at, node_meaning, node_outline, request_meaning, meaning_at, operation_at}
 use Rattle.oe_meanings.specs.Meaning.{Datacube, no_cube, operated, outline}
-use Rattle.oe_requests.specs.Operations.{Operation, Outline, no_outline, operation_of, keep, each_cell, convolve, reduce, aggregate, accumulate, merge, cover, give_back, first_or, second_or, without_dimension, aggregated_shape}
+use Rattle.oe_requests.specs.Operations.{Operation, Outline, no_outline, operation_of, keep, each_cell, convolve, reduce, aggregate, accumulate, merge, cover, give_back, first_or, second_or, without_dimension, shape_of_aggregation}
 use Rattle.oe_requests.specs.Requests.{CubeRequest, load_collection, filter_bbox, filter_temporal, filter_bands, apply, apply_kernel, reduce_dimension, aggregate_temporal, aggregate_temporal_period, apply_dimension, merge_cubes, mask, save_result, cube_ids, cube_request_at}
 use Rattle.oe_meanings.specs.SoundNodes.{AreAcyclic, UnfoldAtNodes, IsSoundOperation, input_outlines, HasSoundOperation, IsSoundNode, sound_node, AreCollections, AreSound}
 
@@ -158,13 +158,13 @@ first_counted [] h = refl
 first_counted (a ∷ inputs) h = (h 0 a (omega arith)).counted
 
 operated_counted : (operation : Operation) (inputs : List Datacube) → All IsValid inputs → IsCube (operated operation inputs).cube
-operated_counted (keep r) inputs h = IsCube-tabulate (kept_shape r (first_cube inputs).shape) _
+operated_counted (keep r) inputs h = IsCube-tabulate (shape_of_restriction r (first_cube inputs).shape) _
 operated_counted (each_cell c) inputs h = IsCube-tabulate (first_cube inputs).shape _
 operated_counted (convolve kernel factor border replace) inputs h = IsCube-tabulate (first_cube inputs).shape _
 operated_counted (reduce kind c) inputs h = IsCube-tabulate (without_dimension kind (first_cube inputs).shape) _
-operated_counted (aggregate intervals c) inputs h = IsCube-tabulate (aggregated_shape intervals (first_cube inputs).shape) _
+operated_counted (aggregate intervals c) inputs h = IsCube-tabulate (shape_of_aggregation intervals (first_cube inputs).shape) _
 operated_counted (accumulate ignore) inputs h = IsCube-tabulate (first_cube inputs).shape _
-operated_counted (merge resolver) inputs h = IsCube-tabulate (merged_shape (first_cube inputs).shape (second_cube inputs).shape) _
+operated_counted (merge resolver) inputs h = IsCube-tabulate (shape_of_merge (first_cube inputs).shape (second_cube inputs).shape) _
 operated_counted (cover replacement) inputs h = IsCube-tabulate (first_cube inputs).shape _
 operated_counted give_back inputs h = first_counted inputs h
 

@@ -11,7 +11,7 @@ use Rattle.oe_dims.specs.Names.{same_name}
 use Rattle.oe_dims.specs.declared.kind.Kind.TheVariants.{Time, Bands, Y, X}
 use Rattle.oe_meanings.proofs.LabelLemmas.{keep_all_labels}
 use Rattle.oe_meanings.proofs.OrderedLemmas.{left_of, right_of}
-use Rattle.oe_requests.specs.Labels.{is_below, is_above, all_in_order, all_bands, merged_shape, are_among, differ_in, differ_along, one_if, only_along, restrict}
+use Rattle.oe_requests.specs.Labels.{is_below, is_above, all_in_order, all_bands, shape_of_merge, are_among, differ_in, differ_along, one_if, only_along, restrict}
 use Rattle.oe_meanings.specs.Laws.{AreInOneAtLeast}
 
 -- the label of another cube is one of a dimension's, where the dimension is there
@@ -105,7 +105,7 @@ band_both (Some one) (Some two) (Some l) h m = label_both same_name same_name_is
 
 -- ---- along all of them
 
-module _ (one two : Dimensions) (tuple : Tuple) (m : IsTuple (merged_shape one two) tuple) where
+module _ (one two : Dimensions) (tuple : Tuple) (m : IsTuple (shape_of_merge one two) tuple) where
   in_one : IsIn one.t tuple.t → IsIn one.bands tuple.band → IsIn one.y tuple.y → IsIn one.x tuple.x → IsTuple one (restrict one tuple)
   in_one t b y x = record { t = t; band = b; y = y; x = x }
 

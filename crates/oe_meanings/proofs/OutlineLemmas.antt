@@ -9,12 +9,12 @@ use Rattle.oe_dims.specs.declared.kind.CellKind.{CellKind}
 use Rattle.oe_graph.specs.Printed.{node_count}
 use Rattle.oe_graph.specs.Tree.{Nodes, PlainNode}
 use Rattle.oe_expr.specs.Nodes.{node_named, within_turns, down_from}
-use Rattle.oe_requests.specs.Extents.{kept_shape}
+use Rattle.oe_requests.specs.Extents.{shape_of_restriction}
 use Rattle.oe_meanings.specs.Graphs.{Collections, no_datacube, collection_named, outline_named, collection_rows, request_inputs, request_outline, node_outline, outline_at, request_meaning, node_meaning, meaning_at}
-use Rattle.oe_requests.specs.Labels.{merged_shape}
+use Rattle.oe_requests.specs.Labels.{shape_of_merge}
 use Rattle.oe_meanings.specs.Laws.{AreFoundWithoutCells}
 use Rattle.oe_meanings.specs.Meaning.{Datacube, no_cube, cube_of, operated, outline}
-use Rattle.oe_requests.specs.Operations.{Operation, keep, each_cell, convolve, reduce, aggregate, accumulate, merge, cover, give_back, Outline, no_outline, no_dimensions, first_or, second_or, without_dimension, aggregated_shape, shape_of, operation_kind, outline_of, operation_of}
+use Rattle.oe_requests.specs.Operations.{Operation, keep, each_cell, convolve, reduce, aggregate, accumulate, merge, cover, give_back, Outline, no_outline, no_dimensions, first_or, second_or, without_dimension, shape_of_aggregation, shape_of, operation_kind, outline_of, operation_of}
 use Rattle.oe_requests.specs.Requests.{CubeRequest, load_collection, filter_bbox, filter_temporal, filter_bands, apply, apply_kernel, reduce_dimension, aggregate_temporal, aggregate_temporal_period, apply_dimension, merge_cubes, mask, save_result, cube_request_at}
 
 -- ---- one operation
@@ -33,15 +33,15 @@ the_shape cube = cube.shape
 
 -- the shape of what an operation gives
 shape_given : (operation : Operation) (cubes : List (Cube Cell)) → (cube_of operation cubes).shape ≡ shape_of operation (map the_shape cubes)
-shape_given (keep r) cubes = ap (kept_shape r) (first_map the_shape no_cube cubes)
+shape_given (keep r) cubes = ap (shape_of_restriction r) (first_map the_shape no_cube cubes)
 shape_given (each_cell c) cubes = first_map the_shape no_cube cubes
 shape_given (convolve kernel factor border replace) cubes = first_map the_shape no_cube cubes
 shape_given (reduce kind c) cubes = ap (without_dimension kind) (first_map the_shape no_cube cubes)
-shape_given (aggregate intervals c) cubes = ap (aggregated_shape intervals) (first_map the_shape no_cube cubes)
+shape_given (aggregate intervals c) cubes = ap (shape_of_aggregation intervals) (first_map the_shape no_cube cubes)
 shape_given (accumulate ignore) cubes = first_map the_shape no_cube cubes
 shape_given (merge resolver) cubes =
-    ap (λ d. merged_shape d (second_or no_cube cubes).shape) (first_map the_shape no_cube cubes)
-    ∙ ap (merged_shape (first_or no_dimensions (map the_shape cubes))) (second_map the_shape no_cube cubes)
+    ap (λ d. shape_of_merge d (second_or no_cube cubes).shape) (first_map the_shape no_cube cubes)
+    ∙ ap (shape_of_merge (first_or no_dimensions (map the_shape cubes))) (second_map the_shape no_cube cubes)
 shape_given (cover replacement) cubes = first_map the_shape no_cube cubes
 shape_given give_back cubes = first_map the_shape no_cube cubes
 

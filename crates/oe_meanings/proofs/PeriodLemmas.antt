@@ -32,7 +32,7 @@ use Rattle.oe_requests.specs.Extents.{has_begun, has_not_ended, is_in_time, is_e
 use Rattle.oe_requests.specs.Labels.{is_below, insert_label, sorted_labels, are_distinct}
 use Rattle.oe_meanings.specs.Laws.{AggregateByPeriods}
 use Rattle.oe_meanings.specs.Meaning.{value_on_list, extent_labelled, instants_inside, cells_at, aggregated, labels_in_period_of, labels_in_period, by_period}
-use Rattle.oe_requests.specs.Operations.{aggregated_shape}
+use Rattle.oe_requests.specs.Operations.{shape_of_aggregation}
 use Rattle.oe_requests.specs.Parameters.{extent_from}
 use Rattle.oe_requests.specs.Periods.{period_interval, period_intervals, period_shape}
 use Rattle.oe_meanings.specs.ValidShapes.{labels_of, AreIntervalLabels, is_within_limits}
@@ -221,7 +221,7 @@ sorted_rising (a ∷ b ∷ labels) h =
     let next : is_below a b ≡ true = left_of (int_lt a b) _ h in
     ap (insert_label is_below a) (sorted_rising (b ∷ labels) (right_of (int_lt a b) _ h)) ∙ rw next refl
 
-pub period_shape_is : (period : Period) (d : Dimensions) → IsShape d → aggregated_shape (period_intervals period (number_labels d Time)) d ≡ period_shape period d
+pub period_shape_is : (period : Period) (d : Dimensions) → IsShape d → shape_of_aggregation (period_intervals period (number_labels d Time)) d ≡ period_shape period d
 period_shape_is period d v =
     let labels = number_labels d Time in
     ap (λ ls. record d { t = Some (sorted_labels is_below ls) }) (labels_are period (period_numbers period labels))

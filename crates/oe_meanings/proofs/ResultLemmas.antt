@@ -13,9 +13,9 @@ use Rattle.oe_dims.specs.declared.shape.ShapeFault.{ShapeFault}
 use Rattle.oe_periods.specs.declared.calendar.Period.{Period}
 use Rattle.oe_meanings.proofs.PeriodLemmas.{period_labels, period_shape_is}
 use Rattle.oe_meanings.proofs.ValidLemmas.{labelled_shape, is_shape, kept_labelled, without_labelled, aggregated_labelled, merged_labelled}
-use Rattle.oe_requests.specs.Extents.{Restriction, kept_shape}
-use Rattle.oe_requests.specs.Labels.{merged_shape}
-use Rattle.oe_requests.specs.Operations.{without_dimension, aggregated_shape}
+use Rattle.oe_requests.specs.Extents.{Restriction, shape_of_restriction}
+use Rattle.oe_requests.specs.Labels.{shape_of_merge}
+use Rattle.oe_requests.specs.Operations.{without_dimension, shape_of_aggregation}
 use Rattle.oe_requests.specs.Periods.{period_intervals, period_shape}
 use Rattle.oe_meanings.specs.Results.{where_within_limits}
 use Rattle.oe_meanings.specs.ValidShapes.{is_within_limits, AreBands, AreIntervalLabels, labels_of}
@@ -58,14 +58,14 @@ from_parts d epsg t bands y x e f g h k = rw (e, f, g, h, k) refl
 pub without_valid : (kind : Kind) (d : Dimensions) → IsShape d → is_within_limits (without_dimension kind d) ≡ true → IsShape (without_dimension kind d)
 without_valid kind d h l = is_shape (without_dimension kind d) (without_labelled kind d (labelled_shape d h)) l
 
-pub kept_valid : (r : Restriction) (d : Dimensions) → IfSome r.bands AreBands → IsShape d → is_within_limits (kept_shape r d) ≡ true → IsShape (kept_shape r d)
-kept_valid r d g h l = is_shape (kept_shape r d) (kept_labelled r d g (labelled_shape d h)) l
+pub kept_valid : (r : Restriction) (d : Dimensions) → IfSome r.bands AreBands → IsShape d → is_within_limits (shape_of_restriction r d) ≡ true → IsShape (shape_of_restriction r d)
+kept_valid r d g h l = is_shape (shape_of_restriction r d) (kept_labelled r d g (labelled_shape d h)) l
 
-pub aggregated_valid : (intervals : List Interval) (d : Dimensions) → AreIntervalLabels (labels_of intervals) → IsShape d → is_within_limits (aggregated_shape intervals d) ≡ true → IsShape (aggregated_shape intervals d)
-aggregated_valid intervals d g h l = is_shape (aggregated_shape intervals d) (aggregated_labelled intervals d g (labelled_shape d h)) l
+pub aggregated_valid : (intervals : List Interval) (d : Dimensions) → AreIntervalLabels (labels_of intervals) → IsShape d → is_within_limits (shape_of_aggregation intervals d) ≡ true → IsShape (shape_of_aggregation intervals d)
+aggregated_valid intervals d g h l = is_shape (shape_of_aggregation intervals d) (aggregated_labelled intervals d g (labelled_shape d h)) l
 
-pub merged_valid : (one two : Dimensions) → IsShape one → IsShape two → is_within_limits (merged_shape one two) ≡ true → IsShape (merged_shape one two)
-merged_valid one two h k l = is_shape (merged_shape one two) (merged_labelled one two (labelled_shape one h) (labelled_shape two k)) l
+pub merged_valid : (one two : Dimensions) → IsShape one → IsShape two → is_within_limits (shape_of_merge one two) ≡ true → IsShape (shape_of_merge one two)
+merged_valid one two h k l = is_shape (shape_of_merge one two) (merged_labelled one two (labelled_shape one h) (labelled_shape two k)) l
 
 pub period_valid : (period : Period) (d : Dimensions) → IsShape d → is_within_limits (period_shape period d) ≡ true → IsShape (period_shape period d)
 period_valid period d v l =

@@ -14,7 +14,7 @@ use Rattle.oe_dims.specs.Names.{same_name}
 use Rattle.oe_dims.specs.declared.kind.Kind.{Kind}
 use Rattle.oe_dims.specs.declared.kind.Kind.TheVariants.{Time, Bands, Y, X}
 use Rattle.oe_meanings.proofs.OrderedLemmas.{left_of, right_of, stand_in_order, rises_stand, falls_stand}
-use Rattle.oe_requests.specs.Labels.{is_below, is_above, insert_label, sorted_labels, new_among, all_in_order, all_bands, either_epsg, merged_shape, are_among, differ_in}
+use Rattle.oe_requests.specs.Labels.{is_below, is_above, insert_label, sorted_labels, new_among, all_in_order, all_bands, either_epsg, shape_of_merge, are_among, differ_in}
 
 or_right : (a b : Bool) → b ≡ true → (a || b) ≡ true
 or_right true b h = refl
@@ -125,13 +125,13 @@ x_stands d h = by d.x refl
     by None is = tt
     by (Some xs) is = rises_stand xs (subst (λ o. rises (unwrap_or o []) ≡ true) is (x_rises d h))
 
-pub same_stay : (kind : Kind) (one two : Dimensions) → IsShape one → HaveSameLabels one two kind → HaveSameLabels (merged_shape one two) one kind
+pub same_stay : (kind : Kind) (one two : Dimensions) → IsShape one → HaveSameLabels one two kind → HaveSameLabels (shape_of_merge one two) one kind
 same_stay Time one two s h = same_numbers is_below one.t two.t (t_stands one s) h
 same_stay Bands one two s h = same_bands one.bands two.bands h
 same_stay Y one two s h = same_numbers is_above one.y two.y (y_stands one s) h
 same_stay X one two s h = same_numbers is_below one.x two.x (x_stands one s) h
 
-pub lacking_stay : (kind : Kind) (one two : Dimensions) → label_count two kind ≡ None → HaveSameLabels (merged_shape one two) one kind
+pub lacking_stay : (kind : Kind) (one two : Dimensions) → label_count two kind ≡ None → HaveSameLabels (shape_of_merge one two) one kind
 lacking_stay Time one two h = no_numbers is_below one.t two.t h
 lacking_stay Bands one two h = no_bands one.bands two.bands h
 lacking_stay Y one two h = no_numbers is_above one.y two.y h
@@ -140,5 +140,5 @@ lacking_stay X one two h = no_numbers is_below one.x two.x h
 -- all of it stays where each part does
 pub all_stay : (one two : Dimensions) → either_epsg one.epsg two.epsg ≡ one.epsg → all_in_order is_below one.t two.t ≡ one.t
     → all_bands one.bands two.bands ≡ one.bands → all_in_order is_above one.y two.y ≡ one.y → all_in_order is_below one.x two.x ≡ one.x
-    → merged_shape one two ≡ one
+    → shape_of_merge one two ≡ one
 all_stay one two e t b y x = rw (e, t, b, y, x) refl

@@ -9,9 +9,9 @@ use Rattle.oe_dims.specs.Names.{is_name, same_name}
 use Rattle.oe_dims.specs.declared.kind.Kind.{Kind}
 use Rattle.oe_dims.specs.declared.kind.Kind.TheVariants.{Time, Bands, Y, X}
 use Rattle.oe_meanings.proofs.OrderedLemmas.{left_of, right_of, filter_all, filtered_rise, filtered_fall, ordered_rise, merged_rise, merged_fall, merged_all, order_all, below_is_order, above_is_order, all_bands_differ}
-use Rattle.oe_requests.specs.Extents.{Restriction, is_in_time, is_up, is_across, kept_labels, kept_bands, kept_shape}
-use Rattle.oe_requests.specs.Labels.{is_below, is_above, sorted_labels, new_among, all_in_order, all_bands, either_epsg, merged_shape}
-use Rattle.oe_requests.specs.Operations.{Operation, keep, each_cell, convolve, reduce, aggregate, accumulate, merge, cover, give_back, no_dimensions, first_or, second_or, epsg_without, without_dimension, aggregated_shape, shape_of}
+use Rattle.oe_requests.specs.Extents.{Restriction, is_in_time, is_up, is_across, kept_labels, kept_bands, shape_of_restriction}
+use Rattle.oe_requests.specs.Labels.{is_below, is_above, sorted_labels, new_among, all_in_order, all_bands, either_epsg, shape_of_merge}
+use Rattle.oe_requests.specs.Operations.{Operation, keep, each_cell, convolve, reduce, aggregate, accumulate, merge, cover, give_back, no_dimensions, first_or, second_or, epsg_without, without_dimension, shape_of_aggregation, shape_of}
 use Rattle.oe_requests.specs.declared.extent.Interval.{Interval}
 use Rattle.oe_meanings.specs.ValidShapes.{is_within_limits, AreBands, labels_of, AreIntervalLabels, BringsLabels, GiveValidShapes}
 
@@ -116,7 +116,7 @@ given_valid : (given : Option (List (List ℕ))) → IfSome given AreBands → I
 given_valid None g = tt
 given_valid (Some names) g = g.valid
 
-pub kept_labelled : (r : Restriction) (d : Dimensions) → IfSome r.bands AreBands → AreLabelled d → AreLabelled (kept_shape r d)
+pub kept_labelled : (r : Restriction) (d : Dimensions) → IfSome r.bands AreBands → AreLabelled d → AreLabelled (shape_of_restriction r d)
 kept_labelled r d g h = record {
   t_rises = kept_pass rises filtered_rise is_in_time r.time d.t h.t_rises;
   t_range = kept_pass instants_in_range (λ q labels. filter_all _ q labels) is_in_time r.time d.t h.t_range;
@@ -169,7 +169,7 @@ without_labelled X d h = record {
 
 -- ---- one label for each interval
 
-pub aggregated_labelled : (intervals : List Interval) (d : Dimensions) → AreIntervalLabels (labels_of intervals) → AreLabelled d → AreLabelled (aggregated_shape intervals d)
+pub aggregated_labelled : (intervals : List Interval) (d : Dimensions) → AreIntervalLabels (labels_of intervals) → AreLabelled d → AreLabelled (shape_of_aggregation intervals d)
 aggregated_labelled intervals d g h = record {
   t_rises = ordered_rise (labels_of intervals) g.differ;
   t_range = order_all is_below below_is_order _ (labels_of intervals) g.in_range;
@@ -232,7 +232,7 @@ four_or false true c d = or_true c d
     or_true false d = refl
 four_or false false c d = refl
 
-pub merged_labelled : (one two : Dimensions) → AreLabelled one → AreLabelled two → AreLabelled (merged_shape one two)
+pub merged_labelled : (one two : Dimensions) → AreLabelled one → AreLabelled two → AreLabelled (shape_of_merge one two)
 merged_labelled one two h k = record {
   t_rises = merged_pass is_below rises merged_rise one.t two.t h.t_rises k.t_rises;
   t_range = merged_pass is_below instants_in_range (λ a b p q. order_all is_below below_is_order is_instant (a ++ new_among same_number a b) (merged_all same_number is_instant a b p q)) one.t two.t h.t_range k.t_range;
@@ -260,16 +260,16 @@ second_is_shape (d ∷ e ∷ shapes) h = h 1 e (omega arith)
 
 gives_shape : (operation : Operation) (shapes : List Dimensions) → BringsLabels operation → All IsShape shapes → is_within_limits (shape_of operation shapes) ≡ true → IsShape (shape_of operation shapes)
 gives_shape (keep r) shapes g h l =
-    is_shape (kept_shape r (first_or no_dimensions shapes)) (kept_labelled r (first_or no_dimensions shapes) g (labelled_shape _ (first_is_shape shapes h))) l
+    is_shape (shape_of_restriction r (first_or no_dimensions shapes)) (kept_labelled r (first_or no_dimensions shapes) g (labelled_shape _ (first_is_shape shapes h))) l
 gives_shape (each_cell c) shapes g h l = first_is_shape shapes h
 gives_shape (convolve kernel factor border replace) shapes g h l = first_is_shape shapes h
 gives_shape (reduce kind c) shapes g h l =
     is_shape (without_dimension kind (first_or no_dimensions shapes)) (without_labelled kind (first_or no_dimensions shapes) (labelled_shape _ (first_is_shape shapes h))) l
 gives_shape (aggregate intervals c) shapes g h l =
-    is_shape (aggregated_shape intervals (first_or no_dimensions shapes)) (aggregated_labelled intervals (first_or no_dimensions shapes) g (labelled_shape _ (first_is_shape shapes h))) l
+    is_shape (shape_of_aggregation intervals (first_or no_dimensions shapes)) (aggregated_labelled intervals (first_or no_dimensions shapes) g (labelled_shape _ (first_is_shape shapes h))) l
 gives_shape (accumulate ignore) shapes g h l = first_is_shape shapes h
 gives_shape (merge resolver) shapes g h l =
-    is_shape (merged_shape (first_or no_dimensions shapes) (second_or no_dimensions shapes))
+    is_shape (shape_of_merge (first_or no_dimensions shapes) (second_or no_dimensions shapes))
     (merged_labelled (first_or no_dimensions shapes) (second_or no_dimensions shapes) (labelled_shape _ (first_is_shape shapes h)) (labelled_shape _ (second_is_shape shapes h))) l
 gives_shape (cover replacement) shapes g h l = first_is_shape shapes h
 gives_shape give_back shapes g h l = first_is_shape shapes h

@@ -9,7 +9,7 @@ use Rattle.oe_dims.specs.Names.{same_name}
 use Rattle.oe_expr.specs.Callback.{Callback}
 use Rattle.oe_graph.specs.Tree.{Nodes}
 use Rattle.oe_meanings.specs.Graphs.{Collections, collection_rows, outline_at, meaning_at}
-use Rattle.oe_requests.specs.Labels.{sorted_labels, all_in_order, all_bands, merged_shape, differing, restrict}
+use Rattle.oe_requests.specs.Labels.{sorted_labels, all_in_order, all_bands, shape_of_merge, differing, restrict}
 use Rattle.oe_meanings.specs.Meaning.{Datacube, aggregated, operated, outline, by_period}
 use Rattle.oe_requests.specs.Operations.{Operation, outline_of}
 use Rattle.oe_meanings.specs.Words.{share_tuple}
@@ -46,12 +46,12 @@ pub record KeepAllLabels : Type 0 where
 -- Where the label sets of two cubes differ along one dimension at most, each tuple of their merge is in one of them at
 -- least.
 pub record AreInOneAtLeast : Type 0 where
-  pub each : (one two : Dimensions) → differing one two ≤ 1 → (tuple : Tuple) → IsTuple (merged_shape one two) tuple
+  pub each : (one two : Dimensions) → differing one two ≤ 1 → (tuple : Tuple) → IsTuple (shape_of_merge one two) tuple
       → IsTuple one (restrict one tuple) ⊎ IsTuple two (restrict two tuple)
 
 -- a tuple of the merge of two cubes is in both of them, each repeated over the dimensions that it lacks
 pub record IsInBoth (one two : Dimensions) (tuple : Tuple) : Type 0 where
-  pub merged : IsTuple (merged_shape one two) tuple
+  pub merged : IsTuple (shape_of_merge one two) tuple
   pub first : IsTuple one (restrict one tuple)
   pub second : IsTuple two (restrict two tuple)
 

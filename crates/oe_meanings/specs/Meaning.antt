@@ -21,11 +21,11 @@ use Rattle.oe_expr.specs.Scope.{no_labels}
 use Rattle.oe_periods.specs.Calendar.{period_number}
 use Rattle.oe_periods.specs.Sums.{running_sum}
 use Rattle.oe_periods.specs.declared.calendar.Period.{Period}
-use Rattle.oe_requests.specs.Extents.{Restriction, kept_shape, labels_in_time}
+use Rattle.oe_requests.specs.Extents.{Restriction, shape_of_restriction, labels_in_time}
 use Rattle.oe_requests.specs.Periods.{period_shape}
 use Rattle.oe_requests.specs.declared.extent.TemporalExtent.{TemporalExtent}
-use Rattle.oe_requests.specs.Labels.{restrict, merged_shape}
-use Rattle.oe_requests.specs.Operations.{Operation, keep, each_cell, convolve, reduce, aggregate, accumulate, merge, cover, give_back, Outline, no_dimensions, first_or, second_or, labels_along, without_dimension, aggregated_shape, operation_kind}
+use Rattle.oe_requests.specs.Labels.{restrict, shape_of_merge}
+use Rattle.oe_requests.specs.Operations.{Operation, keep, each_cell, convolve, reduce, aggregate, accumulate, merge, cover, give_back, Outline, no_dimensions, first_or, second_or, labels_along, without_dimension, shape_of_aggregation, operation_kind}
 use Rattle.oe_requests.specs.declared.extent.Interval.{Interval}
 
 -- the cell of a tuple; of one that the cube does not have, which is never asked for, null
@@ -48,7 +48,7 @@ value_on_list c labels cells =
 -- do the bands that are given, in the order in which they are given; each tuple that stays keeps its cell
 
 abbrev pub restricted_cube : Restriction → Cube Cell → Cube Cell
-restricted_cube r cube = tabulate (kept_shape r cube.shape) (cell cube)
+restricted_cube r cube = tabulate (shape_of_restriction r cube.shape) (cell cube)
 
 -- ---- `apply`: each cell becomes the value of the callback with it as `x`
 
@@ -112,7 +112,7 @@ cells_at cube tuple labels = map (λ label. cell cube (record tuple { t = Some l
 
 abbrev pub aggregated : List Interval → Callback → Cube Cell → Cube Cell
 aggregated intervals c cube =
-    tabulate (aggregated_shape intervals cube.shape) (λ tuple.
+    tabulate (shape_of_aggregation intervals cube.shape) (λ tuple.
     let labels = instants_inside cube.shape (extent_labelled intervals tuple.t) in
     value_on_list c (plain_instants labels) (cells_at cube tuple labels))
 
@@ -163,7 +163,7 @@ joined resolver None None = Empty
 
 abbrev pub merged : Option Callback → Cube Cell → Cube Cell → Cube Cell
 merged resolver one two =
-    tabulate (merged_shape one.shape two.shape)
+    tabulate (shape_of_merge one.shape two.shape)
     (λ tuple. joined resolver (at one (restrict one.shape tuple)) (at two (restrict two.shape tuple)))
 
 -- ---- `mask`: a cell is replaced where the mask has true or a number other than 0; a mask that lacks a dimension is

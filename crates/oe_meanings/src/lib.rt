@@ -9,12 +9,12 @@ mod extents;
 mod laws;
 mod operation_request;
 mod operation_scope;
-mod shape_aggregated;
-mod shape_kept;
+mod shape_aggregation;
 mod shape_labels;
-mod shape_merged;
+mod shape_merge;
 mod shape_parts;
 mod shape_periods;
+mod shape_restriction;
 mod shape_result;
 mod shape_without;
 mod words;
@@ -26,9 +26,9 @@ pub use laws::{
 };
 pub use operation_request::operation_for;
 pub use operation_scope::part_in_time;
-pub use shape_aggregated::interval_labels;
+pub use shape_aggregation::interval_labels;
 pub use shape_labels::{has_band, has_number};
-pub use shape_merged::adds_nothing;
+pub use shape_merge::adds_nothing;
 pub use shape_parts::recall_rules;
 pub use shape_result::result_shape;
 pub use words::{

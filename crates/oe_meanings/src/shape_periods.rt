@@ -5,7 +5,7 @@ ghost use Rattle.oe_dims.specs.declared.kind.Kind.TheVariants.{Time};
 ghost use Rattle.oe_periods.specs.Calendar.{period_start};
 ghost use Rattle.oe_periods.specs.Periods.{ArePeriodsOf, series_numbers};
 ghost use Rattle.oe_meanings.specs.Callbacks.{AreIntervals};
-ghost use Rattle.oe_requests.specs.Operations.{aggregated_shape};
+ghost use Rattle.oe_requests.specs.Operations.{shape_of_aggregation};
 ghost use Rattle.oe_requests.specs.Periods as spec;
 ghost use Rattle.oe_meanings.specs.Results.{where_within_limits};
 
@@ -67,7 +67,7 @@ pub(crate) fn period_shape(
     period: Period,
     shape: &Shape,
 ) -> Result<Option<Shape>, OutOfMemory>
-    ensures { IfOk result (λ found. found ≡ where_within_limits (aggregated_shape
+    ensures { IfOk result (λ found. found ≡ where_within_limits (shape_of_aggregation
         (spec.period_intervals period (number_labels shape.now Time)) shape.now)) }
 {
     let periods = periods_over(period, shape);

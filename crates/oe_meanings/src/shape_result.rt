@@ -7,10 +7,10 @@ ghost use Rattle.oe_meanings.specs.Results.{HasValidLabels, IsResultShape, where
 ghost use Rattle.oe_meanings.specs.ValidShapes.{AreBands};
 
 use crate::operation_request::{copy_bands, kept_part};
-use crate::shape_aggregated::aggregated_shape;
-use crate::shape_kept::kept_shape;
-use crate::shape_merged::merged_shape;
+use crate::shape_aggregation::shape_of_aggregation;
+use crate::shape_merge::shape_of_merge;
 use crate::shape_periods::period_shape;
+use crate::shape_restriction::shape_of_restriction;
 use crate::shape_without::without;
 use crate::words::dimension_named;
 use oe_dims::{Shape, Text};
@@ -28,7 +28,7 @@ fn loaded_shape(
 ) -> Result<Option<Shape>, OutOfMemory>
     requires bands { IfSome (option_map (λ names. map (λ name. name.now) names.items) bands.now)
         AreBands }
-    ensures { IfOk result (λ found. found ≡ where_within_limits (extents.kept_shape
+    ensures { IfOk result (λ found. found ≡ where_within_limits (extents.shape_of_restriction
         (record {
           box = area;
           time = time;
@@ -36,7 +36,7 @@ fn loaded_shape(
         }) shape.now)) }
 {
     let part = kept_part(alloc, area, time, bands)?;
-    kept_shape(alloc, &part, shape)
+    shape_of_restriction(alloc, &part, shape)
 }
 
 /// The shape inside a box.
@@ -45,7 +45,7 @@ fn shape_in_box(
     area: BoundingBox,
     shape: &Shape,
 ) -> Result<Option<Shape>, OutOfMemory>
-    ensures { IfOk result (λ found. found ≡ where_within_limits (extents.kept_shape
+    ensures { IfOk result (λ found. found ≡ where_within_limits (extents.shape_of_restriction
         (record { box = Some area; time = None; bands = None }) shape.now)) }
 {
     let part = Restriction {
@@ -53,7 +53,7 @@ fn shape_in_box(
         time: None,
         bands: None,
     };
-    kept_shape(alloc, &part, shape)
+    shape_of_restriction(alloc, &part, shape)
 }
 
 /// The shape inside a temporal extent.
@@ -62,7 +62,7 @@ fn shape_in_time(
     time: TemporalExtent,
     shape: &Shape,
 ) -> Result<Option<Shape>, OutOfMemory>
-    ensures { IfOk result (λ found. found ≡ where_within_limits (extents.kept_shape
+    ensures { IfOk result (λ found. found ≡ where_within_limits (extents.shape_of_restriction
         (record { box = None; time = Some time; bands = None }) shape.now)) }
 {
     let part = Restriction {
@@ -70,7 +70,7 @@ fn shape_in_time(
         time: Some(time),
         bands: None,
     };
-    kept_shape(alloc, &part, shape)
+    shape_of_restriction(alloc, &part, shape)
 }
 
 /// The shape with the given bands.
@@ -80,7 +80,7 @@ fn shape_of_bands(
     shape: &Shape,
 ) -> Result<Option<Shape>, OutOfMemory>
     requires bands { AreBands (map (λ name. name.now) bands.now.items) }
-    ensures { IfOk result (λ found. found ≡ where_within_limits (extents.kept_shape
+    ensures { IfOk result (λ found. found ≡ where_within_limits (extents.shape_of_restriction
         (record { box = None; time = None; bands = Some (map (λ name. name.now) bands.now.items) })
         shape.now)) }
 {
@@ -89,7 +89,7 @@ fn shape_of_bands(
         time: None,
         bands: Some(copy_bands(alloc, bands)?),
     };
-    kept_shape(alloc, &part, shape)
+    shape_of_restriction(alloc, &part, shape)
 }
 
 /// The shape as it is.
@@ -128,10 +128,10 @@ pub fn result_shape(
             None => Ok(None),
         },
         Request::AggregateTemporal { intervals, .. } => {
-            aggregated_shape(alloc, intervals.as_slice(), one)
+            shape_of_aggregation(alloc, intervals.as_slice(), one)
         }
         Request::AggregateTemporalPeriod { period, .. } => period_shape(alloc, *period, one),
-        Request::MergeCubes { .. } => merged_shape(alloc, one, two),
+        Request::MergeCubes { .. } => shape_of_merge(alloc, one, two),
         Request::Apply { .. } => same_shape(one),
         Request::ApplyDimension { .. } => same_shape(one),
         Request::ApplyKernel { .. } => same_shape(one),

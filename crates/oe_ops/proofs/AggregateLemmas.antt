@@ -28,7 +28,7 @@ use Rattle.oe_window.proofs.WindowLemmas.{IsFilled, within_from_holds}
 use Rattle.oe_requests.specs.Extents.{has_not_ended, labels_in_time, part_in_time}
 use Rattle.oe_requests.specs.Labels.{sorted_labels, is_below, insert_label}
 use Rattle.oe_meanings.specs.Meaning.{aggregated, cell, cells_at, extent_labelled, instants_inside, value_on_list}
-use Rattle.oe_requests.specs.Operations.{aggregated_shape}
+use Rattle.oe_requests.specs.Operations.{shape_of_aggregation}
 use Rattle.oe_requests.specs.declared.extent.Interval.{Interval}
 use Rattle.oe_requests.specs.declared.extent.TemporalExtent.{TemporalExtent}
 use Rattle.oe_check.proofs.InputLemmas.{find_here, find_over}
@@ -124,27 +124,27 @@ pub record IsLabelledAt (intervals : List Interval) (label : ℤ) (number : ℕ)
   pub first : interval_labelled intervals label ≡ Some interval
 
 -- each label of the result is that of an interval
-labelled_at : (intervals : List Interval) (d shape : Dimensions) (label : ℤ) (t number : ℕ) → shape ≡ aggregated_shape intervals d → slice_get (number_labels shape Time) t ≡ Some label → slice_get intervals number ≡ interval_labelled intervals label → IsLabelledAt intervals label number
+labelled_at : (intervals : List Interval) (d shape : Dimensions) (label : ℤ) (t number : ℕ) → shape ≡ shape_of_aggregation intervals d → slice_get (number_labels shape Time) t ≡ Some label → slice_get intervals number ≡ interval_labelled intervals label → IsLabelledAt intervals label number
 labelled_at intervals d shape label t number is e found =
     let at_t : slice_get (sorted_labels is_below (map label_of_interval intervals)) t ≡ Some label = subst (λ (s : Dimensions). slice_get (number_labels s Time) t ≡ Some label) is e in
     let there = order_there label (map label_of_interval intervals) t at_t in
     let first = found_labelled intervals label there.0 there.1 in
     record { interval = first.0; there = found ∙ first.1; first = first.1 }
 
-pub labelled_by : (intervals : List Interval) (d shape : Dimensions) (label : ℤ) (t number : ℕ) → shape ≡ aggregated_shape intervals d → slice_get (number_labels shape Time) t ≡ Some label → FitsSigned w64 label → slice_get intervals number ≡ interval_labelled intervals (to_z w64 (of_z w64 label)) → IsLabelledAt intervals label number
+pub labelled_by : (intervals : List Interval) (d shape : Dimensions) (label : ℤ) (t number : ℕ) → shape ≡ shape_of_aggregation intervals d → slice_get (number_labels shape Time) t ≡ Some label → FitsSigned w64 label → slice_get intervals number ≡ interval_labelled intervals (to_z w64 (of_z w64 label)) → IsLabelledAt intervals label number
 labelled_by intervals d shape label t number is e fits found =
     labelled_at intervals d shape label t number is e (found ∙ ap (interval_labelled intervals) (to_z-of_z w64 label fits))
 
 -- there are few intervals
-pub few_intervals : (intervals : List Interval) (d shape : Dimensions) → shape ≡ aggregated_shape intervals d → IsShape shape → length intervals ≤ most_labels
+pub few_intervals : (intervals : List Interval) (d shape : Dimensions) → shape ≡ shape_of_aggregation intervals d → IsShape shape → length intervals ≤ most_labels
 few_intervals intervals d shape is valid =
-    let few : length (sorted_labels is_below (map label_of_interval intervals)) ≤ most_labels = numbers_within (aggregated_shape intervals d) Time (subst IsShape is valid) in
+    let few : length (sorted_labels is_below (map label_of_interval intervals)) ≤ most_labels = numbers_within (shape_of_aggregation intervals d) Time (subst IsShape is valid) in
     let ordered = length-order (map label_of_interval intervals) in
     let mapped = length-map intervals label_of_interval in
     omega (arith, few, ordered, mapped)
 
 -- the first index along t of a window has a label
-pub first_label : (intervals : List Interval) (d shape : Dimensions) (window : Window) → shape ≡ aggregated_shape intervals d → Holds (whole_window shape) window → 0 < position_count window → window.t.from < length (number_labels shape Time)
+pub first_label : (intervals : List Interval) (d shape : Dimensions) (window : Window) → shape ≡ shape_of_aggregation intervals d → Holds (whole_window shape) window → 0 < position_count window → window.t.from < length (number_labels shape Time)
 first_label intervals d shape window is holds more =
     let some = are_some window more in
     let t = some.t in
@@ -152,8 +152,8 @@ first_label intervals d shape window is holds more =
     let y = some.y in
     let x = some.x in
     let filled : IsFilled window = record { t = omega arith; bands = omega arith; y = omega arith; x = omega arith } in
-    let here : Holds (whole_window (aggregated_shape intervals d)) window = subst (λ (s : Dimensions). Holds (whole_window s) window) is holds in
-    let within = within_from_holds window (whole_window (aggregated_shape intervals d)) filled here in
+    let here : Holds (whole_window (shape_of_aggregation intervals d)) window = subst (λ (s : Dimensions). Holds (whole_window s) window) is holds in
+    let within = within_from_holds window (whole_window (shape_of_aggregation intervals d)) filled here in
     let ends : window.t.to ≤ length (sorted_labels is_below (map label_of_interval intervals)) = within.t.to in
     subst (λ (s : Dimensions). window.t.from < length (number_labels s Time)) (sym is) (omega (arith, ends, filled.t))
 
@@ -221,14 +221,14 @@ interval_value c intervals d cells list k i e takes up =
 
 -- ---- which positions are needed
 
-beside_aggregated : (intervals : List Interval) (d : Dimensions) (p : Position) (n : ℕ) → IsPosition (aggregated_shape intervals d) p → n < length (number_labels d Time) → HasLabelsBeside Time (aggregated_shape intervals d) d p (with_index Time p n)
+beside_aggregated : (intervals : List Interval) (d : Dimensions) (p : Position) (n : ℕ) → IsPosition (shape_of_aggregation intervals d) p → n < length (number_labels d Time) → HasLabelsBeside Time (shape_of_aggregation intervals d) d p (with_index Time p n)
 beside_aggregated intervals d p n h lt = record { is_position = record { t = inside d.t n lt; band = h.band; y = h.y; x = h.x }; labels = refl }
 
-held_at : (intervals : List Interval) (d : Dimensions) (window : Window) (slice : Slice) (p : Position) (n : ℕ) → Holds (whole_window (aggregated_shape intervals d)) window → HoldsNeed (HasLabelsBeside Time (aggregated_shape intervals d) d) window slice.window → IsIn window p → n < length (number_labels d Time) → IsIn slice.window (with_index Time p n)
+held_at : (intervals : List Interval) (d : Dimensions) (window : Window) (slice : Slice) (p : Position) (n : ℕ) → Holds (whole_window (shape_of_aggregation intervals d)) window → HoldsNeed (HasLabelsBeside Time (shape_of_aggregation intervals d) d) window slice.window → IsIn window p → n < length (number_labels d Time) → IsIn slice.window (with_index Time p n)
 held_at intervals d window slice p n holds need h lt =
-    need p (with_index Time p n) h (beside_aggregated intervals d p n (position_in (aggregated_shape intervals d) p (holds p h)) lt)
+    need p (with_index Time p n) h (beside_aggregated intervals d p n (position_in (shape_of_aggregation intervals d) p (holds p h)) lt)
 
-pub held_inside : (intervals : List Interval) (d shape : Dimensions) (window : Window) (slice : Slice) (e : TemporalExtent) → shape ≡ aggregated_shape intervals d → Holds (whole_window shape) window → HoldsNeed (HasLabelsBeside Time shape d) window slice.window → (p : Position) → IsIn window p → (i : ℕ) → i < count_of e d → IsIn slice.window (with_index Time p (from_of e d + i))
+pub held_inside : (intervals : List Interval) (d shape : Dimensions) (window : Window) (slice : Slice) (e : TemporalExtent) → shape ≡ shape_of_aggregation intervals d → Holds (whole_window shape) window → HoldsNeed (HasLabelsBeside Time shape d) window slice.window → (p : Position) → IsIn window p → (i : ℕ) → i < count_of e d → IsIn slice.window (with_index Time p (from_of e d + i))
 held_inside intervals d shape window slice e is holds need p h i lt =
     let ends = ends_within e d in
     held_at intervals d window slice p (from_of e d + i)
@@ -245,14 +245,14 @@ by_index f g (l ∷ labels) a e =
     ap (λ (v : Cell). v ∷ map f (range_with_len (a + 1) (length labels))) first ∙ ap (λ (r : List Cell). g l ∷ r) rest
 
 module _ (intervals : List Interval) (cube : Cube Cell) (slice : Slice) (window : Window) (valid : IsShape cube.shape) (whole : IsCube cube) (on : IsOn cube slice)
-    (holds : Holds (whole_window (aggregated_shape intervals cube.shape)) window) (need : HoldsNeed (HasLabelsBeside Time (aggregated_shape intervals cube.shape) cube.shape) window slice.window) where
+    (holds : Holds (whole_window (shape_of_aggregation intervals cube.shape)) window) (need : HoldsNeed (HasLabelsBeside Time (shape_of_aggregation intervals cube.shape) cube.shape) window slice.window) where
   abbrev result_tuple : Position → Tuple
-  result_tuple p = tuple_of (aggregated_shape intervals cube.shape) p
+  result_tuple p = tuple_of (shape_of_aggregation intervals cube.shape) p
 
   cell_inside : (p : Position) → IsIn window p → (n : ℕ) (l : ℤ) → slice_get (number_labels cube.shape Time) n ≡ Some l → cell_of slice (with_index Time p n) ≡ cell cube (record (result_tuple p) { t = Some l })
   cell_inside p h n l e =
       let lt = slice_get_within (number_labels cube.shape Time) n l e in
-      let here = position_in (aggregated_shape intervals cube.shape) p (holds p h) in
+      let here = position_in (shape_of_aggregation intervals cube.shape) p (holds p h) in
       listed cube slice valid whole on (with_index Time p n) (beside_aggregated intervals cube.shape p n here lt).is_position (held_at intervals cube.shape window slice p n holds need h lt)
       ∙ ap (λ (o : Option ℤ). cell cube (record (result_tuple p) { t = o })) (label_there cube.shape.t n l e)
 
@@ -269,7 +269,7 @@ module _ (intervals : List Interval) (cube : Cube Cell) (slice : Slice) (window 
       ∙ ap (cells_at cube (result_tuple p)) (sym (part_in_time_is e labels (t_rises cube.shape valid)))
 
   aggregated_here : (c : Callback) (k : ℕ) (label : ℤ) (i : Interval) → TakesIntervals c intervals cube.shape slice.cells.now → slice_get intervals k ≡ Some i → interval_labelled intervals label ≡ Some i
-      → ((p : Position) → IsIn window p → label_of (aggregated_shape intervals cube.shape).t p.t ≡ Some label)
+      → ((p : Position) → IsIn window p → label_of (shape_of_aggregation intervals cube.shape).t p.t ≡ Some label)
       → map (λ p. value_of_list c k (list_from slice Time (from_of i.extent cube.shape) (count_of i.extent cube.shape) p)) (positions window) ≡ cells_on Empty (aggregated intervals c cube) window
   aggregated_here c k label i takes there first labelled =
       let labels = number_labels cube.shape Time in
@@ -278,10 +278,10 @@ module _ (intervals : List Interval) (cube : Cube Cell) (slice : Slice) (window 
       ∙ ap (value_on_list c (plain_instants (labels_in_time i.extent labels))) (interval_cells i.extent p h)
       ∙ ap (λ e. value_on_list c (plain_instants (instants_inside cube.shape e)) (cells_at cube (result_tuple p) (instants_inside cube.shape e)))
       (sym (ap (extent_labelled intervals) (labelled p h) ∙ ap (λ (o : Option Interval). option_map_or (λ (j : Interval). Some j.extent) o None) first)))
-      ∙ sym (cells_on-tabulate Empty (aggregated_shape intervals cube.shape) (λ tuple. value_on_list c (plain_instants (instants_inside cube.shape (extent_labelled intervals tuple.t))) (cells_at cube tuple (instants_inside cube.shape (extent_labelled intervals tuple.t)))) window holds)
+      ∙ sym (cells_on-tabulate Empty (shape_of_aggregation intervals cube.shape) (λ tuple. value_on_list c (plain_instants (instants_inside cube.shape (extent_labelled intervals tuple.t))) (cells_at cube tuple (instants_inside cube.shape (extent_labelled intervals tuple.t)))) window holds)
 
 -- each position of a window with one index along t has one label
-label_at_one : (intervals : List Interval) (d : Dimensions) (window : Window) (label : ℤ) → window.t.to ≡ window.t.from + 1 → slice_get (number_labels (aggregated_shape intervals d) Time) window.t.from ≡ Some label → (p : Position) → IsIn window p → label_of (aggregated_shape intervals d).t p.t ≡ Some label
+label_at_one : (intervals : List Interval) (d : Dimensions) (window : Window) (label : ℤ) → window.t.to ≡ window.t.from + 1 → slice_get (number_labels (shape_of_aggregation intervals d) Time) window.t.from ≡ Some label → (p : Position) → IsIn window p → label_of (shape_of_aggregation intervals d).t p.t ≡ Some label
 label_at_one intervals d window label one e p h =
     let t = h.t in
     let begun = t.begun in
@@ -289,13 +289,13 @@ label_at_one intervals d window label one e p h =
     let same : p.t ≡ window.t.from = omega arith in
     ap (slice_get (sorted_labels is_below (map label_of_interval intervals))) same ∙ e
 
-pub aggregated_is : (intervals : List Interval) (c : Callback) (cube : Cube Cell) (slice : Slice) (window : Window) (shape argument : Dimensions) (k : ℕ) (label : ℤ) (found : IsLabelledAt intervals label k) → cube.shape ≡ argument → shape ≡ aggregated_shape intervals argument → IsShape argument → IsCube cube → IsOn cube slice → TakesIntervals c intervals argument slice.cells.now → Holds (whole_window shape) window → HoldsNeed (HasLabelsBeside Time shape argument) window slice.window → window.t.to ≡ window.t.from + 1 → slice_get (number_labels shape Time) window.t.from ≡ Some label
+pub aggregated_is : (intervals : List Interval) (c : Callback) (cube : Cube Cell) (slice : Slice) (window : Window) (shape argument : Dimensions) (k : ℕ) (label : ℤ) (found : IsLabelledAt intervals label k) → cube.shape ≡ argument → shape ≡ shape_of_aggregation intervals argument → IsShape argument → IsCube cube → IsOn cube slice → TakesIntervals c intervals argument slice.cells.now → Holds (whole_window shape) window → HoldsNeed (HasLabelsBeside Time shape argument) window slice.window → window.t.to ≡ window.t.from + 1 → slice_get (number_labels shape Time) window.t.from ≡ Some label
     → map (λ p. value_of_list c k (list_from slice Time (from_of found.interval.extent argument) (count_of found.interval.extent argument) p)) (positions window) ≡ cells_on Empty (aggregated intervals c cube) window
 aggregated_is intervals c cube slice window shape argument k label found same is valid whole on takes holds need one e =
-    let e_here : slice_get (number_labels (aggregated_shape intervals argument) Time) window.t.from ≡ Some label = subst (λ (s : Dimensions). slice_get (number_labels s Time) window.t.from ≡ Some label) is e in
-    let holds_here : Holds (whole_window (aggregated_shape intervals argument)) window = subst (λ (s : Dimensions). Holds (whole_window s) window) is holds in
-    let need_here : HoldsNeed (HasLabelsBeside Time (aggregated_shape intervals argument) argument) window slice.window = subst (λ (s : Dimensions). HoldsNeed (HasLabelsBeside Time s argument) window slice.window) is need in
-    subst (λ (a : Dimensions). IsShape a → TakesIntervals c intervals a slice.cells.now → Holds (whole_window (aggregated_shape intervals a)) window → HoldsNeed (HasLabelsBeside Time (aggregated_shape intervals a) a) window slice.window → slice_get (number_labels (aggregated_shape intervals a) Time) window.t.from ≡ Some label
+    let e_here : slice_get (number_labels (shape_of_aggregation intervals argument) Time) window.t.from ≡ Some label = subst (λ (s : Dimensions). slice_get (number_labels s Time) window.t.from ≡ Some label) is e in
+    let holds_here : Holds (whole_window (shape_of_aggregation intervals argument)) window = subst (λ (s : Dimensions). Holds (whole_window s) window) is holds in
+    let need_here : HoldsNeed (HasLabelsBeside Time (shape_of_aggregation intervals argument) argument) window slice.window = subst (λ (s : Dimensions). HoldsNeed (HasLabelsBeside Time s argument) window slice.window) is need in
+    subst (λ (a : Dimensions). IsShape a → TakesIntervals c intervals a slice.cells.now → Holds (whole_window (shape_of_aggregation intervals a)) window → HoldsNeed (HasLabelsBeside Time (shape_of_aggregation intervals a) a) window slice.window → slice_get (number_labels (shape_of_aggregation intervals a) Time) window.t.from ≡ Some label
     → map (λ p. value_of_list c k (list_from slice Time (from_of found.interval.extent a) (count_of found.interval.extent a) p)) (positions window) ≡ cells_on Empty (aggregated intervals c cube) window) same
     (λ v t w n l. aggregated_here intervals cube slice window v whole on w n c k label found.interval t found.there found.first (label_at_one intervals cube.shape window label one l))
     valid takes holds_here need_here e_here

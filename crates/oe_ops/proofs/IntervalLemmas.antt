@@ -7,7 +7,7 @@ use Rattle.oe_dims.specs.declared.kind.Kind.TheVariants.{Time}
 use Rattle.oe_dims.proofs.IndexLemmas.{same_number_is, same_number_refl}
 use Rattle.oe_dims.proofs.ShapeLemmas.{t_rises}
 use Rattle.oe_requests.specs.Labels.{are_distinct, insert_label, is_below, sorted_labels}
-use Rattle.oe_requests.specs.Operations.{aggregated_shape}
+use Rattle.oe_requests.specs.Operations.{shape_of_aggregation}
 use Rattle.oe_meanings.specs.ValidShapes.{labels_of}
 use Rattle.oe_requests.specs.declared.extent.Interval.{Interval}
 use Rattle.oe_meanings.proofs.LabelLemmas.{keep_all_labels}
@@ -64,7 +64,7 @@ order_differ (l ∷ labels) h =
     rw (none, rest) refl
 
 -- no two intervals of a valid result have one label
-pub intervals_differ : (intervals : List Interval) (d shape : Dimensions) → shape ≡ aggregated_shape intervals d → IsShape shape → are_distinct same_number (labels_of intervals) ≡ true
+pub intervals_differ : (intervals : List Interval) (d shape : Dimensions) → shape ≡ shape_of_aggregation intervals d → IsShape shape → are_distinct same_number (labels_of intervals) ≡ true
 intervals_differ intervals d shape is valid =
     let up : rises (sorted_labels is_below (labels_of intervals)) ≡ true = subst (λ (s : Dimensions). rises (number_labels s Time) ≡ true) is (t_rises shape valid) in
     order_differ (labels_of intervals) (ordered_differ is_below below_is_order (sorted_labels is_below (labels_of intervals)) (rises_stand (sorted_labels is_below (labels_of intervals)) up))

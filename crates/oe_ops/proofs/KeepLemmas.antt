@@ -10,7 +10,7 @@ use Rattle.oe_window.specs.Cells.{cells_on}
 use Rattle.oe_window.specs.Windows.{Holds, IsIn, positions, whole_window}
 use Rattle.oe_window.specs.declared.window.Window.{Window}
 use Rattle.oe_window.proofs.CellLemmas.{cells_on-tabulate}
-use Rattle.oe_requests.specs.Extents.{Restriction, kept_labels, kept_bands, kept_shape, is_in_time, is_up, is_across}
+use Rattle.oe_requests.specs.Extents.{Restriction, kept_labels, kept_bands, shape_of_restriction, is_in_time, is_up, is_across}
 use Rattle.oe_requests.specs.Labels.{only_along, restrict}
 use Rattle.oe_meanings.specs.Meaning.{cell, restricted_cube}
 use Rattle.oe_ops.specs.Indices.{found_in, IsHeld}
@@ -31,7 +31,7 @@ only_kept_bands given None i = refl
 only_kept_bands given (Some labels) i = refl
 
 -- what is kept lacks the dimensions that the cube lacks
-pub restrict_kept : (r : Restriction) (d : Dimensions) (p : Position) → restrict d (tuple_of (kept_shape r d) p) ≡ tuple_of (kept_shape r d) p
+pub restrict_kept : (r : Restriction) (d : Dimensions) (p : Position) → restrict d (tuple_of (shape_of_restriction r d) p) ≡ tuple_of (shape_of_restriction r d) p
 restrict_kept r d p =
     let t = only_kept is_in_time r.time d.t p.t in
     let band = only_kept_bands r.bands d.bands p.band in
@@ -43,16 +43,16 @@ restrict_kept r d p =
 pub are_held : (shape argument : Dimensions) (slice : Slice) (window : Window) → HoldsNeed (HasLabelsOf shape argument) window slice.window → (p : Position) → IsIn window p → IsHeld shape argument slice p
 are_held shape argument slice window need p h = λ q e. need p q h (has_labels shape argument p q e)
 
-kept_here : (cube : Cube Cell) (r : Restriction) (slice : Slice) (window : Window) → IsShape cube.shape → IsCube cube → IsOn cube slice → Holds (whole_window (kept_shape r cube.shape)) window → HoldsNeed (HasLabelsOf (kept_shape r cube.shape) cube.shape) window slice.window → map (λ p. unwrap_or (found_in (kept_shape r cube.shape) cube.shape slice p) Empty) (positions window) ≡ cells_on Empty (restricted_cube r cube) window
+kept_here : (cube : Cube Cell) (r : Restriction) (slice : Slice) (window : Window) → IsShape cube.shape → IsCube cube → IsOn cube slice → Holds (whole_window (shape_of_restriction r cube.shape)) window → HoldsNeed (HasLabelsOf (shape_of_restriction r cube.shape) cube.shape) window slice.window → map (λ p. unwrap_or (found_in (shape_of_restriction r cube.shape) cube.shape slice p) Empty) (positions window) ≡ cells_on Empty (restricted_cube r cube) window
 kept_here cube r slice window valid whole on holds need =
-    let d = kept_shape r cube.shape in
+    let d = shape_of_restriction r cube.shape in
     map-agree _ _ window (λ p h.
     ap (λ o. unwrap_or o Empty) (found_is cube d slice p valid whole on (are_held d cube.shape slice window need p h))
     ∙ ap (cell cube) (restrict_kept r cube.shape p))
     ∙ sym (cells_on-tabulate Empty d (cell cube) window holds)
 
-pub kept_is : (cube : Cube Cell) (r : Restriction) (slice : Slice) (window : Window) (shape argument : Dimensions) → cube.shape ≡ argument → kept_shape r argument ≡ shape → IsShape argument → IsCube cube → IsOn cube slice → Holds (whole_window shape) window → HoldsNeed (HasLabelsOf shape argument) window slice.window → map (λ p. unwrap_or (found_in shape argument slice p) Empty) (positions window) ≡ cells_on Empty (restricted_cube r cube) window
+pub kept_is : (cube : Cube Cell) (r : Restriction) (slice : Slice) (window : Window) (shape argument : Dimensions) → cube.shape ≡ argument → shape_of_restriction r argument ≡ shape → IsShape argument → IsCube cube → IsOn cube slice → Holds (whole_window shape) window → HoldsNeed (HasLabelsOf shape argument) window slice.window → map (λ p. unwrap_or (found_in shape argument slice p) Empty) (positions window) ≡ cells_on Empty (restricted_cube r cube) window
 kept_is cube r slice window shape argument same is valid whole on =
     subst (λ s. Holds (whole_window s) window → HoldsNeed (HasLabelsOf s argument) window slice.window → map (λ p. unwrap_or (found_in s argument slice p) Empty) (positions window) ≡ cells_on Empty (restricted_cube r cube) window) is
-    (subst (λ a. Holds (whole_window (kept_shape r a)) window → HoldsNeed (HasLabelsOf (kept_shape r a) a) window slice.window → map (λ p. unwrap_or (found_in (kept_shape r a) a slice p) Empty) (positions window) ≡ cells_on Empty (restricted_cube r cube) window) same
+    (subst (λ a. Holds (whole_window (shape_of_restriction r a)) window → HoldsNeed (HasLabelsOf (shape_of_restriction r a) a) window slice.window → map (λ p. unwrap_or (found_in (shape_of_restriction r a) a slice p) Empty) (positions window) ≡ cells_on Empty (restricted_cube r cube) window) same
     (kept_here cube r slice window (subst IsShape (sym same) valid) whole on))

@@ -14,7 +14,7 @@ use Rattle.oe_expr.specs.Callback.{Callback, IsEnvironment, KeepsKind, callback_
 use Rattle.oe_expr.specs.EnvRows.{AreEnvironments, HasRowCells, environment_at, x_at, y_at, list_at}
 use Rattle.oe_expr.specs.Scope.{PlainScope, IsEnvironmentOf, IsListNumber, list_labels, merge, no_labels}
 use Rattle.oe_expr.specs.declared.row.EnvRow.{EnvRow}
-use Rattle.oe_requests.specs.Labels.{merged_shape, restrict}
+use Rattle.oe_requests.specs.Labels.{shape_of_merge, restrict}
 use Rattle.oe_meanings.specs.Meaning.{joined, merged, value_on_cells}
 use Rattle.oe_meanings.proofs.CellKindLemmas.{null_fits}
 use Rattle.oe_window.specs.Cells.{cells_on}
@@ -142,17 +142,17 @@ merged_fits kind r shape one two slice other p takes keeps same h k =
 
 -- ---- on a window
 
-merged_here : (r : Option Callback) (one two : Cube Cell) (slice other : Slice) (window : Window) → IsShape one.shape → IsShape two.shape → IsCube one → IsOn one slice → IsCube two → IsOn two other → Holds (whole_window (merged_shape one.shape two.shape)) window → HoldsNeed (HasLabelsOf (merged_shape one.shape two.shape) one.shape) window slice.window → HoldsNeed (HasLabelsOf (merged_shape one.shape two.shape) two.shape) window other.window → map (λ p. joined r (found_in (merged_shape one.shape two.shape) one.shape slice p) (found_in (merged_shape one.shape two.shape) two.shape other p)) (positions window) ≡ cells_on Empty (merged r one two) window
+merged_here : (r : Option Callback) (one two : Cube Cell) (slice other : Slice) (window : Window) → IsShape one.shape → IsShape two.shape → IsCube one → IsOn one slice → IsCube two → IsOn two other → Holds (whole_window (shape_of_merge one.shape two.shape)) window → HoldsNeed (HasLabelsOf (shape_of_merge one.shape two.shape) one.shape) window slice.window → HoldsNeed (HasLabelsOf (shape_of_merge one.shape two.shape) two.shape) window other.window → map (λ p. joined r (found_in (shape_of_merge one.shape two.shape) one.shape slice p) (found_in (shape_of_merge one.shape two.shape) two.shape other p)) (positions window) ≡ cells_on Empty (merged r one two) window
 merged_here r one two slice other window valid two_valid whole on two_whole two_on holds need two_need =
-    let d = merged_shape one.shape two.shape in
+    let d = shape_of_merge one.shape two.shape in
     map-agree _ _ window (λ p h.
     ap (λ o. joined r o (found_in d two.shape other p)) (found_is one d slice p valid whole on (are_held d one.shape slice window need p h))
     ∙ ap (joined r (at one (restrict one.shape (tuple_of d p)))) (found_is two d other p two_valid two_whole two_on (are_held d two.shape other window two_need p h)))
     ∙ sym (cells_on-tabulate Empty d (λ tuple. joined r (at one (restrict one.shape tuple)) (at two (restrict two.shape tuple))) window holds)
 
-pub merged_is : (r : Option Callback) (one two : Cube Cell) (slice other : Slice) (window : Window) (shape first second : Dimensions) → one.shape ≡ first → two.shape ≡ second → shape ≡ merged_shape first second → IsShape first → IsShape second → IsCube one → IsOn one slice → IsCube two → IsOn two other → Holds (whole_window shape) window → HoldsNeed (HasLabelsOf shape first) window slice.window → HoldsNeed (HasLabelsOf shape second) window other.window → map (λ p. joined r (found_in shape first slice p) (found_in shape second other p)) (positions window) ≡ cells_on Empty (merged r one two) window
+pub merged_is : (r : Option Callback) (one two : Cube Cell) (slice other : Slice) (window : Window) (shape first second : Dimensions) → one.shape ≡ first → two.shape ≡ second → shape ≡ shape_of_merge first second → IsShape first → IsShape second → IsCube one → IsOn one slice → IsCube two → IsOn two other → Holds (whole_window shape) window → HoldsNeed (HasLabelsOf shape first) window slice.window → HoldsNeed (HasLabelsOf shape second) window other.window → map (λ p. joined r (found_in shape first slice p) (found_in shape second other p)) (positions window) ≡ cells_on Empty (merged r one two) window
 merged_is r one two slice other window shape first second same two_same is valid two_valid whole on two_whole two_on =
     subst (λ s. Holds (whole_window s) window → HoldsNeed (HasLabelsOf s first) window slice.window → HoldsNeed (HasLabelsOf s second) window other.window → map (λ p. joined r (found_in s first slice p) (found_in s second other p)) (positions window) ≡ cells_on Empty (merged r one two) window) (sym is)
-    (subst (λ b. Holds (whole_window (merged_shape first b)) window → HoldsNeed (HasLabelsOf (merged_shape first b) first) window slice.window → HoldsNeed (HasLabelsOf (merged_shape first b) b) window other.window → map (λ p. joined r (found_in (merged_shape first b) first slice p) (found_in (merged_shape first b) b other p)) (positions window) ≡ cells_on Empty (merged r one two) window) two_same
-    (subst (λ a. Holds (whole_window (merged_shape a two.shape)) window → HoldsNeed (HasLabelsOf (merged_shape a two.shape) a) window slice.window → HoldsNeed (HasLabelsOf (merged_shape a two.shape) two.shape) window other.window → map (λ p. joined r (found_in (merged_shape a two.shape) a slice p) (found_in (merged_shape a two.shape) two.shape other p)) (positions window) ≡ cells_on Empty (merged r one two) window) same
+    (subst (λ b. Holds (whole_window (shape_of_merge first b)) window → HoldsNeed (HasLabelsOf (shape_of_merge first b) first) window slice.window → HoldsNeed (HasLabelsOf (shape_of_merge first b) b) window other.window → map (λ p. joined r (found_in (shape_of_merge first b) first slice p) (found_in (shape_of_merge first b) b other p)) (positions window) ≡ cells_on Empty (merged r one two) window) two_same
+    (subst (λ a. Holds (whole_window (shape_of_merge a two.shape)) window → HoldsNeed (HasLabelsOf (shape_of_merge a two.shape) a) window slice.window → HoldsNeed (HasLabelsOf (shape_of_merge a two.shape) two.shape) window other.window → map (λ p. joined r (found_in (shape_of_merge a two.shape) a slice p) (found_in (shape_of_merge a two.shape) two.shape other p)) (positions window) ≡ cells_on Empty (merged r one two) window) same
     (merged_here r one two slice other window (subst IsShape (sym same) valid) (subst IsShape (sym two_same) two_valid) whole on two_whole two_on)))

@@ -17,7 +17,7 @@ use Rattle.oe_window.specs.declared.window.Window.{Window}
 use Rattle.oe_window.proofs.CellLemmas.{cell_at-tabulate, cells_on-at, cells_on-tabulate, is_cells_on, length-cells_on}
 use Rattle.oe_window.proofs.WindowLemmas.{AreWithin, IsWithin, filled_by, filled_unless_empty, first_in, length-positions, within_from_holds}
 use Rattle.oe_window.proofs.WholeLemmas.{position_in as inside_shape}
-use Rattle.oe_requests.specs.Extents.{Restriction, is_across, is_up, kept_shape}
+use Rattle.oe_requests.specs.Extents.{Restriction, is_across, is_up, shape_of_restriction}
 use Rattle.oe_meanings.specs.Meaning.{cell, restricted_cube}
 use Rattle.oe_ops.specs.Indices.{index_in_argument, position_in}
 use Rattle.oe_ops.specs.Loads.{GivesPlane}
@@ -56,12 +56,12 @@ one_index index i h = let a = h.begun in let b = h.before in omega arith
 -- ---- the plane
 
 module _ (d : Dimensions) (r : Restriction) (valid : IsShape d) (window : Window) (t band : ℕ)
-    (within : Holds (whole_window (kept_shape r d)) window) (t_in : IsAlong window.t t) (band_in : IsAlong window.bands band) where
+    (within : Holds (whole_window (shape_of_restriction r d)) window) (t_in : IsAlong window.t t) (band_in : IsAlong window.bands band) where
   abbrev plane : Window
   plane = plane_window window t band
 
   abbrev shape : Dimensions
-  shape = kept_shape r d
+  shape = shape_of_restriction r d
 
   -- a position of the plane is one of the result
   on_shape : (p : Position) → IsIn plane p → IsPosition shape p
@@ -152,13 +152,13 @@ module _ (d : Dimensions) (r : Restriction) (valid : IsShape d) (window : Window
     cell_back cube whole same q h =
         let p = back q in
         let on = on_shape p (back_in q h) in
-        let made : cell_at Empty (restricted_cube r cube) p ≡ cell cube (tuple_of (kept_shape r cube.shape) p) =
-        cell_at-tabulate Empty (kept_shape r cube.shape) (cell cube) p (subst (λ k. IsPosition (kept_shape r k) p) (sym same) on) in
-        let found : position_in (kept_shape r cube.shape) cube.shape p ≡ Some q =
-        subst (λ k. position_in (kept_shape r k) k p ≡ Some q) (sym same) (found_back q h) in
-        let here : at cube (tuple_of (kept_shape r cube.shape) p) ≡ Some (cell_at Empty cube q) =
+        let made : cell_at Empty (restricted_cube r cube) p ≡ cell cube (tuple_of (shape_of_restriction r cube.shape) p) =
+        cell_at-tabulate Empty (shape_of_restriction r cube.shape) (cell cube) p (subst (λ k. IsPosition (shape_of_restriction r k) p) (sym same) on) in
+        let found : position_in (shape_of_restriction r cube.shape) cube.shape p ≡ Some q =
+        subst (λ k. position_in (shape_of_restriction r k) k p ≡ Some q) (sym same) (found_back q h) in
+        let here : at cube (tuple_of (shape_of_restriction r cube.shape) p) ≡ Some (cell_at Empty cube q) =
         ap (at cube) (sym (restrict_kept r cube.shape p))
-        ∙ at_is cube (kept_shape r cube.shape) p (subst IsShape (sym same) valid) whole
+        ∙ at_is cube (shape_of_restriction r cube.shape) p (subst IsShape (sym same) valid) whole
         ∙ ap (option_map (cell_at Empty cube)) found in
         made ∙ ap (λ (o : Option Cell). unwrap_or o Empty) here
 
@@ -193,23 +193,23 @@ module _ (d : Dimensions) (r : Restriction) (valid : IsShape d) (window : Window
 
 -- ---- nothing is needed
 
-module _ (d : Dimensions) (r : Restriction) (valid : IsShape d) (plane box : Window) (inside : Holds (whole_window (kept_shape r d)) plane)
-    (need : HoldsNeed (HasLabelsOf (kept_shape r d) d) plane box) (empty : IsEmpty box) where
-  nowhere : (p : Position) → IsIn plane p → position_in (kept_shape r d) d p ≡ None
-  nowhere p h = by (position_in (kept_shape r d) d p) refl
+module _ (d : Dimensions) (r : Restriction) (valid : IsShape d) (plane box : Window) (inside : Holds (whole_window (shape_of_restriction r d)) plane)
+    (need : HoldsNeed (HasLabelsOf (shape_of_restriction r d) d) plane box) (empty : IsEmpty box) where
+  nowhere : (p : Position) → IsIn plane p → position_in (shape_of_restriction r d) d p ≡ None
+  nowhere p h = by (position_in (shape_of_restriction r d) d p) refl
     where
-      by : (o : Option Position) → position_in (kept_shape r d) d p ≡ o → o ≡ None
+      by : (o : Option Position) → position_in (shape_of_restriction r d) d p ≡ o → o ≡ None
       by None e = refl
-      by (Some q) e = absurd (empty q (need p q h (has_labels (kept_shape r d) d p q e)))
+      by (Some q) e = absurd (empty q (need p q h (has_labels (shape_of_restriction r d) d p q e)))
 
   null_there : (cube : Cube Cell) → IsCube cube → cube.shape ≡ d → (p : Position) → IsIn plane p
-      → cell cube (tuple_of (kept_shape r cube.shape) p) ≡ Empty
+      → cell cube (tuple_of (shape_of_restriction r cube.shape) p) ≡ Empty
   null_there cube whole same p h =
-      let none : position_in (kept_shape r cube.shape) cube.shape p ≡ None =
-      subst (λ k. position_in (kept_shape r k) k p ≡ None) (sym same) (nowhere p h) in
-      let here : at cube (tuple_of (kept_shape r cube.shape) p) ≡ None =
+      let none : position_in (shape_of_restriction r cube.shape) cube.shape p ≡ None =
+      subst (λ k. position_in (shape_of_restriction r k) k p ≡ None) (sym same) (nowhere p h) in
+      let here : at cube (tuple_of (shape_of_restriction r cube.shape) p) ≡ None =
       ap (at cube) (sym (restrict_kept r cube.shape p))
-      ∙ at_is cube (kept_shape r cube.shape) p (subst IsShape (sym same) valid) whole
+      ∙ at_is cube (shape_of_restriction r cube.shape) p (subst IsShape (sym same) valid) whole
       ∙ ap (option_map (cell_at Empty cube)) none in
       ap (λ (o : Option Cell). unwrap_or o Empty) here
 
@@ -219,9 +219,9 @@ module _ (d : Dimensions) (r : Restriction) (valid : IsShape d) (plane box : Win
 
   nulls_are : (cube : Cube Cell) → IsCube cube → cube.shape ≡ d → cells_on Empty (restricted_cube r cube) plane ≡ replicate (position_count plane) Empty
   nulls_are cube whole same =
-      let held : Holds (whole_window (kept_shape r cube.shape)) plane = subst (λ k. Holds (whole_window (kept_shape r k)) plane) (sym same) inside in
-      cells_on-tabulate Empty (kept_shape r cube.shape) (cell cube) plane held
-      ∙ map-agree (λ p. cell cube (tuple_of (kept_shape r cube.shape) p)) (λ p. Empty) plane (null_there cube whole same)
+      let held : Holds (whole_window (shape_of_restriction r cube.shape)) plane = subst (λ k. Holds (whole_window (shape_of_restriction r k)) plane) (sym same) inside in
+      cells_on-tabulate Empty (shape_of_restriction r cube.shape) (cell cube) plane held
+      ∙ map-agree (λ p. cell cube (tuple_of (shape_of_restriction r cube.shape) p)) (λ p. Empty) plane (null_there cube whole same)
       ∙ all_null (positions plane)
       ∙ ap (λ n. replicate n Empty) (length-positions plane)
 
@@ -231,9 +231,9 @@ not_empty_zero : (box : Window) → box ≡ zero_window → IsEmpty box
 not_empty_zero box is = subst IsEmpty (sym is) (λ p h. let a = h.t.begun in let b = h.t.before in omega arith)
 
 module _ (d : Dimensions) (r : Restriction) (valid : IsShape d) (window : Window) (t band : ℕ) (box : Window)
-    (within : Holds (whole_window (kept_shape r d)) window) (t_in : IsAlong window.t t) (band_in : IsAlong window.bands band)
-    (need : IsNeed (HasLabelsOf (kept_shape r d) d) (plane_window window t band) box) where
-  nothing : ((p q : Position) → IsIn (plane_window window t band) p → ¬ HasLabelsOf (kept_shape r d) d p q) → IsEmpty box
+    (within : Holds (whole_window (shape_of_restriction r d)) window) (t_in : IsAlong window.t t) (band_in : IsAlong window.bands band)
+    (need : IsNeed (HasLabelsOf (shape_of_restriction r d) d) (plane_window window t band) box) where
+  nothing : ((p q : Position) → IsIn (plane_window window t band) p → ¬ HasLabelsOf (shape_of_restriction r d) d p q) → IsEmpty box
   nothing none = not_empty_zero box (need.zero none)
 
   abbrev y_run : (first : ℕ) × KeepsRun is_up r.box d.y first
@@ -246,20 +246,20 @@ module _ (d : Dimensions) (r : Restriction) (valid : IsShape d) (window : Window
   record IsFound : Type 0 where
     from_t : ℕ
     from_band : ℕ
-    t_is : index_in_argument Time (kept_shape r d) d t ≡ Some from_t
-    band_is : index_in_argument Bands (kept_shape r d) d band ≡ Some from_band
+    t_is : index_in_argument Time (shape_of_restriction r d) d t ≡ Some from_t
+    band_is : index_in_argument Bands (shape_of_restriction r d) d band ≡ Some from_band
 
   found : ¬ IsEmpty box → IsFound
-  found some = by (index_in_argument Time (kept_shape r d) d t) (index_in_argument Bands (kept_shape r d) d band) refl refl
+  found some = by (index_in_argument Time (shape_of_restriction r d) d t) (index_in_argument Bands (shape_of_restriction r d) d band) refl refl
     where
-      by : (a b : Option ℕ) → index_in_argument Time (kept_shape r d) d t ≡ a → index_in_argument Bands (kept_shape r d) d band ≡ b → IsFound
+      by : (a b : Option ℕ) → index_in_argument Time (shape_of_restriction r d) d t ≡ a → index_in_argument Bands (shape_of_restriction r d) d band ≡ b → IsFound
       by None b e f = absurd (some (nothing (λ p q h n.
           let p_t : p.t ≡ t = one_index t p.t h.t in
-          let there : Some q.t ≡ None = sym (labels_each (kept_shape r d) d valid p q n).t_needed ∙ ap (index_in_argument Time (kept_shape r d) d) p_t ∙ e in
+          let there : Some q.t ≡ None = sym (labels_each (shape_of_restriction r d) d valid p q n).t_needed ∙ ap (index_in_argument Time (shape_of_restriction r d) d) p_t ∙ e in
           cc)))
       by (Some from_t) None e f = absurd (some (nothing (λ p q h n.
           let p_band : p.band ≡ band = one_index band p.band h.bands in
-          let there : Some q.band ≡ None = sym (labels_each (kept_shape r d) d valid p q n).bands_needed ∙ ap (index_in_argument Bands (kept_shape r d) d) p_band ∙ f in
+          let there : Some q.band ≡ None = sym (labels_each (shape_of_restriction r d) d valid p q n).bands_needed ∙ ap (index_in_argument Bands (shape_of_restriction r d) d) p_band ∙ f in
           cc)))
       by (Some from_t) (Some from_band) e f = record { from_t = from_t; from_band = from_band; t_is = e; band_is = f }
 
@@ -279,7 +279,7 @@ module _ (d : Dimensions) (r : Restriction) (valid : IsShape d) (window : Window
       ap position_count (box_is f some)
       ∙ count_is d r valid window t band within t_in band_in y_run.0 x_run.0 y_run.1 x_run.1 f.from_t f.from_band f.t_is f.band_is
 
-  gives_needed : (q : Position) → IsIn box q → (p : Position) × IsIn (plane_window window t band) p × HasLabelsOf (kept_shape r d) d p q
+  gives_needed : (q : Position) → IsIn box q → (p : Position) × IsIn (plane_window window t band) p × HasLabelsOf (shape_of_restriction r d) d p q
   gives_needed q h =
       let some : ¬ IsEmpty box = λ none. none q h in
       let f = found some in
@@ -287,20 +287,20 @@ module _ (d : Dimensions) (r : Restriction) (valid : IsShape d) (window : Window
       let p : Position = record { t = t; band = band; y = q.y - y_run.0; x = q.x - x_run.0 } in (
         p,
         back_in d r valid window t band within t_in band_in y_run.0 x_run.0 y_run.1 x_run.1 f.from_t f.from_band f.t_is f.band_is q inside,
-        has_labels (kept_shape r d) d p q
+        has_labels (shape_of_restriction r d) d p q
             (found_back d r valid window t band within t_in band_in y_run.0 x_run.0 y_run.1 x_run.1 f.from_t f.from_band f.t_is f.band_is q inside),
       )
 
   gives_nulls : (cube : Cube Cell) → IsCube cube → cube.shape ≡ d → IsEmpty box
       → cells_on Empty (restricted_cube r cube) (plane_window window t band) ≡ replicate (position_count (plane_window window t band)) Empty
   gives_nulls cube whole same empty =
-      nulls_are d r valid (plane_window window t band) box (plane_holds (whole_window (kept_shape r d)) window t band within t_in band_in) need.holds empty cube whole same
+      nulls_are d r valid (plane_window window t band) box (plane_holds (whole_window (shape_of_restriction r d)) window t band within t_in band_in) need.holds empty cube whole same
 
-  gives_all : GivesPlane d (kept_shape r d) r (plane_window window t band) box
+  gives_all : GivesPlane d (shape_of_restriction r d) r (plane_window window t band) box
   gives_all = record { cells = gives_cells; nulls = gives_nulls; counted = gives_count; needed = gives_needed }
 
 -- the box of a plane gives its cells
-pub gives_plane : (d shape : Dimensions) → IsShape d → (r : Restriction) → kept_shape r d ≡ shape → (window : Window) (t band : ℕ) (box : Window)
+pub gives_plane : (d shape : Dimensions) → IsShape d → (r : Restriction) → shape_of_restriction r d ≡ shape → (window : Window) (t band : ℕ) (box : Window)
     → Holds (whole_window shape) window → IsAlong window.t t → IsAlong window.bands band
     → IsNeed (HasLabelsOf shape d) (plane_window window t band) box → GivesPlane d shape r (plane_window window t band) box
 gives_plane d d_kept valid r is window t band box within t_in band_in need =

@@ -5,7 +5,7 @@ use Rattle.oe_dims.specs.Cube.{Cube, IsCube}
 use Rattle.oe_dims.specs.Dimensions.{Dimensions, IsShape}
 use Rattle.oe_dims.specs.Positions.{Position}
 use Rattle.oe_expr.specs.Callback.{Callback, KeepsKind}
-use Rattle.oe_requests.specs.Operations.{Operation, aggregated_shape, shape_of}
+use Rattle.oe_requests.specs.Operations.{Operation, shape_of_aggregation, shape_of}
 use Rattle.oe_requests.specs.declared.extent.Interval.{Interval}
 use Rattle.oe_window.specs.Windows.{Holds, position_count, whole_window}
 use Rattle.oe_window.specs.declared.window.Window.{Window}
@@ -51,7 +51,7 @@ pub record WorksOn (o : Operation) (shape : Dimensions) (one two : Input) : Type
 pub record IsAggregation (intervals : List Interval) (c : Callback) (shape argument : Dimensions) (slice : Slice)
     : Type 0 where
   pub shape_valid : IsShape shape
-  pub aggregated : shape ≡ aggregated_shape intervals argument
+  pub aggregated : shape ≡ shape_of_aggregation intervals argument
   pub keeps : KeepsKind c
   pub takes : TakesIntervals c intervals argument slice.cells.now
 

@@ -7,7 +7,7 @@ ghost use Rattle.oe_cube.specs.Kinds.{IsOfKind};
 ghost use Rattle.oe_dims.specs.Cube.{Cube, IsCube};
 ghost use Rattle.oe_dims.specs.declared.kind.CellKind.{CellKind};
 ghost use Rattle.oe_dims.specs.Dimensions.{IsShape};
-ghost use Rattle.oe_requests.specs.Extents.{Restriction, kept_shape};
+ghost use Rattle.oe_requests.specs.Extents.{Restriction, shape_of_restriction};
 ghost use Rattle.oe_meanings.specs.Meaning.{restricted_cube};
 ghost use Rattle.oe_window.specs.Cells.{cells_on};
 ghost use Rattle.oe_ops.specs.Calls.{HasRoomOn, IsSliceFor};
@@ -91,7 +91,7 @@ pub fn eval_keep(
     requires slice { IsSliceFor (HasLabelsOf shape.now argument.now) window.now argument.now slice }
     requires out { HasRoomOn shape.now window.now out.old }
     ensures value { (cube : Cube Cell) (r : Restriction) → IsCube cube → cube.shape ≡ argument.now
-        → kept_shape r argument.now ≡ shape.now → IsOn cube slice.entry
+        → shape_of_restriction r argument.now ≡ shape.now → IsOn cube slice.entry
         → out.new ≡ cells_on Empty (restricted_cube r cube) window.now }
     ensures kinds { (kind : CellKind) → All (IsOfKind kind) slice.entry.cells.now
         → All (IsOfKind kind) out.new }

@@ -8,7 +8,7 @@ ghost use Rattle.oe_dims.specs.declared.kind.CellKind.{CellKind};
 ghost use Rattle.oe_dims.specs.declared.kind.Kind.{Kind};
 ghost use Rattle.oe_dims.specs.Dimensions.{IsShape};
 ghost use Rattle.oe_expr.specs.Callback.{callback_kind};
-ghost use Rattle.oe_requests.specs.Labels.{merged_shape};
+ghost use Rattle.oe_requests.specs.Labels.{shape_of_merge};
 ghost use Rattle.oe_meanings.specs.Meaning.{joined, merged};
 ghost use Rattle.oe_window.specs.Cells.{cells_on};
 ghost use Rattle.oe_window.specs.Windows.{extent_along, span_length};
@@ -268,7 +268,7 @@ pub fn eval_merge(
     out: &mut [Cell],
     scratch: &mut [Cell],
 )
-    requires merged { shape.now ≡ merged_shape one.shape.now two.shape.now }
+    requires merged { shape.now ≡ shape_of_merge one.shape.now two.shape.now }
     requires resolver { IfSome resolver.now (IsResolverOf one.slice two.slice) }
     requires one { IsInputFor (HasLabelsOf shape.now one.shape.now) window.now one }
     requires two { IsInputFor (HasLabelsOf shape.now two.shape.now) window.now two }

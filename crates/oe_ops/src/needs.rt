@@ -3,7 +3,7 @@ ghost use Rattle.std.specs.Prelude.{◌≡◌, ◌∷◌, [], ◌+◌, ◌^◌, 
 ghost use Rattle.oe_cell.specs.Fraction.{Fraction};
 ghost use Rattle.oe_dims.specs.Dimensions.{IsShape};
 ghost use Rattle.oe_dims.specs.declared.kind.Kind.{Kind};
-ghost use Rattle.oe_requests.specs.Extents.{Restriction, kept_shape};
+ghost use Rattle.oe_requests.specs.Extents.{Restriction, shape_of_restriction};
 ghost use Rattle.oe_requests.specs.Operations.{convolve};
 ghost use Rattle.oe_check.specs.Reach.{is_wrap, same_kind};
 ghost use Rattle.oe_window.specs.Windows.{Holds, IsAlong, IsEmpty, extent_along, span_at, span_below, whole_window};
@@ -295,7 +295,7 @@ pub fn source_window(
     requires band_in { IsAlong window.now.bands band }
     ensures need { IsNeed (HasLabelsOf shape.now collection.now) (plane_window window.now t band)
         result }
-    ensures plane { (r : Restriction) → kept_shape r collection.now ≡ shape.now
+    ensures plane { (r : Restriction) → shape_of_restriction r collection.now ≡ shape.now
         → GivesPlane collection.now shape.now r (plane_window window.now t band) result }
 {
     let plane = Window {

@@ -13,8 +13,8 @@ use Rattle.oe_dims.specs.declared.kind.Kind.TheVariants.{Time, Bands, Y, X}
 use Rattle.oe_dims.proofs.ReaderLemmas.{IsUnrepeated, IsUnrepeated-numbers}
 use Rattle.oe_dims.proofs.ShapeLemmas.{t_rises, x_rises, y_falls}
 use Rattle.oe_requests.specs.Extents.{Restriction, has_begun, has_not_ended, is_across, is_in_time, is_up, kept_labels}
-use Rattle.oe_requests.specs.Labels.{differ_along, differ_in, is_above, is_below, merged_shape, only_along}
-use Rattle.oe_requests.specs.Operations.{Operation, keep, each_cell, convolve, reduce, aggregate, accumulate, merge, cover, give_back, aggregated_shape, first_or, no_dimensions, second_or, shape_of, without_dimension}
+use Rattle.oe_requests.specs.Labels.{differ_along, differ_in, is_above, is_below, shape_of_merge, only_along}
+use Rattle.oe_requests.specs.Operations.{Operation, keep, each_cell, convolve, reduce, aggregate, accumulate, merge, cover, give_back, shape_of_aggregation, first_or, no_dimensions, second_or, shape_of, without_dimension}
 use Rattle.oe_check.specs.Reach.{halo_of, needs_whole, same_kind}
 use Rattle.oe_requests.specs.declared.extent.BoundingBox.{BoundingBox}
 use Rattle.oe_requests.specs.declared.extent.Interval.{Interval}
@@ -183,7 +183,7 @@ without_same X Bands d h = refl
 without_same X Y d h = refl
 without_same X X d h = absurd (true≢false h)
 
-aggregated_same : (intervals : List Interval) (along : Kind) (d : Dimensions) → same_kind Time along ≡ false → labels_along along (aggregated_shape intervals d) ≡ labels_along along d
+aggregated_same : (intervals : List Interval) (along : Kind) (d : Dimensions) → same_kind Time along ≡ false → labels_along along (shape_of_aggregation intervals d) ≡ labels_along along d
 aggregated_same intervals Time d h = absurd (true≢false h)
 aggregated_same intervals Bands d h = refl
 aggregated_same intervals Y d h = refl
@@ -192,13 +192,13 @@ aggregated_same intervals X d h = refl
 same_follows : (along : Kind) (result d : Dimensions) → labels_along along result ≡ labels_along along d → Follows (labels_along along result) (labels_along along d)
 same_follows along result d e = subst (λ labels. Follows labels (labels_along along d)) (sym e) (follows_same (labels_along along d))
 
-merged_first : (along : Kind) (one two : Dimensions) → IsShape one → IsShape two → differ_along along one two ≡ false → Follows (labels_along along (merged_shape one two)) (labels_along along one)
+merged_first : (along : Kind) (one two : Dimensions) → IsShape one → IsShape two → differ_along along one two ≡ false → Follows (labels_along along (shape_of_merge one two)) (labels_along along one)
 merged_first Time one two h k e = merge_follows_one is_below below_is_order one.t two.t (stand Time one h) (stand Time two k) e
 merged_first Bands one two h k e = tt
 merged_first Y one two h k e = merge_follows_one is_above above_is_order one.y two.y (stand Y one h) (stand Y two k) e
 merged_first X one two h k e = merge_follows_one is_below below_is_order one.x two.x (stand X one h) (stand X two k) e
 
-merged_second : (along : Kind) (one two : Dimensions) → IsShape one → IsShape two → differ_along along one two ≡ false → Follows (labels_along along (merged_shape one two)) (labels_along along two)
+merged_second : (along : Kind) (one two : Dimensions) → IsShape one → IsShape two → differ_along along one two ≡ false → Follows (labels_along along (shape_of_merge one two)) (labels_along along two)
 merged_second Time one two h k e = merge_follows_two is_below below_is_order one.t two.t (stand Time one h) (stand Time two k) e
 merged_second Bands one two h k e = tt
 merged_second Y one two h k e = merge_follows_two is_above above_is_order one.y two.y (stand Y one h) (stand Y two k) e
@@ -219,7 +219,7 @@ follows (convolve kernel factor border replace) shapes number along taken valid 
 follows (reduce kind c) shapes number along taken valid cut =
     at_first along _ shapes number taken (same_follows along (without_dimension kind (first_or no_dimensions shapes)) (first_or no_dimensions shapes) (without_same kind along (first_or no_dimensions shapes) cut))
 follows (aggregate intervals c) shapes number along taken valid cut =
-    at_first along _ shapes number taken (same_follows along (aggregated_shape intervals (first_or no_dimensions shapes)) (first_or no_dimensions shapes) (aggregated_same intervals along (first_or no_dimensions shapes) cut))
+    at_first along _ shapes number taken (same_follows along (shape_of_aggregation intervals (first_or no_dimensions shapes)) (first_or no_dimensions shapes) (aggregated_same intervals along (first_or no_dimensions shapes) cut))
 follows (accumulate ignore) shapes number along taken valid cut = at_first along _ shapes number taken (follows_same _)
 follows (merge resolver) shapes number along taken valid cut = elim taken [
   | inl first ↦ at_first along _ shapes number first (merged_first along (first_or no_dimensions shapes) (second_or no_dimensions shapes) (valid 0) (valid 1) cut)

@@ -71,8 +71,8 @@ abbrev pub kept_bands : Option (List (List ℕ)) → Option (List (List ℕ)) �
 kept_bands given labels = option_map (λ names. unwrap_or given names) labels
 
 -- the shape of what is kept; a dimension may be left without labels (rule of this profile)
-abbrev pub kept_shape : Restriction → Dimensions → Dimensions
-kept_shape r d = record {
+abbrev pub shape_of_restriction : Restriction → Dimensions → Dimensions
+shape_of_restriction r d = record {
   epsg = d.epsg;
   t = kept_labels is_in_time r.time d.t;
   bands = kept_bands r.bands d.bands;

@@ -52,8 +52,8 @@ all_bands (Some one) (Some two) = Some (one ++ new_among same_name one two)
 abbrev pub either_epsg : ℕ → ℕ → ℕ
 either_epsg one two = if one == 0 then two else one
 
-abbrev pub merged_shape : Dimensions → Dimensions → Dimensions
-merged_shape one two = record {
+abbrev pub shape_of_merge : Dimensions → Dimensions → Dimensions
+shape_of_merge one two = record {
   epsg = either_epsg one.epsg two.epsg;
   t = all_in_order is_below one.t two.t;
   bands = all_bands one.bands two.bands;

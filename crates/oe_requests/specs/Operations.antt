@@ -15,8 +15,8 @@ use Rattle.oe_kernel.specs.declared.border.Border.{Border}
 use Rattle.oe_expr.specs.Callback.{Callback, callback_of, callback_kind}
 use Rattle.oe_expr.specs.Scope as scope
 use Rattle.oe_expr.specs.Scope.{PlainScope, count_labels}
-use Rattle.oe_requests.specs.Extents.{Restriction, kept_shape, part_in_time}
-use Rattle.oe_requests.specs.Labels.{is_below, sorted_labels, merged_shape}
+use Rattle.oe_requests.specs.Extents.{Restriction, shape_of_restriction, part_in_time}
+use Rattle.oe_requests.specs.Labels.{is_below, sorted_labels, shape_of_merge}
 use Rattle.oe_requests.specs.Periods.{period_intervals}
 use Rattle.oe_requests.specs.RunningSums.{ignores_nulls}
 use Rattle.oe_requests.specs.declared.extent.Interval.{Interval}
@@ -142,18 +142,18 @@ without_dimension Y d = record d { y = None; epsg = epsg_without d.epsg None d.x
 without_dimension X d = record d { x = None; epsg = epsg_without d.epsg d.y None }
 
 -- the shape with one label of t for each interval, in the order of time
-abbrev pub aggregated_shape : List Interval → Dimensions → Dimensions
-aggregated_shape intervals d =
+abbrev pub shape_of_aggregation : List Interval → Dimensions → Dimensions
+shape_of_aggregation intervals d =
     record d { t = Some (sorted_labels is_below (map (λ (i : Interval). i.label) intervals)) }
 
 abbrev pub shape_of : Operation → List Dimensions → Dimensions
-shape_of (keep restriction) shapes = kept_shape restriction (first_or no_dimensions shapes)
+shape_of (keep restriction) shapes = shape_of_restriction restriction (first_or no_dimensions shapes)
 shape_of (each_cell c) shapes = first_or no_dimensions shapes
 shape_of (convolve kernel factor border replace) shapes = first_or no_dimensions shapes
 shape_of (reduce kind c) shapes = without_dimension kind (first_or no_dimensions shapes)
-shape_of (aggregate intervals c) shapes = aggregated_shape intervals (first_or no_dimensions shapes)
+shape_of (aggregate intervals c) shapes = shape_of_aggregation intervals (first_or no_dimensions shapes)
 shape_of (accumulate ignore) shapes = first_or no_dimensions shapes
-shape_of (merge resolver) shapes = merged_shape (first_or no_dimensions shapes) (second_or no_dimensions shapes)
+shape_of (merge resolver) shapes = shape_of_merge (first_or no_dimensions shapes) (second_or no_dimensions shapes)
 shape_of (cover replacement) shapes = first_or no_dimensions shapes
 shape_of give_back shapes = first_or no_dimensions shapes
 

@@ -19,7 +19,7 @@ use Rattle.oe_plan.specs.Figures.{steps_of, shape_of_node}
 use Rattle.oe_plan.specs.Schedules.{node_at, ScheduleOf, IsSchedule}
 use Rattle.oe_check.proofs.CheckedLemmas.{give_cubes}
 use Rattle.oe_check.specs.Checked.{collection_of_node, CheckedGraph}
-use Rattle.oe_requests.specs.Extents.{kept_shape, Restriction}
+use Rattle.oe_requests.specs.Extents.{shape_of_restriction, Restriction}
 use Rattle.oe_meanings.specs.Graphs.{Collections, collection_named, datacube_of}
 use Rattle.oe_check.specs.Laws.{AreCollectionsOf}
 use Rattle.oe_meanings.specs.Meaning.{Datacube, restricted_cube, operated}
@@ -96,11 +96,11 @@ module _ (graph : CheckedGraph) (schedule : ScheduleOf) (is : IsSchedule graph s
 
 -- what a plane is given, by equal shapes and planes
 pub gives_at : (d e f g : Dimensions) (plane w box : Window) → d ≡ f → e ≡ g → plane ≡ w
-    → ((r : Restriction) → kept_shape r d ≡ e → GivesPlane d e r w box) → (r : Restriction) → kept_shape r f ≡ g → GivesPlane f g r plane box
+    → ((r : Restriction) → shape_of_restriction r d ≡ e → GivesPlane d e r w box) → (r : Restriction) → shape_of_restriction r f ≡ g → GivesPlane f g r plane box
 gives_at d e f g plane w box same_d same_e same_w gives r is =
     subst (λ x. GivesPlane f g r x box) (sym same_w)
     (subst (λ x. GivesPlane x g r w box) same_d
-    (subst (λ x. GivesPlane d x r w box) same_e (gives r (ap (kept_shape r) same_d ∙ (is ∙ sym same_e)))))
+    (subst (λ x. GivesPlane d x r w box) same_e (gives r (ap (shape_of_restriction r) same_d ∙ (is ∙ sym same_e)))))
 
 module _ (graph : CheckedGraph) (schedule : ScheduleOf) (is : IsSchedule graph schedule) (rows : List Row) (step : ℕ) (within : step < length schedule.order.steps) (loads : loads_at graph schedule step ≡ true)
     (place : ℕ) (mounted : (id : List ℕ) → collection_of_node graph (node_at schedule step) ≡ Some id → IsMountedAt graph rows id place) where
@@ -119,8 +119,8 @@ module _ (graph : CheckedGraph) (schedule : ScheduleOf) (is : IsSchedule graph s
   step_loads : IsLoadedBy graph run.run_step id.0
   step_loads = step_is_loaded graph schedule step run id.0 id.1
 
-  shape_is : kept_shape keeps.r (source_at rows place).shape ≡ shape_of_node graph (node_at schedule step)
-  shape_is = ap (kept_shape keeps.r) at.shape_is ∙ sym (ap (λ (o : Outline). o.shape) keeps.outline_is)
+  shape_is : shape_of_restriction keeps.r (source_at rows place).shape ≡ shape_of_node graph (node_at schedule step)
+  shape_is = ap (shape_of_restriction keeps.r) at.shape_is ∙ sym (ap (λ (o : Outline). o.shape) keeps.outline_is)
 
   kind_is : cell_kind_at graph schedule step ≡ (source_at rows place).kind
   kind_is = ap (λ (o : Outline). o.kind) keeps.outline_is ∙ sym at.kind_is
@@ -129,7 +129,7 @@ module _ (graph : CheckedGraph) (schedule : ScheduleOf) (is : IsSchedule graph s
   of_kind cells h = cells_of_kind (cell_kind_at graph schedule step) cells (subst (λ (k : CellKind). list_all (is_null_or_of k) cells ≡ true) (sym kind_is) h)
 
   module _ (plane box : Window)
-      (gives : (r : Restriction) → kept_shape r (source_at rows place).shape ≡ shape_of_node graph (node_at schedule step)
+      (gives : (r : Restriction) → shape_of_restriction r (source_at rows place).shape ≡ shape_of_node graph (node_at schedule step)
       → GivesPlane (source_at rows place).shape (shape_of_node graph (node_at schedule step)) r plane box)
       (inner : Holds (whole_window (shape_of_node graph (node_at schedule step))) plane) where
     plane_is : GivesPlane (source_at rows place).shape (shape_of_node graph (node_at schedule step)) keeps.r plane box

@@ -29,9 +29,9 @@ use Rattle.oe_graph.specs.Tree.{PlainGraph, no_nodes}
 use Rattle.oe_periods.specs.Sums.{running_sum}
 use Rattle.oe_calls.proofs.Along.{there_cases, none_there}
 use Rattle.oe_requests.specs.Extents.{is_in_time, labels_in_time, part_in_time}
-use Rattle.oe_requests.specs.Labels.{either_epsg, insert_label, is_below, merged_shape, only_along, restrict, sorted_labels}
+use Rattle.oe_requests.specs.Labels.{either_epsg, insert_label, is_below, shape_of_merge, only_along, restrict, sorted_labels}
 use Rattle.oe_meanings.specs.Meaning.{Datacube, accumulated, cell, cells_at, extent_labelled, instants_inside, joined, labels_before, merged, operated, outline, value_on_list}
-use Rattle.oe_requests.specs.Operations.{accumulate, aggregate, aggregated_shape, callback_under, interval_scope, merge}
+use Rattle.oe_requests.specs.Operations.{accumulate, aggregate, shape_of_aggregation, callback_under, interval_scope, merge}
 use Rattle.oe_requests.specs.Parameters.{callback_in}
 use Rattle.oe_requests.specs.Requests.{called}
 use Rattle.oe_meanings.specs.ValidShapes.{labels_of}
@@ -222,7 +222,7 @@ epsg_stays epsg = by (epsg == 0) refl
     by true e = rw e refl
     by false e = rw e refl
 
-pub merged_itself : (d : Dimensions) → IsShape d → merged_shape d d ≡ d
+pub merged_itself : (d : Dimensions) → IsShape d → shape_of_merge d d ≡ d
 merged_itself d s =
     all_stay d d (epsg_stays d.epsg) (same_stay Time d d s refl) (same_stay Bands d d s refl) (same_stay Y d d s refl) (same_stay X d d s refl)
 
@@ -237,7 +237,7 @@ restrict_itself d tuple is =
 
 -- with one label of t for each of the intervals it stays as it is
 pub growing_shape : (shape : Dimensions) → IsShape shape → (labels : List ℤ) → shape.t ≡ Some labels
-    → aggregated_shape (growing_intervals (number_labels shape Time)) shape ≡ shape
+    → shape_of_aggregation (growing_intervals (number_labels shape Time)) shape ≡ shape
 growing_shape shape valid labels has_t =
     let same : number_labels shape Time ≡ labels = ap (λ o. unwrap_or o []) has_t in
     let up : rises labels ≡ true = subst (λ ls. rises ls ≡ true) same (t_rises shape valid) in
@@ -276,7 +276,7 @@ module _ (ignore : Bool) (d : Datacube) (shape_valid : IsShape d.cube.shape) (co
       let ls = instants_inside shape (extent_labelled sum_intervals tuple.t) in
       value_on_list summing (plain_instants ls) (cells_at d.cube tuple ls)
 
-  shape_is : aggregated_shape sum_intervals shape ≡ shape
+  shape_is : shape_of_aggregation sum_intervals shape ≡ shape
   shape_is = growing_shape shape shape_valid labels has_t
 
   sums_are : sums.cube ≡ tabulate shape sum_at_tuple
@@ -331,7 +331,7 @@ module _ (ignore : Bool) (d : Datacube) (shape_valid : IsShape d.cube.shape) (co
 
   cubes_same : merged (Some merging) sums.cube d.cube ≡ accumulated ignore d.cube
   cubes_same =
-      ap (λ (one : Cube Cell). tabulate (merged_shape one.shape shape) (joined_at one)) sums_are
+      ap (λ (one : Cube Cell). tabulate (shape_of_merge one.shape shape) (joined_at one)) sums_are
       ∙ (ap (λ s. tabulate s (joined_at (tabulate shape sum_at_tuple))) (merged_itself shape shape_valid)
       ∙ ap (λ cells. record { shape = shape; cells = cells })
       (map_same (joined_at (tabulate shape sum_at_tuple))

@@ -1,7 +1,7 @@
 use Rattle.std.proofs.Common.{◌≡◌, ◌<◌, ◌∙◌, sym, ap, subst, true, Some, arith}
 use Rattle.oe_dims.specs.Dimensions.{Dimensions, IsShape, most_labels, number_labels}
 use Rattle.oe_dims.specs.declared.kind.Kind.TheVariants.{Time}
-use Rattle.oe_requests.specs.Operations.{aggregated_shape}
+use Rattle.oe_requests.specs.Operations.{shape_of_aggregation}
 use Rattle.oe_requests.specs.Periods.{period_intervals, period_shape}
 use Rattle.oe_meanings.specs.Results.{where_within_limits}
 use Rattle.oe_meanings.specs.ValidShapes.{is_within_limits}

@@ -114,14 +114,14 @@ fn kept_bands(
 
 /// The shape of what is kept of a cube (`load_collection` and the filters of openEO Processes), `None` where it has
 /// over 65536 bands or over 2^40 cells. Refuses: out of memory.
-pub fn kept_shape(
+pub fn shape_of_restriction(
     alloc: Global,
     restriction: &Restriction,
     shape: &Shape,
 ) -> Result<Option<Shape>, OutOfMemory>
     requires bands { IfSome (plain_restriction restriction.now).bands AreBands }
-    ensures { IfOk result (λ found. found
-        ≡ where_within_limits (spec.kept_shape (plain_restriction restriction.now) shape.now)) }
+    ensures { IfOk result (λ found. found ≡ where_within_limits
+        (spec.shape_of_restriction (plain_restriction restriction.now) shape.now)) }
 {
     let t = kept_instants(alloc, restriction.time, shape)?;
     let bands = kept_bands(alloc, &restriction.bands, shape)?;

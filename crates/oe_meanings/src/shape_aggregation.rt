@@ -2,7 +2,7 @@
 ghost use Rattle.std.specs.Prelude.{◌≡◌, true, IfOk};
 ghost use Rattle.oe_dims.specs.Indices.{same_number};
 ghost use Rattle.oe_requests.specs.Labels.{is_below, is_above, sorted_labels, are_distinct};
-ghost use Rattle.oe_requests.specs.Operations.{aggregated_shape};
+ghost use Rattle.oe_requests.specs.Operations.{shape_of_aggregation};
 ghost use Rattle.oe_meanings.specs.Results.{where_within_limits};
 ghost use Rattle.oe_meanings.specs.ValidShapes.{AreIntervalLabels, labels_of};
 
@@ -52,14 +52,14 @@ fn labels_in_order(alloc: Global, intervals: &[Interval]) -> Result<Vec<i64>, Ou
 
 /// The shape with one label of t for each interval (`aggregate_temporal` of openEO Processes), `None` where it has over
 /// 65536 labels of t or over 2^40 cells. Refuses: out of memory.
-pub fn aggregated_shape(
+pub fn shape_of_aggregation(
     alloc: Global,
     intervals: &[Interval],
     shape: &Shape,
 ) -> Result<Option<Shape>, OutOfMemory>
     requires labels { AreIntervalLabels (labels_of intervals.now) }
     ensures { IfOk result (λ found. found
-        ≡ where_within_limits (aggregated_shape intervals.now shape.now)) }
+        ≡ where_within_limits (shape_of_aggregation intervals.now shape.now)) }
 {
     let t = labels_in_order(alloc, intervals)?;
     let bands = copy_bands(alloc, shape)?;

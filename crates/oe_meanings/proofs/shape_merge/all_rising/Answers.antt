@@ -2,7 +2,7 @@ use Rattle.std.proofs.Common.{◌≡◌, ◌∙◌, ap, true, sym, subst}
 use Rattle.oe_dims.specs.Indices.{same_number}
 use Rattle.oe_meanings.proofs.AmongLemmas.{rising_differ}
 use Rattle.oe_requests.specs.Labels.{are_distinct}
-use Rattle.oe_meanings.proofs.shape_merged.all_rising.Goals as goal
+use Rattle.oe_meanings.proofs.shape_merge.all_rising.Goals as goal
 
 pub sort_rising-requires : goal.sort_rising-requires
 sort_rising-requires c =

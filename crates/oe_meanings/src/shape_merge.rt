@@ -5,10 +5,10 @@ ghost use Rattle.oe_dims.specs.Dimensions.{IsShape, number_labels, band_names, n
 ghost use Rattle.oe_dims.specs.Indices.{same_number};
 ghost use Rattle.oe_dims.specs.Lists.{items_of, HaveSameLabels};
 ghost use Rattle.oe_dims.specs.Names.{same_name};
-ghost use Rattle.oe_requests.specs.Labels.{is_below, is_above, sorted_labels, new_among, all_in_order, all_bands, either_epsg, merged_shape};
+ghost use Rattle.oe_requests.specs.Labels.{is_below, is_above, sorted_labels, new_among, all_in_order, all_bands, either_epsg, shape_of_merge};
 ghost use Rattle.oe_meanings.specs.Results.{IsRisingKind, where_within_limits};
 
-use crate::shape_aggregated::{sort_falling, sort_rising};
+use crate::shape_aggregation::{sort_falling, sort_rising};
 use crate::shape_labels::{has_band, has_number};
 use crate::shape_parts::shape_within;
 use oe_dims::{BandIndex, Kind, Shape, Text, copy_bands, copy_numbers, copy_texts};
@@ -133,7 +133,7 @@ fn epsg_of_either(one: &Shape, two: &Shape) -> u32
 /// The second cube lacks the dimension, or has the labels of the first there, in the same order.
 #[tactic(auto, using(crate::proofs::SameLemmas::lacking_stay, crate::proofs::SameLemmas::same_stay))]
 fn has_no_other(kind: Kind, one: &Shape, two: &Shape) -> bool
-    ensures { result ≡ true → HaveSameLabels (merged_shape one.now two.now) one.now kind }
+    ensures { result ≡ true → HaveSameLabels (shape_of_merge one.now two.now) one.now kind }
 {
     two.count(kind).is_none() || one.has_same_labels(two, kind)
 }
@@ -141,7 +141,7 @@ fn has_no_other(kind: Kind, one: &Shape, two: &Shape) -> bool
 /// The second cube has nothing that the first lacks, as one pass over its labels tells.
 #[tactic(auto, using(crate::proofs::SameLemmas::all_stay))]
 pub fn adds_nothing(one: &Shape, two: &Shape) -> bool
-    ensures { result ≡ true → merged_shape one.now two.now ≡ one.now }
+    ensures { result ≡ true → shape_of_merge one.now two.now ≡ one.now }
 {
     epsg_of_either(one, two) == one.epsg()
         && has_no_other(Kind::Time, one, two)
@@ -153,8 +153,8 @@ pub fn adds_nothing(one: &Shape, two: &Shape) -> bool
 /// The shape with the labels of both cubes (`merge_cubes` of openEO Processes), `None` where it has over 65536 labels
 /// along a dimension or over 2^40 cells. Whether the second adds nothing is seen sooner by `adds_nothing`. Refuses: out
 /// of memory.
-pub fn merged_shape(alloc: Global, one: &Shape, two: &Shape) -> Result<Option<Shape>, OutOfMemory>
-    ensures { IfOk result (λ found. found ≡ where_within_limits (merged_shape one.now two.now)) }
+pub fn shape_of_merge(alloc: Global, one: &Shape, two: &Shape) -> Result<Option<Shape>, OutOfMemory>
+    ensures { IfOk result (λ found. found ≡ where_within_limits (shape_of_merge one.now two.now)) }
 {
     let t = all_rising(alloc, one, two, Kind::Time)?;
     let bands = either_bands(alloc, one, two)?;

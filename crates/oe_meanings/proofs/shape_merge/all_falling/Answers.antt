@@ -2,7 +2,7 @@ use Rattle.std.proofs.Common.{◌≡◌, ◌∙◌, ap, true, sym, subst}
 use Rattle.oe_dims.specs.Indices.{same_number}
 use Rattle.oe_meanings.proofs.AmongLemmas.{falling_differ}
 use Rattle.oe_requests.specs.Labels.{are_distinct}
-use Rattle.oe_meanings.proofs.shape_merged.all_falling.Goals as goal
+use Rattle.oe_meanings.proofs.shape_merge.all_falling.Goals as goal
 
 pub sort_falling-requires : goal.sort_falling-requires
 sort_falling-requires c =

@@ -1,7 +1,7 @@
 use Rattle.std.proofs.Common.{◌≡◌, rules}
 use Rattle.std.proofs.lemmas.Fn.{always_returns_same}
 use Rattle.oe_meanings.proofs.SortLemmas.{compares_above, compares_above_ranks, falling_is}
-use Rattle.oe_meanings.proofs.shape_aggregated.sort_falling.Goals as goal
+use Rattle.oe_meanings.proofs.shape_aggregation.sort_falling.Goals as goal
 
 pub returns : goal.returns
 returns c =
