@@ -4,6 +4,8 @@ pub mod PartLemmas
 pub mod ReferenceLemmas
 pub mod SearchLemmas
 pub mod ReferenceGraphLemmas
+pub mod StateLemmas
+pub mod SortedWalkLemmas
 mod Views
 pub mod Depths
 mod Finds

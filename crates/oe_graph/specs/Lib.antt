@@ -14,3 +14,4 @@ pub mod Resolved
 pub mod AsRead
 pub mod Valid
 pub mod Indices
+pub mod States

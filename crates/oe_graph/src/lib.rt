@@ -8,6 +8,7 @@
 //! rests on (`IsValidGraph`, `IsValidStored`), that [`process`] is none exactly for an id without a row, and the word
 //! `IsResolved` for a graph whose names all lead somewhere. [`read_references`] is the one reader of what nodes refer to
 //! by index, [`sort_nodes`] puts each behind those that it refers to, and [`find_index`] searches a node by its id.
+//! A [`NodeState`] is what a walk over sorted nodes knows of one.
 #![tactic(auto)]
 
 mod build;
@@ -17,6 +18,7 @@ mod copy;
 mod fault;
 mod form;
 mod named;
+mod node_state;
 mod print;
 mod read;
 mod references;
@@ -32,6 +34,7 @@ pub use code::Code;
 pub use copy::copy_arg;
 pub use fault::{Fault, Refusal, is_before, least, note_fault};
 pub use named::argument_named;
+pub use node_state::{NodeState, are_sound, unseen_states};
 pub use oe_dims::is_name_before;
 pub use print::print_graph;
 pub use read::{read_graph, read_stored, read_value};
