@@ -17,8 +17,7 @@ use Rattle.oe_expr.proofs.StateLemmas.{count_plain}
 use Rattle.oe_check.specs.Checked.{CheckedGraph, AreFaultless, IsKept}
 use Rattle.oe_check.specs.Links.{links_of}
 use Rattle.oe_meanings.specs.Stands.{StandsInGraph, IsSound}
-use Rattle.oe_check.specs.Walked.{AreResolved, AreSound}
-use Rattle.oe_check.specs.declared.checked.State.{State}
+use Rattle.oe_check.specs.Walked.{AreResolved, AreSound, State}
 use Rattle.oe_check.proofs.KeptLemmas.{faultless}
 use Rattle.oe_check.proofs.StandsLemmas.{none_at_or_below}
 

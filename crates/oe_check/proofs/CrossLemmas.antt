@@ -1,16 +1,16 @@
 -- Threads share checked graphs and hand them on: each type by those of its fields, from the lowest on.
 use denote.Param.Send.{IsSend, IsSync, sendable}
-use denote.Param.SendFields.{declared_send, declared_sync, variants_send, variants_sync}
+use denote.Param.SendFields.{declared_send, declared_sync}
 use Rattle.std.proofs.Crossing.{crosses}
 use Rattle.oe_dims.specs.contracts.text.Text as text
 use Rattle.oe_dims.specs.contracts.shape.Shape as shape
 use Rattle.oe_kernel.specs.contracts.kernel.Kernel as kernel
+use Rattle.oe_graph.specs.contracts.node_state.NodeState as state
 use Rattle.oe_expr.specs.contracts.expr.Expr as expr
 use Rattle.oe_order.specs.contracts.Links as links
 use Rattle.oe_requests.specs.contracts.intervals.Intervals as intervals
 use Rattle.oe_requests.specs.contracts.operation.Operation as operation
 use Rattle.oe_check.specs.contracts.checked.CheckedNode as node
-use Rattle.oe_check.specs.contracts.checked.State as state
 use Rattle.oe_check.specs.contracts.checked.Checked as checked
 
 -- ---- handed on
@@ -46,8 +46,8 @@ node_send = declared_send node.the_type (
   (search (crosses, sendable, text_send) depth 30, (search (crosses, sendable, shape_send, shape_sync) depth 30, (search sendable depth 30, tt))),
 )
 
-state_send : IsSend state.the_row
-state_send = variants_send state.enum (tt, (tt, ((node_send, tt), tt)))
+state_send : IsSend (state.the_row node.the_row)
+state_send = search (crosses, sendable, node_send) depth 30
 
 links_send : IsSend links.the_row
 links_send = search (crosses, sendable) depth 30
@@ -75,8 +75,8 @@ node_sync = declared_sync node.the_type (
   (search (crosses, sendable, text_sync) depth 30, (search (crosses, sendable, shape_send, shape_sync) depth 30, (search sendable depth 30, tt))),
 )
 
-state_sync : IsSync state.the_row
-state_sync = variants_sync state.enum (tt, (tt, ((node_sync, tt), tt)))
+state_sync : IsSync (state.the_row node.the_row)
+state_sync = search (crosses, sendable, node_sync) depth 30
 
 links_sync : IsSync links.the_row
 links_sync = search (crosses, sendable) depth 30

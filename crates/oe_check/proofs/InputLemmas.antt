@@ -7,6 +7,7 @@ use Rattle.oe_dims.specs.Names.{same_name}
 use Rattle.oe_dims.specs.declared.dims.DimsRow.{DimsRow}
 use Rattle.oe_graph.specs.Printed.{ids_of}
 use Rattle.oe_graph.specs.References.{references_named}
+use Rattle.oe_graph.specs.States.{state_at}
 use Rattle.oe_graph.specs.Tree.{Nodes, PlainNode}
 use Rattle.oe_graph.proofs.ResolvedLemmas.{NodeAt}
 use Rattle.oe_expr.specs.Requests.{with_both}
@@ -19,8 +20,7 @@ use Rattle.oe_check.specs.Links.{index_referred}
 use Rattle.oe_requests.specs.Operations.{Outline}
 use Rattle.oe_requests.specs.Requests.{CubeRequest, load_collection, cube_ids, cube_request_at}
 use Rattle.oe_meanings.specs.Rows.{collection_not_found}
-use Rattle.oe_check.specs.Walked.{AreResolved, IsNodeOf, IsKnown, AreKnown, state_at}
-use Rattle.oe_check.specs.declared.checked.State.{State}
+use Rattle.oe_check.specs.Walked.{AreResolved, IsNodeOf, IsKnown, AreKnown, State}
 use Rattle.oe_requests.specs.declared.extent.BoundingBox.{BoundingBox}
 use Rattle.oe_requests.specs.declared.extent.TemporalExtent.{TemporalExtent}
 

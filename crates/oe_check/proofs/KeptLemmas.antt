@@ -15,10 +15,9 @@ use Rattle.oe_meanings.specs.Graphs.{outline_at, operation_at}
 use Rattle.oe_check.specs.Links.{loaded_collection}
 use Rattle.oe_requests.specs.Operations.{Outline}
 use Rattle.oe_requests.specs.PlainRequests.{plain_operation}
-use Rattle.oe_check.specs.Walked.{IsNodeOf, outline_kept, IsSoundOf}
+use Rattle.oe_check.specs.Walked.{IsNodeOf, State, outline_kept, IsSoundOf}
 use Rattle.oe_check.specs.declared.checked.CheckedNode.{CheckedNode}
-use Rattle.oe_check.specs.declared.checked.State.{State}
-use Rattle.oe_check.specs.declared.checked.State.TheVariants.{Sound}
+use Rattle.oe_graph.specs.declared.node_state.NodeState.TheVariants.{Sound}
 use Rattle.oe_check.proofs.LinkLemmas.{few, named_at, rises}
 
 -- this is kept of a node

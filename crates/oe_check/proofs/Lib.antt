@@ -9,10 +9,8 @@ mod WorkedReach
 pub mod ReachLemmas
 mod WorkedRows
 pub mod StandsLemmas
-pub mod BelowLemmas
 pub mod LinkLemmas
 pub mod WalkLemmas
-pub mod StepLemmas
 pub mod ReadLemmas
 pub mod DistinctLemmas
 pub mod KindLemmas

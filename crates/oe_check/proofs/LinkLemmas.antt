@@ -10,7 +10,7 @@ use Rattle.std.specs.declared.cmp.Ordering.{Ordering}
 use Rattle.std.specs.declared.cmp.Ordering.TheVariants.{Less, Equal, Greater}
 use Rattle.std.proofs.lemmas.Bool.{cases_lt}
 use Rattle.std.proofs.lemmas.Cmp.{nat_list_cmp_total, tied_itself}
-use Rattle.std.proofs.lemmas.List.{length-map, get_or-map, map-append, get_or_default}
+use Rattle.std.proofs.lemmas.List.{length-map, get_or-map, map-append}
 use Rattle.std.proofs.lemmas.List.Sorted.{searchable_from_sorted}
 use Rattle.std.proofs.lemmas.Option.{slice_get-get_or, slice_get-map, slice_get_within}
 use Rattle.oe_dims.proofs.IndexLemmas.{index_where_none}
@@ -18,15 +18,16 @@ use Rattle.oe_dims.proofs.OrderLemmas.{same_name_is}
 use Rattle.oe_dims.specs.Indices.{index_where}
 use Rattle.oe_dims.specs.Names.{same_name, is_name_before, names_rise}
 use Rattle.oe_dims.proofs.NameOrderLemmas.{names_sorted}
-use Rattle.oe_graph.proofs.ReferenceGraphLemmas.{arguments_of, reference_count, reference_within, referring}
+use Rattle.oe_graph.proofs.ReferenceGraphLemmas.{arguments_of, reference_count, referring}
 use Rattle.oe_graph.proofs.ResolvedLemmas.{NodeAt, node_of_id, node_referred, resolved_object}
 use Rattle.oe_graph.proofs.SearchLemmas.{each_count, found_at, id_there}
-use Rattle.oe_graph.specs.Indices.{indices_named, reference_graph, reference_node}
+use Rattle.oe_graph.specs.Indices.{indices_named, reference_graph}
 use Rattle.oe_graph.specs.Plain.{plain_node, plain_nodes}
 use Rattle.oe_graph.specs.Printed.{ids_of, node_count}
 use Rattle.oe_graph.specs.References.{each_node, references_named, Refers, Leads}
 use Rattle.oe_graph.specs.References as graph
 use Rattle.oe_graph.specs.Resolved.{IsResolvedObject}
+use Rattle.oe_graph.specs.States.{IsNodeAt}
 use Rattle.oe_graph.specs.Tree.{Nodes, no_nodes, node, PlainNode}
 use Rattle.oe_graph.specs.declared.tree.Node.{Node}
 use Rattle.oe_expr.specs.Nodes.{node_named}
@@ -35,11 +36,9 @@ use Rattle.oe_expr.proofs.StateLemmas.{plain_id, each_plain, count_plain, node_a
 use Rattle.oe_order.specs.Graph as order
 use Rattle.oe_order.specs.Graph.{graph_of, arguments, RefersWithin, Reaches, IsAcyclic}
 use Rattle.oe_order.specs.declared.Links.{Links}
-use Rattle.oe_order.proofs.Graphs.{length-graph_of, arguments-graph_of}
+use Rattle.oe_order.proofs.Graphs.{length-graph_of}
 use Rattle.oe_check.specs.Links.{index_named, index_referred, link_of, links_of, AreNamed, loaded_collection}
-use Rattle.oe_check.specs.Walked.{AreResolved, AreSeenBelow, IsNodeAt, IsNodeOf, state_at}
-use Rattle.oe_check.specs.declared.checked.State.{State}
-use Rattle.oe_check.specs.declared.checked.State.TheVariants.{Unseen}
+use Rattle.oe_check.specs.Walked.{AreResolved, IsNodeOf}
 use Rattle.oe_check.specs.Checked.{CheckedGraph, collection_of_node}
 use Rattle.oe_memory.proofs.Lists.{first_of, later_of, take_next}
 use Rattle.oe_graph.proofs.ElementLemmas.{index_there}
@@ -247,14 +246,6 @@ link_parts all is n has load arguments loads refers =
     ∙ ap (λ (xs : List ℕ). record { load = same_name n.process_id (codes "load_collection"); arguments = xs })
     (refers ∙ indices_referred all (references_named n.arguments) object.ids_rise (λ name refers_to. (object.each n has).names_nodes name refers_to))
 
--- the references of the node at an index, as they were read
-pub read_at : (all : Nodes) (links : List Links) (k : ℕ) (n : PlainNode) (link : Links) → graph_of links ≡ reference_graph all
-    → k < length links → link ≡ get_or links k link → IsNodeAt all k n
-    → link.arguments.items ≡ indices_named all (references_named n.arguments)
-read_at all links k n link is within read at =
-    sym (arguments-graph_of links k link within read)
-    ∙ (ap (λ xs. arguments xs k) is ∙ arguments_of (reference_node all) (each_node all) k n at)
-
 pub references_length : (nodes : List Node) (links : List Links) → graph_of links ≡ reference_graph (plain_nodes nodes)
     → length links ≡ length nodes
 references_length nodes links is =
@@ -352,38 +343,6 @@ module _ (nodes : Nodes) (is : AreResolved nodes) where
       let way = is_way a a reaches in
       let same : way.to ≡ way.from = let one = way.is_from in let two = way.is_to in cc in
       (object nodes is).acyclic way.from.id (subst (λ (n : PlainNode). Leads nodes way.from.id n.id) same way.leads)
-
-  -- ---- what the references of a node say, by index
-
-  references_are : (k : ℕ) (n : PlainNode) → IsNodeAt nodes k n
-      → arguments (reference_graph nodes) k ≡ map (index_referred nodes) (references_named n.arguments)
-  references_are k n at =
-      arguments_of (reference_node nodes) (each_node nodes) k n at
-      ∙ indices_referred nodes (references_named n.arguments) (object nodes is).ids_rise
-      (λ name refers. ((object nodes is).each n (contains_node nodes k n at)).names_nodes name refers)
-
-  pub references_at : (links : List Links) (k : ℕ) (n : PlainNode) (link : Links) → graph_of links ≡ reference_graph nodes
-      → k < length links → link ≡ get_or links k link → IsNodeAt nodes k n
-      → link.arguments.items ≡ map (index_referred nodes) (references_named n.arguments)
-  references_at links k n link all within read at =
-      sym (arguments-graph_of links k link within read) ∙ (ap (λ xs. arguments xs k) all ∙ references_are k n at)
-
-  -- those that it refers to were judged
-  pub seen_below : (states : List State) (k : ℕ) (n : PlainNode) → IsNodeAt nodes k n → AreSeenBelow nodes states k
-      → (j : ℕ) → Contains (map (index_referred nodes) (references_named n.arguments)) j → state_at states j ≢ Unseen
-  seen_below states k n at seen j has = seen j (subst (λ xs. Contains xs j) (sym (references_are k n at)) has)
-
-  -- each of them is a node
-  pub link_within : (links : List Links) (k : ℕ) (link : Links) → graph_of links ≡ reference_graph nodes
-      → k < length links → link ≡ get_or links k link
-      → (j : ℕ) → j < length link.arguments.items → get_or link.arguments.items j 0 < node_count nodes
-  link_within links k link all within read j below =
-      let indices = link.arguments.items in
-      let b = get_or indices j 0 in
-      let same : arguments (reference_graph nodes) k ≡ indices =
-      ap (λ xs. arguments xs k) (sym all) ∙ arguments-graph_of links k link within read in
-      let has : Contains indices b = (j, below, get_or_default indices j b 0 below) in
-      subst (λ c. b < c) (reference_count nodes) (reference_within nodes k b (subst (λ xs. Contains xs b) (sym same) has))
 
 -- a node that loads a collection is one of the graph
 pub node_there : (c : CheckedGraph) (index : ℕ) (id : List ℕ) → collection_of_node c index ≡ Some id → index < node_count c.nodes

@@ -12,8 +12,7 @@ use Rattle.oe_check.specs.Links.{links_of, loaded_collection}
 use Rattle.oe_requests.specs.Operations.{Operation, Outline}
 use Rattle.oe_meanings.specs.SoundNodes.{IsSoundNode}
 use Rattle.oe_meanings.specs.Stands.{IsSound}
-use Rattle.oe_check.specs.Walked.{AreResolved, IsNodeOf, AreSound}
-use Rattle.oe_check.specs.declared.checked.State.{State}
+use Rattle.oe_check.specs.Walked.{AreResolved, IsNodeOf, AreSound, State}
 
 -- the nodes of a graph with the index of its result, and the shapes and kinds of the collections that it was checked
 -- over

@@ -3,14 +3,13 @@ use Rattle.std.specs.Prelude.{◌≡◌, ⊤, ℕ, ◌<◌, ◌^◌, true, false
 use Rattle.oe_dims.specs.declared.dims.DimsRow.{DimsRow}
 use Rattle.oe_graph.specs.Printed.{ids_of}
 use Rattle.oe_graph.specs.Tree.{Nodes}
+use Rattle.oe_graph.specs.declared.node_state.NodeState.TheVariants.{Sound}
 use Rattle.oe_requests.specs.Operations.{Outline}
 use Rattle.oe_requests.specs.Requests.{CubeRequest, aggregate_temporal}
 use Rattle.oe_meanings.specs.Results.{cubes_among}
 use Rattle.oe_meanings.specs.Rows.{collection_not_found}
 use Rattle.oe_meanings.specs.Stands.{cubes_of}
-use Rattle.oe_check.specs.Walked.{outline_kept}
-use Rattle.oe_check.specs.declared.checked.State.{State}
-use Rattle.oe_check.specs.declared.checked.State.TheVariants.{Sound}
+use Rattle.oe_check.specs.Walked.{State, outline_kept}
 use Rattle.oe_check.specs.declared.input.Input.{Input}
 
 -- ---- outlines

@@ -1,14 +1,16 @@
 -- How far the walk over the nodes of a graph has come.
-use Rattle.std.specs.Prelude.{◌≡◌, ◌≢◌, ℕ, ⊤, Bool, true, false, ◌&&◌, List, [], ◌∷◌, Option, Some, None, Contains, slice_get, slice_index_or, option_and_then}
+use Rattle.std.specs.Prelude.{◌≡◌, ℕ, List, Option, Some, None, Contains, option_and_then}
 use Rattle.std.specs.Arc.{arc_value}
 use Rattle.oe_dims.specs.declared.dims.DimsRow.{DimsRow}
-use Rattle.oe_graph.specs.Faults.{IsLeast, is_before}
-use Rattle.oe_graph.specs.Indices.{reference_graph}
+use Rattle.oe_graph.specs.Faults.{IsLeast}
 use Rattle.oe_graph.specs.References.{each_node, references_named}
 use Rattle.oe_graph.specs.Resolved.{IsResolved}
+use Rattle.oe_graph.specs.States as graph
+use Rattle.oe_graph.specs.States.{IsNodeAt, state_at}
 use Rattle.oe_graph.specs.Tree.{Nodes, PlainNode}
 use Rattle.oe_graph.specs.declared.fault.Fault.{Fault}
-use Rattle.oe_order.specs.Graph.{arguments}
+use Rattle.oe_graph.specs.declared.node_state.NodeState.{NodeState}
+use Rattle.oe_graph.specs.declared.node_state.NodeState.TheVariants.{Sound}
 use Rattle.oe_expr.specs.Nodes.{node_named}
 use Rattle.oe_meanings.specs.Graphs.{outline_at, node_outline, operation_at}
 use Rattle.oe_check.specs.Links.{loaded_collection}
@@ -18,8 +20,6 @@ use Rattle.oe_requests.specs.Requests.{CubeRequest, cube_request_at}
 use Rattle.oe_meanings.specs.SoundNodes.{IsSoundOperation, IsSoundNode}
 use Rattle.oe_meanings.specs.Stands.{cubes_of, HasNoFault, StandsHere, IsSound, StandsAt, StandsInGraph}
 use Rattle.oe_check.specs.declared.checked.CheckedNode.{CheckedNode}
-use Rattle.oe_check.specs.declared.checked.State.{State}
-use Rattle.oe_check.specs.declared.checked.State.TheVariants.{Unseen, Faulty, Sound}
 use Rattle.oe_check.specs.declared.walk.Verdict.{Verdict}
 use Rattle.oe_check.specs.declared.walk.Verdict.TheVariants as verdict
 
@@ -32,22 +32,9 @@ pub record AreResolved (nodes : Nodes) : Type 0 where
 abbrev pub IsNodeOf : Nodes → PlainNode → Type 0
 IsNodeOf nodes n = Contains (each_node nodes) n
 
--- the node at an index
-abbrev pub IsNodeAt : Nodes → ℕ → PlainNode → Type 0
-IsNodeAt nodes index n = slice_get (each_node nodes) index ≡ Some n
-
-abbrev pub state_at : List State → ℕ → State
-state_at states index = slice_index_or states index Unseen
-
-abbrev pub is_sound : State → Bool
-is_sound Unseen = false
-is_sound Faulty = false
-is_sound (Sound kept) = true
-
--- the nodes at these indices are sound
-abbrev pub are_sound : List State → List ℕ → Bool
-are_sound states [] = true
-are_sound states (index ∷ indices) = is_sound (state_at states index) && are_sound states indices
+-- what is known of a node
+abbrev pub State : Type 0
+State = NodeState CheckedNode
 
 abbrev pub outline_kept : CheckedNode → Outline
 outline_kept kept = record { shape = arc_value kept.shape; kind = kept.kind }
@@ -101,52 +88,21 @@ module _ (rows : List DimsRow) (nodes : Nodes) where
         → operation_at rows nodes n ≡ Some (plain_operation kept.operation)
     pub collection_is : (n : PlainNode) → node_named name nodes ≡ Some n → loaded_collection n ≡ kept.collection
 
-  -- the state of the node of a name is right
-  abbrev pub IsState : List ℕ → State → Type 0
-  IsState name Unseen = ⊤
-  IsState name Faulty = ¬ IsSound rows nodes name
-  IsState name (Sound kept) = IsSoundOf name kept
+  -- a fault stands at the node of a name or in its callback
+  abbrev pub IsFaultAt : List ℕ → Fault → Type 0
+  IsFaultAt name fault = StandsAt rows nodes name fault.code fault.node
 
-  -- a fault stands at a node that was judged
-  pub record StandsSeen (states : List State) (fault : Fault) : Type 0 where
-    pub index : ℕ
-    pub node : PlainNode
-    pub is_node : IsNodeAt nodes index node
-    pub seen : state_at states index ≢ Unseen
-    pub stands : StandsAt rows nodes node.id fault.code fault.node
-
-  abbrev pub IsLeastSeen : List State → Option Fault → Type 0
-  IsLeastSeen states None = (fault : Fault) → ¬ StandsSeen states fault
-  IsLeastSeen states (Some fault) =
-      StandsSeen states fault × ((other : Fault) → StandsSeen states other → is_before other fault ≡ false)
-
-  pub record IsWalked (states : List State) (found : Option Fault) : Type 0 where
-    pub each : (index : ℕ) (n : PlainNode) → IsNodeAt nodes index n → IsState n.id (state_at states index)
-    pub least : IsLeastSeen states found
-    -- where no fault was found, no node has one at or below it
-    pub all : found ≡ None → (index : ℕ) → state_at states index ≢ Faulty
+  -- the states are right, and this is the least fault that was found
+  abbrev pub IsWalked : List State → Option Fault → Type 0
+  IsWalked states found = graph.IsWalked (IsSound rows nodes) IsSoundOf IsFaultAt nodes states found
 
   -- ---- all nodes
 
   -- each node has no fault at or below it, and this is kept of them
   abbrev pub AreSound : List State → Type 0
-  AreSound states =
-      (index : ℕ) (n : PlainNode) → IsNodeAt nodes index n
-      → (kept : CheckedNode) × (slice_get states index ≡ Some (Sound kept)) × IsSoundOf n.id kept
+  AreSound states = graph.AreSound IsSoundOf nodes states
 
   -- the least fault where one stands
   abbrev pub IsChecked : List State → Option Fault → Type 0
   IsChecked states None = AreSound states
   IsChecked states (Some fault) = IsLeast (StandsInGraph rows nodes) fault
-
--- ---- one step
-
--- each node that the node at an index refers to was judged
-abbrev pub AreSeenBelow : Nodes → List State → ℕ → Type 0
-AreSeenBelow nodes states index =
-    (k : ℕ) → Contains (arguments (reference_graph nodes) index) k → state_at states k ≢ Unseen
-
--- no other node's state changes, and that of this one is known then
-pub record IsStep (index : ℕ) (before after : List State) : Type 0 where
-  pub others : (k : ℕ) → k ≢ index → state_at after k ≡ state_at before k
-  pub seen : state_at after index ≢ Unseen

@@ -6,7 +6,7 @@ ghost use Rattle.oe_dims.specs.Names.{same_name, names_rise};
 use crate::reach::{differ_along, is_spatial, is_wrap, same_kind, time_fold};
 use oe_dims::{CellKind, Dims, Kind, Shape, Text};
 use oe_fold::Reducer;
-use oe_graph::Graph;
+use oe_graph::{Graph, NodeState};
 use oe_order::Links;
 use oe_requests::Operation;
 use std::marker::Model;
@@ -25,15 +25,7 @@ pub(crate) struct CheckedNode {
 }
 
 /// What is known of a node.
-#[derive(Drop)]
-pub(crate) enum State {
-    /// Not yet judged.
-    Unseen,
-    /// There is a fault at or below it.
-    Faulty,
-    /// There is none.
-    Sound(CheckedNode),
-}
+pub(crate) type State = NodeState<CheckedNode>;
 
 /// A graph without a fault over the collections of a catalogue, as [`check`](crate::check) gives it: for each node its
 /// operation, and the shape and the kind of its cube (openEO API, process graphs). Nodes are named by their indices in
@@ -168,7 +160,7 @@ impl Checked {
         ensures collection { result.now.collection ≡ collection_of_node self.now node }
     {
         match &self.states[node as usize] {
-            State::Sound(node) => node,
+            NodeState::Sound(node) => node,
             _ => unreachable!(),
         }
     }

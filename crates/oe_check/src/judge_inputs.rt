@@ -5,20 +5,21 @@ ghost use Rattle.oe_dims.specs.Plain.{plain_rows};
 ghost use Rattle.oe_dims.specs.declared.dims.DimsRow.{DimsRow};
 ghost use Rattle.oe_graph.specs.Plain.{plain_nodes};
 ghost use Rattle.oe_graph.specs.Printed.{ids_of};
+ghost use Rattle.oe_graph.specs.States.{state_at};
 ghost use Rattle.oe_meanings.specs.Graphs.{row_outline};
 ghost use Rattle.oe_check.specs.Inputs.{AreInputs, AreNamed, both_outlines, outline_in, outline_sound};
 ghost use Rattle.oe_check.specs.Links.{index_referred};
 ghost use Rattle.oe_requests.specs.Operations.{Outline};
 ghost use Rattle.oe_requests.specs.PlainRequests.{plain_cube_request};
 ghost use Rattle.oe_requests.specs.Requests.{cube_ids};
-ghost use Rattle.oe_check.specs.Walked.{AreResolved, IsKnown, state_at};
+ghost use Rattle.oe_check.specs.Walked.{AreResolved, IsKnown};
 ghost use Rattle.oe_expr.specs.Requests.{with_both};
 
 use crate::checked::State;
 use crate::input::Input;
 use crate::links::index_of;
 use oe_dims::Dims;
-use oe_graph::Node;
+use oe_graph::{Node, NodeState};
 use oe_requests::Request;
 
 /// The cubes that a request works on, the one twice where it takes one alone: of a load the collection, `None` where
@@ -117,7 +118,7 @@ fn input_of(state: &State) -> Option<Input<'_>>
     ensures { option_map outline_in result ≡ outline_sound state.now }
 {
     match state {
-        State::Sound(kept) => Some(Input {
+        NodeState::Sound(kept) => Some(Input {
             shape: &*kept.shape,
             kind: kept.kind,
             kept: Some(&kept.shape),

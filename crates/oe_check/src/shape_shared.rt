@@ -9,6 +9,7 @@ ghost use Rattle.oe_meanings.specs.Results.{HasValidLabels, IsResultShape, where
 use crate::checked::State;
 use crate::input::Input;
 use oe_dims::{Kind, Shape};
+use oe_graph::NodeState;
 use oe_meanings::{adds_nothing, recall_rules, result_shape};
 use oe_memory::OutOfMemory;
 use oe_requests::Request;
@@ -118,7 +119,7 @@ fn equal_among<'a>(states: &'a [State], shape: &Shape) -> Option<&'a Arc<Shape>>
     ensures { IfSome result (λ kept. arc_value kept.now ≡ shape.now) }
 {
     for state in states {
-        if let State::Sound(node) = state {
+        if let NodeState::Sound(node) = state {
             if are_equal(&node.shape, shape) {
                 return Some(&node.shape);
             }

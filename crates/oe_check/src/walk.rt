@@ -1,17 +1,17 @@
 // The walk over the nodes of a graph: those that a node refers to before the node itself.
-ghost use Rattle.std.specs.Prelude.{◌≡◌, ◌<◌, ℕ, length, replicate, IfOk, OnOk, slice_index_or, slice_set};
+ghost use Rattle.std.specs.Prelude.{◌≡◌, ◌<◌, length, IfOk, OnOk, slice_set};
 ghost use Rattle.oe_dims.specs.Plain.{plain_rows};
 ghost use Rattle.oe_graph.specs.Indices.{AreNodesSorted, reference_graph};
 ghost use Rattle.oe_graph.specs.Plain.{plain_nodes};
+ghost use Rattle.oe_graph.specs.States.{AreSeenBelow, IsStep, state_at};
+ghost use Rattle.oe_graph.specs.declared.node_state.NodeState.TheVariants.{Unseen};
 ghost use Rattle.oe_order.specs.Graph.{graph_of};
-ghost use Rattle.oe_check.specs.Walked.{AreResolved, AreSeenBelow, IsChecked, IsStep, IsWalked, state_at};
-ghost use Rattle.oe_check.specs.Walked as spec;
-ghost use Rattle.oe_check.specs.declared.checked.State.TheVariants.{Unseen};
+ghost use Rattle.oe_check.specs.Walked.{AreResolved, IsChecked, IsWalked};
 
 use crate::checked::{CheckedNode, State};
 use crate::judge::judge_node;
 use oe_dims::Dims;
-use oe_graph::{Fault, Node, note_fault};
+use oe_graph::{Fault, Node, NodeState, are_sound, note_fault, unseen_states};
 use oe_memory::OutOfMemory;
 use oe_order::Links;
 use std::alloc::Global;
@@ -56,16 +56,6 @@ pub(crate) fn walk_nodes(
     Ok(walk)
 }
 
-fn unseen_states(alloc: Global, count: usize) -> Result<Vec<State>, OutOfMemory>
-    ensures { IfOk result (λ states. states.items ≡ replicate count Unseen) }
-{
-    let mut states = Vec::with_capacity(alloc, count)?;
-    for _index in 0..count {
-        states.push(State::Unseen)?;
-    }
-    Ok(states)
-}
-
 /// Judges a node, where those that it refers to were judged.
 fn visit(
     alloc: Global,
@@ -89,16 +79,16 @@ fn visit(
     ensures step { OnOk result (IsStep index walk.old.states.items walk.new.states.items) }
 {
     if !are_sound(&links[index].arguments, &walk.states) {
-        set_state(&mut walk.states, index, State::Faulty);
+        set_state(&mut walk.states, index, NodeState::Faulty);
         return Ok(());
     }
     let verdict = judge_node(alloc, nodes, &walk.states, dims, &nodes[index])?;
     match verdict {
         Verdict::Stands(fault) => {
-            set_state(&mut walk.states, index, State::Faulty);
+            set_state(&mut walk.states, index, NodeState::Faulty);
             note_fault(&mut walk.found, fault);
         }
-        Verdict::Sound(node) => set_state(&mut walk.states, index, State::Sound(node)),
+        Verdict::Sound(node) => set_state(&mut walk.states, index, NodeState::Sound(node)),
     }
     Ok(())
 }
@@ -109,25 +99,4 @@ fn set_state(states: &mut Vec<State>, index: usize, state: State)
     ensures { states.new.items ≡ slice_set states.old.items index state }
 {
     states[index] = state;
-}
-
-/// Whether the nodes at these indices are sound.
-fn are_sound(indices: &[u32], states: &[State]) -> bool
-    requires { (k : ℕ) → k < length indices.now
-        → slice_index_or indices.now k 0 < length states.now }
-    ensures { result ≡ spec.are_sound states.now indices.now }
-{
-    for index in indices {
-        if !is_sound(&states[*index as usize]) {
-            return false;
-        }
-    }
-    true
-}
-
-/// Whether there is no fault at or below a node that was judged.
-fn is_sound(state: &State) -> bool
-    ensures { result ≡ spec.is_sound state.now }
-{
-    matches!(state, State::Sound(_))
 }

@@ -3,7 +3,8 @@ use Rattle.std.proofs.lemmas.List.{take_all}
 use Rattle.oe_graph.specs.Plain.{plain_node, plain_nodes}
 use Rattle.oe_graph.specs.declared.tree.Node.{Node}
 use Rattle.oe_check.specs.Links.{link_of}
-use Rattle.oe_check.proofs.LinkLemmas.{node_item, node_read, link_parts, links_next, links_all, read_at, references_length}
+use Rattle.oe_graph.proofs.StateLemmas.{references_at}
+use Rattle.oe_check.proofs.LinkLemmas.{node_item, node_read, link_parts, links_next, links_all, references_length}
 use Rattle.oe_check.proofs.links.links_between.Goals as goal
 
 pub index-requires : goal.index-requires
@@ -27,7 +28,7 @@ loop-index-preserved c =
     (link_parts all c.requires.resolved (plain_node n) (node_item ns ns i n refl below c.index-in-loop-index.ensures) link.load link.arguments.items
     c.in_ok-link.ensures.load
     (c.in_ok-link.ensures.arguments
-    ∙ read_at all read i (plain_node n) c.index.result.now c.requires.graph (omega (arith, below, long)) c.index.ensures
+    ∙ references_at all read i (plain_node n) c.index.result.now c.requires.graph (omega (arith, below, long)) c.index.ensures
     (node_read ns i n below c.index-in-loop-index.ensures)))
 
 pub returns : goal.returns

@@ -1,20 +1,20 @@
 use Rattle.std.proofs.Common.{◌≡◌, ◌<◌, ℕ, true, false, List, Some, length, get_or, sym, ap, ◌∙◌, subst, arith, rules}
 use Rattle.oe_dims.specs.Plain.{plain_rows}
-use Rattle.oe_expr.proofs.StateLemmas.{count_plain, within_links}
+use Rattle.oe_expr.proofs.StateLemmas.{count_plain}
 use Rattle.oe_graph.proofs.ResolvedLemmas.{SomeNode, node_below}
+use Rattle.oe_graph.proofs.StateLemmas.{faulty_among, faulty_known, link_within, one_changes, read_sound, seen_below, sound_known, within_links}
 use Rattle.oe_graph.specs.Faults.{least}
+use Rattle.oe_graph.specs.Indices.{indices_named}
 use Rattle.oe_graph.specs.Plain.{plain_node, plain_nodes}
 use Rattle.oe_graph.specs.References.{references_named}
+use Rattle.oe_graph.specs.States.{IsStep}
+use Rattle.oe_graph.specs.declared.node_state.NodeState.TheVariants.{Faulty, Sound}
 use Rattle.oe_graph.specs.declared.tree.Node.{Node}
-use Rattle.oe_check.specs.Links.{index_referred}
 use Rattle.oe_meanings.specs.Graphs.{outline_at}
-use Rattle.oe_check.specs.Walked.{IsStep, IsWalked}
-use Rattle.oe_check.specs.declared.checked.State.{State}
-use Rattle.oe_check.specs.declared.checked.State.TheVariants.{Faulty, Sound}
+use Rattle.oe_check.specs.Walked.{IsWalked, State}
 use Rattle.oe_check.specs.declared.walk.Verdict.TheVariants as verdict
-use Rattle.oe_check.proofs.BelowLemmas.{faulty_below}
-use Rattle.oe_check.proofs.LinkLemmas.{link_within, node_item, node_read, seen_below}
-use Rattle.oe_check.proofs.WalkLemmas.{all_known, faulty_known, one_changes, read_sound, read_verdict, sound_known, walked_below, walked_faulty, walked_sound}
+use Rattle.oe_check.proofs.LinkLemmas.{node_item, node_read}
+use Rattle.oe_check.proofs.WalkLemmas.{all_known, read_verdict, walked_below, walked_faulty, walked_sound}
 use Rattle.oe_check.proofs.walk.visit.Goals as goal
 
 node_here : (nodes : List Node) (index : ℕ) → index < length nodes → SomeNode (plain_nodes nodes) index
@@ -35,7 +35,7 @@ are_sound-requires c =
     let count = count_plain nodes in
     subst (λ (xs : List ℕ). (k : ℕ) → k < length xs → get_or xs k 0 < length c.deref-2.result.now) (sym c.deref.ensures.value)
     (λ k below.
-    let here = link_within (plain_nodes nodes) c.requires.resolved links c.args.index link c.requires.links within c.index.ensures k below in
+    let here = link_within (plain_nodes nodes) links c.args.index link c.requires.links within c.index.ensures k below in
     omega (arith, c.requires.states))
 
 pub returns-then-not-are_sound-clause-walked : goal.returns-then-not-are_sound-clause-walked
@@ -49,14 +49,13 @@ returns-then-not-are_sound-clause-walked c =
     let within = within_links nodes links c.args.index c.requires.links c.requires.within in
     let inside : c.args.index < length states = omega (arith, c.requires.states, c.requires.within) in
     let not : c.are_sound.result ≡ false = search rules in
-    let known = read_sound (plain_nodes nodes) c.requires.resolved links c.args.index node.node c.index.result.now states c.deref-2.result.now
+    let known = read_sound (plain_nodes nodes) links c.args.index node.node c.index.result.now states c.deref-2.result.now
     c.deref.result.now c.are_sound.result c.requires.links within c.index.ensures node.is_there c.deref.ensures.value c.deref-2.ensures.value
     c.are_sound.ensures in
-    let names = references_named node.node.arguments in
-    let faulty = faulty_below states (index_referred (plain_nodes nodes)) names (known ∙ not)
-    (seen_below (plain_nodes nodes) c.requires.resolved states c.args.index node.node node.is_there c.requires.below) in
+    let faulty = faulty_among states (indices_named (plain_nodes nodes) (references_named node.node.arguments)) (known ∙ not)
+    (seen_below (plain_nodes nodes) states c.args.index node.node node.is_there c.requires.below) in
     subst (λ (ss : List State). IsWalked rows (plain_nodes nodes) ss found) (sym c.set_state.ensures)
-    (walked_below rows (plain_nodes nodes) c.requires.resolved states found c.requires.walked c.args.index node.node node.is_there inside c.requires.unseen faulty)
+    (walked_below rows (plain_nodes nodes) c.requires.resolved states found c.requires.walked c.args.index node.node node.is_there inside faulty)
 
 pub returns-then-not-are_sound-clause-step : goal.returns-then-not-are_sound-clause-step
 returns-then-not-are_sound-clause-step c =
@@ -84,7 +83,7 @@ returns-in-Stands-clause-walked c =
     let within = within_links ns links c.args.index c.requires.links c.requires.within in
     let inside : c.args.index < length states = omega (arith, c.requires.states, c.requires.within) in
     let yes : c.are_sound.result ≡ true = search rules in
-    let known = read_sound nodes c.requires.resolved links c.args.index n c.index.result.now states c.deref-2.result.now c.deref.result.now
+    let known = read_sound nodes links c.args.index n c.index.result.now states c.deref-2.result.now c.deref.result.now
     c.are_sound.result c.requires.links within c.index.ensures at c.deref.ensures.value c.deref-2.ensures.value c.are_sound.ensures
     ∙ yes in
     let fault = c.in-Stands.fault in
@@ -93,7 +92,7 @@ returns-in-Stands-clause-walked c =
     (outline_at rows nodes) (all_known rows nodes c.requires.resolved states found c.requires.walked c.args.index n at known) in
     subst (IsWalked rows nodes c.set_state-in-Stands.new.states.items) (sym c.note_fault.ensures)
     (subst (λ (ss : List State). IsWalked rows nodes ss (least found (Some fault))) (sym c.set_state-in-Stands.ensures)
-    (walked_faulty rows nodes c.requires.resolved states found c.requires.walked c.args.index n at inside c.requires.unseen known fault judged))
+    (walked_faulty rows nodes c.requires.resolved states found c.requires.walked c.args.index n at inside known fault judged))
 
 pub returns-in-Stands-clause-step : goal.returns-in-Stands-clause-step
 returns-in-Stands-clause-step c =
@@ -116,7 +115,7 @@ returns-in-Sound-clause-walked c =
     let within = within_links ns links c.args.index c.requires.links c.requires.within in
     let inside : c.args.index < length states = omega (arith, c.requires.states, c.requires.within) in
     let yes : c.are_sound.result ≡ true = search rules in
-    let known = read_sound nodes c.requires.resolved links c.args.index n c.index.result.now states c.deref-2.result.now c.deref.result.now
+    let known = read_sound nodes links c.args.index n c.index.result.now states c.deref-2.result.now c.deref.result.now
     c.are_sound.result c.requires.links within c.index.ensures at c.deref.ensures.value c.deref-2.ensures.value c.are_sound.ensures
     ∙ yes in
     let kept = c.in-Sound.node in
@@ -124,7 +123,7 @@ returns-in-Sound-clause-walked c =
     c.deref-3.ensures.value c.deref-4.ensures.value c.in-Sound.is c.in_ok-verdict.ensures
     (outline_at rows nodes) (all_known rows nodes c.requires.resolved states found c.requires.walked c.args.index n at known) in
     subst (λ (ss : List State). IsWalked rows nodes ss found) (sym c.set_state-in-Sound.ensures)
-    (walked_sound rows nodes c.requires.resolved states found c.requires.walked c.args.index n at inside c.requires.unseen known kept judged)
+    (walked_sound rows nodes c.requires.resolved states found c.requires.walked c.args.index n at inside known kept judged)
 
 pub returns-in-Sound-clause-step : goal.returns-in-Sound-clause-step
 returns-in-Sound-clause-step c =

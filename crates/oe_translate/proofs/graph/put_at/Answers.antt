@@ -3,7 +3,7 @@ use Rattle.oe_graph.specs.Plain.{plain_node, plain_nodes}
 use Rattle.oe_graph.specs.Printed.{node_count}
 use Rattle.oe_graph.specs.Tree.{Nodes}
 use Rattle.oe_expr.proofs.StateLemmas.{count_plain}
-use Rattle.oe_check.specs.Walked.{IsNodeAt}
+use Rattle.oe_graph.specs.States.{IsNodeAt}
 use Rattle.oe_check.proofs.LinkLemmas.{node_read}
 use Rattle.oe_translate.proofs.GraphLemmas.{one_more}
 use Rattle.oe_translate.proofs.graph.put_at.Goals as goal
