@@ -11,7 +11,7 @@ use Rattle.oe_graph.specs.States.{state_at}
 use Rattle.oe_graph.specs.Tree.{Nodes, PlainNode}
 use Rattle.oe_graph.proofs.ResolvedLemmas.{NodeAt}
 use Rattle.oe_expr.specs.Requests.{with_both}
-use Rattle.oe_expr.proofs.StateLemmas.{within_nodes}
+use Rattle.oe_graph.proofs.StateLemmas.{within_nodes}
 use Rattle.oe_meanings.proofs.RequestLemmas.{EachOf, of_node_request}
 use Rattle.oe_check.proofs.LinkLemmas.{index_is, object}
 use Rattle.oe_meanings.specs.Graphs.{row_outline, outline_named}

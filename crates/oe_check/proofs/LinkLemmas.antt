@@ -32,7 +32,8 @@ use Rattle.oe_graph.specs.Tree.{Nodes, no_nodes, node, PlainNode}
 use Rattle.oe_graph.specs.declared.tree.Node.{Node}
 use Rattle.oe_expr.specs.Nodes.{node_named}
 use Rattle.oe_expr.proofs.NodeLemmas.{contains_node}
-use Rattle.oe_expr.proofs.StateLemmas.{plain_id, each_plain, count_plain, node_at_index, within_nodes, shift}
+use Rattle.oe_graph.proofs.StateLemmas.{within_nodes}
+use Rattle.oe_expr.proofs.StateLemmas.{plain_id, each_plain, count_plain, node_at_index, shift}
 use Rattle.oe_order.specs.Graph as order
 use Rattle.oe_order.specs.Graph.{graph_of, arguments, RefersWithin, Reaches, IsAcyclic}
 use Rattle.oe_order.specs.declared.Links.{Links}

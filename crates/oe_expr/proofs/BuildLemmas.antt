@@ -8,9 +8,11 @@ use Rattle.oe_fold.specs.declared.reducer.Reducer.{Reducer}
 use Rattle.oe_graph.specs.Faults.{IsLeast}
 use Rattle.oe_graph.specs.Plain.{plain_graph, plain_nodes}
 use Rattle.oe_graph.specs.Resolved.{IsResolvedObject, IsResolvedUnder}
+use Rattle.oe_graph.specs.States.{state_at}
 use Rattle.oe_graph.specs.Tree.{Nodes, PlainGraph, PlainNode}
 use Rattle.oe_graph.specs.declared.code.Code.{Code}
 use Rattle.oe_graph.specs.declared.fault.Fault.{Fault}
+use Rattle.oe_graph.specs.declared.node_state.NodeState.TheVariants.{Unseen, Sound}
 use Rattle.oe_graph.specs.declared.tree.Graph.{Graph, out-Graph}
 use Rattle.oe_graph.proofs.ResolvedLemmas.{resolved_object, node_below}
 use Rattle.oe_graph.proofs.PartLemmas.{graph_parts}
@@ -21,11 +23,9 @@ use Rattle.oe_expr.specs.NodeKinds.{graph_kind, kind_at}
 use Rattle.oe_expr.specs.Nodes.{id_at, node_named}
 use Rattle.oe_expr.specs.Scope.{PlainScope, scope_parameters}
 use Rattle.oe_expr.specs.Stands.{IsSound, sound, StandsAt, StandsOnPath, own_fault}
-use Rattle.oe_expr.specs.States.{kept_kind}
-use Rattle.oe_expr.specs.Walked.{AreResolved, AreSound, state_at}
+use Rattle.oe_expr.specs.States.{State, kept_kind}
+use Rattle.oe_expr.specs.Walked.{AreResolved, AreSound}
 use Rattle.oe_expr.specs.declared.program.Program.{Program}
-use Rattle.oe_expr.specs.declared.state.State.{State}
-use Rattle.oe_expr.specs.declared.state.State.TheVariants.{Unseen, Sound}
 use Rattle.oe_expr.specs.declared.walk.Judged.{Judged}
 use Rattle.oe_expr.proofs.KindLemmas.{keeps_kind}
 use Rattle.oe_expr.proofs.NodeLemmas.{node_is, index_of_node, id_at_is}

@@ -12,7 +12,6 @@ pub mod KindCountLemmas
 pub mod ArgumentLemmas
 pub mod JudgeLemmas
 pub mod VerdictLemmas
-pub mod StepLemmas
 pub mod LackLemmas
 pub mod BuildLemmas
 pub mod LabelLemmas

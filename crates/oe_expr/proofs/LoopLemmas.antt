@@ -16,6 +16,7 @@ use Rattle.oe_fold.specs.declared.reducer.Reducer.{Reducer}
 use Rattle.oe_graph.specs.Plain.{plain_nodes}
 use Rattle.oe_graph.specs.Printed.{node_count}
 use Rattle.oe_graph.specs.References.{argument_named, each_node, parameters_named}
+use Rattle.oe_graph.specs.States.{IsNodeAt}
 use Rattle.oe_graph.specs.Tree as tree
 use Rattle.oe_graph.specs.Tree.{Argument, Named, Nodes, no_nodes, node, PlainGraph, PlainNode}
 use Rattle.oe_graph.specs.declared.tree.Node.{Node}
@@ -30,7 +31,7 @@ use Rattle.oe_expr.specs.PlainRequests.{plain_cell_request}
 use Rattle.oe_expr.specs.Requests.{Scalar, literal, of_node, of_x, of_y, of_context, Items, the_data, written, CellRequest, unary, binary, choice, reduction, element, scalar_in, scalars_in, items_in, written_list, read, two_cells, binary_request, cell_request_of, cell_request_at, has_plain_equality, flag_in, passes, is_scalar_literal, counter_in, list_index_in, label_in}
 use Rattle.oe_expr.specs.Scope.{PlainScope, Environment, IsScope, scope_parameters}
 use Rattle.oe_expr.specs.Value.{node_value_at, node_value, request_value}
-use Rattle.oe_expr.specs.Walked.{AreResolved, IsNodeAt}
+use Rattle.oe_expr.specs.Walked.{AreResolved}
 use Rattle.oe_expr.specs.declared.operation.Binary.{Binary}
 use Rattle.oe_expr.specs.declared.operation.Binary.TheVariants.{Add, Subtract, Multiply, Divide, Modulo, Equal, NotEqual, Greater, GreaterOrEqual, Less, LessOrEqual, And, Or, Xor}
 use Rattle.oe_expr.specs.declared.operation.Operation.{Operation}
@@ -175,13 +176,13 @@ module _ (scope : PlainScope) (context : Cell) (nodes : List Node) (is : AreReso
   abbrev D : Callback
   D = callback_of (record { nodes = plain_nodes nodes; result = index }) scope context
 
-  seen : (n : PlainNode) (k : ℕ) → IsNodeAt nodes k n → (name : List ℕ) → Contains (parameters_named n.arguments) name → Sees scope name
+  seen : (n : PlainNode) (k : ℕ) → IsNodeAt (plain_nodes nodes) k n → (name : List ℕ) → Contains (parameters_named n.arguments) name → Sees scope name
   seen n k at name there =
       let has : Contains (each_node (plain_nodes nodes)) n = (k, slice_get_within (each_node (plain_nodes nodes)) k n at, get_or_from_slice_get (each_node (plain_nodes nodes)) k n n at) in
       let in_scope = (is.resolved.each n has).names_parameters name there in
       sees_of (scope_parameters scope) name in_scope.0 in_scope.1 in_scope.2
 
-  node_is : (e : Environment) (n : PlainNode) (k : ℕ) → IsNodeAt nodes k n → (r : CellRequest) → cell_request_at n ≡ Some r
+  node_is : (e : Environment) (n : PlainNode) (k : ℕ) → IsNodeAt (plain_nodes nodes) k n → (r : CellRequest) → cell_request_at n ≡ Some r
       → request_value e (node_value_at e (plain_nodes nodes)) r ≡ node_value_at e (plain_nodes nodes) n.id
   node_is e n k at r asks =
       ap (λ (o : Option CellRequest). option_map_or (request_value e (node_value_at e (plain_nodes nodes))) o Empty) (sym asks)

@@ -13,10 +13,9 @@ use Rattle.oe_expr.specs.PlainRequests.{plain_cell_request}
 use Rattle.oe_expr.specs.Requests.{cell_request_at}
 use Rattle.oe_expr.specs.Rows.{node_fault, request_fault}
 use Rattle.oe_expr.specs.Scope.{PlainScope}
-use Rattle.oe_expr.specs.States.{kind_named, fault_or_kind, judged_request}
+use Rattle.oe_expr.specs.States.{State, kind_named, fault_or_kind, judged_request}
 use Rattle.oe_expr.specs.Walked.{IsJudgedSound, IsVerdict}
 use Rattle.oe_expr.specs.declared.request.Request.{Request}
-use Rattle.oe_expr.specs.declared.state.State.{State}
 use Rattle.oe_expr.specs.declared.walk.Verdict.{Verdict}
 
 ok_parts : (fault : Option Code) (given kind : Option CellKind) → fault_or_kind fault given ≡ Ok kind → (fault ≡ None) × (given ≡ kind)

@@ -1,6 +1,8 @@
 -- How far the nodes of a callback are compiled.
 use Rattle.std.specs.Prelude.{◌≡◌, ℕ, ◌<◌, ◌≤◌, Bool, true, false, List, length, Some, Contains}
 use Rattle.std.specs.List.{slice_get, slice_index_or}
+use Rattle.oe_graph.specs.Plain.{plain_nodes}
+use Rattle.oe_graph.specs.States.{IsNodeAt}
 use Rattle.oe_graph.specs.Tree.{PlainNode}
 use Rattle.oe_graph.specs.declared.tree.Node.{Node}
 use Rattle.oe_expr.specs.Callback.{Callback}
@@ -8,7 +10,6 @@ use Rattle.oe_expr.specs.PlainRequests.{plain_cell_request}
 use Rattle.oe_expr.specs.Places.{IsPlace, IsStarted, null, request_names}
 use Rattle.oe_expr.specs.States.{index_named}
 use Rattle.oe_expr.specs.Value.{node_value_at}
-use Rattle.oe_expr.specs.Walked.{IsNodeAt}
 use Rattle.oe_expr.specs.declared.program.Operand.{Operand}
 use Rattle.oe_expr.specs.declared.program.Program.{Program}
 use Rattle.oe_expr.specs.declared.walk.Judged.{Judged}
@@ -26,8 +27,8 @@ AreMarked nodes order needed from =
 -- the needed nodes among the entries before one have places with their values
 abbrev pub AreNodesPlaced : Callback → List Node → List Judged → List Bool → List Operand → Program → ℕ → Type 0
 AreNodesPlaced c nodes order needed places p end =
-    (j : ℕ) (entry : Judged) (n : PlainNode) → j < end → slice_get order j ≡ Some entry → IsNodeAt nodes entry.node n
-    → IsNeeded needed entry.node
+    (j : ℕ) (entry : Judged) (n : PlainNode) → j < end → slice_get order j ≡ Some entry
+    → IsNodeAt (plain_nodes nodes) entry.node n → IsNeeded needed entry.node
     → IsPlace c p (λ e. node_value_at e c.graph.nodes n.id) (slice_index_or places entry.node null)
 
 pub record IsCompiling (c : Callback) (nodes : List Node) (order : List Judged) (needed : List Bool)

@@ -1,6 +1,5 @@
 -- What the check keeps of the nodes: the node of a name, its state, and its kind.
 use Rattle.std.specs.Prelude.{ℕ, List, Option, Some, None, Result, Ok, Err, Bool, if◌then◌else◌}
-use Rattle.std.specs.List.{slice_index_or}
 use Rattle.std.specs.Option.{option_map_or}
 use Rattle.oe_cell.specs.declared.cell.Cell.{Cell}
 use Rattle.oe_dims.specs.Indices.{index_where}
@@ -8,19 +7,24 @@ use Rattle.oe_dims.specs.Names.{same_name}
 use Rattle.oe_dims.specs.declared.kind.CellKind.{CellKind}
 use Rattle.oe_graph.specs.declared.code.Code.{Code}
 use Rattle.oe_graph.specs.declared.code.Code.TheVariants.{CellKindInvalid}
+use Rattle.oe_graph.specs.States.{state_at}
+use Rattle.oe_graph.specs.declared.node_state.NodeState.{NodeState}
+use Rattle.oe_graph.specs.declared.node_state.NodeState.TheVariants.{Unseen, Faulty, Sound}
 use Rattle.oe_graph.specs.declared.tree.Node.{Node}
 use Rattle.oe_expr.specs.NodeKinds.{request_kind}
 use Rattle.oe_expr.specs.Requests.{CellRequest}
 use Rattle.oe_expr.specs.Rows.{request_fault}
 use Rattle.oe_expr.specs.Scope.{PlainScope}
-use Rattle.oe_expr.specs.declared.state.State.{State}
-use Rattle.oe_expr.specs.declared.state.State.TheVariants.{Unseen, Faulty, Sound}
+
+-- what is known of a node: of a sound one, the kind that it gives
+abbrev pub State : Type 0
+State = NodeState (Option CellKind)
 
 abbrev pub index_named : List Node → List ℕ → Option ℕ
 index_named nodes name = index_where (λ (n : Node). same_name n.id name) nodes
 
 abbrev pub state_named : List Node → List State → List ℕ → State
-state_named nodes states name = option_map_or (λ k. slice_index_or states k Unseen) (index_named nodes name) Unseen
+state_named nodes states name = option_map_or (λ k. state_at states k) (index_named nodes name) Unseen
 
 abbrev pub kept_kind : State → Option CellKind
 kept_kind Unseen = None

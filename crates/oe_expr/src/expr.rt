@@ -20,7 +20,7 @@ use crate::walk::{Judged, Walk, walk_nodes};
 use oe_cell::Cell;
 use oe_dims::CellKind;
 use oe_fold::Reducer;
-use oe_graph::{Graph, Refusal};
+use oe_graph::{Graph, NodeState, Refusal};
 use oe_memory::OutOfMemory;
 use std::alloc::Global;
 use std::marker::Model;
@@ -167,7 +167,7 @@ fn known_kind(state: State) -> CellKind
     ensures { result ≡ unwrap_or (kept_kind state) Numbers }
 {
     match state {
-        State::Sound(Some(kind)) => kind,
+        NodeState::Sound(Some(kind)) => kind,
         _ => CellKind::Numbers,
     }
 }

@@ -3,18 +3,10 @@ ghost use Rattle.std.specs.Prelude.{◌≡◌, length};
 ghost use Rattle.oe_expr.specs.States.{index_named, state_named, kind_named};
 
 use oe_dims::CellKind;
-use oe_graph::Node;
+use oe_graph::{Node, NodeState};
 
-/// What the walk knows of a node.
-#[derive(Clone, Copy)]
-pub(crate) enum State {
-    /// Not yet judged.
-    Unseen,
-    /// There is a fault at or below it.
-    Faulty,
-    /// There is none, and it gives this kind.
-    Sound(Option<CellKind>),
-}
+/// What is known of a node: of a sound one, the kind that it gives.
+pub(crate) type State = NodeState<Option<CellKind>>;
 
 /// The index of the node of an id.
 pub(crate) fn node_index(nodes: &[Node], id: &str) -> Option<usize>
@@ -35,7 +27,7 @@ pub(crate) fn state_of(nodes: &[Node], states: &[State], id: &str) -> State
 {
     match node_index(nodes, id) {
         Some(index) => states[index],
-        None => State::Unseen,
+        None => NodeState::Unseen,
     }
 }
 
@@ -45,7 +37,7 @@ pub(crate) fn kind_of(nodes: &[Node], states: &[State], id: &str) -> Option<Cell
     ensures { result ≡ kind_named nodes.now states.now id.now }
 {
     match state_of(nodes, states, id) {
-        State::Sound(kind) => kind,
+        NodeState::Sound(kind) => kind,
         _ => None,
     }
 }

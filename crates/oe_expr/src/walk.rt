@@ -1,12 +1,12 @@
 // The walk over the nodes of a callback: those that a node refers to before the node itself.
-ghost use Rattle.std.specs.Prelude.{◌≡◌, ◌<◌, ℕ, [], length, replicate, IfOk, OnOk, None, slice_index_or};
+ghost use Rattle.std.specs.Prelude.{◌≡◌, ◌<◌, ℕ, [], length, IfOk, OnOk, None};
 ghost use Rattle.oe_graph.specs.Indices.{reference_graph};
 ghost use Rattle.oe_graph.specs.Plain.{plain_node, plain_nodes};
+ghost use Rattle.oe_graph.specs.States.{AreSeenBelow, IsStep, state_at};
+ghost use Rattle.oe_graph.specs.declared.node_state.NodeState.TheVariants.{Unseen};
 ghost use Rattle.oe_order.specs.Graph.{graph_of};
 ghost use Rattle.oe_expr.specs.Scope.{IsScope, plain_scope};
-ghost use Rattle.oe_expr.specs.Walked.{AreResolved, AreSeenBelow, IsChecked, IsStep, IsVerdict, IsWalked, state_at};
-ghost use Rattle.oe_expr.specs.Walked as spec;
-ghost use Rattle.oe_expr.specs.declared.state.State.TheVariants.{Unseen};
+ghost use Rattle.oe_expr.specs.Walked.{AreResolved, IsChecked, IsVerdict, IsWalked};
 
 use crate::judge::judge;
 use crate::request::{Request, request_at};
@@ -14,7 +14,9 @@ use crate::scope::Scope;
 use crate::state::State;
 use oe_cell::Cell;
 use oe_dims::CellKind;
-use oe_graph::{Code, Fault, Node, fault_at_node, note_fault, sort_nodes};
+use oe_graph::{
+    Code, Fault, Node, NodeState, are_sound, fault_at_node, note_fault, sort_nodes, unseen_states,
+};
 use oe_memory::OutOfMemory;
 use oe_order::Links;
 use std::alloc::Global;
@@ -90,16 +92,6 @@ fn first_walk<'a>(alloc: Global, nodes: &Vec<Node>) -> Result<Walk<'a>, OutOfMem
     })
 }
 
-fn unseen_states(alloc: Global, count: usize) -> Result<Vec<State>, OutOfMemory>
-    ensures { IfOk result (λ states. states.items ≡ replicate count Unseen) }
-{
-    let mut states = Vec::with_capacity(alloc, count)?;
-    for _index in 0..count {
-        states.push(State::Unseen)?;
-    }
-    Ok(states)
-}
-
 /// Judges a node, where those that it refers to were judged.
 fn visit<'a>(
     alloc: Global,
@@ -117,7 +109,7 @@ fn visit<'a>(
     requires within { index < length nodes.now.items }
     requires states { length walk.old.states.items ≡ length nodes.now.items }
     requires unseen { state_at walk.old.states.items index ≡ Unseen }
-    requires below { AreSeenBelow nodes.now.items walk.old.states.items index }
+    requires below { AreSeenBelow (plain_nodes nodes.now.items) walk.old.states.items index }
     requires walked { IsWalked (plain_scope scope.now) context.now nodes.now.items path.now
         walk.old.states.items walk.old.order.items walk.old.found }
     ensures states { OnOk result (length walk.new.states.items ≡ length nodes.now.items) }
@@ -127,19 +119,19 @@ fn visit<'a>(
     ensures step { OnOk result (IsStep index walk.old.states.items walk.new.states.items) }
 {
     if !are_sound(&links[index].arguments, &walk.states) {
-        walk.states[index] = State::Faulty;
+        walk.states[index] = NodeState::Faulty;
         return Ok(());
     }
     let node = &nodes[index];
     match judge_node(alloc, scope, context, nodes, &walk.states, node)? {
         Verdict::Stands(code) => {
             let fault = fault_at_node(alloc, code, path, node.id.as_str())?;
-            walk.states[index] = State::Faulty;
+            walk.states[index] = NodeState::Faulty;
             note_fault(&mut walk.found, fault);
             Ok(())
         }
         Verdict::Sound(kind, request) => {
-            walk.states[index] = State::Sound(kind);
+            walk.states[index] = NodeState::Sound(kind);
             walk.order.push(Judged {
                 node: index,
                 request,
@@ -170,25 +162,4 @@ fn judge_node<'a>(
         Ok(kind) => Ok(Verdict::Sound(kind, request)),
         Err(code) => Ok(Verdict::Stands(code)),
     }
-}
-
-/// Whether the nodes at these indices are sound.
-fn are_sound(indices: &[u32], states: &[State]) -> bool
-    requires { (k : ℕ) → k < length indices.now
-        → slice_index_or indices.now k 0 < length states.now }
-    ensures { result ≡ spec.are_sound states.now indices.now }
-{
-    for index in indices {
-        if !is_sound(&states[*index as usize]) {
-            return false;
-        }
-    }
-    true
-}
-
-/// Whether there is no fault at or below a node that was judged.
-fn is_sound(state: &State) -> bool
-    ensures { result ≡ spec.is_sound state.now }
-{
-    matches!(state, State::Sound(_))
 }

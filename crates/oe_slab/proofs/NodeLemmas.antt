@@ -11,7 +11,7 @@ use Rattle.oe_expr.specs.Callback.{Callback}
 use Rattle.oe_expr.specs.Nodes.{node_named}
 use Rattle.oe_expr.specs.Scope.{scope_parameters}
 use Rattle.oe_expr.proofs.NodeLemmas.{contains_node}
-use Rattle.oe_expr.proofs.StateLemmas.{within_nodes}
+use Rattle.oe_graph.proofs.StateLemmas.{within_nodes}
 use Rattle.oe_graph.proofs.ResolvedLemmas.{node_below}
 use Rattle.oe_graph.specs.Printed.{node_count}
 use Rattle.oe_graph.specs.References.{each_node, references_named}

@@ -3,13 +3,13 @@ use Rattle.std.proofs.lemmas.List.{get_or_read}
 use Rattle.std.specs.Option.{unwrap_or}
 use Rattle.oe_dims.specs.declared.kind.CellKind.TheVariants.{Numbers}
 use Rattle.oe_graph.specs.Plain.{plain_graph}
+use Rattle.oe_graph.specs.declared.node_state.NodeState.TheVariants.{Unseen}
 use Rattle.oe_graph.specs.declared.tree.Graph.{Graph, out-Graph}
 use Rattle.oe_expr.specs.Callback.{callback_of}
 use Rattle.oe_expr.specs.Compiled.{IsCompiled}
 use Rattle.oe_expr.specs.Scope.{plain_scope}
 use Rattle.oe_expr.specs.States.{kept_kind}
 use Rattle.oe_expr.specs.declared.scope.Scope.{Scope}
-use Rattle.oe_expr.specs.declared.state.State.TheVariants.{Unseen}
 use Rattle.oe_expr.proofs.BuildLemmas.{compiled, result_within, resolved_parts}
 use Rattle.oe_expr.proofs.expr.sound_expr.Goals as goal
 

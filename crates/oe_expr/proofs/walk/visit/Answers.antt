@@ -7,18 +7,20 @@ use Rattle.oe_graph.specs.References.{references_named}
 use Rattle.oe_graph.specs.declared.fault.Fault.{Fault}
 use Rattle.oe_graph.specs.declared.tree.Node.{Node}
 use Rattle.oe_graph.proofs.ResolvedLemmas.{node_below}
+use Rattle.oe_graph.proofs.StateLemmas.{faulty_among, faulty_known, link_within, one_changes, read_sound, seen_below, sound_known, within_links}
+use Rattle.oe_graph.specs.States.{IsNodeAt}
+use Rattle.oe_graph.specs.declared.node_state.NodeState.TheVariants.{Faulty, Sound}
 use Rattle.oe_expr.specs.Scope.{plain_scope}
-use Rattle.oe_expr.specs.Walked.{IsNodeAt, IsWalked, are_sound}
-use Rattle.oe_expr.specs.declared.state.State.TheVariants.{Faulty, Sound}
+use Rattle.oe_expr.specs.Walked.{IsWalked}
 use Rattle.oe_expr.specs.declared.walk.Judged.{Judged}
 use Rattle.oe_expr.specs.declared.walk.Verdict.TheVariants as verdict
-use Rattle.oe_expr.proofs.StateLemmas.{count_plain, faulty_among, link_within, node_at_index, plain_id, read_sound, seen_below, within_links}
+use Rattle.oe_expr.proofs.StateLemmas.{count_plain, node_at_index, plain_id}
 use Rattle.oe_expr.proofs.VerdictLemmas.{moved_verdict}
-use Rattle.oe_expr.proofs.WalkLemmas.{faulty_known, one_changes, walked_below, walked_faulty, walked_sound}
+use Rattle.oe_expr.proofs.WalkLemmas.{walked_below, walked_faulty, walked_sound}
 use Rattle.oe_expr.proofs.walk.visit.Goals as goal
 
 -- the node at the index
-at_index : (nodes : List Node) (index : ℕ) (node : Node) → index < length nodes → node ≡ get_or nodes index node → IsNodeAt nodes index (plain_node node)
+at_index : (nodes : List Node) (index : ℕ) (node : Node) → index < length nodes → node ≡ get_or nodes index node → IsNodeAt (plain_nodes nodes) index (plain_node node)
 at_index nodes index node within is = node_at_index nodes index node (slice_get_read nodes (length nodes) index node refl within is)
 
 pub index-requires : goal.index-requires
@@ -33,9 +35,10 @@ are_sound-requires c =
     let link = c.index.result.now in
     let within = within_links nodes links c.args.index c.requires.links c.requires.within in
     let many : length c.deref-2.result.now ≡ length c.args.walk.now.states.items = ap length c.deref-2.ensures.value in
+    let count = count_plain nodes in
     subst (λ (xs : List ℕ). (k : ℕ) → k < length xs → get_or xs k 0 < length c.deref-2.result.now) (sym c.deref.ensures.value)
     (λ k below.
-    let here = link_within (plain_scope c.args.scope.now) nodes c.requires.resolved links c.args.index link c.requires.links within c.index.ensures k below in
+    let here = link_within (plain_nodes nodes) links c.args.index link c.requires.links within c.index.ensures k below in
     omega (arith, c.requires.states))
 
 pub returns-then-not-are_sound-clause-walked : goal.returns-then-not-are_sound-clause-walked
@@ -46,11 +49,11 @@ returns-then-not-are_sound-clause-walked c =
     let within : c.args.index < length states = subst (λ n. c.args.index < n) (sym c.requires.states) c.requires.within in
     let node = node_below (plain_nodes nodes) c.args.index (let count = count_plain nodes in omega (arith, c.requires.within)) in
     let not : c.are_sound.result ≡ false = search rules in
-    let known = read_sound scope nodes c.requires.resolved c.args.links.now.items c.args.index node.node c.index.result.now states c.deref-2.result.now
+    let known = read_sound (plain_nodes nodes) c.args.links.now.items c.args.index node.node c.index.result.now states c.deref-2.result.now
     c.deref.result.now c.are_sound.result c.requires.links (within_links nodes c.args.links.now.items c.args.index c.requires.links c.requires.within)
     c.index.ensures node.is_there c.deref.ensures.value c.deref-2.ensures.value c.are_sound.ensures in
     let faulty = faulty_among states (indices_named (plain_nodes nodes) (references_named node.node.arguments))
-    (known ∙ not) (seen_below scope nodes c.requires.resolved states c.args.index node.node node.is_there c.requires.below) in
+    (known ∙ not) (seen_below (plain_nodes nodes) states c.args.index node.node node.is_there c.requires.below) in
     walked_below scope c.args.context.now nodes c.args.path.now c.requires.resolved states c.args.walk.now.order.items c.args.walk.now.found c.requires.walked
     c.args.index node.node node.is_there within c.requires.unseen faulty
 
@@ -67,7 +70,7 @@ returns-in_ok-fault-in-Stands-clause-walked c =
     let states = c.args.walk.now.states.items in
     let yes : c.are_sound.result ≡ true = search rules in
     let at = at_index nodes c.args.index node c.requires.within c.index-node.ensures in
-    let known = read_sound scope nodes c.requires.resolved c.args.links.now.items c.args.index (plain_node node) c.index.result.now states c.deref-2.result.now
+    let known = read_sound (plain_nodes nodes) c.args.links.now.items c.args.index (plain_node node) c.index.result.now states c.deref-2.result.now
     c.deref.result.now c.are_sound.result c.requires.links (within_links nodes c.args.links.now.items c.args.index c.requires.links c.requires.within)
     c.index.ensures at c.deref.ensures.value c.deref-2.ensures.value c.are_sound.ensures ∙ yes in
     let fault = c.in_ok-fault-in-Stands.fault in
@@ -81,6 +84,11 @@ returns-in_ok-fault-in-Stands-clause-walked c =
     (walked_faulty scope c.args.context.now nodes c.args.path.now c.requires.resolved states c.args.walk.now.order.items c.args.walk.now.found c.requires.walked
     c.args.index (plain_node node) (at_index nodes c.args.index node c.requires.within c.index-node.ensures) within c.requires.unseen known fault judged named)
 
+pub returns-in_ok-fault-in-Stands-clause-step : goal.returns-in_ok-fault-in-Stands-clause-step
+returns-in_ok-fault-in-Stands-clause-step c =
+    let states = c.args.walk.now.states.items in
+    one_changes states c.args.index Faulty (subst (λ n. c.args.index < n) (sym c.requires.states) c.requires.within) faulty_known
+
 pub returns-in_ok-push-in-Sound-clause-walked : goal.returns-in_ok-push-in-Sound-clause-walked
 returns-in_ok-push-in-Sound-clause-walked c =
     let scope = plain_scope c.args.scope.now in
@@ -92,7 +100,7 @@ returns-in_ok-push-in-Sound-clause-walked c =
     c.deref-3.ensures.value c.deref-4.ensures.value c.in-Sound.is c.in_ok-code.ensures in
     let yes : c.are_sound.result ≡ true = search rules in
     let at = at_index nodes c.args.index node c.requires.within c.index-node.ensures in
-    let known = read_sound scope nodes c.requires.resolved c.args.links.now.items c.args.index (plain_node node) c.index.result.now states c.deref-2.result.now
+    let known = read_sound (plain_nodes nodes) c.args.links.now.items c.args.index (plain_node node) c.index.result.now states c.deref-2.result.now
     c.deref.result.now c.are_sound.result c.requires.links (within_links nodes c.args.links.now.items c.args.index c.requires.links c.requires.within)
     c.index.ensures at c.deref.ensures.value c.deref-2.ensures.value c.are_sound.ensures ∙ yes in
     let entry : Judged = record { node = c.args.index; request = c.in-Sound.request } in
@@ -100,3 +108,9 @@ returns-in_ok-push-in-Sound-clause-walked c =
     (sym c.in_ok-push-in-Sound.ensures.items)
     (walked_sound scope c.args.context.now nodes c.args.path.now c.requires.resolved states c.args.walk.now.order.items c.args.walk.now.found c.requires.walked
     c.args.index (plain_node node) (at_index nodes c.args.index node c.requires.within c.index-node.ensures) within c.requires.unseen known c.in-Sound.kind entry refl is)
+
+pub returns-in_ok-push-in-Sound-clause-step : goal.returns-in_ok-push-in-Sound-clause-step
+returns-in_ok-push-in-Sound-clause-step c =
+    let states = c.args.walk.now.states.items in
+    one_changes states c.args.index (Sound c.in-Sound.kind) (subst (λ n. c.args.index < n) (sym c.requires.states) c.requires.within)
+    (sound_known c.in-Sound.kind)

@@ -2,7 +2,7 @@ use Rattle.std.proofs.Common.{◌≡◌, ap, sym, ◌∙◌}
 use Rattle.std.specs.Option.{option_and_then}
 use Rattle.oe_graph.specs.Plain.{plain_node}
 use Rattle.oe_expr.proofs.NodeLemmas.{contains_node}
-use Rattle.oe_expr.proofs.StateLemmas.{within_nodes}
+use Rattle.oe_graph.proofs.StateLemmas.{within_nodes}
 use Rattle.oe_meanings.specs.Graphs.{operation_at}
 use Rattle.oe_requests.specs.Operations as operation
 use Rattle.oe_requests.specs.PlainRequests.{plain_operation}
