@@ -1,4 +1,4 @@
--- For private functions. Whether a graph calls a stored process, at any depth of callbacks.
+-- Whether a graph calls a stored process, at any depth of callbacks.
 use Rattle.std.specs.Prelude.{ℕ, Bool, false, ◌||◌, is_some, List}
 use Rattle.oe_graph.specs.Tree.{Argument, null, flag, whole, inexact, text, list, object, from_node, from_parameter, callback, ListValues, no_arguments, argument, Named, no_named, named, Nodes, no_nodes, node, PlainNode, PlainStored}
 use Rattle.oe_calls.specs.Calls.{callee}

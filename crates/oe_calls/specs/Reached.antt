@@ -1,5 +1,5 @@
--- For private functions. Which stored processes the calls of a node reach, each where it stands in the main graph or in
--- a callback, and whether all nodes that come with it may stand there.
+-- Which stored processes the calls of a node reach, each where it stands in the main graph or in a callback, and whether
+-- all nodes that come with it may stand there.
 use Rattle.std.specs.Prelude.{◌≡◌, ◌↔◌, ℕ, ◌+◌, ◌*◌, ◌/◌, Bool, true, false, ◌&&◌, ◌⊎◌, List, [], ◌∷◌, ◌++◌, length, map, slice_get, slice_index_or, Option, Some, None, if◌then◌else◌, Contains}
 use Rattle.oe_graph.specs.Codes.{phase_of}
 use Rattle.oe_graph.specs.Tree.{Argument, null, flag, whole, inexact, text, list, object, from_node, from_parameter, callback, ListValues, no_arguments, argument, Named, no_named, named, Nodes, no_nodes, node, PlainGraph, PlainNode, PlainStored}
@@ -78,6 +78,7 @@ supports_node stored in_callback n = calls.may_stand stored in_callback n && sup
 
 -- ---- the index of a process where it stands
 
+-- twice the number of the process, and one more in a callback
 abbrev pub index_at : ℕ → Bool → ℕ
 index_at place in_callback = 2 * place + (if in_callback then 1 else 0)
 
@@ -143,7 +144,7 @@ pub record AnyRecurs (links : List order.Node) (found : List ℕ) : Type 0 where
   pub is_there : Contains found index
   pub back : order.Reaches links (back_from index) (back_from index)
 
--- the code of the fault that the calls of a node have
+-- why the calls of a node are at fault: a process that they bring with them is not supported where it would stand
 pub record IsUnsupported (stored : List PlainStored) (n : PlainNode) : Type 0 where
   pub in_callback : Bool
   pub brought : PlainNode

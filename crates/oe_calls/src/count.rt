@@ -97,6 +97,8 @@ fn cut_sum(total: u32, more: u32) -> u32
 
 /// Whether the main graph or a callback, as it is written in the graph or in a process that calls reach, has more nodes
 /// after expansion than it may.
+///
+/// Refuses: out of memory.
 pub fn is_too_large(
     alloc: Global,
     stored: &[StoredProcess],

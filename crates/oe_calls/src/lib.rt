@@ -16,7 +16,7 @@ mod values;
 
 pub use calls::{callee, is_call, means_catalogue};
 pub use count::is_too_large;
-pub use names::{is_among, names_of_both};
+pub use names::{is_among, join_names};
 pub use reach::{CallGraph, call_fault, has_call, read_calls};
 pub use rounds::round;
 pub use sizes::{keep_limits, keep_limits_in_round};

@@ -20,8 +20,8 @@ pub fn is_among(names: &[&'static str], name: &str) -> bool
     false
 }
 
-/// These names and the others.
-pub fn names_of_both(
+/// These names and the others. Refuses: out of memory.
+pub fn join_names(
     alloc: Global,
     names: &[&'static str],
     others: &[&'static str],

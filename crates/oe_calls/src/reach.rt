@@ -28,6 +28,8 @@ pub struct CallGraph {
 }
 
 /// Which stored processes each stored process calls, where it stands in the main graph and where in a callback.
+///
+/// Refuses: out of memory.
 pub fn read_calls(alloc: Global, stored: &[StoredProcess]) -> Result<CallGraph, OutOfMemory>
     ensures { IfOk result (λ c. reached.IsCallGraph (map plain_stored stored.now)
         (graph_of c.links.items) c.supported.items) }
@@ -266,7 +268,9 @@ pub fn reach(
     Ok(found)
 }
 
-/// The fault of the first node whose calls are at fault. Asked for are the calls of these stored processes.
+/// The least fault of the processes that a graph calls, with the calls of these stored processes; none where none stands.
+///
+/// Refuses: out of memory.
 pub fn call_fault(
     alloc: Global,
     stored: &[StoredProcess],

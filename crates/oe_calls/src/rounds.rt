@@ -19,7 +19,7 @@ use oe_memory::OutOfMemory;
 use std::alloc::Global;
 
 /// The graph after a round: the graph of its process stands in place of each call of a stored process (openEO API,
-/// process graphs and user-defined processes).
+/// process graphs and user-defined processes). Refuses: out of memory.
 pub fn round(alloc: Global, stored: &[StoredProcess], graph: &Graph) -> Result<Graph, OutOfMemory>
     ensures { IfOk result (λ g. plain_graph g
         ≡ spec.round (map plain_stored stored.now) (plain_graph graph.now)) }

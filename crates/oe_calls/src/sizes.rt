@@ -15,7 +15,7 @@ ghost use Rattle.oe_calls.specs.Sizes as spec;
 
 use crate::calls::{callback_parameters, callee};
 use crate::inline::under_id;
-use crate::names::{is_among, names_of_both};
+use crate::names::{is_among, join_names};
 use oe_dims::{Text, same_text};
 use oe_graph::{Arg, Graph, Node, ParameterRow, StoredProcess, argument_named};
 use oe_memory::OutOfMemory;
@@ -573,7 +573,7 @@ fn opened_arg_left(
         Arg::Callback(graph) => {
             let left = left_after(budget, size)?;
             let room = bare_nodes_left(&graph.nodes, sizes.measure, left)?;
-            let inner = names_of_both(alloc, own, hidden)?;
+            let inner = join_names(alloc, own, hidden)?;
             opened_nodes_left(alloc, &graph.nodes, stored, sizes, inner.as_slice(), room)
         }
         _ => left_after(budget, size),

@@ -8,7 +8,7 @@ ghost use Rattle.oe_calls.specs.Renamed.{dangling, renamed, renamed_each, rename
 ghost use Rattle.oe_calls.specs.Substituted as spec;
 ghost use Rattle.oe_calls.specs.PlainValues.{names_behind, seen};
 
-use crate::names::{is_among, names_of_both};
+use crate::names::{is_among, join_names};
 use oe_dims::Text;
 use oe_graph::{Arg, ParameterRow, argument_named, copy_arg};
 use oe_memory::OutOfMemory;
@@ -60,7 +60,7 @@ fn value_of(
     }
 }
 
-/// What a parameter has where no argument is given.
+/// What a parameter has where no argument is given. Refuses: out of memory.
 pub fn default_of(alloc: Global, parameter: &ParameterRow) -> Result<Option<Arg>, OutOfMemory>
     ensures { IfOk result
         (λ a. option_map plain_arg a ≡ spec.default_of (plain_parameter parameter.now)) }
@@ -101,9 +101,9 @@ fn hidden_inside(
         ≡ own.now ++ (if values.now.in_callback then values.now.hidden.items else [])) }
 {
     if values.in_callback {
-        names_of_both(alloc, own, values.hidden.as_slice())
+        join_names(alloc, own, values.hidden.as_slice())
     } else {
-        names_of_both(alloc, own, &[])
+        join_names(alloc, own, &[])
     }
 }
 

@@ -1,4 +1,4 @@
--- What contracts see of lists of labels.
+-- What contracts see of lists of labels, and the lines of bytes.
 use Rattle.std.specs.Prelude.{◌≡◌, ℕ, ℤ, List, Option, Vec, ◌==◌, Bool}
 use Rattle.std.specs.Option.{option_map}
 use Rattle.std.specs.declared.alloc.Global.{Global}

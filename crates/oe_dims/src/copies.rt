@@ -1,4 +1,4 @@
-// Copies of texts.
+// Copies of texts and of labels.
 ghost use Rattle.std.specs.Prelude.{◌≡◌, IfOk, IsUtf8};
 ghost use Rattle.std.specs.Option.{option_map};
 ghost use Rattle.oe_dims.specs.Dimensions.{numbers_along};

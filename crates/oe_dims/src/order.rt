@@ -1,4 +1,4 @@
-// Tests of the labels of one dimension.
+// Tests of labels and of names: their order, and whether they are equal.
 ghost use Rattle.std.specs.Prelude.{◌≡◌};
 ghost use Rattle.std.specs.List.{list_all};
 ghost use Rattle.oe_dims.specs.Dimensions.{rises, falls, all_between};

@@ -20,8 +20,8 @@ use Rattle.oe_engine.specs.Runs.{HasDone, HasRunRecords, RunOf, chunk_total, loa
 
 -- ---- before the first round
 
--- this is the plan of a graph, in chunks of a size and with so many workers; that it is a plan has that its run holds
--- no more cells than are allowed
+-- this is the plan of a graph, in chunks of a size and with so many workers; a plan holds no more
+-- cells than are allowed
 pub record IsPlanOf (c : CheckedGraph) (size : ChunkSize) (workers : ℕ) (p : PlanOf) : Type 0 where
   pub graph_is : p.graph ≡ c
   pub planned : IsPlan p
@@ -49,7 +49,7 @@ pub record ReadsForRun (c : CheckedGraph) (size : ChunkSize) (before after : Lis
 abbrev pub most_asked : PlanOf → ℕ
 most_asked p = load_count p * largest_window p.graph p.size
 
--- The same of a plan.
+-- Reading changed nothing of the collections but their counters, and asked for no more than that for each chunk.
 pub record ReadsForPlan (p : PlanOf) (before after : List Row) : Type 0 where
   pub read : AreRead before after
   pub asked : cells_asked after ≤ cells_asked before + chunk_total p * most_asked p

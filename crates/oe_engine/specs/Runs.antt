@@ -71,7 +71,8 @@ abbrev pub ShowsDone : RunOf → Option (List ℕ) → Cube Cell → Type 0
 ShowsDone r None cube = ⊥
 ShowsDone r (Some bytes) cube = HasDone r (Some bytes) cube
 
--- something holds of the cube of a run's result, where the bytes of the store that its records stand in are visible
+-- something holds of the cube of a run's result, over any collections over which the records in a visible store are those
+-- of that cube
 abbrev pub OfRun : RunOf → Option (List ℕ) → (Cube Cell → Type 0) → Type 0
 OfRun r store Holds = (collections : Collections) → AreCollectionsOf r.plan.graph collections
     → ShowsDone r store (result_cube collections r.plan) → Holds (result_cube collections r.plan)

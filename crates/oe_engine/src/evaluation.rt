@@ -13,8 +13,7 @@ use std::thread::Threads;
 
 /// All rounds of a run, and whether no cell of its result is out of the range of numbers.
 ///
-/// Refuses: as a round does; `Overflow` exactly where all rounds were made and such a cell was found, with the first
-/// one.
+/// Refuses: as a round does; `Overflow` only where all rounds were made and such a cell was found, with the first one.
 pub fn evaluate<R: Threads + Sync, P: Store, G: Gate>(
     rt: &R,
     run: &mut Run,

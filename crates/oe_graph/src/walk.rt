@@ -146,6 +146,8 @@ pub fn fault_at_node(alloc: Global, code: Code, name: &str, id: &str) -> Result<
 }
 
 /// The name of a node in the graph object of a name; in the main graph, whose name is empty, its id.
+///
+/// Refuses: out of memory.
 pub fn node_name(alloc: Global, name: &str, id: &str) -> Result<String, OutOfMemory>
     ensures { IfOk result (λ s. string_bytes s ≡ form.node_name name.now id.now) }
 {
@@ -157,7 +159,7 @@ pub fn node_name(alloc: Global, name: &str, id: &str) -> Result<String, OutOfMem
     Ok(path)
 }
 
-/// The name of the callback in an argument of the node of a name.
+/// The name of the callback in an argument of the node of a name. Refuses: out of memory.
 pub fn callback_name(alloc: Global, node: &str, argument: &str) -> Result<String, OutOfMemory>
     ensures { IfOk result (λ s. string_bytes s ≡ form.callback_name node.now argument.now) }
 {

@@ -60,12 +60,12 @@ pub record HasRowOfPixels (k : KernelValues) (border : Border) (p : Plane) (x y 
 -- so many whole cells stand as numbers from an index on
 abbrev pub AreNumbersOf : (ℕ → Cell) → ℕ → ℕ → List ℤ → Type 0
 AreNumbersOf cells start count pixels =
-    (t : ℕ) → t < count → cells t ≡ Number (whole_of (at pixels (start + t)))
+    (i : ℕ) → i < count → cells i ≡ Number (whole_of (at pixels (start + i)))
 
 -- so many numbers from an index on are at most a bound in size
 abbrev pub AreWithinFrom : ℕ → ℕ → ℕ → List ℤ → Type 0
 AreWithinFrom bound start count pixels =
-    (t : ℕ) → t < count → unsigned_abs (at pixels (start + t)) ≤ bound
+    (i : ℕ) → i < count → unsigned_abs (at pixels (start + i)) ≤ bound
 
 -- ---- windows of unpacked pixels
 

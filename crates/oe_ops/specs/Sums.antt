@@ -29,8 +29,8 @@ pub record IsRowOf (window : Window) (cells sums marks : List Cell) : Type 0 whe
   pub sum_each : length sums ≡ length cells
   pub mark_each : length marks ≡ length cells
 
--- what is written for each pixel is the running sum at its cell, behind any cells that its sum and its mark tell of
--- together with it
+-- what is written for each pixel is the running sum at its cell, whatever cells stand before it, where its sum and its mark
+-- are those of these and of its cell
 abbrev pub AreRunningSums : List Cell → List Cell → List Cell → (ℕ → Cell) → Type 0
 AreRunningSums cells sums marks written =
     (k : ℕ) → k < length cells → (ignore : Bool) (before : List Cell)

@@ -18,7 +18,7 @@ ghost use Rattle.oe_resolve.specs.NameFaults.{AreMarks, IsMark, IdsRise, IdsRise
 ghost use Rattle.oe_calls.specs.PlainValues.{names_behind};
 
 use crate::cycle::cyclic_marks;
-use oe_calls::{callee, is_among, is_call, means_catalogue, names_of_both};
+use oe_calls::{callee, is_among, is_call, means_catalogue, join_names};
 use oe_dims::Text;
 use oe_graph::{
     Arg, Code, Fault, Graph, Node, ParameterEntry, ParameterRow, StoredProcess, argument_named,
@@ -266,8 +266,8 @@ fn scope_inside(
         ≡ resolved.scope_inside (plain_node node.now) (names_behind scope.now)) }
 {
     match process_entry(node.process_id.as_str()) {
-        Some(entry) => names_of_both(alloc, entry.3, scope),
-        None => names_of_both(alloc, &[], scope),
+        Some(entry) => join_names(alloc, entry.3, scope),
+        None => join_names(alloc, &[], scope),
     }
 }
 

@@ -1,4 +1,4 @@
--- The rounds of a run that is made whole.
+-- What the rounds of a run that is made whole leave, and its text.
 use Rattle.std.specs.Prelude.{◌≡◌, ◌⊎◌, ⊤, ℕ, ◌+◌, ◌<◌, List, ◌++◌, length, take, Option, None, Result, OnOk, IfOk, IfErr}
 use Rattle.oe_engine.specs.Runs.{OfRun, RunOf, chunk_total}
 use Rattle.oe_engine.specs.Results.{IsVisible, OfMeaning}
@@ -26,8 +26,6 @@ pub record IsBegun (c : CheckedGraph) (size : ChunkSize) (workers base : ℕ) (r
   pub plan : IsPlanOf c size workers r.plan
   pub base_is : r.base ≡ base
   pub first : IsFirst r
-
--- ---- rounds
 
 -- ---- and the length of the text
 

@@ -60,8 +60,6 @@ of_run (run.SourceDamaged load number) = SourceDamaged load number
 of_run run.SpoolFailed = SpoolFault
 of_run (run.Overflow number) = NumberOverflow number
 
--- ---- what is read
-
 -- ---- causes
 
 module _ (c : CheckedGraph) (rows rows_after : List Row) (spool : Option (List ℕ)) (faults faults_after : ℕ) where

@@ -1,5 +1,5 @@
 use Rattle.std.proofs.Common.{◌≡◌, ◌++◌, take}
-use Rattle.oe_calls.proofs.names.names_of_both.Given as goal
+use Rattle.oe_calls.proofs.names.join_names.Given as goal
 
 abbrev pub invariant-loop-name : goal.invariant-loop-name
 invariant-loop-name l = l.both.items ≡ take l.name-index l.names
