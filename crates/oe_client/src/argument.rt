@@ -142,11 +142,11 @@ fn read_offset(text: &str) -> Option<u64>
 fn spells_offset(text: &str, number: u64) -> bool
     ensures { IsTrue result ↔ spec.SpellsOffset text.now number }
 {
-    number != 0 && is_spelling(text, number)
+    number != 0 && spells_number(text, number)
 }
 
 /// The text is the decimal spelling of the number.
-fn is_spelling(text: &str, number: u64) -> bool
+fn spells_number(text: &str, number: u64) -> bool
     ensures { IsTrue result ↔ text.now ≡ decimal number }
 {
     Buffer::new().format(number) == text

@@ -156,11 +156,11 @@ fn read_port(word: &str) -> Option<u16>
 fn spells_port(word: &str, port: u16) -> bool
     ensures { IsTrue result ↔ spec.IsPort word.now port }
 {
-    port != 0 && is_spelling(word, port)
+    port != 0 && spells_number(word, port)
 }
 
 /// The word is the decimal spelling of the number.
-fn is_spelling(word: &str, port: u16) -> bool
+fn spells_number(word: &str, port: u16) -> bool
     ensures { IsTrue result ↔ word.now ≡ decimal port }
 {
     Buffer::new().format(port) == word

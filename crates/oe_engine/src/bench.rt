@@ -35,7 +35,7 @@ use oe_outside::{Pending, Sink, Store};
 use oe_plan::Plan;
 use oe_render::{RenderFail, render};
 use oe_sources::Catalogue;
-use oe_steps::{RunFail, buffers_of, no_window};
+use oe_steps::{RunFail, buffers_of, empty_window};
 use oe_window::Window;
 use std::alloc::Global;
 use std::marker::Model;
@@ -83,7 +83,7 @@ impl Bench {
     {
         Ok(Bench {
             state: State::Idle,
-            windows: vec![in alloc; no_window(); plan.steps().len()]?,
+            windows: vec![in alloc; empty_window(); plan.steps().len()]?,
             buffers: buffers_of(alloc, plan.width() as usize, plan.largest() as usize)?,
             scratch: vec![in alloc; Cell::Empty; plan.scratch() as usize]?,
         })

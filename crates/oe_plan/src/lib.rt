@@ -26,4 +26,4 @@ pub use laws::{plans_cross_threads, plans_fit, schedules_serve};
 pub use plan::{Plan, PlanFail};
 pub use schedule::Schedule;
 pub use windows::{argument_count, argument_of, windows_of};
-pub use words::{is_spelling, read_number, read_size};
+pub use words::{read_number, read_sides, spells_number};

@@ -8,7 +8,7 @@ use oe_dims::Text;
 use oe_window::ChunkSize;
 
 /// A chunk with these sides along x, y and t, each 1 to 4096; `None` exactly where a word spells no side.
-pub fn read_size(cx: &Text, cy: &Text, ct: &Text) -> Option<ChunkSize>
+pub fn read_sides(cx: &Text, cy: &Text, ct: &Text) -> Option<ChunkSize>
     ensures some { IfSome result (AreSides cx.now cy.now ct.now) }
     ensures none { IfNone result ((size : Size) → ¬ AreSides cx.now cy.now ct.now size) }
 {
@@ -39,7 +39,7 @@ pub fn read_number(word: &Text, low: u32, high: u32) -> Option<u32>
 fn is_number(word: &Text, number: u32, low: u32, high: u32) -> bool
     ensures { IsTrue result ↔ IsNumberWord low high word.now number }
 {
-    is_within(number, low, high) && is_spelling(word, u64::from(number))
+    is_within(number, low, high) && spells_number(word, u64::from(number))
 }
 
 fn is_within(number: u32, low: u32, high: u32) -> bool
@@ -49,7 +49,7 @@ fn is_within(number: u32, low: u32, high: u32) -> bool
 }
 
 /// Whether the word is the decimal spelling of the number.
-pub fn is_spelling(word: &Text, number: u64) -> bool
+pub fn spells_number(word: &Text, number: u64) -> bool
     ensures { IsTrue result ↔ word.now ≡ decimal number }
 {
     Buffer::new().format(number) == word.as_str()

@@ -18,7 +18,7 @@ ghost use Rattle.oe_resolve.specs.NameFaults.{AreMarks, IsMark, IdsRise, IdsRise
 ghost use Rattle.oe_calls.specs.PlainValues.{names_behind};
 
 use crate::cycle::cyclic_marks;
-use oe_calls::{callee, is_among, is_call, means_catalogue, join_names};
+use oe_calls::{callee, is_among, is_call, join_names, means_catalogue};
 use oe_dims::Text;
 use oe_graph::{
     Arg, Code, Fault, Graph, Node, ParameterEntry, ParameterRow, StoredProcess, argument_named,

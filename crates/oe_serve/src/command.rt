@@ -5,7 +5,7 @@ ghost use Rattle.oe_serve.specs.Words.{SpellsServe};
 ghost use Rattle.oe_serve.specs.declared.command.ServeCommand.{ServeCommand as Command};
 
 use oe_dims::Text;
-use oe_plan::{read_number, read_size};
+use oe_plan::{read_number, read_sides};
 use oe_window::ChunkSize;
 
 /// What the words `serve PORT CX CY CT W TURNS` ask for.
@@ -65,7 +65,7 @@ fn read_parts(
         return None;
     }
     let port = read_port(port)?;
-    let size = read_size(cx, cy, ct)?;
+    let size = read_sides(cx, cy, ct)?;
     let workers = read_number(workers, 1, 64)?;
     let turns = read_number(turns, 0, u32::MAX)?;
     Some(ServeCommand {

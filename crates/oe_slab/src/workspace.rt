@@ -34,7 +34,7 @@ use oe_memory::OutOfMemory;
 use oe_outside::{Pending, Sink, Store};
 use oe_render::{RenderFail, render};
 use oe_sources::Catalogue;
-use oe_steps::{RunFail, buffers_of, evaluate_steps, front, no_window, step_of_last};
+use oe_steps::{RunFail, buffers_of, empty_window, evaluate_steps, front, step_of_last};
 use oe_window::Window;
 use std::alloc::Global;
 use std::marker::Model;
@@ -111,9 +111,9 @@ impl SlabWorkspace {
             before: buffers_of(alloc, plan.width_before(), plan.slab())?,
             behind: buffers_of(alloc, plan.width_behind(), plane)?,
             scratch: vec![in alloc; Cell::Empty; plan.scratch()]?,
-            windows: vec![in alloc; no_window(); plan.whole().steps().len()]?,
-            windows_before: vec![in alloc; no_window(); plan.before().steps().len()]?,
-            windows_behind: vec![in alloc; no_window(); plan.behind().steps().len()]?,
+            windows: vec![in alloc; empty_window(); plan.whole().steps().len()]?,
+            windows_before: vec![in alloc; empty_window(); plan.before().steps().len()]?,
+            windows_behind: vec![in alloc; empty_window(); plan.behind().steps().len()]?,
             cells,
             folds: folds_of(alloc, plane)?,
         })

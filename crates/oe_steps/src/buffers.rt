@@ -8,7 +8,7 @@ use oe_window::{Span, Window};
 use std::alloc::Global;
 
 /// The window without a position.
-pub fn no_window() -> Window {
+pub fn empty_window() -> Window {
     let span = Span { from: 0, to: 0 };
     Window {
         t: span,

@@ -17,7 +17,7 @@ mod run;
 mod step;
 mod strips;
 
-pub use buffers::{buffers_of, no_window};
+pub use buffers::{buffers_of, empty_window};
 pub use cells::look_at_cells;
 pub use fail::RunFail;
 pub use laws::loads_are_mounted;

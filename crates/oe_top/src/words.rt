@@ -5,7 +5,7 @@ ghost use Rattle.oe_window.specs.declared.grid.ChunkSize.{ChunkSize as Size};
 ghost use Rattle.oe_top.specs.Words.{AreRunNumbers, SpellsCommand, Spells, most_chunks};
 
 use oe_dims::{Text, is_name};
-use oe_plan::{is_spelling, read_number, read_size};
+use oe_plan::{read_number, read_sides, spells_number};
 use oe_window::ChunkSize;
 
 /// No run has more chunks.
@@ -120,7 +120,7 @@ fn read_sized(verb: &Text, cx: &Text, cy: &Text, ct: &Text) -> Option<Command>
     ensures some { IfSome result (Spells (verb.now ∷ cx.now ∷ cy.now ∷ ct.now ∷ [])) }
     ensures none { IfNone result (¬ SpellsCommand (verb.now ∷ cx.now ∷ cy.now ∷ ct.now ∷ [])) }
 {
-    let size = read_size(cx, cy, ct)?;
+    let size = read_sides(cx, cy, ct)?;
     if is_word(verb, "slab") {
         return Some(Command::Slab { size });
     }
@@ -199,7 +199,7 @@ fn read_chunk_number(word: &Text) -> Option<u64>
 fn is_chunk_number(word: &Text, number: u64) -> bool
     ensures { IsTrue result ↔ IsNumberWord 0 most_chunks word.now number }
 {
-    number <= MOST_CHUNKS && is_spelling(word, number)
+    number <= MOST_CHUNKS && spells_number(word, number)
 }
 
 /// The command `demo` with its numbers.
@@ -257,7 +257,7 @@ fn read_numbers(cx: &Text, cy: &Text, ct: &Text, workers: &Text) -> Option<(Chun
     ensures none { IfNone result ((size : Size) (number : ℕ) →
         ¬ AreRunNumbers cx.now cy.now ct.now workers.now size number) }
 {
-    let size = read_size(cx, cy, ct)?;
+    let size = read_sides(cx, cy, ct)?;
     let workers = read_number(workers, 1, 64)?;
     Some((size, workers))
 }
