@@ -19,13 +19,13 @@ use Rattle.oe_spool.specs.Least.{lesser_of}
 use Rattle.oe_spool.specs.Spooled.{ChangesOnly}
 use Rattle.oe_spool.proofs.KeptLemmas.{change_of_more}
 use Rattle.oe_parts.specs.Head.{PartHead, front_bytes}
-use Rattle.oe_parts.specs.Laid.{AreLaid, HaveRecords, IsInFirst, IsInPart, IsUndamaged, LayStops, Lays, PartStops, TellsPiece, fail_at}
+use Rattle.oe_parts.specs.Laid.{AreLaid, HaveRecords, IsInFirst, IsInPart, IsUndamaged, LayStops, Lays, LaysChunks, PartStops, TellsPiece, fail_at}
 use Rattle.oe_parts.specs.PartFile.{IsDamagedAt, IsPartOf, cells_on_all, chunks_of, part_cells, part_numbers}
 use Rattle.oe_parts.specs.Parts.{ArePartsRead, IsPartRead, PartState, ShowPartsOf, ShowsPartOf, heads_of}
 use Rattle.oe_parts.specs.Rows.{HaveRecordsAt, Shows}
 use Rattle.oe_parts.specs.Whole.{AreWhole, RunOutline}
 use Rattle.oe_parts.specs.declared.laying.PieceFail.{PieceFail}
-use Rattle.oe_parts.specs.declared.laying.PieceFail.TheVariants.{Failed, Damaged, SpoolFailed}
+use Rattle.oe_parts.specs.declared.laying.PieceFail.TheVariants.{Damaged, Failed, SpoolFailed}
 use Rattle.oe_parts.proofs.LaidLemmas.{AreApart, changes_then, have_more, have_same, laid_more, laid_same}
 use Rattle.oe_parts.proofs.LayLemmas.{all_covered, cube_laid, has_cells, part_sets, parts_apart}
 
@@ -42,15 +42,19 @@ part_shows store at head cube bytes at_is visible part =
     (bytes, visible, subst (λ (n : ℕ). HoldsAt bytes n records) place (HoldsAt-second bytes 0 front records whole))
 
 pub ok_cube : (part : PartState) (at base : ℕ) (spool : Option (List ℕ)) (result : Result (Option ℕ) PieceFail) → at ≡ length (front_bytes part.head)
-    → IfOk result (λ least. (cube : Cube Cell) → cube.shape ≡ part.head.shape → All IsCell (cells_on_all cube (chunks_of part.head)) → Shows part.bytes at (cells_on_all cube (chunks_of part.head)) → AreLaid spool base cube (IsInPart part.head) least)
+    → IfOk result (LaysChunks part.head part.bytes at spool base)
     → IfOk result (λ least. (cube : Cube Cell) → ShowsPartOf cube part → AreLaid spool base cube (IsInPart part.head) least)
 ok_cube part at base spool (Ok least) is laid = λ cube shows.
-    laid cube shows.2.shape shows.2.cells (part_shows part.bytes at part.head cube shows.0 is shows.1 shows.2)
+    laid.cube cube shows.2.shape shows.2.cells (part_shows part.bytes at part.head cube shows.0 is shows.1 shows.2)
 ok_cube part at base spool (Err fail) is laid = tt
 
-pub ok_sound : (part : PartState) (at : ℕ) (result : Result (Option ℕ) PieceFail) → at ≡ length (front_bytes part.head) → OnOk result (HaveRecordsAt part.bytes at (part_cells part.head)) → OnOk result (IsUndamaged part)
-ok_sound part at (Ok least) is sound = subst (λ (n : ℕ). HaveRecordsAt part.bytes n (part_cells part.head)) is sound
-ok_sound part at (Err fail) is sound = tt
+pub ok_some : (part : PartState) (at base : ℕ) (spool : Option (List ℕ)) (result : Result (Option ℕ) PieceFail) → IfOk result (LaysChunks part.head part.bytes at spool base) → IfOk result (HaveRecords spool base part.head.shape (IsInPart part.head))
+ok_some part at base spool (Ok least) laid = laid.some
+ok_some part at base spool (Err fail) laid = tt
+
+pub ok_sound : (part : PartState) (at base : ℕ) (spool : Option (List ℕ)) (result : Result (Option ℕ) PieceFail) → at ≡ length (front_bytes part.head) → IfOk result (LaysChunks part.head part.bytes at spool base) → OnOk result (IsUndamaged part)
+ok_sound part at base spool (Ok least) is laid = subst (λ (n : ℕ). HaveRecordsAt part.bytes n (part_cells part.head)) is laid.sound
+ok_sound part at base spool (Err fail) is laid = tt
 
 damaged_there : (store : Option (List ℕ)) (head : PartHead) (at number : ℕ) → at ≡ length (front_bytes head) → TellsPiece store at (part_numbers head) (Damaged number) → IfSome store (λ bytes. IsDamagedAt bytes head number)
 damaged_there None head at number is h = tt

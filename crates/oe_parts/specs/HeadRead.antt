@@ -6,7 +6,7 @@ use Rattle.oe_dims.specs.Dimensions.{IsShape}
 use Rattle.oe_render.specs.CubeText.{Each, list_in}
 use Rattle.oe_render.specs.Members.{SaysKind, SaysShape, text_in}
 use Rattle.oe_window.specs.declared.grid.ChunkSize.{ChunkSize}
-use Rattle.oe_parts.specs.Head.{PartHead}
+use Rattle.oe_parts.specs.Head.{IsPartHead, PartHead, header_text}
 
 -- the value is a number that 64 bits hold
 abbrev pub IsNumberOf : Data → ℕ → Type 0
@@ -37,3 +37,17 @@ pub record SaysPartHead (value : Data) (head : PartHead) : Type 0 where
 pub record IsReadHead (head : PartHead) : Type 0 where
   pub graph : IsUtf8 head.graph
   pub shape : IsShape head.shape
+
+-- ---- headers, as bytes
+
+-- the bytes are the header of no part
+abbrev pub IsNoHeader : List ℕ → Type 0
+IsNoHeader bytes = (head : PartHead) → IsPartHead head → ¬ (bytes ≡ header_text head)
+
+-- they are that of no part with another head
+abbrev pub IsHeaderOfNoOther : List ℕ → PartHead → Type 0
+IsHeaderOfNoOther bytes head = (other : PartHead) → IsPartHead other → bytes ≡ header_text other → head ≡ other
+
+-- they are the header of a part with this head, and of no other
+abbrev pub IsHeaderOf : List ℕ → PartHead → Type 0
+IsHeaderOf bytes head = IsPartHead head × (bytes ≡ header_text head) × IsHeaderOfNoOther bytes head

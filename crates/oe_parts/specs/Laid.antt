@@ -1,5 +1,5 @@
 -- What is left where the records of all parts of a run were laid into a store, each at its number.
-use Rattle.std.specs.Prelude.{◌≡◌, ◌≢◌, ⊤, ℕ, ◌+◌, ◌-◌, ◌*◌, ◌<◌, List, length, slice_get, Option, Some, None, IfSome}
+use Rattle.std.specs.Prelude.{◌≡◌, ◌≢◌, ⊤, ℕ, ◌+◌, ◌-◌, ◌*◌, ◌<◌, List, length, slice_get, Option, Some, None, IfSome, Result}
 use Rattle.std.specs.List.{All}
 use Rattle.std.specs.Option.{option_map}
 use Rattle.oe_cell.specs.Cells.{IsCell}
@@ -9,20 +9,21 @@ use Rattle.oe_cell.specs.declared.cell.Cell.TheVariants.{Empty, Over}
 use Rattle.oe_dims.specs.Cube.{Cube, IsCube}
 use Rattle.oe_dims.specs.Dimensions.{Dimensions, cell_count}
 use Rattle.oe_dims.specs.Positions.{Position, number_of}
-use Rattle.oe_outside.specs.Faults.{Rose}
+use Rattle.oe_outside.specs.Faults.{HasCauseOf, Rose}
 use Rattle.oe_outside.specs.Stored.{StoreHolds}
 use Rattle.oe_render.specs.Stored.{HasCells}
 use Rattle.oe_spool.specs.Least.{IsLeastOver, least_over_of}
 use Rattle.oe_spool.specs.Spooled.{HoldsCube, HoldsRecord, HoldsRecords}
-use Rattle.oe_window.specs.Cells.{cell_at}
+use Rattle.oe_window.specs.Cells.{cell_at, cells_on}
 use Rattle.oe_window.specs.Chunks.{chunk_window}
-use Rattle.oe_window.specs.Windows.{IsIn}
+use Rattle.oe_window.specs.Windows.{IsIn, position_count}
+use Rattle.oe_window.specs.declared.window.Window.{Window}
 use Rattle.oe_parts.specs.Head.{PartHead, front_bytes, grid_of}
-use Rattle.oe_parts.specs.PartFile.{IsDamagedAt, part_cells}
+use Rattle.oe_parts.specs.PartFile.{IsDamagedAt, cells_on_all, chunks_of, part_cells}
 use Rattle.oe_parts.specs.Parts.{PartState, ShowPartsOf}
-use Rattle.oe_parts.specs.Rows.{HasNoRecordAt, HaveRecordsAt}
+use Rattle.oe_parts.specs.Rows.{HasNoRecordAt, HaveRecordsAt, Shows}
 use Rattle.oe_parts.specs.declared.laying.LayFail.{LayFail}
-use Rattle.oe_parts.specs.declared.laying.LayFail.TheVariants.{PartFailed, PartDamaged, SpoolFailed}
+use Rattle.oe_parts.specs.declared.laying.LayFail.TheVariants.{PartDamaged, PartFailed, SpoolFailed}
 use Rattle.oe_parts.specs.declared.laying.PieceFail.{PieceFail}
 use Rattle.oe_parts.specs.declared.laying.PieceFail.TheVariants as piece
 
@@ -47,6 +48,35 @@ HaveRecords store base shape positions least =
 -- the positions of a part's chunks
 abbrev pub IsInPart : PartHead → Position → Type 0
 IsInPart head = IsInFirst (λ k p. IsIn (chunk_window (grid_of head) (head.first + k)) p) (head.end - head.first)
+
+-- ---- a piece of a result
+
+-- The records of a piece of a result of this shape stand from an offset on in one store, none of them damaged, and were
+-- laid into another: those of a cube's cells where the first store shows them, and those of some cells whatever it is.
+-- The piece is given by its positions, the cells that a cube has there in the order of their records, and their number.
+pub record LaysPiece (shape : Dimensions) (positions : Position → Type 0) (cells_of : Cube Cell → List Cell) (count : ℕ)
+    (part : Option (List ℕ)) (at : ℕ) (store : Option (List ℕ)) (base : ℕ) (least : Option ℕ) : Type 0 where
+  pub cube : (cube : Cube Cell) → cube.shape ≡ shape → All IsCell (cells_of cube) → Shows part at (cells_of cube)
+      → AreLaid store base cube positions least
+  pub some : HaveRecords store base shape positions least
+  pub sound : HaveRecordsAt part at count
+
+-- the piece is a window of the result
+abbrev pub LaysWindow : Dimensions → Window → Option (List ℕ) → ℕ → Option (List ℕ) → ℕ → Option ℕ → Type 0
+LaysWindow shape window = LaysPiece shape (IsIn window) (λ cube. cells_on Empty cube window) (position_count window)
+
+-- it is the chunks of a part
+abbrev pub LaysChunks : PartHead → Option (List ℕ) → ℕ → Option (List ℕ) → ℕ → Option ℕ → Type 0
+LaysChunks head =
+    LaysPiece head.shape (IsInPart head) (λ cube. cells_on_all cube (chunks_of head)) (part_cells head)
+
+-- Records were read from a part, which keeps its bytes, and written into a spool. A refusal names the one of them that
+-- failed only where its fault counter rose.
+pub record ReadsAndWrites {S P T : Type 0} (bytes : S → Option (List ℕ)) (faults : S → ℕ) (before after : S)
+    (spool_faults : P → ℕ) (spool spool_after : P) (result : Result T PieceFail) : Type 0 where
+  pub same : bytes after ≡ bytes before
+  pub part_cause : HasCauseOf piece.Failed (faults before) (faults after) result
+  pub spool_cause : HasCauseOf piece.SpoolFailed (spool_faults spool) (spool_faults spool_after) result
 
 -- why the records of the cells with these numbers, which stand from an offset on in a store, were not laid out: one
 -- that is named is that of no cell

@@ -7,7 +7,7 @@ use Rattle.oe_dims.specs.Cube.{Cube}
 use Rattle.oe_dims.specs.Dimensions.{Dimensions}
 use Rattle.oe_dims.specs.Positions.{Position, number_of}
 use Rattle.oe_render.specs.declared.rendering.RenderFail.{RenderFail}
-use Rattle.oe_render.specs.declared.rendering.RenderFail.TheVariants.{SpoolFailed, SpoolDamaged, SinkFailed}
+use Rattle.oe_render.specs.declared.rendering.RenderFail.TheVariants.{SinkFailed, SpoolDamaged, SpoolFailed}
 use Rattle.oe_spool.specs.Spooled.{HoldsRecords, IsInSome, record_offset}
 use Rattle.oe_window.specs.Cells.{cell_at}
 use Rattle.oe_parts.specs.Head.{PartHead}
@@ -22,7 +22,12 @@ pub record ShowsRecords (store : Option (List ℕ)) (base : ℕ) (cube : Cube Ce
   pub held : HoldsRecords store base cube positions
   pub cells : (p : Position) → positions p → IsCell (cell_at Empty cube p)
 
--- the same of the chunks of a part of the cube
+-- something holds of each cube of this shape whose records at these positions a store shows
+abbrev pub ForEachCubeShown : Option (List ℕ) → ℕ → Dimensions → (Position → Type 0) → (Cube Cell → Type 0) → Type 0
+ForEachCubeShown store base shape positions P =
+    (cube : Cube Cell) → cube.shape ≡ shape → ShowsRecords store base cube positions → P cube
+
+-- the bytes of a store are visible, and the records of the cells of a part's chunks of a cube stand there
 pub record ShowsPart (store : Option (List ℕ)) (base : ℕ) (head : PartHead) (cube : Cube Cell) : Type 0 where
   pub shape : cube.shape ≡ head.shape
   pub records : ShowsRecords store base cube (IsInSome (chunks_of head))
@@ -41,3 +46,7 @@ TellsNoRecord store base shape positions SpoolFailed = ⊤
 TellsNoRecord store base shape positions SinkFailed = ⊤
 TellsNoRecord store base shape positions (SpoolDamaged number) =
     (p : Position) × positions p × (number_of shape p ≡ number) × HasNoRecordAt store (record_offset base number)
+
+-- of those for the chunks of a part
+abbrev pub TellsNoRecordOf : Option (List ℕ) → ℕ → PartHead → RenderFail → Type 0
+TellsNoRecordOf store base head = TellsNoRecord store base head.shape (IsInSome (chunks_of head))

@@ -13,7 +13,7 @@ ghost use Rattle.oe_window.specs.Chunks.{IsSide};
 ghost use Rattle.oe_window.specs.declared.grid.ChunkSize.{ChunkSize};
 ghost use Rattle.oe_parts.specs.Head as spec;
 ghost use Rattle.oe_parts.specs.Head.{AreSides, IsPartHead, PartHead as Head, chunk_total, numbers_text, sides_text};
-ghost use Rattle.oe_parts.specs.HeadRead.{IsNumberOf, IsReadHead, SaysPartHead, SaysRange, SaysSides};
+ghost use Rattle.oe_parts.specs.HeadRead.{IsHeaderOf, IsHeaderOfNoOther, IsNoHeader, IsNumberOf, IsReadHead, SaysPartHead, SaysRange, SaysSides};
 
 use itoa::Buffer;
 use oe_dims::{CellKind, Shape, Text};
@@ -255,9 +255,7 @@ fn send_all<O: Sink>(out: &mut O, pending: &mut Pending, shape: &Shape) -> Resul
 pub(crate) fn read_header(alloc: Global, bytes: &[u8]) -> Result<Option<PartHead>, OutOfMemory>
     requires { length bytes.now ≤ spec.most_header }
     ensures { IfOk result (λ read. MatchOption read
-        ((h : Head) → IsPartHead h → ¬ (bytes.now ≡ spec.header_text h))
-        (λ h. IsPartHead h × (bytes.now ≡ spec.header_text h) × ((g : Head) →
-        IsPartHead g → bytes.now ≡ spec.header_text g → h ≡ g))) }
+        (IsNoHeader bytes.now) (IsHeaderOf bytes.now)) }
 {
     let Some(head) = read_members(alloc, bytes)? else {
         return Ok(None);
@@ -297,9 +295,7 @@ fn is_side(side: u32) -> bool
 /// when it is spelled again.
 fn read_members(alloc: Global, bytes: &[u8]) -> Result<Option<PartHead>, OutOfMemory>
     ensures { IfOk result (λ read. MatchOption read
-        ((h : Head) → IsPartHead h → ¬ (bytes.now ≡ spec.header_text h))
-        (λ h. IsReadHead h × ((g : Head) → IsPartHead g → bytes.now ≡ spec.header_text g
-        → h ≡ g))) }
+        (IsNoHeader bytes.now) (λ h. IsReadHead h × IsHeaderOfNoOther bytes.now h)) }
 {
     match Value::from_slice(alloc, bytes) {
         Ok(value) => read_value(alloc, &value),

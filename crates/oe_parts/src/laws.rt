@@ -1,9 +1,9 @@
 // What holds of part files.
-ghost use Rattle.std.specs.Prelude.{◌≡◌, ℕ, List, length};
+ghost use Rattle.std.specs.Prelude.{◌≡◌, ℕ, List};
 ghost use Rattle.oe_cell.specs.declared.cell.Cell.{Cell};
 ghost use Rattle.oe_dims.specs.Cube.{Cube};
-ghost use Rattle.oe_parts.specs.Changed.{DifferInOneByte, NameOneResult};
-ghost use Rattle.oe_parts.specs.Head.{PartHead, header_text};
+ghost use Rattle.oe_parts.specs.Changed.{AreHeadersOfOne};
+ghost use Rattle.oe_parts.specs.Head.{PartHead};
 ghost use Rattle.oe_parts.specs.PartFile.{IsPartFile, IsPartOf};
 
 /// Does nothing. Its contract says that the part of a cube is a part file with its head.
@@ -16,7 +16,6 @@ pub fn parts_are_files()
 /// whose headers differ in one byte at most and name one result, have the same head. So a part with another byte in its
 /// header is no part file, or names another result.
 pub fn headers_show_changes()
-    ensures { (bytes changed : List ℕ) (head other : PartHead) → IsPartFile bytes head
-        → IsPartFile changed other → length bytes ≡ length changed → NameOneResult head other
-        → DifferInOneByte (header_text head) (header_text other) → head ≡ other }
+    ensures { (bytes changed : List ℕ) (head other : PartHead)
+        → AreHeadersOfOne bytes changed head other → head ≡ other }
 {}

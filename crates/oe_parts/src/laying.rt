@@ -1,23 +1,19 @@
 // The records of parts laid into a spool, each at its number in the whole result.
-ghost use Rattle.std.specs.Prelude.{◌≡◌, ◌≤◌, ◌<◌, ◌+◌, ◌*◌, ◌^◌, IfErr, IfOk, IfSome, OnOk, length};
-ghost use Rattle.std.specs.List.{All};
+ghost use Rattle.std.specs.Prelude.{◌≡◌, ◌≤◌, ◌<◌, ◌+◌, ◌*◌, ◌^◌, IfErr, IfOk, IfSome, OnOk};
 ghost use Rattle.std.specs.Option.{option_map};
-ghost use Rattle.oe_cell.specs.Cells.{IsCell};
 ghost use Rattle.oe_cell.specs.declared.cell.Cell.{Cell};
-ghost use Rattle.oe_cell.specs.declared.cell.Cell.TheVariants.{Empty};
 ghost use Rattle.oe_dims.specs.Cube.{Cube};
 ghost use Rattle.oe_dims.specs.Positions.{IsPosition};
-ghost use Rattle.oe_outside.specs.Faults.{HasCauseOf, NeverFalls};
+ghost use Rattle.oe_outside.specs.Faults.{NeverFalls};
 ghost use Rattle.oe_outside.specs.Stored.{StaysOutside};
 ghost use Rattle.oe_spool.specs.Spooled.{ChangesOnly};
-ghost use Rattle.oe_window.specs.Cells.{cells_on};
 ghost use Rattle.oe_window.specs.Runs.{window_numbers};
-ghost use Rattle.oe_window.specs.Windows.{Holds, IsIn, position_count, span_length, whole_window};
+ghost use Rattle.oe_window.specs.Windows.{IsIn};
 ghost use Rattle.oe_parts.specs.Head.{IsPartHead};
-ghost use Rattle.oe_parts.specs.Laid.{AreLaid, HaveRecords, IsInPart, IsUndamaged, LayStops, Lays, LaysRow, PartStops, TellsPiece, TellsRow, fail_at};
-ghost use Rattle.oe_parts.specs.PartFile.{cells_on_all, chunks_of, part_cells, part_numbers};
+ghost use Rattle.oe_parts.specs.Laid.{AreLaid, HaveRecords, IsInPart, IsUndamaged, LayStops, Lays, LaysChunks, LaysRow, LaysWindow, PartStops, ReadsAndWrites, TellsPiece, TellsRow, fail_at};
+ghost use Rattle.oe_parts.specs.PartFile.{part_numbers};
 ghost use Rattle.oe_parts.specs.Parts.{ArePartsRead, IsPartRead, ShowsPartOf, heads_of};
-ghost use Rattle.oe_parts.specs.Rows.{HaveRecordsAt, Shows};
+ghost use Rattle.oe_parts.specs.Rows.{HasRoomForRow, HasRoomForRows, IsShortWindow};
 ghost use Rattle.oe_parts.specs.Whole.{AreWhole};
 
 use crate::head::PartHead;
@@ -124,8 +120,7 @@ fn lay_one<S: Store + Drop, P: Store>(
     base: u64,
     bytes: &mut [u8],
 ) -> Result<Option<u64>, PieceFail>
-    requires base { base ≤ 2 ^ 62 }
-    requires bytes { length bytes.old ≡ 69632 }
+    requires room { HasRoomForRows base bytes.old }
     ensures cube { IfOk result (λ least. (cube : Cube Cell) → ShowsPartOf cube part.old →
         AreLaid (P.bytes spool.new) base cube (IsInPart part.old.head) least) }
     ensures some { IfOk result (HaveRecords (P.bytes spool.new) base part.old.head.shape
@@ -152,23 +147,13 @@ fn lay_part<S: Store, P: Store>(
 ) -> Result<Option<u64>, PieceFail>
     requires valid { IsPartHead head.now }
     requires at { at ≤ 2 ^ 32 }
-    requires base { base ≤ 2 ^ 62 }
-    requires bytes { length bytes.old ≡ 69632 }
-    ensures cube { IfOk result (λ least. (cube : Cube Cell) → cube.shape ≡ head.now.shape →
-        All IsCell (cells_on_all cube (chunks_of head.now)) →
-        Shows (S.bytes store.old) at (cells_on_all cube (chunks_of head.now)) →
-        AreLaid (P.bytes spool.new) base cube (IsInPart head.now) least) }
-    ensures some { IfOk result (HaveRecords (P.bytes spool.new) base head.now.shape
-        (IsInPart head.now)) }
-    ensures sound { OnOk result (HaveRecordsAt (S.bytes store.old) at (part_cells head.now)) }
+    requires room { HasRoomForRows base bytes.old }
+    ensures laid { IfOk result (LaysChunks head.now (S.bytes store.old) at (P.bytes spool.new) base) }
     ensures damage { IfErr result (TellsPiece (S.bytes store.old) at (part_numbers head.now)) }
     ensures changes { ChangesOnly base head.now.shape (IsInPart head.now) (P.bytes spool.old)
         (P.bytes spool.new) }
-    ensures part_cause { HasCauseOf PieceFail.Failed (S.faults store.old) (S.faults store.new)
+    ensures left { ReadsAndWrites S.bytes S.faults store.old store.new P.faults spool.old spool.new
         result }
-    ensures spool_cause { HasCauseOf PieceFail.SpoolFailed (P.faults spool.old)
-        (P.faults spool.new) result }
-    ensures same { S.bytes store.new ≡ S.bytes store.old }
 {
     let grid = head.grid();
     let mut least = None;
@@ -196,27 +181,16 @@ fn lay_chunk<S: Store, P: Store>(
     bytes: &mut [u8],
 ) -> Result<Option<u64>, PieceFail>
     requires at { at ≤ 2 ^ 62 }
-    requires within { Holds (whole_window shape.now) window.now }
-    requires short { span_length window.now.x ≤ 4096 }
-    requires base { base ≤ 2 ^ 62 }
-    requires bytes { length bytes.old ≡ 69632 }
-    ensures cube { IfOk result (λ least. (cube : Cube Cell) → cube.shape ≡ shape.now →
-        All IsCell (cells_on Empty cube window.now) →
-        Shows (S.bytes store.old) at (cells_on Empty cube window.now) →
-        AreLaid (P.bytes spool.new) base cube (IsIn window.now) least) }
-    ensures some { IfOk result (HaveRecords (P.bytes spool.new) base shape.now
-        (IsIn window.now)) }
-    ensures sound { OnOk result (HaveRecordsAt (S.bytes store.old) at
-        (position_count window.now)) }
+    requires window { IsShortWindow shape.now window.now }
+    requires room { HasRoomForRows base bytes.old }
+    ensures laid { IfOk result (LaysWindow shape.now window.now (S.bytes store.old) at
+        (P.bytes spool.new) base) }
     ensures damage { IfErr result (TellsPiece (S.bytes store.old) at
         (window_numbers shape.now window.now)) }
     ensures changes { ChangesOnly base shape.now (IsIn window.now) (P.bytes spool.old)
         (P.bytes spool.new) }
-    ensures part_cause { HasCauseOf PieceFail.Failed (S.faults store.old) (S.faults store.new)
+    ensures left { ReadsAndWrites S.bytes S.faults store.old store.new P.faults spool.old spool.new
         result }
-    ensures spool_cause { HasCauseOf PieceFail.SpoolFailed (P.faults spool.old)
-        (P.faults spool.new) result }
-    ensures same { S.bytes store.new ≡ S.bytes store.old }
 {
     // A shape has at most 2^40 cells, so that each offset fits 64 bits.
     let _cells = shape.cells();
@@ -245,19 +219,14 @@ fn lay_row<S: Store, P: Store>(
     bytes: &mut [u8],
     count: usize,
 ) -> Result<Option<u64>, PieceFail>
-    requires base { base ≤ 2 ^ 62 }
-    requires room { length bytes.old ≡ 17 * count }
-    requires few { first + count ≤ 2 ^ 40 }
+    requires room { HasRoomForRow base first count bytes.old }
     ensures laid { IfOk result (LaysRow (S.bytes store.old) at (P.bytes spool.new) base first
         count) }
     ensures damage { IfErr result (TellsRow (S.bytes store.old) at first count) }
     ensures outside { StaysOutside (P.bytes spool.old) (base + 17 * first) (17 * count)
         (P.bytes spool.new) }
-    ensures part_cause { HasCauseOf PieceFail.Failed (S.faults store.old) (S.faults store.new)
+    ensures left { ReadsAndWrites S.bytes S.faults store.old store.new P.faults spool.old spool.new
         result }
-    ensures spool_cause { HasCauseOf PieceFail.SpoolFailed (P.faults spool.old)
-        (P.faults spool.new) result }
-    ensures same { S.bytes store.new ≡ S.bytes store.old }
 {
     let over = match read_cells(store, at, bytes, count) {
         Ok(over) => over,

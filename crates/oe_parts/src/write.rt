@@ -1,22 +1,18 @@
 // A part file written from the records in a spool.
-ghost use Rattle.std.specs.Prelude.{◌≡◌, ◌≢◌, ◌≤◌, ◌+◌, ◌*◌, ◌^◌, ℕ, List, Option, [], length, IfErr, OnErr, OnOk};
-ghost use Rattle.std.specs.List.{All};
-ghost use Rattle.oe_cell.specs.Cells.{IsCell};
+ghost use Rattle.std.specs.Prelude.{◌≡◌, ◌≢◌, ◌≤◌, ◌+◌, ◌*◌, ◌^◌, ℕ, Option, [], IfErr, OnErr, OnOk};
 ghost use Rattle.oe_cell.specs.Record.{records_of};
 ghost use Rattle.oe_cell.specs.declared.cell.Cell.{Cell};
 ghost use Rattle.oe_cell.specs.declared.cell.Cell.TheVariants.{Empty};
 ghost use Rattle.oe_dims.specs.Cube.{Cube};
 ghost use Rattle.oe_outside.specs.Faults.{HasCauseOf};
-ghost use Rattle.oe_outside.specs.Visible.{Appends, AppendsPrefix};
 ghost use Rattle.oe_render.specs.Rendered.{HasRendered, sink_answer};
-ghost use Rattle.oe_spool.specs.Spooled.{IsInSome};
 ghost use Rattle.oe_window.specs.Cells.{cells_on};
-ghost use Rattle.oe_window.specs.Windows.{Holds, IsIn, position_count, span_length, whole_window};
+ghost use Rattle.oe_window.specs.Windows.{IsIn, position_count};
 ghost use Rattle.oe_parts.specs.Head.{IsPartHead, front_bytes};
-ghost use Rattle.oe_parts.specs.PartFile.{cells_on_all, chunks_of, part_bytes, part_cells};
-ghost use Rattle.oe_parts.specs.Rows.{AreRecords, Shows};
-ghost use Rattle.oe_parts.specs.Sent.{AppendsRecords, SendsRecords};
-ghost use Rattle.oe_parts.specs.Spooled.{ShowsPart, ShowsRecords, TellsNoRecord, TellsNoRecordFrom};
+ghost use Rattle.oe_parts.specs.PartFile.{cells_on_all, chunks_of, part_cells};
+ghost use Rattle.oe_parts.specs.Rows.{AreRecords, ForEachShown, HasRoomForRow, HasRoomForRows, IsShortWindow};
+ghost use Rattle.oe_parts.specs.Sent.{AppendsPart, AppendsPartPrefix, AppendsRecords, ReadsAndSends, SendsRecords};
+ghost use Rattle.oe_parts.specs.Spooled.{ForEachCubeShown, ShowsPart, TellsNoRecord, TellsNoRecordFrom, TellsNoRecordOf};
 
 use crate::head::PartHead;
 use crate::read::{BYTES, ReadFail, read_cells};
@@ -45,18 +41,14 @@ pub fn write_part<P: Store, O: Sink>(
     requires front { front.now ≡ front_bytes head.now }
     requires base { base ≤ 2 ^ 62 }
     requires empty { pending.old ≡ [] }
-    ensures file { OnOk result ((cube : Cube Cell) → ShowsPart (P.bytes spool.old) base head.now cube
-        → Appends (O.written out.old) (part_bytes head.now cube) (O.written out.new)) }
+    ensures file { OnOk result (AppendsPart (P.bytes spool.old) base head.now (O.written out.old)
+        (O.written out.new)) }
     ensures records { OnOk result (AppendsRecords (O.written out.old) head.now (O.written out.new)) }
-    ensures prefix { OnErr result ((cube : Cube Cell) → ShowsPart (P.bytes spool.old) base head.now
-        cube → AppendsPrefix (O.written out.old) (part_bytes head.now cube) (O.written out.new)) }
-    ensures spool_cause { HasCauseOf RenderFail.SpoolFailed (P.faults spool.old)
-        (P.faults spool.new) result }
-    ensures sink_cause { HasCauseOf RenderFail.SinkFailed (O.faults out.old)
-        (O.faults out.new) result }
-    ensures damage { IfErr result (TellsNoRecord (P.bytes spool.old) base head.now.shape
-        (IsInSome (chunks_of head.now))) }
-    ensures same { P.bytes spool.new ≡ P.bytes spool.old }
+    ensures prefix { OnErr result (AppendsPartPrefix (P.bytes spool.old) base head.now
+        (O.written out.old) (O.written out.new)) }
+    ensures left { ReadsAndSends P.bytes P.faults spool.old spool.new O.faults out.old out.new
+        result }
+    ensures damage { IfErr result (TellsNoRecordOf (P.bytes spool.old) base head.now) }
 {
     match send(out, pending, front) {
         Ok(()) => {}
@@ -92,13 +84,9 @@ fn write_chunks<P: Store, O: Sink>(
         (records_of (cells_on_all cube (chunks_of head.now))) out.new pending.new result }
     ensures records { OnOk result (SendsRecords (O.written out.old) (O.size out.old) pending.old
         (part_cells head.now) (O.written out.new) (O.size out.new) pending.new) }
-    ensures spool_cause { HasCauseOf RenderFail.SpoolFailed (P.faults spool.old)
-        (P.faults spool.new) result }
-    ensures sink_cause { HasCauseOf RenderFail.SinkFailed (O.faults out.old)
-        (O.faults out.new) result }
-    ensures damage { IfErr result (TellsNoRecord (P.bytes spool.old) base head.now.shape
-        (IsInSome (chunks_of head.now))) }
-    ensures same { P.bytes spool.new ≡ P.bytes spool.old }
+    ensures left { ReadsAndSends P.bytes P.faults spool.old spool.new O.faults out.old out.new
+        result }
+    ensures damage { IfErr result (TellsNoRecordOf (P.bytes spool.old) base head.now) }
 {
     let mut bytes = [0; BYTES];
     let grid = head.grid();
@@ -122,23 +110,17 @@ fn write_chunk<P: Store, O: Sink>(
     pending: &mut Pending,
     bytes: &mut [u8],
 ) -> Result<(), RenderFail>
-    requires within { Holds (whole_window shape.now) window.now }
-    requires short { span_length window.now.x ≤ 4096 }
-    requires base { base ≤ 2 ^ 62 }
-    requires bytes { length bytes.old ≡ 69632 }
-    ensures sent { (cube : Cube Cell) → cube.shape ≡ shape.now →
-        ShowsRecords (P.bytes spool.old) base cube (IsIn window.now) →
+    requires window { IsShortWindow shape.now window.now }
+    requires room { HasRoomForRows base bytes.old }
+    ensures sent { ForEachCubeShown (P.bytes spool.old) base shape.now (IsIn window.now) (λ cube.
         HasRendered O.written O.size O.faults out.old pending.old
-        (records_of (cells_on Empty cube window.now)) out.new pending.new result }
+        (records_of (cells_on Empty cube window.now)) out.new pending.new result) }
     ensures records { OnOk result (SendsRecords (O.written out.old) (O.size out.old) pending.old
         (position_count window.now) (O.written out.new) (O.size out.new) pending.new) }
-    ensures spool_cause { HasCauseOf RenderFail.SpoolFailed (P.faults spool.old)
-        (P.faults spool.new) result }
-    ensures sink_cause { HasCauseOf RenderFail.SinkFailed (O.faults out.old)
-        (O.faults out.new) result }
+    ensures left { ReadsAndSends P.bytes P.faults spool.old spool.new O.faults out.old out.new
+        result }
     ensures damage { IfErr result (TellsNoRecord (P.bytes spool.old) base shape.now
         (IsIn window.now)) }
-    ensures same { P.bytes spool.new ≡ P.bytes spool.old }
 {
     // A shape has at most 2^40 cells, so that each offset fits 64 bits.
     let _cells = shape.cells();
@@ -164,22 +146,16 @@ fn write_row<P: Store, O: Sink>(
     bytes: &mut [u8],
     count: usize,
 ) -> Result<(), RenderFail>
-    requires base { base ≤ 2 ^ 62 }
-    requires room { length bytes.old ≡ 17 * count }
-    requires few { first + count ≤ 2 ^ 40 }
-    ensures sent { (shown : List Cell) → All IsCell shown → length shown ≡ count →
-        Shows (P.bytes spool.old) (base + 17 * first) shown →
-        HasRendered O.written O.size O.faults out.old pending.old (records_of shown) out.new
-        pending.new result }
+    requires room { HasRoomForRow base first count bytes.old }
+    ensures sent { ForEachShown (P.bytes spool.old) (base + 17 * first) count (λ shown.
+        HasRendered O.written O.size O.faults out.old pending.old (records_of shown)
+        out.new pending.new result) }
     ensures records { OnOk result (SendsRecords (O.written out.old) (O.size out.old) pending.old
         count (O.written out.new) (O.size out.new) pending.new) }
-    ensures spool_cause { HasCauseOf RenderFail.SpoolFailed (P.faults spool.old)
-        (P.faults spool.new) result }
-    ensures sink_cause { HasCauseOf RenderFail.SinkFailed (O.faults out.old)
-        (O.faults out.new) result }
+    ensures left { ReadsAndSends P.bytes P.faults spool.old spool.new O.faults out.old out.new
+        result }
     ensures damage { IfErr result (TellsNoRecordFrom (P.bytes spool.old) base first
         (first + count)) }
-    ensures same { P.bytes spool.new ≡ P.bytes spool.old }
 {
     match read_row(spool, base, first, bytes, count) {
         Ok(()) => of_sink(send(out, pending, bytes)),
@@ -195,12 +171,9 @@ fn read_row<P: Store>(
     bytes: &mut [u8],
     count: usize,
 ) -> Result<(), RenderFail>
-    requires base { base ≤ 2 ^ 62 }
-    requires room { length bytes.old ≡ 17 * count }
-    requires few { first + count ≤ 2 ^ 40 }
-    ensures shown { (shown : List Cell) → All IsCell shown → length shown ≡ count →
-        Shows (P.bytes spool.old) (base + 17 * first) shown →
-        OnOk result (bytes.new ≡ records_of shown) }
+    requires room { HasRoomForRow base first count bytes.old }
+    ensures shown { ForEachShown (P.bytes spool.old) (base + 17 * first) count (λ shown.
+        OnOk result (bytes.new ≡ records_of shown)) }
     ensures cells { OnOk result ((over : Option ℕ) × AreRecords count bytes.new over) }
     ensures cause { HasCauseOf RenderFail.SpoolFailed (P.faults spool.old)
         (P.faults spool.new) result }

@@ -27,6 +27,11 @@ loop-index-init g c =
       bytes = search rules;
     }
 
+pub lay_one-requires : goal.lay_one-requires
+lay_one-requires g c = record {
+  room = record { base_low = c.requires.base; buffer_long = c.loop-index.invariant.bytes };
+}
+
 pub loop-index-preserved : goal.loop-index-preserved
 loop-index-preserved g c =
     let first = c.args.parts.now in

@@ -1,4 +1,5 @@
 use Rattle.std.proofs.Common.{◌≡◌, ◌<◌, ◌≤◌, ◌+◌, ◌*◌, ◌^◌, ℕ, List, Option, refl, sym, ap, ◌∙◌, subst, arith}
+use Rattle.std.proofs.lemmas.List.{length-take-le}
 use Rattle.oe_outside.specs.Stored.{StaysOutside}
 use Rattle.oe_outside.proofs.Causes.{NeverFalls-refl, NeverFalls-trans}
 use Rattle.oe_spool.specs.Least.{least_over_of}
@@ -18,7 +19,7 @@ use Rattle.oe_parts.proofs.laying.lay_chunk.Goals as goal
 
 pub rows-number-end-requires : goal.rows-number-end-requires
 rows-number-end-requires g c =
-    omega (arith, count_within c.args.shape.now c.args.window.now c.requires.within, c.cells-cells.ensures.value, c.cells-cells.ensures.most)
+    omega (arith, count_within c.args.shape.now c.args.window.now c.requires.window.within, c.cells-cells.ensures.value, c.cells-cells.ensures.most)
 
 pub loop-number-init : goal.loop-number-init
 loop-number-init g c =
@@ -39,26 +40,32 @@ pub overflow_mul-done : goal.overflow_mul-done
 overflow_mul-done g c =
     let w = c.args.window.now in
     let count : c.size-count.result ≡ span_length w.x = c.size-count.ensures.value ∙ row_size w c.row_at-first.result.0 c.loop-number.number c.row_at-first.ensures.row in
-    let few : position_count w ≤ 2 ^ 40 = omega (arith, count_within c.args.shape.now w c.requires.within, c.cells-cells.ensures.value, c.cells-cells.ensures.most) in
+    let few : position_count w ≤ 2 ^ 40 = omega (arith, count_within c.args.shape.now w c.requires.window.within, c.cells-cells.ensures.value, c.cells-cells.ensures.most) in
     omega (arith, done_before c.loop-number.number c.rows-number-end.result (span_length w.x) (position_count w) c.size-count.result c.loop-number-test.true c.rows-number-end.ensures.all count few)
 
 pub overflow_mul-start : goal.overflow_mul-start
 overflow_mul-start g c =
     let w = c.args.window.now in
     let count : c.size-count.result ≡ span_length w.x = c.size-count.ensures.value ∙ row_size w c.row_at-first.result.0 c.loop-number.number c.row_at-first.ensures.row in
-    let few : position_count w ≤ 2 ^ 40 = omega (arith, count_within c.args.shape.now w c.requires.within, c.cells-cells.ensures.value, c.cells-cells.ensures.most) in
+    let few : position_count w ≤ 2 ^ 40 = omega (arith, count_within c.args.shape.now w c.requires.window.within, c.cells-cells.ensures.value, c.cells-cells.ensures.most) in
     omega (arith, done_before c.loop-number.number c.rows-number-end.result (span_length w.x) (position_count w) c.size-count.result c.loop-number-test.true c.rows-number-end.ensures.all count few)
 
 pub overflow_add-start : goal.overflow_add-start
 overflow_add-start g c =
     let w = c.args.window.now in
     let count : c.size-count.result ≡ span_length w.x = c.size-count.ensures.value ∙ row_size w c.row_at-first.result.0 c.loop-number.number c.row_at-first.ensures.row in
-    let few : position_count w ≤ 2 ^ 40 = omega (arith, count_within c.args.shape.now w c.requires.within, c.cells-cells.ensures.value, c.cells-cells.ensures.most) in
+    let few : position_count w ≤ 2 ^ 40 = omega (arith, count_within c.args.shape.now w c.requires.window.within, c.cells-cells.ensures.value, c.cells-cells.ensures.most) in
     omega (arith, c.requires.at, done_before c.loop-number.number c.rows-number-end.result (span_length w.x) (position_count w) c.size-count.result c.loop-number-test.true c.rows-number-end.ensures.all count few)
 
-pub lay_row-requires-clause-few : goal.lay_row-requires-clause-few
-lay_row-requires-clause-few g c =
-    omega (arith, c.size-count.ensures.value, c.row_at-first.ensures.end, c.cells-cells.ensures.value, c.cells-cells.ensures.most)
+pub lay_row-requires : goal.lay_row-requires
+lay_row-requires g c = record {
+  room = record {
+    base_low = c.requires.room.base_low;
+    few = omega (arith, c.size-count.ensures.value, c.row_at-first.ensures.end, c.cells-cells.ensures.value, c.cells-cells.ensures.most);
+    buffer_long = length-take-le (17 * c.size-count.result) c.loop-number.bytes (
+        omega (arith, c.size-count.ensures.value, row_size c.args.window.now c.row_at-first.result.0 c.loop-number.number c.row_at-first.ensures.row, c.requires.window.short, c.requires.room.buffer_long, c.loop-number.auto.bytes));
+  };
+}
 
 pub returns-in-Err-clause-damage : goal.returns-in-Err-clause-damage
 returns-in-Err-clause-damage g c =
@@ -98,11 +105,12 @@ returns-in-Err-clause-changes g c =
     let outside : StaysOutside before (c.args.base + 17 * first) (17 * position_count (row_of w n)) after = subst (λ (m : ℕ). StaysOutside before (c.args.base + 17 * first) (17 * m) after) counted c.lay_row.ensures.outside in
     row_failed (g.P.Store.bytes c.args.spool.now) before after c.args.base first n d w below numbers outside c.loop-number.invariant.changes
 
-pub returns-in-Err-clause-part_cause : goal.returns-in-Err-clause-part_cause
-returns-in-Err-clause-part_cause g c = cause_handed c.loop-number.invariant.part_falls c.in-Err.ensures.part_cause
-
-pub returns-in-Err-clause-spool_cause : goal.returns-in-Err-clause-spool_cause
-returns-in-Err-clause-spool_cause g c = cause_handed c.loop-number.invariant.spool_falls c.in-Err.ensures.spool_cause
+pub returns-in-Err-clause-left : goal.returns-in-Err-clause-left
+returns-in-Err-clause-left g c = record {
+  same = c.in-Err.ensures.left.same ∙ c.loop-number.invariant.same;
+  part_cause = cause_handed c.loop-number.invariant.part_falls c.in-Err.ensures.left.part_cause;
+  spool_cause = cause_handed c.loop-number.invariant.spool_falls c.in-Err.ensures.left.spool_cause;
+}
 
 pub loop-number-preserved : goal.loop-number-preserved
 loop-number-preserved g c =
@@ -126,7 +134,7 @@ loop-number-preserved g c =
     let found = c.in-Ok.over in
     let start = row_start w row c.args.at n c.size-count.result is c.size-count.ensures.value in
     let laid : IsRowLaid part before after c.args.at c.args.base first n d w cells found = record {
-      within = c.requires.within;
+      within = c.requires.window.within;
       below = below;
       room = rows_room n c.rows-number-end.result len (position_count w) c.loop-number-test.true c.rows-number-end.ensures.all;
       numbers = numbers;
@@ -150,30 +158,24 @@ loop-number-preserved g c =
           (subst (λ (m : ℕ). HaveRecordsAt (g.S.Store.bytes c.loop-number.store) (c.args.at + 17 * (n * c.size-count.result)) m) (lays.many ∙ size ∙ row_size w row n is)
           (records_held (g.S.Store.bytes c.loop-number.store) (c.args.at + 17 * (n * c.size-count.result)) cells lays.valid lays.read))));
       changes = row_then part before after c.args.at c.args.base first n d w cells c.loop-number.least found laid (g.P.Store.bytes c.args.spool.now) c.loop-number.invariant.changes;
-      same = c.lay_row.ensures.same ∙ c.loop-number.invariant.same;
-      part_falls = NeverFalls-trans c.loop-number.invariant.part_falls c.lay_row.ensures.part_cause.count;
-      spool_falls = NeverFalls-trans c.loop-number.invariant.spool_falls c.lay_row.ensures.spool_cause.count;
+      same = c.lay_row.ensures.left.same ∙ c.loop-number.invariant.same;
+      part_falls = NeverFalls-trans c.loop-number.invariant.part_falls c.lay_row.ensures.left.part_cause.count;
+      spool_falls = NeverFalls-trans c.loop-number.invariant.spool_falls c.lay_row.ensures.left.spool_cause.count;
     }
 
-pub returns-clause-cube : goal.returns-clause-cube
-returns-clause-cube g c cube same all shows =
-    let w = c.args.window.now in
-    let store = g.P.Store.bytes c.loop-number.spool in
-    let last : c.loop-number.number ≡ c.rows-number-end.result = omega (arith, c.loop-number-test.false, c.loop-number.auto.number-end) in
-    laid_same store c.args.base cube (IsInFirst (rows_of w) (row_count w)) (IsIn w) c.loop-number.least (row_back w) (row_there w)
-    (subst (λ (n : ℕ). AreLaid store c.args.base cube (IsInFirst (rows_of w) n) c.loop-number.least) (last ∙ c.rows-number-end.ensures.value) (c.loop-number.invariant.cube cube same all shows))
-
-pub returns-clause-some : goal.returns-clause-some
-returns-clause-some g c =
+pub returns-clause-laid : goal.returns-clause-laid
+returns-clause-laid g c =
     let d = c.args.shape.now in
     let w = c.args.window.now in
+    let len = span_length w.x in
     let store = g.P.Store.bytes c.loop-number.spool in
+    let least = c.loop-number.least in
     let last : c.loop-number.number ≡ c.rows-number-end.result = omega (arith, c.loop-number-test.false, c.loop-number.auto.number-end) in
-    have_same store c.args.base d (IsInFirst (rows_of w) (row_count w)) (IsIn w) c.loop-number.least (row_there w)
-    (subst (λ (n : ℕ). HaveRecords store c.args.base d (IsInFirst (rows_of w) n) c.loop-number.least) (last ∙ c.rows-number-end.ensures.value) c.loop-number.invariant.some)
-
-pub returns-clause-sound : goal.returns-clause-sound
-returns-clause-sound g c =
-    let len = span_length c.args.window.now.x in
-    let last : c.loop-number.number ≡ c.rows-number-end.result = omega (arith, c.loop-number-test.false, c.loop-number.auto.number-end) in
-    subst (HaveRecordsAt (g.S.Store.bytes c.args.store.now) c.args.at) (ap (λ (n : ℕ). n * len) last ∙ c.rows-number-end.ensures.all) c.loop-number.invariant.sound
+    let rows = last ∙ c.rows-number-end.ensures.value in
+    record {
+      cube = λ cube same all shows. laid_same store c.args.base cube (IsInFirst (rows_of w) (row_count w)) (IsIn w) least (row_back w) (row_there w)
+          (subst (λ (n : ℕ). AreLaid store c.args.base cube (IsInFirst (rows_of w) n) least) rows (c.loop-number.invariant.cube cube same all shows));
+      some = have_same store c.args.base d (IsInFirst (rows_of w) (row_count w)) (IsIn w) least (row_there w)
+          (subst (λ (n : ℕ). HaveRecords store c.args.base d (IsInFirst (rows_of w) n) least) rows c.loop-number.invariant.some);
+      sound = subst (HaveRecordsAt (g.S.Store.bytes c.args.store.now) c.args.at) (ap (λ (n : ℕ). n * len) last ∙ c.rows-number-end.ensures.all) c.loop-number.invariant.sound;
+    }

@@ -6,7 +6,7 @@ use Rattle.oe_parts.specs.Laid.{AreLaid, HaveRecords, IsInPart, IsUndamaged, Par
 use Rattle.oe_parts.specs.PartFile.{IsPartFile}
 use Rattle.oe_parts.specs.Parts.{IsPartRead, PartState, ShowsPartOf}
 use Rattle.oe_parts.proofs.OpenLemmas.{length-front}
-use Rattle.oe_parts.proofs.PartSteps.{err_stops, ok_cube, ok_sound}
+use Rattle.oe_parts.proofs.PartSteps.{err_stops, ok_cube, ok_some, ok_sound}
 use Rattle.oe_parts.proofs.laying.lay_one.Goals as goal
 
 pub lay_part-requires-clause-at : goal.lay_part-requires-clause-at
@@ -19,7 +19,7 @@ pub invariant_of-part : goal.invariant_of-part
 invariant_of-part g c = (
   c.part.invariant.0,
   c.part.invariant.1,
-  subst (λ (o : Option (List ℕ)). IfSome o (λ all. IsPartFile all c.part.inside.head)) (sym c.lay_part.ensures.same) c.part.invariant.2,
+  subst (λ (o : Option (List ℕ)). IfSome o (λ all. IsPartFile all c.part.inside.head)) (sym c.lay_part.ensures.left.same) c.part.invariant.2,
   c.part.invariant.3,
 )
 
@@ -29,19 +29,23 @@ returns-clause-cube g c =
     let inside = c.part.inside in
     let before : PartState = record { name = inside.name; head = inside.head; bytes = g.S.Store.bytes inside.store; faults = g.S.Store.faults inside.store } in
     subst (λ (s : PartState). IfOk c.lay_part.result (λ least. (cube : Cube Cell) → ShowsPartOf cube s → AreLaid spool c.args.base cube (IsInPart s.head) least)) c.part.view_is
-    (ok_cube before inside.base c.args.base spool c.lay_part.result c.part.invariant.1 c.lay_part.ensures.cube)
+    (ok_cube before inside.base c.args.base spool c.lay_part.result c.part.invariant.1 c.lay_part.ensures.laid)
 
 pub returns-clause-some : goal.returns-clause-some
 returns-clause-some g c =
     let spool = g.P.Store.bytes c.lay_part.new.spool in
-    subst (λ (s : PartState). IfOk c.lay_part.result (HaveRecords spool c.args.base s.head.shape (IsInPart s.head))) c.part.view_is c.lay_part.ensures.some
+    let inside = c.part.inside in
+    let before : PartState = record { name = inside.name; head = inside.head; bytes = g.S.Store.bytes inside.store; faults = g.S.Store.faults inside.store } in
+    subst (λ (s : PartState). IfOk c.lay_part.result (HaveRecords spool c.args.base s.head.shape (IsInPart s.head))) c.part.view_is
+    (ok_some before inside.base c.args.base spool c.lay_part.result c.lay_part.ensures.laid)
 
 pub returns-clause-sound : goal.returns-clause-sound
 returns-clause-sound g c =
+    let spool = g.P.Store.bytes c.lay_part.new.spool in
     let inside = c.part.inside in
     let before : PartState = record { name = inside.name; head = inside.head; bytes = g.S.Store.bytes inside.store; faults = g.S.Store.faults inside.store } in
     subst (λ (s : PartState). OnOk c.lay_part.result (IsUndamaged s)) c.part.view_is
-    (ok_sound before inside.base c.lay_part.result c.part.invariant.1 c.lay_part.ensures.sound)
+    (ok_sound before inside.base c.args.base spool c.lay_part.result c.part.invariant.1 c.lay_part.ensures.laid)
 
 pub returns-clause-stops : goal.returns-clause-stops
 returns-clause-stops g c =
@@ -52,7 +56,7 @@ returns-clause-stops g c =
     let falls = g.P.Store.faults c.args.spool.now in
     let fallen = g.P.Store.faults c.lay_part.new.spool in
     subst (λ (s : PartState). IfErr c.lay_part.result (PartStops s after falls fallen)) c.part.view_is
-    (err_stops before after inside.base falls fallen c.lay_part.result c.part.invariant.1 c.lay_part.ensures.damage c.lay_part.ensures.part_cause c.lay_part.ensures.spool_cause)
+    (err_stops before after inside.base falls fallen c.lay_part.result c.part.invariant.1 c.lay_part.ensures.damage c.lay_part.ensures.left.part_cause c.lay_part.ensures.left.spool_cause)
 
 pub returns-clause-changes : goal.returns-clause-changes
 returns-clause-changes g c =
@@ -66,7 +70,7 @@ returns-clause-read g c =
     let store = c.lay_part.new.store in
     let after : PartState = record { name = inside.name; head = inside.head; bytes = g.S.Store.bytes store; faults = g.S.Store.faults store } in
     subst (λ (s : PartState). IsPartRead s after) c.part.view_is
-    (record { name = refl; head = refl; bytes = c.lay_part.ensures.same; faults = c.lay_part.ensures.part_cause.count })
+    (record { name = refl; head = refl; bytes = c.lay_part.ensures.left.same; faults = c.lay_part.ensures.left.part_cause.count })
 
 pub returns-clause-count : goal.returns-clause-count
-returns-clause-count g c = c.lay_part.ensures.spool_cause.count
+returns-clause-count g c = c.lay_part.ensures.left.spool_cause.count

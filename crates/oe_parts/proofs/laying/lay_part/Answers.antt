@@ -42,6 +42,9 @@ loop-chunk-init g c =
       spool_falls = NeverFalls-refl (g.P.Store.faults c.args.spool.now);
     }
 
+pub lay_chunk-requires-clause-room : goal.lay_chunk-requires-clause-room
+lay_chunk-requires-clause-room g c = record { base_low = c.requires.room.base_low; buffer_long = c.loop-chunk.auto.bytes ∙ c.requires.room.buffer_long }
+
 pub size-done-requires : goal.size-done-requires
 size-done-requires g c =
     let h = c.args.head.now in
@@ -94,11 +97,12 @@ returns-in-Err-clause-changes g c =
     (subst (λ (v : Window). ChangesOnly c.args.base h.shape (IsIn v) before after) window
     (subst (λ (d : Dimensions). ChangesOnly c.args.base d (IsIn c.chunk-window.result) before after) shape c.lay_chunk.ensures.changes))
 
-pub returns-in-Err-clause-part_cause : goal.returns-in-Err-clause-part_cause
-returns-in-Err-clause-part_cause g c = cause_then c.loop-chunk.invariant.part_falls c.in-Err.ensures.part_cause
-
-pub returns-in-Err-clause-spool_cause : goal.returns-in-Err-clause-spool_cause
-returns-in-Err-clause-spool_cause g c = cause_then c.loop-chunk.invariant.spool_falls c.in-Err.ensures.spool_cause
+pub returns-in-Err-clause-left : goal.returns-in-Err-clause-left
+returns-in-Err-clause-left g c = record {
+  same = c.in-Err.ensures.left.same ∙ c.loop-chunk.invariant.same;
+  part_cause = cause_then c.loop-chunk.invariant.part_falls c.in-Err.ensures.left.part_cause;
+  spool_cause = cause_then c.loop-chunk.invariant.spool_falls c.in-Err.ensures.left.spool_cause;
+}
 
 pub loop-chunk-preserved : goal.loop-chunk-preserved
 loop-chunk-preserved g c =
@@ -127,12 +131,12 @@ loop-chunk-preserved g c =
       valid = c.requires.valid;
       below = below;
       cube = λ cube same all shows. subst (λ (v : Window). AreLaid after base cube (IsIn v) found) window
-          (c.in-Ok.ensures.cube cube (same ∙ sym shape) (subst (λ (v : Window). All IsCell (cells_on Empty cube v)) (sym window) all)
+          (c.in-Ok.ensures.laid.cube cube (same ∙ sym shape) (subst (λ (v : Window). All IsCell (cells_on Empty cube v)) (sym window) all)
           (subst (λ (o : Option (List ℕ)). Shows o (at + 17 * c.loop-chunk.done) (cells_on Empty cube c.chunk-window.result)) (sym c.loop-chunk.invariant.same)
           (subst (λ (m : ℕ). Shows part m (cells_on Empty cube c.chunk-window.result)) (sym place)
           (subst (λ (v : Window). Shows part (at + 17 * cells_until h n) (cells_on Empty cube v)) (sym window) shows))));
       some = subst (λ (v : Window). HaveRecords after base h.shape (IsIn v) found) window
-          (subst (λ (d : Dimensions). HaveRecords after base d (IsIn c.chunk-window.result) found) shape c.in-Ok.ensures.some);
+          (subst (λ (d : Dimensions). HaveRecords after base d (IsIn c.chunk-window.result) found) shape c.in-Ok.ensures.laid.some);
       changes = changes;
     } in
     record {
@@ -146,34 +150,25 @@ loop-chunk-preserved g c =
           (chunk_some part before after at base n h least found laid c.loop-chunk.invariant.some));
       sound = records_then part at c.loop-chunk.done c.size-done.result c.loop-chunk.invariant.sound
           (subst (λ (m : ℕ). HaveRecordsAt part (at + 17 * c.loop-chunk.done) m) (sym c.size-done.ensures.value)
-          (subst (λ (o : Option (List ℕ)). HaveRecordsAt o (at + 17 * c.loop-chunk.done) (position_count c.chunk-window.result)) c.loop-chunk.invariant.same c.in-Ok.ensures.sound));
+          (subst (λ (o : Option (List ℕ)). HaveRecordsAt o (at + 17 * c.loop-chunk.done) (position_count c.chunk-window.result)) c.loop-chunk.invariant.same c.in-Ok.ensures.laid.sound));
       changes = chunk_then (g.P.Store.bytes c.args.spool.now) before after base n h below c.loop-chunk.invariant.changes changes;
-      same = c.lay_chunk.ensures.same ∙ c.loop-chunk.invariant.same;
-      part_falls = NeverFalls-trans c.loop-chunk.invariant.part_falls c.lay_chunk.ensures.part_cause.count;
-      spool_falls = NeverFalls-trans c.loop-chunk.invariant.spool_falls c.lay_chunk.ensures.spool_cause.count;
+      same = c.lay_chunk.ensures.left.same ∙ c.loop-chunk.invariant.same;
+      part_falls = NeverFalls-trans c.loop-chunk.invariant.part_falls c.lay_chunk.ensures.left.part_cause.count;
+      spool_falls = NeverFalls-trans c.loop-chunk.invariant.spool_falls c.lay_chunk.ensures.left.spool_cause.count;
     }
 
-pub returns-clause-cube : goal.returns-clause-cube
-returns-clause-cube g c = λ cube same all shows.
+pub returns-clause-laid : goal.returns-clause-laid
+returns-clause-laid g c =
     let h = c.args.head.now in
-    let first = ap (λ (i : PartHead). i.first) c.head.view_is in
-    let end = ap (λ (i : PartHead). i.end) c.head.view_is in
-    let last : c.loop-chunk.chunk - h.first ≡ h.end - h.first = omega (arith, c.loop-chunk-test.false, c.loop-chunk.auto.chunk-end, first, end, c.requires.valid.some) in
-    subst (λ (m : ℕ). AreLaid (g.P.Store.bytes c.loop-chunk.spool) c.args.base cube (IsInFirst (chunk_sets h) m) c.loop-chunk.least) last (c.loop-chunk.invariant.cube cube same all shows)
-
-pub returns-clause-some : goal.returns-clause-some
-returns-clause-some g c =
-    let h = c.args.head.now in
-    let first = ap (λ (i : PartHead). i.first) c.head.view_is in
-    let end = ap (λ (i : PartHead). i.end) c.head.view_is in
-    let last : c.loop-chunk.chunk - h.first ≡ h.end - h.first = omega (arith, c.loop-chunk-test.false, c.loop-chunk.auto.chunk-end, first, end, c.requires.valid.some) in
-    subst (λ (m : ℕ). HaveRecords (g.P.Store.bytes c.loop-chunk.spool) c.args.base h.shape (IsInFirst (chunk_sets h) m) c.loop-chunk.least) last c.loop-chunk.invariant.some
-
-pub returns-clause-sound : goal.returns-clause-sound
-returns-clause-sound g c =
-    let h = c.args.head.now in
+    let base = c.args.base in
+    let store = g.P.Store.bytes c.loop-chunk.spool in
+    let least = c.loop-chunk.least in
     let first = ap (λ (i : PartHead). i.first) c.head.view_is in
     let end = ap (λ (i : PartHead). i.end) c.head.view_is in
     let last : c.loop-chunk.chunk - h.first ≡ h.end - h.first = omega (arith, c.loop-chunk-test.false, c.loop-chunk.auto.chunk-end, first, end, c.requires.valid.some) in
     let all : c.loop-chunk.done ≡ part_cells h = c.loop-chunk.invariant.done ∙ ap (cells_until h) last in
-    subst (λ (m : ℕ). HaveRecordsAt (g.S.Store.bytes c.args.store.now) c.args.at m) all c.loop-chunk.invariant.sound
+    record {
+      cube = λ cube same valid shows. subst (λ (m : ℕ). AreLaid store base cube (IsInFirst (chunk_sets h) m) least) last (c.loop-chunk.invariant.cube cube same valid shows);
+      some = subst (λ (m : ℕ). HaveRecords store base h.shape (IsInFirst (chunk_sets h) m) least) last c.loop-chunk.invariant.some;
+      sound = subst (λ (m : ℕ). HaveRecordsAt (g.S.Store.bytes c.args.store.now) c.args.at m) all c.loop-chunk.invariant.sound;
+    }

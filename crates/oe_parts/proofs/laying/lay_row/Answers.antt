@@ -20,7 +20,7 @@ returns-in-Err-Damaged-clause-damage g c =
 
 pub number_at-requires : goal.number_at-requires
 number_at-requires g c =
-    over_few c.args.first c.args.count (2 ^ 40) c.read_cells.new.bytes c.in-Ok.over c.in-Ok.ensures.cells c.requires.few
+    over_few c.args.first c.args.count (2 ^ 40) c.read_cells.new.bytes c.in-Ok.over c.in-Ok.ensures.cells c.requires.room.few
 
 pub returns-in-Ok-write_at-clause-laid : goal.returns-in-Ok-write_at-clause-laid
 returns-in-Ok-write_at-clause-laid g c =
@@ -40,10 +40,10 @@ returns-in-Ok-write_at-clause-laid g c =
 
 pub returns-in-Ok-write_at-clause-outside : goal.returns-in-Ok-write_at-clause-outside
 returns-in-Ok-write_at-clause-outside g c =
-    let long : length c.read_cells.new.bytes ≡ 17 * c.args.count = c.read_cells.auto.bytes ∙ c.requires.room in
+    let long : length c.read_cells.new.bytes ≡ 17 * c.args.count = c.read_cells.auto.bytes ∙ c.requires.room.buffer_long in
     StaysOutside-put (g.P.Store.bytes c.args.spool.now) (g.P.Store.bytes c.write_at.new.self) (c.args.base + 17 * c.args.first) (17 * c.args.count) c.read_cells.new.bytes (omega (arith, long)) c.in-Ok-write_at.ensures.written
 
 pub returns-in-Err-clause-outside : goal.returns-in-Err-clause-outside
 returns-in-Err-clause-outside g c =
-    let long : length c.read_cells.new.bytes ≡ 17 * c.args.count = c.read_cells.auto.bytes ∙ c.requires.room in
+    let long : length c.read_cells.new.bytes ≡ 17 * c.args.count = c.read_cells.auto.bytes ∙ c.requires.room.buffer_long in
     subst (λ (n : ℕ). StaysOutside (g.P.Store.bytes c.args.spool.now) (c.args.base + 17 * c.args.first) n (g.P.Store.bytes c.write_at.new.self)) long c.in-Err.ensures.outside

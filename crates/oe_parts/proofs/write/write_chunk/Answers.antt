@@ -1,4 +1,5 @@
 use Rattle.std.proofs.Common.{◌≡◌, ◌<◌, ◌+◌, ◌*◌, ℕ, List, Option, Ok, take, drop, refl, sym, ap, ◌∙◌, subst, arith}
+use Rattle.std.proofs.lemmas.List.{length-take-le}
 use Rattle.oe_cell.specs.Record.{records_of}
 use Rattle.oe_cell.specs.declared.cell.Cell.{Cell}
 use Rattle.oe_cell.specs.declared.cell.Cell.TheVariants.{Empty}
@@ -19,7 +20,7 @@ use Rattle.oe_parts.proofs.write.write_chunk.Goals as goal
 
 pub rows-number-end-requires : goal.rows-number-end-requires
 rows-number-end-requires g c =
-    omega (arith, count_within c.args.shape.now c.args.window.now c.requires.within, c.cells-cells.ensures.value, c.cells-cells.ensures.most)
+    omega (arith, count_within c.args.shape.now c.args.window.now c.requires.window.within, c.cells-cells.ensures.value, c.cells-cells.ensures.most)
 
 pub loop-number-init : goal.loop-number-init
 loop-number-init g c =
@@ -36,9 +37,15 @@ loop-number-init g c =
       sink_falls = NeverFalls-refl (g.O.Sink.faults c.args.out.now);
     }
 
-pub write_row-requires-clause-few : goal.write_row-requires-clause-few
-write_row-requires-clause-few g c =
-    omega (arith, c.size-count.ensures.value, c.row_at-first.ensures.end, c.cells-cells.ensures.value, c.cells-cells.ensures.most)
+pub write_row-requires : goal.write_row-requires
+write_row-requires g c = record {
+  room = record {
+    base_low = c.requires.room.base_low;
+    few = omega (arith, c.size-count.ensures.value, c.row_at-first.ensures.end, c.cells-cells.ensures.value, c.cells-cells.ensures.most);
+    buffer_long = length-take-le (17 * c.size-count.result) c.loop-number.bytes (
+        omega (arith, c.size-count.ensures.value, row_size c.args.window.now c.row_at-first.result.0 c.loop-number.number c.row_at-first.ensures.row, c.requires.window.short, c.requires.room.buffer_long, c.loop-number.auto.bytes));
+  };
+}
 
 pub returns-in-Err-clause-sent : goal.returns-in-Err-clause-sent
 returns-in-Err-clause-sent g c cube same shown =
@@ -61,11 +68,12 @@ returns-in-Err-clause-sent g c cube same shown =
     (rows_more cube w n below) (rows_rest cube w n) (c.loop-number.invariant.sent cube same shown)
     (c.in-Err.ensures.sent (cells_on Empty cube (row_of w n)) text.valid (text.long ∙ sym size) shows)
 
-pub returns-in-Err-clause-spool_cause : goal.returns-in-Err-clause-spool_cause
-returns-in-Err-clause-spool_cause g c = cause_then c.loop-number.invariant.spool_falls c.in-Err.ensures.spool_cause
-
-pub returns-in-Err-clause-sink_cause : goal.returns-in-Err-clause-sink_cause
-returns-in-Err-clause-sink_cause g c = cause_then c.loop-number.invariant.sink_falls c.in-Err.ensures.sink_cause
+pub returns-in-Err-clause-left : goal.returns-in-Err-clause-left
+returns-in-Err-clause-left g c = record {
+  same = c.in-Err.ensures.left.same ∙ c.loop-number.invariant.same;
+  spool_cause = cause_then c.loop-number.invariant.spool_falls c.in-Err.ensures.left.spool_cause;
+  sink_cause = cause_then c.loop-number.invariant.sink_falls c.in-Err.ensures.left.sink_cause;
+}
 
 pub returns-in-Err-clause-damage : goal.returns-in-Err-clause-damage
 returns-in-Err-clause-damage g c =
@@ -116,9 +124,9 @@ loop-number-preserved g c =
           let more : n * len + c.size-count.result ≡ (n + 1) * len = omega (arith, long) in
           subst (λ (m : ℕ). SendsRecords w0 z0 c.args.pending.now m w2 z2 c.write_row.new.pending) more
           (records_sent_more w0 w1 w2 z0 z1 z2 c.args.pending.now c.loop-number.pending c.write_row.new.pending (n * len) c.size-count.result c.loop-number.invariant.records c.in-Ok.ensures.records));
-      same = c.in-Ok.ensures.same ∙ c.loop-number.invariant.same;
-      spool_falls = NeverFalls-trans c.loop-number.invariant.spool_falls c.in-Ok.ensures.spool_cause.count;
-      sink_falls = NeverFalls-trans c.loop-number.invariant.sink_falls c.in-Ok.ensures.sink_cause.count;
+      same = c.in-Ok.ensures.left.same ∙ c.loop-number.invariant.same;
+      spool_falls = NeverFalls-trans c.loop-number.invariant.spool_falls c.in-Ok.ensures.left.spool_cause.count;
+      sink_falls = NeverFalls-trans c.loop-number.invariant.sink_falls c.in-Ok.ensures.left.sink_cause.count;
     }
 
 pub returns-clause-sent : goal.returns-clause-sent

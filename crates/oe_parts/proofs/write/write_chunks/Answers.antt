@@ -20,7 +20,7 @@ use Rattle.oe_parts.proofs.CellLemmas.{cells_until, until_more}
 use Rattle.oe_parts.proofs.ChunkLemmas.{chunks_more, chunks_rest, in_range}
 use Rattle.oe_parts.proofs.SentLemmas.{records_sent_more, records_sent_none}
 use Rattle.oe_parts.proofs.ShownLemmas.{shown_fewer}
-use Rattle.oe_parts.proofs.WriteLemmas.{refuses_more, text_more, text_stops}
+use Rattle.oe_parts.proofs.WriteLemmas.{cause_then, refuses_more, text_more, text_stops}
 use Rattle.oe_parts.proofs.write.write_chunks.Goals as goal
 
 pub loop-chunk-init : goal.loop-chunk-init
@@ -39,6 +39,9 @@ loop-chunk-init g c =
       sink_falls = NeverFalls-refl (g.O.Sink.faults c.args.out.now);
       bytes = search rules;
     }
+
+pub write_chunk-requires-clause-room : goal.write_chunk-requires-clause-room
+write_chunk-requires-clause-room g c = record { base_low = c.requires.base; buffer_long = c.loop-chunk.invariant.bytes }
 
 pub returns-in-Err-clause-sent : goal.returns-in-Err-clause-sent
 returns-in-Err-clause-sent g c cube shown =
@@ -67,6 +70,13 @@ returns-in-Err-clause-sent g c cube shown =
     text_stops g.O.Sink.written g.O.Sink.size g.O.Sink.faults c.args.out.now c.loop-chunk.out c.write_chunk.new.out c.args.pending.now c.loop-chunk.pending c.write_chunk.new.pending
     before this both (records_of (cells_on_all cube (map f (range_with_len (h.first + suc n) rest)))) (records_of (cells_on_all cube (chunks_of h))) c.in-Err.fail
     more all (c.loop-chunk.invariant.sent cube shown) (c.in-Err.ensures.sent cube (shown.shape ∙ sym shape) shows)
+
+pub returns-in-Err-clause-left : goal.returns-in-Err-clause-left
+returns-in-Err-clause-left g c = record {
+  same = c.in-Err.ensures.left.same ∙ c.loop-chunk.invariant.same;
+  spool_cause = cause_then c.loop-chunk.invariant.spool_falls c.in-Err.ensures.left.spool_cause;
+  sink_cause = cause_then c.loop-chunk.invariant.sink_falls c.in-Err.ensures.left.sink_cause;
+}
 
 pub returns-in-Err-clause-damage : goal.returns-in-Err-clause-damage
 returns-in-Err-clause-damage g c =
@@ -124,9 +134,9 @@ loop-chunk-preserved g c =
           omega (arith, until_more h n, ap position_count (window ∙ ap f (sym here)), ap (cells_until h) next_one) in
           subst (λ (m : ℕ). SendsRecords w0 z0 c.args.pending.now m w2 z2 c.write_chunk.new.pending) more
           (records_sent_more w0 w1 w2 z0 z1 z2 c.args.pending.now c.loop-chunk.pending c.write_chunk.new.pending (cells_until h n) (position_count c.chunk-window.result) c.loop-chunk.invariant.records c.in-Ok.ensures.records));
-      same = c.in-Ok.ensures.same ∙ c.loop-chunk.invariant.same;
-      spool_falls = NeverFalls-trans c.loop-chunk.invariant.spool_falls c.in-Ok.ensures.spool_cause.count;
-      sink_falls = NeverFalls-trans c.loop-chunk.invariant.sink_falls c.in-Ok.ensures.sink_cause.count;
+      same = c.in-Ok.ensures.left.same ∙ c.loop-chunk.invariant.same;
+      spool_falls = NeverFalls-trans c.loop-chunk.invariant.spool_falls c.in-Ok.ensures.left.spool_cause.count;
+      sink_falls = NeverFalls-trans c.loop-chunk.invariant.sink_falls c.in-Ok.ensures.left.sink_cause.count;
       bytes = c.write_chunk.auto.bytes ∙ c.loop-chunk.invariant.bytes;
     }
 

@@ -39,7 +39,7 @@ returns g c = λ input input_after input_faults input_faults_after.
 pub returns-in-Ok-write_part : goal.returns-in-Ok-write_part
 returns-in-Ok-write_part g c = λ input input_after input_faults input_faults_after.
     let front = c.in-Ok.ensures.through.goes.base ∙ c.requires.base in
-    rw c.write_part.ensures.same
+    rw c.write_part.ensures.left.same
     (part_written c.args.head.now.graph _ _ _ _ _ _ _ _ c.requires.collections c.requires.rows c.requires.begun.planned
     c.in-Ok.ensures.through front input input_after input_faults input_faults_after _ _ _ _ _
     (subst IsPartHead c.requires.head c.requires.valid)
@@ -47,17 +47,17 @@ returns-in-Ok-write_part g c = λ input input_after input_faults input_faults_af
     c.in-Ok-write_part.ensures.records)
     (subst (λ (head : PartHead). (cube : Cube Cell) → ShowsPart (g.P.Store.bytes c.complete_part.new.spool) 0 head cube
     → Appends (g.O.Sink.written c.args.out.now) (part_bytes head cube) (g.O.Sink.written c.write_part.new.out)) c.requires.head
-    c.in-Ok-write_part.ensures.file) c.in-Ok-write_part.ensures.spool_cause.count c.in-Ok-write_part.ensures.sink_cause.count)
+    c.in-Ok-write_part.ensures.file) c.in-Ok-write_part.ensures.left.spool_cause.count c.in-Ok-write_part.ensures.left.sink_cause.count)
 
 pub returns-in-Ok : goal.returns-in-Ok
 returns-in-Ok g c = λ input input_after input_faults input_faults_after.
     let front = c.in-Ok.ensures.through.goes.base ∙ c.requires.base in
-    rw c.write_part.ensures.same
+    rw c.write_part.ensures.left.same
     (part_stopped c.args.head.now.graph _ _ _ _ _ _ _ _ c.requires.collections c.requires.rows c.requires.begun.planned
     c.in-Ok.ensures.through front input input_after input_faults input_faults_after _ _ _ _ _ c.in-Err-write_part.fail _
     c.fail_of_text.ensures
     (subst (λ (head : PartHead). (cube : Cube Cell) → ShowsPart (g.P.Store.bytes c.complete_part.new.spool) 0 head cube
     → AppendsPrefix (g.O.Sink.written c.args.out.now) (part_bytes head cube) (g.O.Sink.written c.write_part.new.out)) c.requires.head
-    c.in-Err-write_part.ensures.prefix) c.in-Err-write_part.ensures.spool_cause c.in-Err-write_part.ensures.sink_cause
+    c.in-Err-write_part.ensures.prefix) c.in-Err-write_part.ensures.left.spool_cause c.in-Err-write_part.ensures.left.sink_cause
     (subst (λ (head : PartHead). TellsNoRecord (g.P.Store.bytes c.complete_part.new.spool) 0 head.shape (IsInSome (chunks_of head))
     c.in-Err-write_part.fail) c.requires.head c.in-Err-write_part.ensures.damage))
