@@ -20,12 +20,14 @@ use Rattle.oe_steps.specs.Steps.{AreCells, AreOfKind, EachLoad, buffer_cells_at,
 use Rattle.oe_window.specs.Windows.{Holds, position_count, whole_window}
 use Rattle.oe_window.specs.declared.window.Window.{Window}
 use Rattle.oe_slab.specs.Folds.{AreNoMedians, HaveSeen, Settles}
+use Rattle.oe_slab.specs.Planes.{AreFolded}
 use Rattle.oe_slab.specs.Plans.{IsSlabPlan, SlabPlanOf}
 use Rattle.oe_slab.specs.Slabs.{HaveFoldedAll, HaveFoldedKind, cells_by_date, cube_taken, dates_of_fold}
 use Rattle.oe_slab.proofs.BehindLemmas.{cut_behind, load_is}
 use Rattle.oe_slab.proofs.KindLemmas.{value_fits}
 use Rattle.oe_slab.proofs.MeaningLemmas.{folds_mean}
 use Rattle.oe_slab.proofs.MedianLemmas.{folds_no_median, no_medians}
+use Rattle.oe_sources.specs.Catalogue.{Row}
 
 module _ (p : SlabPlanOf) (is : IsSlabPlan p) where
   abbrev c : CheckedGraph
@@ -108,3 +110,7 @@ module _ (p : SlabPlanOf) (is : IsSlabPlan p) where
     as_many = λ k h. absurd (omega arith);
     room = λ k fold at. absurd (no_fold k fold at);
   }
+
+  -- no folds saw all of a plane without a position
+  pub none_are_folded : (rows : List Row) (plane : Window) → AreFolded p rows plane []
+  none_are_folded rows plane = record { seen = λ collections of shows reducer ignores_nulls by k fold at. absurd (no_fold k fold at); kind = none_kind }

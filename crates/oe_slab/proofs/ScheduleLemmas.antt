@@ -1,5 +1,5 @@
 -- The schedules of a run that is cut at a node, and how a plan keeps them.
-use Rattle.std.proofs.Common.{◌≡◌, ◌<◌, ◌≤◌, ◌+◌, ◌*◌, ℕ, List, Contains, Option, Some, None, inl, refl, sym, subst, arith}
+use Rattle.std.proofs.Common.{◌≡◌, ◌<◌, ◌≤◌, ◌+◌, ◌*◌, ℕ, List, Contains, Option, Some, None, Result, Ok, Err, IfOk, inl, refl, sym, subst, arith}
 use Rattle.std.proofs.Math.Nat.{mul-le-mul}
 use Rattle.oe_graph.specs.Printed.{node_count}
 use Rattle.oe_order.proofs.Reach.{IsInRun-push}
@@ -19,14 +19,14 @@ use Rattle.oe_check.specs.Links.{links_of}
 use Rattle.oe_window.specs.declared.grid.ChunkSize.{ChunkSize}
 use Rattle.oe_slab.specs.Cuts.{IsTimeCut, links_behind}
 use Rattle.oe_slab.specs.Figures.{largest_plane, largest_slab, taken_by, width_before, width_behind}
-use Rattle.oe_slab.specs.Schedules.{AreSchedules}
+use Rattle.oe_slab.specs.Schedules.{AreSchedules, IsOrderAlong}
 use Rattle.oe_slab.proofs.LawLemmas.{takes_one}
 
--- an order as a schedule asks for it
-pub record IsOrderAlong (nodes : List Node) (last : ℕ) (order : Steps) : Type 0 where
-  pub listing : IsListing nodes last order.steps
-  pub evaluation : IsEvaluationOrder nodes last order.steps
-  pub slotted : IsSlotted nodes last order
+-- what is answered of an order clause by clause
+pub orders_along : {E : Type 0} (nodes : List Node) (last : ℕ) (result : Result Steps E) → IfOk result (λ o. IsListing nodes last o.steps)
+    → IfOk result (λ o. IsEvaluationOrder nodes last o.steps) → IfOk result (λ o. IsSlotted nodes last o) → IfOk result (IsOrderAlong nodes last)
+orders_along nodes last (Ok order) listing evaluation slotted = record { listing = listing; evaluation = evaluation; slotted = slotted }
+orders_along nodes last (Err error) listing evaluation slotted = tt
 
 -- a slot is no larger than all of them together
 pub slot_small : (nodes : List Node) (last : ℕ) (order : Steps) (cells most : ℕ) → IsOrderAlong nodes last order

@@ -16,6 +16,11 @@ abbrev pub HaveSeen : List Pass → Reducer → Bool → (ℕ → List Cell) →
 HaveSeen folds reducer ignores_nulls cells =
     (k : ℕ) → (fold : Pass) → slice_get folds k ≡ Some fold → HasSeen fold reducer ignores_nulls (cells k)
 
+-- something holds of the reducer of the folds and of whatever cells they saw
+abbrev pub ForEachSeen : List Pass → (Reducer → Bool → (ℕ → List Cell) → Type 0) → Type 0
+ForEachSeen folds P = (reducer : Reducer) (ignores_nulls : Bool) (cells : ℕ → List Cell)
+    → HaveSeen folds reducer ignores_nulls cells → P reducer ignores_nulls cells
+
 -- the folds, by the one reducer, saw so many cells each, of a kind
 pub record HaveSeenKind (kind : CellKind) (count : ℕ) (folds : List Pass) (reducer : Reducer) (ignores_nulls : Bool)
     : Type 0 where

@@ -4,6 +4,7 @@ pub mod Folds
 pub mod Slabs
 pub mod Schedules
 pub mod Plans
+pub mod Planes
 pub mod Workspaces
 pub mod Results
 pub mod Runs

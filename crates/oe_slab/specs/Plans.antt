@@ -54,6 +54,10 @@ pub record IsTooLarge (c : CheckedGraph) (size : ChunkSize) (cells : ℕ) : Type
 abbrev pub slab_count : SlabPlanOf → ℕ
 slab_count p = parts_along (dates_of_fold p.graph p.fold) p.size.t
 
--- the most cells that a chunk asks for: for each slab one window for each node before the cut that loads a collection
+-- the most cells that a slab asks for: one window for each node before the cut that loads a collection
+abbrev pub most_in_slab : SlabPlanOf → ℕ
+most_in_slab p = load_count p.graph p.before * largest_slab p.graph p.size
+
+-- the most that a chunk asks for, slab by slab
 abbrev pub most_asked : SlabPlanOf → ℕ
-most_asked p = slab_count p * (load_count p.graph p.before * largest_slab p.graph p.size)
+most_asked p = slab_count p * most_in_slab p

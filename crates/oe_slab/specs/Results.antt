@@ -7,6 +7,7 @@ use Rattle.oe_cell.specs.declared.cell.Cell.TheVariants.{Empty}
 use Rattle.oe_dims.specs.Cube.{Cube}
 use Rattle.oe_dims.specs.Dimensions.{Dimensions}
 use Rattle.oe_dims.specs.Positions.{Position}
+use Rattle.oe_meanings.specs.Graphs.{Collections}
 use Rattle.oe_plan.specs.Figures.{shape_of_node}
 use Rattle.oe_plan.specs.Schedules.{AreWindowsFor}
 use Rattle.oe_plan.specs.Windows.{window_at}
@@ -19,6 +20,7 @@ use Rattle.oe_window.specs.Chunks.{FitsSides, tiling_of}
 use Rattle.oe_window.specs.Windows.{Holds, IsIn, whole_window}
 use Rattle.oe_window.specs.declared.window.Window.{Window}
 use Rattle.oe_slab.specs.Plans.{SlabPlanOf}
+use Rattle.oe_slab.specs.Runs.{result_cube}
 use Rattle.oe_slab.specs.Workspaces.{SlabWorkspaceOf}
 
 -- ---- evaluated
@@ -39,6 +41,10 @@ pub record HasResultOn (p : SlabPlanOf) (chunk : Window) (w : SlabWorkspaceOf) :
 -- these are its cells of the result
 abbrev pub AreResultOf : SlabPlanOf → SlabWorkspaceOf → List Cell → Type 0
 AreResultOf p w cells = OfLast p.behind (λ step. cells ≡ buffer_cells_at p.behind w.windows_behind w.behind step)
+
+-- they are those of the result over collections on a chunk
+abbrev pub HasCellsOn : SlabPlanOf → SlabWorkspaceOf → Window → Collections → Type 0
+HasCellsOn p w chunk collections = AreResultOf p w (cells_on Empty (result_cube collections p) chunk)
 
 -- an answer without its value
 abbrev pub answer_of : {T : Type 0} → Result T RunFail → Result (Unit {0}) RunFail

@@ -2,6 +2,10 @@
 use Rattle.std.specs.Prelude.{◌≡◌, ◌<◌, ◌≤◌, ◌↔◌, ℕ, List, None, Some, count_by, length, slice_index}
 use Rattle.std.specs.List.{range_with_len}
 use Rattle.oe_dims.specs.Positions.{Position}
+use Rattle.oe_order.specs.Evaluation.{IsEvaluationOrder}
+use Rattle.oe_order.specs.Graph.{Node}
+use Rattle.oe_order.specs.Live.{IsSlotted, Steps}
+use Rattle.oe_order.specs.Order.{IsListing}
 use Rattle.oe_plan.specs.Figures.{steps_of}
 use Rattle.oe_plan.specs.Schedules.{IsSchedule, ScheduleOf, is_load_at, node_at, steps_to_last}
 use Rattle.oe_plan.specs.Windows.{AreWindows, window_at}
@@ -10,6 +14,13 @@ use Rattle.oe_window.specs.Windows.{Holds, IsEmpty, IsIn, span_length}
 use Rattle.oe_window.specs.declared.grid.ChunkSize.{ChunkSize}
 use Rattle.oe_window.specs.declared.window.Window.{Window}
 use Rattle.oe_slab.specs.Figures.{largest_plane, largest_slab, taken_by, width_before, width_behind}
+
+-- an order as a schedule asks for it: of the nodes that one needs, each behind those that it refers to, with a slot for
+-- each
+pub record IsOrderAlong (nodes : List Node) (last : ℕ) (order : Steps) : Type 0 where
+  pub listing : IsListing nodes last order.steps
+  pub evaluation : IsEvaluationOrder nodes last order.steps
+  pub slotted : IsSlotted nodes last order
 
 -- that of the whole run, which keeps no cells; that of the cube that is folded, with slots for slabs; and that of the
 -- result, where the folded cube is given, with slots for planes

@@ -1,23 +1,20 @@
 // One chunk of a run that is folded slab by slab: the plane of its cut, folded and put into the part behind.
 ghost use Rattle.std.specs.Prelude.{◌≡◌, ◌<◌, ◌≤◌, ℕ, Contains, OnOk, length, take};
-ghost use Rattle.oe_plan.specs.Figures.{scratch_of};
 ghost use Rattle.oe_plan.specs.Schedules.{AreWindowsFor, node_at};
-ghost use Rattle.oe_plan.specs.Windows.{AreWindows, window_at};
-ghost use Rattle.oe_meanings.specs.Graphs.{Collections};
-ghost use Rattle.oe_check.specs.Laws.{AreCollectionsOf};
+ghost use Rattle.oe_plan.specs.Windows.{window_at};
 ghost use Rattle.oe_sources.specs.CatalogueRows.{rows_of};
 ghost use Rattle.oe_steps.specs.Buffers.{lists_of};
-ghost use Rattle.oe_steps.specs.Collections.{HasCollections, Shows};
+ghost use Rattle.oe_steps.specs.Collections.{HasCollections};
 ghost use Rattle.oe_steps.specs.Loads.{HasRead};
 ghost use Rattle.oe_steps.specs.Steps.{AreCells, AreOfKind, EachLoad, HaveRoomFor};
 ghost use Rattle.oe_window.specs.Windows.{position_count};
 ghost use Rattle.oe_window.specs.declared.window.Window.{Window};
 ghost use Rattle.oe_slab.specs.Figures.{largest_plane};
 ghost use Rattle.oe_slab.specs.Folds.{AreNoMedians, HaveRoom, Settles};
+ghost use Rattle.oe_slab.specs.Planes.{AreFolded, ForEachFolded, HasPlane, HasRoomBefore, plane_folds};
 ghost use Rattle.oe_slab.specs.Plans.{IsSlabPlan, most_asked};
 ghost use Rattle.oe_slab.specs.Results.{IsChunkOf};
-ghost use Rattle.oe_slab.specs.Schedules.{IsPlaneOf};
-ghost use Rattle.oe_slab.specs.Slabs.{HaveFoldedAll, HaveFoldedKind};
+ghost use Rattle.oe_slab.specs.Slabs.{HaveFoldedKind};
 
 use crate::evaluate::fold_plane;
 use crate::fold::settle;
@@ -34,8 +31,7 @@ use oe_window::{Window, size};
 pub(crate) fn plane_of(plan: &SlabPlan, chunk: &Window, windows: &mut [Window]) -> Window
     requires windows { length windows.old ≡ length plan.now.whole.order.steps }
     requires chunk { IsChunkOf plan.now chunk.now }
-    ensures windows { AreWindows plan.now.graph plan.now.size chunk.now windows.new }
-    ensures plane { IsPlaneOf plan.now.graph plan.now.fold windows.new result }
+    ensures plane { HasPlane plan.now chunk.now windows.new result }
     ensures few { position_count result ≤ largest_plane plan.now.graph plan.now.size }
     ensures valid { IsSlabPlan plan.now }
 {
@@ -57,22 +53,12 @@ pub(crate) fn fold_all(
     folds: &mut [Pass],
 ) -> Result<(), RunFail>
     requires mounted { HasCollections plan.now.graph (rows_of seen catalogue.old) }
-    requires whole { (chunk : Window)
-        × AreWindows plan.now.graph plan.now.size chunk whole.now }
-    requires plane { IsPlaneOf plan.now.graph plan.now.fold whole.now plane.now }
-    requires windows { length windows.old ≡ length plan.now.before.order.steps }
-    requires room { HaveRoomFor plan.now.before (lists_of buffers.old) }
-    requires scratch { length scratch.old ≡ scratch_of plan.now.graph }
+    requires plane { (chunk : Window) × HasPlane plan.now chunk whole.now plane.now }
+    requires room { HasRoomBefore plan.now windows.old (lists_of buffers.old) scratch.old }
     requires folds { position_count plane.now ≤ length folds.old }
     ensures room { HaveRoomFor plan.now.before (lists_of buffers.new) }
-    ensures kind { OnOk result (HaveFoldedKind plan.now.graph plan.now.fold
-        (take (position_count plane.now) folds.new)) }
-    // over whatever collections are visible, each fold saw the cells of its position, by date
-    ensures seen { OnOk result ((collections : Collections)
-        → AreCollectionsOf plan.now.graph collections
-        → Shows plan.now.graph (rows_of seen catalogue.old) collections
-        → HaveFoldedAll collections plan.now.graph plan.now.fold plane.now
-        (take (position_count plane.now) folds.new)) }
+    ensures folded { OnOk result (AreFolded plan.now (rows_of seen catalogue.old) plane.now
+        (plane_folds plane.now folds.new)) }
     ensures read { HasRead plan.now.graph (most_asked plan.now)
         (rows_of seen catalogue.old) (rows_of seen catalogue.new) result }
 {
@@ -102,16 +88,13 @@ pub(crate) fn put_plane(
         → node_at plan.now.behind step ≡ plan.now.fold → window_at windows.now step ≡ plane.now }
     requires room { HaveRoomFor plan.now.behind (lists_of buffers.old) }
     requires folds { position_count plane.now ≤ length folds.now }
-    requires kind { HaveFoldedKind plan.now.graph plan.now.fold
-        (take (position_count plane.now) folds.now) }
+    requires kind { HaveFoldedKind plan.now.graph plan.now.fold (plane_folds plane.now folds.now) }
     ensures room { HaveRoomFor plan.now.behind (lists_of buffers.new) }
     ensures kinds { EachLoad plan.now.graph plan.now.behind
         (AreOfKind plan.now.graph plan.now.behind windows.now (lists_of buffers.new)) }
-    ensures value { (collections : Collections) → AreCollectionsOf plan.now.graph collections
-        → HaveFoldedAll collections plan.now.graph plan.now.fold plane.now
-        (take (position_count plane.now) folds.now)
-        → EachLoad plan.now.graph plan.now.behind
-        (AreCells collections plan.now.graph plan.now.behind windows.now (lists_of buffers.new)) }
+    ensures value { ForEachFolded plan.now plane.now (plane_folds plane.now folds.now)
+        (λ collections. EachLoad plan.now.graph plan.now.behind
+        (AreCells collections plan.now.graph plan.now.behind windows.now (lists_of buffers.new))) }
 {
     let count = size(plane) as usize;
     let slot = plan.behind().slot(step_in(plan.behind(), plan.fold()));

@@ -2,8 +2,6 @@
 ghost use Rattle.std.specs.Prelude.{◌≡◌, ◌<◌, ◌↔◌, ℕ, true, false, IfNone, IfOk, IfSome, IsTrue, length, slice_index};
 ghost use Rattle.oe_dims.specs.declared.kind.Kind.TheVariants.{Time};
 ghost use Rattle.oe_graph.specs.Printed.{node_count};
-ghost use Rattle.oe_order.specs.Evaluation.{IsEvaluationOrder};
-ghost use Rattle.oe_order.specs.Live.{IsSlotted};
 ghost use Rattle.oe_order.specs.Order.{IsListing};
 ghost use Rattle.oe_check.specs.Links.{links_of};
 ghost use Rattle.oe_check.specs.Reach.{whole_of_node};
@@ -11,6 +9,7 @@ ghost use Rattle.oe_plan.specs.Figures.{steps_of};
 ghost use Rattle.oe_plan.specs.Ranges.{AreStepsOf};
 ghost use Rattle.oe_slab.specs.Cuts.{HasNoTimeCut, IsLoneFold, IsTimeCut};
 ghost use Rattle.oe_slab.specs.Figures.{taken_by, width_before, width_behind};
+ghost use Rattle.oe_slab.specs.Schedules.{IsOrderAlong};
 
 use crate::parts::{loads_nothing, order_behind};
 use oe_check::Checked;
@@ -177,12 +176,8 @@ pub(crate) fn order_before(
     requires { IsLoneFold checked.now fold }
     ensures steps { IfOk result
         (λ o. o.steps ≡ steps_of (record checked.now { result = taken_by checked.now fold })) }
-    ensures listing { IfOk result
-        (λ o. IsListing (links_of checked.now.nodes) (taken_by checked.now fold) o.steps) }
-    ensures evaluation { IfOk result
-        (λ o. IsEvaluationOrder (links_of checked.now.nodes) (taken_by checked.now fold) o.steps) }
-    ensures slots { IfOk result
-        (λ o. IsSlotted (links_of checked.now.nodes) (taken_by checked.now fold) o) }
+    ensures along { IfOk result
+        (IsOrderAlong (links_of checked.now.nodes) (taken_by checked.now fold)) }
     ensures width { IfOk result (λ o. o.width ≡ width_before checked.now fold) }
 {
     // A checked graph is without a fault, as the number of its nodes says.

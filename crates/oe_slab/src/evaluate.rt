@@ -1,26 +1,24 @@
 // The part of a run before its time cut: the slabs of a plane, which are evaluated and folded one after the other.
-ghost use Rattle.std.specs.Prelude.{◌≡◌, ◌+◌, ◌*◌, ◌-◌, ◌<◌, ◌≤◌, ℕ, Bool, List, None, OnOk, Some, Contains, length, slice_index};
+ghost use Rattle.std.specs.Prelude.{◌≡◌, ◌+◌, ◌*◌, ◌-◌, ◌<◌, ℕ, Bool, OnOk, Some, Contains, length, slice_index};
 ghost use Rattle.oe_fold.specs.declared.reducer.Reducer.{Reducer};
 ghost use Rattle.oe_plan.specs.Figures.{scratch_of, shape_of_node, steps_of};
 ghost use Rattle.oe_plan.specs.Laws.{ArePicked};
-ghost use Rattle.oe_plan.specs.Schedules.{AreWindowsFor, IsSchedule, node_at, part_of};
+ghost use Rattle.oe_plan.specs.Schedules.{AreWindowsFor, node_at, part_of};
 ghost use Rattle.oe_plan.specs.Windows.{AreWindows, window_at};
-ghost use Rattle.oe_meanings.specs.Graphs.{Collections};
-ghost use Rattle.oe_check.specs.Laws.{AreCollectionsOf};
 ghost use Rattle.oe_sources.specs.CatalogueRows.{rows_of};
 ghost use Rattle.oe_steps.specs.Buffers.{lists_of};
-ghost use Rattle.oe_steps.specs.Collections.{HasCollections, Shows};
+ghost use Rattle.oe_steps.specs.Collections.{HasCollections};
 ghost use Rattle.oe_steps.specs.Loads.{HasRead};
 ghost use Rattle.oe_steps.specs.Steps.{AreCells, AreOfKind, EachLoad, HaveRoomFor, OfLast};
 ghost use Rattle.oe_window.specs.Chunks.{FitsSides, tiling_of};
 ghost use Rattle.oe_window.specs.Windows.{Holds, IsEmpty, position_count, whole_window};
 ghost use Rattle.oe_window.specs.declared.grid.ChunkSize.{ChunkSize};
 ghost use Rattle.oe_window.specs.declared.window.Window.{Window};
-ghost use Rattle.oe_slab.specs.Figures.{largest_slab};
 ghost use Rattle.oe_slab.specs.Folds.{HaveRoom, HaveSeenKind};
-ghost use Rattle.oe_slab.specs.Plans.{most_asked};
-ghost use Rattle.oe_slab.specs.Schedules.{AreMet, IsPlaneOf, IsSlabOf, load_count};
-ghost use Rattle.oe_slab.specs.Slabs.{HaveFolded, HaveFoldedAll, HaveFoldedKind, IsPlane, cube_taken, kind_taken, slab_window};
+ghost use Rattle.oe_slab.specs.Planes.{AddDates, AreFolded, ForEachVisible, HasPlane, HasRoomBefore, HaveRoomForDates, IsEvaluatedOn, IsReadyPart};
+ghost use Rattle.oe_slab.specs.Plans.{most_asked, most_in_slab};
+ghost use Rattle.oe_slab.specs.Schedules.{AreMet, IsSlabOf, load_count};
+ghost use Rattle.oe_slab.specs.Slabs.{kind_taken, slab_window};
 
 use crate::fold::{begin_folds, fold_slab};
 use crate::plan::SlabPlan;
@@ -142,17 +140,14 @@ fn load_all(
     windows: &[Window],
     buffers: &mut [Vec<Cell>],
 ) -> Result<(), RunFail>
-    requires schedule { IsSchedule checked.now schedule.now }
-    requires given { schedule.now.given ≡ None }
-    requires mounted { HasCollections checked.now (rows_of seen catalogue.old) }
-    requires windows { AreWindowsFor checked.now schedule.now windows.now }
-    requires room { HaveRoomFor schedule.now (lists_of buffers.old) }
+    requires ready { IsReadyPart checked.now schedule.now (rows_of seen catalogue.old)
+        windows.now (lists_of buffers.old) }
     ensures room { HaveRoomFor schedule.now (lists_of buffers.new) }
     ensures kinds { OnOk result (EachLoad checked.now schedule.now
         (AreOfKind checked.now schedule.now windows.now (lists_of buffers.new))) }
-    ensures value { OnOk result ((collections : Collections) → AreCollectionsOf checked.now collections
-        → Shows checked.now (rows_of seen catalogue.old) collections → EachLoad checked.now schedule.now
-        (AreCells collections checked.now schedule.now windows.now (lists_of buffers.new))) }
+    ensures value { OnOk result (ForEachVisible checked.now (rows_of seen catalogue.old)
+        (λ collections. EachLoad checked.now schedule.now
+        (AreCells collections checked.now schedule.now windows.now (lists_of buffers.new)))) }
     ensures read { HasRead checked.now (load_count checked.now schedule.now * schedule.now.largest)
         (rows_of seen catalogue.old) (rows_of seen catalogue.new) result }
 {
@@ -173,18 +168,15 @@ fn evaluate_part(
     buffers: &mut [Vec<Cell>],
     scratch: &mut [Cell],
 ) -> Result<(), RunFail>
-    requires schedule { IsSchedule checked.now schedule.now }
-    requires given { schedule.now.given ≡ None }
-    requires mounted { HasCollections checked.now (rows_of seen catalogue.old) }
-    requires windows { AreWindowsFor checked.now schedule.now windows.now }
-    requires room { HaveRoomFor schedule.now (lists_of buffers.old) }
+    requires ready { IsReadyPart checked.now schedule.now (rows_of seen catalogue.old)
+        windows.now (lists_of buffers.old) }
     requires scratch { length scratch.old ≡ scratch_of checked.now }
     ensures room { HaveRoomFor schedule.now (lists_of buffers.new) }
     ensures kinds { OnOk result (OfLast schedule.now
         (AreOfKind checked.now schedule.now windows.now (lists_of buffers.new))) }
-    ensures value { OnOk result ((collections : Collections) → AreCollectionsOf checked.now collections
-        → Shows checked.now (rows_of seen catalogue.old) collections → OfLast schedule.now
-        (AreCells collections checked.now schedule.now windows.now (lists_of buffers.new))) }
+    ensures value { OnOk result (ForEachVisible checked.now (rows_of seen catalogue.old)
+        (λ collections. OfLast schedule.now
+        (AreCells collections checked.now schedule.now windows.now (lists_of buffers.new)))) }
     ensures read { HasRead checked.now (load_count checked.now schedule.now * schedule.now.largest)
         (rows_of seen catalogue.old) (rows_of seen catalogue.new) result }
 {
@@ -207,20 +199,14 @@ fn evaluate_slab(
 ) -> Result<(), RunFail>
     requires mounted { HasCollections plan.now.graph (rows_of seen catalogue.old) }
     requires slab { IsSlabOf plan.now.graph plan.now.size plan.now.fold all.now slab.now }
-    requires windows { length windows.old ≡ length plan.now.before.order.steps }
-    requires room { HaveRoomFor plan.now.before (lists_of buffers.old) }
-    requires scratch { length scratch.old ≡ scratch_of plan.now.graph }
+    requires room { HasRoomBefore plan.now windows.old (lists_of buffers.old) scratch.old }
     ensures room { HaveRoomFor plan.now.before (lists_of buffers.new) }
-    ensures windows { AreWindowsFor plan.now.graph plan.now.before windows.new }
-    ensures last { OfLast plan.now.before (λ step. window_at windows.new step ≡ slab.now) }
-    ensures kinds { OnOk result (OfLast plan.now.before
-        (AreOfKind plan.now.graph plan.now.before windows.new (lists_of buffers.new))) }
-    ensures value { OnOk result ((collections : Collections)
-        → AreCollectionsOf plan.now.graph collections
-        → Shows plan.now.graph (rows_of seen catalogue.old) collections → OfLast plan.now.before
-        (AreCells collections plan.now.graph plan.now.before windows.new (lists_of buffers.new))) }
-    ensures read { HasRead plan.now.graph
-        (load_count plan.now.graph plan.now.before * largest_slab plan.now.graph plan.now.size)
+    ensures evaluated { OnOk result (IsEvaluatedOn plan.now.graph plan.now.before windows.new
+        (lists_of buffers.new) slab.now) }
+    ensures value { OnOk result (ForEachVisible plan.now.graph (rows_of seen catalogue.old)
+        (λ collections. OfLast plan.now.before
+        (AreCells collections plan.now.graph plan.now.before windows.new (lists_of buffers.new)))) }
+    ensures read { HasRead plan.now.graph (most_in_slab plan.now)
         (rows_of seen catalogue.old) (rows_of seen catalogue.new) result }
 {
     slab_windows(plan, all, slab, windows);
@@ -244,23 +230,11 @@ fn fold_dates(
     to: u32,
     folds: &mut [Pass],
 )
-    requires windows { AreWindowsFor plan.now.graph plan.now.before windows.now }
-    requires last { OfLast plan.now.before
-        (λ step. window_at windows.now step ≡ slab_window plane.now from to) }
-    requires buffers { HaveRoomFor plan.now.before (lists_of buffers.now) }
-    requires kinds { OfLast plan.now.before
-        (AreOfKind plan.now.graph plan.now.before windows.now (lists_of buffers.now)) }
-    requires plane { IsPlane plane.now }
-    requires dates { from ≤ to }
-    requires folds { length folds.old ≡ position_count plane.now }
-    requires room { HaveRoom folds.old (to - from) }
-    ensures seen { (collections : Collections) (reducer : Reducer) (ignores_nulls : Bool)
-        → OfLast plan.now.before
-        (AreCells collections plan.now.graph plan.now.before windows.now (lists_of buffers.now))
-        → HaveFolded folds.old reducer ignores_nulls
-        (cube_taken collections plan.now.graph plan.now.fold) plane.now from
-        → HaveFolded folds.new reducer ignores_nulls
-        (cube_taken collections plan.now.graph plan.now.fold) plane.now to }
+    requires evaluated { IsEvaluatedOn plan.now.graph plan.now.before windows.now
+        (lists_of buffers.now) (slab_window plane.now from to) }
+    requires folds { HaveRoomForDates plane.now from to folds.old }
+    ensures seen { AddDates plan.now windows.now (lists_of buffers.now) plane.now from to
+        folds.old folds.new }
     ensures kinds { (reducer : Reducer) (ignores_nulls : Bool)
         → HaveSeenKind (kind_taken plan.now.graph plan.now.fold) from folds.old reducer ignores_nulls
         → HaveSeenKind (kind_taken plan.now.graph plan.now.fold) to folds.new reducer ignores_nulls }
@@ -285,20 +259,13 @@ pub(crate) fn fold_plane(
     folds: &mut [Pass],
 ) -> Result<(), RunFail>
     requires mounted { HasCollections plan.now.graph (rows_of seen catalogue.old) }
-    requires all { (chunk : Window) × AreWindows plan.now.graph plan.now.size chunk all.now }
-    requires plane { IsPlaneOf plan.now.graph plan.now.fold all.now plane.now }
+    requires plane { (chunk : Window) × HasPlane plan.now chunk all.now plane.now }
     requires filled { ¬ IsEmpty plane.now }
-    requires windows { length windows.old ≡ length plan.now.before.order.steps }
-    requires room { HaveRoomFor plan.now.before (lists_of buffers.old) }
-    requires scratch { length scratch.old ≡ scratch_of plan.now.graph }
+    requires room { HasRoomBefore plan.now windows.old (lists_of buffers.old) scratch.old }
     requires folds { length folds.old ≡ position_count plane.now }
     ensures room { HaveRoomFor plan.now.before (lists_of buffers.new) }
-    // over whatever collections are visible, each fold saw the cells of its position, by date
-    ensures seen { OnOk result ((collections : Collections)
-        → AreCollectionsOf plan.now.graph collections
-        → Shows plan.now.graph (rows_of seen catalogue.old) collections
-        → HaveFoldedAll collections plan.now.graph plan.now.fold plane.now folds.new) }
-    ensures folded { OnOk result (HaveFoldedKind plan.now.graph plan.now.fold folds.new) }
+    ensures folded { OnOk result
+        (AreFolded plan.now (rows_of seen catalogue.old) plane.now folds.new) }
     ensures read { HasRead plan.now.graph (most_asked plan.now)
         (rows_of seen catalogue.old) (rows_of seen catalogue.new) result }
 {

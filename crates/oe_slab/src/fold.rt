@@ -7,7 +7,7 @@ ghost use Rattle.oe_fold.specs.Columns.{column};
 ghost use Rattle.oe_fold.specs.Reduction.{is_count};
 ghost use Rattle.oe_fold.specs.Value.{reduction_of};
 ghost use Rattle.oe_fold.specs.declared.reducer.Reducer.{Reducer};
-ghost use Rattle.oe_slab.specs.Folds.{AreNoMedians, HaveRoom, HaveSeen};
+ghost use Rattle.oe_slab.specs.Folds.{AreNoMedians, ForEachSeen, HaveRoom, HaveSeen};
 
 use oe_cell::Cell;
 use oe_fold::{Pass, Reducer};
@@ -56,20 +56,16 @@ pub(crate) fn settle(folds: &[Pass], out: &mut [Cell])
     requires as_many { length folds.now ≡ length out.old }
     requires room { HaveRoom folds.now 0 }
     requires other { AreNoMedians folds.now }
-    ensures value { (reducer : Reducer) → (ignores_nulls : Bool) → (seen : ℕ → List Cell)
-        → HaveSeen folds.now reducer ignores_nulls seen → (k : ℕ) → k < length out.old
-        → slice_index_or out.new k Empty ≡ reduction_of reducer ignores_nulls (seen k) }
+    ensures value { ForEachSeen folds.now (λ reducer ignores_nulls seen. (k : ℕ) → k < length out.old
+        → slice_index_or out.new k Empty ≡ reduction_of reducer ignores_nulls (seen k)) }
     // its kind: that of the cells, if they have one, and for the two counts a number
-    ensures numeric { (reducer : Reducer) → (ignores_nulls : Bool) → (seen : ℕ → List Cell)
-        → HaveSeen folds.now reducer ignores_nulls seen → (k : ℕ) → k < length out.old
-        → All IsNumeric (seen k) → IsNumeric (slice_index_or out.new k Empty) }
-    ensures logical { (reducer : Reducer) → (ignores_nulls : Bool) → (seen : ℕ → List Cell)
-        → HaveSeen folds.now reducer ignores_nulls seen → is_count reducer ≡ false
-        → (k : ℕ) → k < length out.old → All IsLogical (seen k)
-        → IsLogical (slice_index_or out.new k Empty) }
-    ensures counts { (reducer : Reducer) → (ignores_nulls : Bool) → (seen : ℕ → List Cell)
-        → HaveSeen folds.now reducer ignores_nulls seen → is_count reducer ≡ true
-        → (k : ℕ) → k < length out.old → IsNumeric (slice_index_or out.new k Empty) }
+    ensures numeric { ForEachSeen folds.now (λ reducer ignores_nulls seen. (k : ℕ)
+        → k < length out.old → All IsNumeric (seen k) → IsNumeric (slice_index_or out.new k Empty)) }
+    ensures logical { ForEachSeen folds.now (λ reducer ignores_nulls seen. is_count reducer ≡ false
+        → (k : ℕ) → k < length out.old
+        → All IsLogical (seen k) → IsLogical (slice_index_or out.new k Empty)) }
+    ensures counts { ForEachSeen folds.now (λ reducer ignores_nulls seen. is_count reducer ≡ true
+        → (k : ℕ) → k < length out.old → IsNumeric (slice_index_or out.new k Empty)) }
 {
     for k in 0..folds.len() {
         out[k] = folds[k].value();

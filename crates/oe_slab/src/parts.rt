@@ -1,10 +1,10 @@
 // The part of a run behind a node, whose cube counts as loaded.
 ghost use Rattle.std.specs.Prelude.{◌≡◌, ◌<◌, ◌↔◌, ◌^◌, ℕ, false, IfOk, IsTrue, length, slice_index};
-ghost use Rattle.oe_order.specs.Evaluation.{IsEvaluationOrder};
-ghost use Rattle.oe_order.specs.Graph.{graph_of, is_load, IsAcyclic, RefersWithin};
-ghost use Rattle.oe_order.specs.Live.{IsSlotted, width_of};
-ghost use Rattle.oe_order.specs.Order.{IsListing, order_of};
+ghost use Rattle.oe_order.specs.Graph.{IsAcyclic, RefersWithin, graph_of, is_load};
+ghost use Rattle.oe_order.specs.Live.{width_of};
+ghost use Rattle.oe_order.specs.Order.{order_of};
 ghost use Rattle.oe_plan.specs.Schedules.{as_load};
+ghost use Rattle.oe_slab.specs.Schedules.{IsOrderAlong};
 
 use crate::links::with_load_at;
 use oe_memory::OutOfMemory;
@@ -26,13 +26,9 @@ pub(crate) fn order_behind(
     requires named { RefersWithin (graph_of links.now) }
     requires acyclic { IsAcyclic (graph_of links.now) }
     ensures steps { IfOk result (λ o. o.steps ≡ order_of (as_load (graph_of links.now) node) last) }
-    ensures listing { IfOk result
-        (λ o. IsListing (as_load (graph_of links.now) node) last o.steps) }
-    ensures evaluation { IfOk result
-        (λ o. IsEvaluationOrder (as_load (graph_of links.now) node) last o.steps) }
+    ensures along { IfOk result (IsOrderAlong (as_load (graph_of links.now) node) last) }
     ensures width { IfOk result
         (λ o. o.width ≡ width_of (as_load (graph_of links.now) node) last o.steps) }
-    ensures slots { IfOk result (λ o. IsSlotted (as_load (graph_of links.now) node) last o) }
     ensures within { IfOk result
         (λ o. (i : ℕ) → i < length o.steps → slice_index o.steps i < length links.now) }
 {

@@ -1,14 +1,11 @@
 // The schedules of a run that is folded slab by slab.
 ghost use Rattle.std.specs.Prelude.{◌≡◌, ◌*◌, ◌≤◌, IfOk};
-ghost use Rattle.oe_order.specs.Evaluation.{IsEvaluationOrder};
-ghost use Rattle.oe_order.specs.Live.{IsSlotted};
-ghost use Rattle.oe_order.specs.Order.{IsListing};
 ghost use Rattle.oe_plan.specs.Figures.{most_held_cells, steps_of};
 ghost use Rattle.oe_check.specs.Links.{links_of};
 ghost use Rattle.oe_window.specs.declared.grid.ChunkSize.{ChunkSize};
 ghost use Rattle.oe_slab.specs.Cuts.{IsTimeCut};
 ghost use Rattle.oe_slab.specs.Figures.{largest_plane, largest_slab, width_before};
-ghost use Rattle.oe_slab.specs.Schedules.{AreSchedules};
+ghost use Rattle.oe_slab.specs.Schedules.{AreSchedules, IsOrderAlong};
 
 use crate::cut::order_before;
 use crate::figures::SlabSizes;
@@ -42,10 +39,7 @@ pub(crate) fn schedules_of(
     requires slab { width_before checked.now fold * sizes.slab ≤ most_held_cells }
     requires plane { sizes.plane ≤ most_held_cells }
     requires order { whole.steps ≡ steps_of checked.now }
-    requires listing { IsListing (links_of checked.now.nodes) checked.now.result whole.steps }
-    requires evaluation { IsEvaluationOrder (links_of checked.now.nodes) checked.now.result
-        whole.steps }
-    requires slots { IsSlotted (links_of checked.now.nodes) checked.now.result whole }
+    requires along { IsOrderAlong (links_of checked.now.nodes) checked.now.result whole }
     ensures { (size : ChunkSize) → sizes.slab ≡ largest_slab checked.now size
         → sizes.plane ≡ largest_plane checked.now size → IfOk result
         (λ s. AreSchedules checked.now size fold s.whole s.before s.behind) }

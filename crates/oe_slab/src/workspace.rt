@@ -1,28 +1,24 @@
 // What a run is evaluated in that is folded slab by slab.
-ghost use Rattle.std.specs.Prelude.{◌≡◌, ◌≤◌, ◌^◌, ℕ, IfErr, IfOk, List, OnErr, OnOk, length, take};
+ghost use Rattle.std.specs.Prelude.{◌≡◌, ◌≤◌, ◌^◌, IfErr, IfOk, List, OnErr, OnOk, length};
 ghost use Rattle.oe_cell.specs.declared.cell.Cell.{Cell};
-ghost use Rattle.oe_cell.specs.declared.cell.Cell.TheVariants.{Empty};
 ghost use Rattle.oe_dims.specs.Dimensions.{cell_count};
 ghost use Rattle.oe_outside.specs.Faults.{HasCauseOf};
 ghost use Rattle.oe_plan.specs.Windows.{AreWindows};
 ghost use Rattle.oe_render.specs.Rendered.{AppendsCube, AppendsCubePrefix, CountsCube, CountsCubePrefix, IsRefusalWithin};
 ghost use Rattle.oe_render.specs.Stored.{HasCells};
 ghost use Rattle.oe_render.specs.declared.rendering.RenderFail.{RenderFail};
-ghost use Rattle.oe_meanings.specs.Graphs.{Collections};
-ghost use Rattle.oe_check.specs.Laws.{AreCollectionsOf};
 ghost use Rattle.oe_sources.specs.CatalogueRows.{rows_of};
 ghost use Rattle.oe_steps.specs.Buffers.{lists_of};
-ghost use Rattle.oe_steps.specs.Collections.{HasCollections, Shows};
+ghost use Rattle.oe_steps.specs.Collections.{HasCollections};
 ghost use Rattle.oe_steps.specs.Loads.{HasRead};
-ghost use Rattle.oe_window.specs.Cells.{cells_on};
 ghost use Rattle.oe_window.specs.Windows.{position_count};
 ghost use Rattle.oe_window.specs.declared.window.Window.{Window};
 ghost use Rattle.oe_slab.specs.Figures.{slab_bound};
+ghost use Rattle.oe_slab.specs.Planes.{AreFolded, ForEachFolded, ForEachVisible, HasPlane, plane_folds};
 ghost use Rattle.oe_slab.specs.Plans.{most_asked};
-ghost use Rattle.oe_slab.specs.Results.{AreResultOf, HasResultOn, IsChunkOf, answer_of};
-ghost use Rattle.oe_slab.specs.Runs.{result_cube, result_shape};
-ghost use Rattle.oe_slab.specs.Schedules.{IsPlaneOf};
-ghost use Rattle.oe_slab.specs.Slabs.{HaveFoldedAll, HaveFoldedKind};
+ghost use Rattle.oe_slab.specs.Results.{AreResultOf, HasCellsOn, HasResultOn, IsChunkOf, answer_of};
+ghost use Rattle.oe_slab.specs.Runs.{result_shape};
+ghost use Rattle.oe_slab.specs.Slabs.{HaveFoldedKind};
 ghost use Rattle.oe_slab.specs.Workspaces.{IsWorkspaceFor, held_cells};
 
 use crate::chunk::{fold_all, plane_of, put_plane};
@@ -140,11 +136,8 @@ impl SlabWorkspace {
         requires chunk { IsChunkOf plan.now chunk.now }
         ensures room { IsWorkspaceFor plan.now self.new }
         ensures result { OnOk result (HasResultOn plan.now chunk.now self.new) }
-        ensures value { OnOk result ((collections : Collections)
-            → AreCollectionsOf plan.now.graph collections
-            → Shows plan.now.graph (rows_of seen catalogue.old) collections
-            → AreResultOf plan.now self.new
-            (cells_on Empty (result_cube collections plan.now) chunk.now)) }
+        ensures value { OnOk result (ForEachVisible plan.now.graph (rows_of seen catalogue.old)
+            (HasCellsOn plan.now self.new chunk.now)) }
         ensures read { HasRead plan.now.graph (most_asked plan.now)
             (rows_of seen catalogue.old) (rows_of seen catalogue.new) result }
     {
@@ -166,16 +159,9 @@ impl SlabWorkspace {
         requires mounted { HasCollections plan.now.graph (rows_of seen catalogue.old) }
         requires chunk { IsChunkOf plan.now chunk.now }
         ensures room { IsWorkspaceFor plan.now self.new }
-        ensures windows { OnOk result
-            (AreWindows plan.now.graph plan.now.size chunk.now self.new.windows) }
-        ensures plane { IfOk result (IsPlaneOf plan.now.graph plan.now.fold self.new.windows) }
-        ensures kind { IfOk result (λ plane. HaveFoldedKind plan.now.graph plan.now.fold
-            (take (position_count plane) self.new.folds)) }
-        ensures seen { IfOk result (λ plane. (collections : Collections)
-            → AreCollectionsOf plan.now.graph collections
-            → Shows plan.now.graph (rows_of seen catalogue.old) collections
-            → HaveFoldedAll collections plan.now.graph plan.now.fold plane
-            (take (position_count plane) self.new.folds)) }
+        ensures plane { IfOk result (HasPlane plan.now chunk.now self.new.windows) }
+        ensures folded { IfOk result (λ plane. AreFolded plan.now (rows_of seen catalogue.old) plane
+            (plane_folds plane self.new.folds)) }
         ensures read { HasRead plan.now.graph (most_asked plan.now)
             (rows_of seen catalogue.old) (rows_of seen catalogue.new) (answer_of result) }
     {
@@ -196,21 +182,16 @@ impl SlabWorkspace {
     /// Evaluates the part behind the cut, from the folds of a plane of the whole run's windows.
     fn evaluate_behind(&mut self, plan: &SlabPlan, plane: &Window)
         requires room { IsWorkspaceFor plan.now self.old }
-        requires windows { (chunk : Window)
-            × AreWindows plan.now.graph plan.now.size chunk self.old.windows }
-        requires plane { IsPlaneOf plan.now.graph plan.now.fold self.old.windows plane.now }
+        requires plane { (chunk : Window) × HasPlane plan.now chunk self.old.windows plane.now }
         requires kind { HaveFoldedKind plan.now.graph plan.now.fold
-            (take (position_count plane.now) self.old.folds) }
+            (plane_folds plane.now self.old.folds) }
         ensures room { IsWorkspaceFor plan.now self.new }
         ensures result { (chunk : Window)
             → AreWindows plan.now.graph plan.now.size chunk self.old.windows
             → HasResultOn plan.now chunk self.new }
-        ensures value { (collections : Collections) → AreCollectionsOf plan.now.graph collections
-            → HaveFoldedAll collections plan.now.graph plan.now.fold plane.now
-            (take (position_count plane.now) self.old.folds)
-            → (chunk : Window) → AreWindows plan.now.graph plan.now.size chunk self.old.windows
-            → AreResultOf plan.now self.new
-            (cells_on Empty (result_cube collections plan.now) chunk) }
+        ensures value { ForEachFolded plan.now plane.now (plane_folds plane.now self.old.folds)
+            (λ collections. (chunk : Window) → AreWindows plan.now.graph plan.now.size chunk
+            self.old.windows → HasCellsOn plan.now self.new chunk collections) }
     {
         let behind = plan.behind();
         pick_windows(plan, &self.windows, &mut self.windows_behind);

@@ -24,31 +24,33 @@ step_in-requires c =
     subst (λ (s : ScheduleOf). Contains s.order.steps c.fold.result) (sym c.whole-2.ensures.value)
     (subst (λ (n : ℕ). Contains p.whole.order.steps n) (sym c.fold.ensures) (fold_in_whole p c.whole.ensures.valid))
 
-pub returns-clause-windows : goal.returns-clause-windows
-returns-clause-windows c =
+pub returns-clause-plane : goal.returns-clause-plane
+returns-clause-plane c =
     let p = c.args.plan.now in
     let chunk = c.args.chunk.now in
-    let w = c.windows_of.new.windows in
-    let sides = subst (λ (g : CheckedGraph). FitsSides (tiling_of (shape_of_node g c.whole.result.now.last) p.size) chunk) (sym c.checked.ensures.value)
-    (subst (λ (s : ScheduleOf). FitsSides (tiling_of (shape_of_node p.graph s.last) p.size) chunk) (sym c.whole.ensures.value)
-    (subst (λ (n : ℕ). FitsSides (tiling_of (shape_of_node p.graph n) p.size) chunk) (sym c.whole.ensures.valid.schedules.whole_last)
-    c.requires.chunk.sides)) in
-    whole_windows p c.whole.ensures.valid chunk w
-    (subst (λ (s : ScheduleOf). AreWindows (part_of p.graph s) p.size chunk w) c.whole.ensures.value
-    (subst (λ (g : CheckedGraph). AreWindows (part_of g c.whole.result.now) p.size chunk w) c.checked.ensures.value
-    (c.windows_of.ensures p.size sides)))
-
-pub returns-clause-few : goal.returns-clause-few
-returns-clause-few c =
-    let p = c.args.plan.now in
     let is = c.whole.ensures.valid in
     let w = c.windows_of.new.windows in
     let step = c.step_in.result in
+    let sides = subst (λ (g : CheckedGraph). FitsSides (tiling_of (shape_of_node g c.whole.result.now.last) p.size) chunk) (sym c.checked.ensures.value)
+    (subst (λ (s : ScheduleOf). FitsSides (tiling_of (shape_of_node p.graph s.last) p.size) chunk) (sym c.whole.ensures.value)
+    (subst (λ (n : ℕ). FitsSides (tiling_of (shape_of_node p.graph n) p.size) chunk) (sym is.schedules.whole_last)
+    c.requires.chunk.sides)) in
     let steps_are : c.whole-2.result.now.order.steps ≡ steps_of p.graph =
     ap (λ (s : ScheduleOf). s.order.steps) c.whole-2.ensures.value ∙ is.schedules.whole_steps in
-    cut_few p is c.args.chunk.now _ w (returns-clause-windows c) (
-      step,
-      subst (λ (xs : List ℕ). step < length xs) steps_are c.step_in.ensures.within,
-      subst (λ (xs : List ℕ). slice_index xs step ≡ p.fold) steps_are (c.step_in.ensures.is ∙ c.fold.ensures),
-      refl,
-    )
+    record {
+      windows_are = whole_windows p is chunk w
+          (subst (λ (s : ScheduleOf). AreWindows (part_of p.graph s) p.size chunk w) c.whole.ensures.value
+          (subst (λ (g : CheckedGraph). AreWindows (part_of g c.whole.result.now) p.size chunk w) c.checked.ensures.value
+          (c.windows_of.ensures p.size sides)));
+      plane_is = (
+        step,
+        subst (λ (xs : List ℕ). step < length xs) steps_are c.step_in.ensures.within,
+        subst (λ (xs : List ℕ). slice_index xs step ≡ p.fold) steps_are (c.step_in.ensures.is ∙ c.fold.ensures),
+        refl,
+      );
+    }
+
+pub returns-clause-few : goal.returns-clause-few
+returns-clause-few c =
+    let plane = returns-clause-plane c in
+    cut_few c.args.plan.now c.whole.ensures.valid c.args.chunk.now _ c.windows_of.new.windows plane.windows_are plane.plane_is

@@ -1,10 +1,10 @@
 use Rattle.std.proofs.Common.{◌≡◌, arith}
-use Rattle.oe_order.specs.Evaluation.{IsEvaluationOrder}
-use Rattle.oe_order.specs.Live.{IsSlotted, width_of}
-use Rattle.oe_order.specs.Order.{IsListing}
+use Rattle.oe_order.specs.Live.{width_of}
 use Rattle.oe_plan.specs.Figures.{steps_of}
 use Rattle.oe_check.specs.Links.{links_of}
+use Rattle.oe_slab.specs.Schedules.{IsOrderAlong}
 use Rattle.oe_slab.proofs.FoldLemmas.{before_is, fold_takes, of_taken}
+use Rattle.oe_slab.proofs.ScheduleLemmas.{orders_along}
 use Rattle.oe_slab.proofs.cut.order_before.Goals as goal
 
 pub argument_of-taken-requires-clause-number : goal.argument_of-taken-requires-clause-number
@@ -27,17 +27,9 @@ returns-clause-width c =
     (of_taken c.args.checked.now c.args.fold c.argument_of-taken.result c.order_to.result c.argument_of-taken.ensures.value
     (λ last o. o.width ≡ width_of (links_of c.args.checked.now.nodes) last o.steps) c.order_to.ensures.width)
 
-pub returns-clause-listing : goal.returns-clause-listing
-returns-clause-listing c =
+pub returns-clause-along : goal.returns-clause-along
+returns-clause-along c =
+    let nodes = links_of c.args.checked.now.nodes in
     of_taken c.args.checked.now c.args.fold c.argument_of-taken.result c.order_to.result c.argument_of-taken.ensures.value
-    (λ last o. IsListing (links_of c.args.checked.now.nodes) last o.steps) c.order_to.ensures.listing
-
-pub returns-clause-evaluation : goal.returns-clause-evaluation
-returns-clause-evaluation c =
-    of_taken c.args.checked.now c.args.fold c.argument_of-taken.result c.order_to.result c.argument_of-taken.ensures.value
-    (λ last o. IsEvaluationOrder (links_of c.args.checked.now.nodes) last o.steps) c.order_to.ensures.evaluation
-
-pub returns-clause-slots : goal.returns-clause-slots
-returns-clause-slots c =
-    of_taken c.args.checked.now c.args.fold c.argument_of-taken.result c.order_to.result c.argument_of-taken.ensures.value
-    (λ last o. IsSlotted (links_of c.args.checked.now.nodes) last o) c.order_to.ensures.slots
+    (λ last o. IsOrderAlong nodes last o)
+    (orders_along nodes c.argument_of-taken.result c.order_to.result c.order_to.ensures.listing c.order_to.ensures.evaluation c.order_to.ensures.slots)

@@ -18,13 +18,13 @@ pub front-cells-requires-clause-windows : goal.front-cells-requires-clause-windo
 front-cells-requires-clause-windows c =
     let p = c.args.plan.now in
     as_read (λ graph s. AreWindowsFor graph s c.args.windows.now) p.graph c.checked.result.now p.before c.before-2.result.now c.checked.ensures.value c.before-2.ensures.value
-    c.requires.windows
+    c.requires.evaluated.windows_serve
 
 pub front-cells-requires-clause-room : goal.front-cells-requires-clause-room
 front-cells-requires-clause-room c =
     let p = c.args.plan.now in
     as_read (λ graph s. HaveRoomFor s (lists_of c.args.buffers.now)) p.graph c.checked.result.now p.before c.before-2.result.now c.checked.ensures.value c.before-2.ensures.value
-    c.requires.buffers
+    c.requires.evaluated.room
 
 pub fold_slab-requires-clause-as_many : goal.fold_slab-requires-clause-as_many
 fold_slab-requires-clause-as_many c =
@@ -36,8 +36,8 @@ fold_slab-requires-clause-as_many c =
     let cells : c.front-cells.result.now ≡ buffer_cells_at p.before c.args.windows.now (lists_of c.args.buffers.now) c.last_before-last.result =
     subst (λ (s : ScheduleOf). c.front-cells.result.now ≡ buffer_cells_at s c.args.windows.now (lists_of c.args.buffers.now) c.last_before-last.result) schedule c.front-cells.ensures in
     slab_long p.graph p.fold p.before c.args.windows.now (lists_of c.args.buffers.now) c.last_before-last.result valid.schedules.before_last below stands
-    c.front-cells.result.now cells valid.schedules.before c.requires.windows c.requires.buffers c.args.plane.now c.args.from c.args.to c.requires.plane c.requires.last
-    ∙ ap (λ (n : ℕ). (c.args.to - c.args.from) * n) (sym c.requires.folds)
+    c.front-cells.result.now cells valid.schedules.before c.requires.evaluated.windows_serve c.requires.evaluated.room c.args.plane.now c.args.from c.args.to c.requires.folds.plane_is c.requires.evaluated.window_is
+    ∙ ap (λ (n : ℕ). (c.args.to - c.args.from) * n) (sym c.requires.folds.counted)
 
 pub returns-clause-seen : goal.returns-clause-seen
 returns-clause-seen c = λ collections reducer ignores_nulls values folded.
@@ -51,10 +51,10 @@ returns-clause-seen c = λ collections reducer ignores_nulls values folded.
     let plane = c.args.plane.now in
     let cube = cube_taken collections p.graph p.fold in
     let old = c.args.folds.now in
-    slab_folded plane c.requires.plane c.args.from c.args.to cube reducer ignores_nulls c.fold_slab.new.folds c.front-cells.result.now (length old) (c.args.to - c.args.from)
-    c.requires.dates (c.fold_slab.auto.folds ∙ c.requires.folds) c.requires.folds refl
+    slab_folded plane c.requires.folds.plane_is c.args.from c.args.to cube reducer ignores_nulls c.fold_slab.new.folds c.front-cells.result.now (length old) (c.args.to - c.args.from)
+    c.requires.folds.upto (c.fold_slab.auto.folds ∙ c.requires.folds.counted) c.requires.folds.counted refl
     (slab_cells p.graph p.fold p.before c.args.windows.now (lists_of c.args.buffers.now) c.last_before-last.result valid.schedules.before_last below stands
-    c.front-cells.result.now cells collections (slab_window plane c.args.from c.args.to) c.requires.last values)
+    c.front-cells.result.now cells collections (slab_window plane c.args.from c.args.to) c.requires.evaluated.window_is values)
     (c.fold_slab.ensures.seen reducer ignores_nulls (cells_by_date cube plane c.args.from) folded)
 
 pub returns-clause-kinds : goal.returns-clause-kinds
@@ -69,10 +69,10 @@ returns-clause-kinds c = λ reducer ignores_nulls was.
     let old = c.args.folds.now in
     let dates = c.args.to - c.args.from in
     let long = slab_long p.graph p.fold p.before c.args.windows.now (lists_of c.args.buffers.now) c.last_before-last.result valid.schedules.before_last below stands
-    c.front-cells.result.now cells valid.schedules.before c.requires.windows c.requires.buffers c.args.plane.now c.args.from c.args.to c.requires.plane c.requires.last
-    ∙ ap (λ (n : ℕ). dates * n) (sym c.requires.folds) in
+    c.front-cells.result.now cells valid.schedules.before c.requires.evaluated.windows_serve c.requires.evaluated.room c.args.plane.now c.args.from c.args.to c.requires.folds.plane_is c.requires.evaluated.window_is
+    ∙ ap (λ (n : ℕ). dates * n) (sym c.requires.folds.counted) in
     kinds_more (kind_taken p.graph p.fold) old c.fold_slab.new.folds reducer ignores_nulls c.front-cells.result.now c.args.from (length old) dates c.args.to
-    refl c.fold_slab.auto.folds long (let upto = c.requires.dates in omega arith)
+    refl c.fold_slab.auto.folds long (let upto = c.requires.folds.upto in omega arith)
     (slab_kinds p.graph p.fold p.before c.args.windows.now (lists_of c.args.buffers.now) c.last_before-last.result valid.schedules.before_last below stands
-    c.front-cells.result.now cells c.requires.kinds)
+    c.front-cells.result.now cells c.requires.evaluated.kinds)
     (λ seen all. c.fold_slab.ensures.seen reducer ignores_nulls seen all) was

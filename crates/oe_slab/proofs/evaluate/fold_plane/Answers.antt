@@ -2,15 +2,14 @@ use Rattle.std.proofs.Common.{◌≡◌, ◌+◌, ◌-◌, ◌*◌, ◌∙◌, �
 use Rattle.std.proofs.Math.Nat.{mul-le-mul}
 use Rattle.std.proofs.lemmas.Option.{same_Some}
 use Rattle.oe_fold.specs.declared.reducer.Reducer.{Reducer}
-use Rattle.oe_plan.specs.Windows.{window_at}
 use Rattle.oe_check.specs.Reach.{time_fold_of_node}
 use Rattle.oe_sources.specs.CatalogueRows.{rows_of}
+use Rattle.oe_steps.specs.Buffers.{lists_of}
 use Rattle.oe_steps.specs.Loads.{HasRead}
-use Rattle.oe_steps.specs.Steps.{OfLast}
 use Rattle.oe_steps.proofs.ReadLemmas.{has_more, has_most, has_none, has_refused, has_same, shows_same}
-use Rattle.oe_window.specs.declared.window.Window.{Window}
 use Rattle.oe_slab.specs.Figures.{largest_slab}
 use Rattle.oe_slab.specs.Folds.{HaveSeen}
+use Rattle.oe_slab.specs.Planes.{IsEvaluatedOn}
 use Rattle.oe_slab.specs.Plans.{most_asked, slab_count}
 use Rattle.oe_slab.specs.Schedules.{IsSlabOf, load_count}
 use Rattle.oe_slab.specs.Slabs.{HaveFolded, cube_taken, dates_of_fold}
@@ -35,7 +34,7 @@ loop-from-init g c =
       long = c.begin_folds.auto.folds;
       windows = refl;
       scratch = refl;
-      buffers = c.requires.room;
+      buffers = c.requires.room.room;
       read = (0, omega arith, omega arith, has_most p.graph 0 (0 * (load_count p.graph p.before * largest_slab p.graph p.size)) rows rows (Ok tt) (omega arith) (has_none p.graph rows));
       room = λ more below. c.begin_folds.ensures.room more (omega arith);
       kinds = λ reducer ignores_nulls by. record {
@@ -60,31 +59,33 @@ evaluate_slab-requires-clause-slab g c =
     let some = valid.sides.t.0 in
     subst (IsSlabOf p.graph p.size p.fold c.args.all.now) (sym c.slab_of-slab.ensures)
     (is_slab p.graph valid.faultless p.fold valid.cut p.size (ordered_by p.graph p.size p.fold p.whole p.before p.behind valid.schedules)
-    c.requires.all.0 c.args.all.now c.requires.all.1 c.args.plane.now c.requires.plane c.requires.filled from to
+    c.requires.plane.0 c.args.all.now c.requires.plane.1.windows_are c.args.plane.now c.requires.plane.1.plane_is c.requires.filled from to
     (omega (arith, some)) (omega arith) (omega arith))
 
-pub evaluate_slab-requires-clause-windows : goal.evaluate_slab-requires-clause-windows
-evaluate_slab-requires-clause-windows g c = c.loop-from.invariant.windows ∙ c.requires.windows
+pub evaluate_slab-requires-clause-room : goal.evaluate_slab-requires-clause-room
+evaluate_slab-requires-clause-room g c = record {
+  windows_many = c.loop-from.invariant.windows ∙ c.requires.room.windows_many;
+  room = c.loop-from.invariant.buffers;
+  scratch_many = c.loop-from.invariant.scratch ∙ c.requires.room.scratch_many;
+}
 
-pub evaluate_slab-requires-clause-scratch : goal.evaluate_slab-requires-clause-scratch
-evaluate_slab-requires-clause-scratch g c = c.loop-from.invariant.scratch ∙ c.requires.scratch
-
-pub fold_dates-requires-clause-last : goal.fold_dates-requires-clause-last
-fold_dates-requires-clause-last g c =
-    subst (λ (slab : Window). OfLast c.args.plan.now.before (λ step. window_at c.evaluate_slab.new.windows step ≡ slab)) c.slab_of-slab.ensures c.evaluate_slab.ensures.last
-
-pub fold_dates-requires-clause-plane : goal.fold_dates-requires-clause-plane
-fold_dates-requires-clause-plane g c =
+pub fold_dates-requires-clause-evaluated : goal.fold_dates-requires-clause-evaluated
+fold_dates-requires-clause-evaluated g c =
     let p = c.args.plan.now in
-    let valid = c.dates-dates.ensures.valid in
-    is_plane p.graph valid.faultless p.fold valid.cut p.size (ordered_by p.graph p.size p.fold p.whole p.before p.behind valid.schedules)
-    c.requires.all.0 c.args.all.now c.requires.all.1 c.args.plane.now c.requires.plane c.requires.filled
+    subst (IsEvaluatedOn p.graph p.before c.evaluate_slab.new.windows (lists_of c.evaluate_slab.new.buffers)) c.slab_of-slab.ensures
+    c.in_ok-evaluate_slab.ensures.evaluated
 
 pub fold_dates-requires-clause-folds : goal.fold_dates-requires-clause-folds
-fold_dates-requires-clause-folds g c = c.loop-from.invariant.long ∙ c.requires.folds
-
-pub fold_dates-requires-clause-room : goal.fold_dates-requires-clause-room
-fold_dates-requires-clause-room g c = c.loop-from.invariant.room (c.min-to.result - c.loop-from.from) (omega arith)
+fold_dates-requires-clause-folds g c =
+    let p = c.args.plan.now in
+    let valid = c.dates-dates.ensures.valid in
+    record {
+      plane_is = is_plane p.graph valid.faultless p.fold valid.cut p.size (ordered_by p.graph p.size p.fold p.whole p.before p.behind valid.schedules)
+          c.requires.plane.0 c.args.all.now c.requires.plane.1.windows_are c.args.plane.now c.requires.plane.1.plane_is c.requires.filled;
+      upto = omega arith;
+      counted = c.loop-from.invariant.long ∙ c.requires.folds;
+      room = c.loop-from.invariant.room (c.min-to.result - c.loop-from.from) (omega arith);
+    }
 
 pub returns-in_err-evaluate_slab-clause-read : goal.returns-in_err-evaluate_slab-clause-read
 returns-in_err-evaluate_slab-clause-read g c =
@@ -134,17 +135,6 @@ loop-from-preserved g c =
           (inv.seen collections of shows reducer ignores_nulls by);
     }
 
-pub returns-clause-seen : goal.returns-clause-seen
-returns-clause-seen g c = λ collections of shows reducer ignores_nulls by.
-    let p = c.args.plan.now in
-    let end : c.loop-from.from ≡ dates_of_fold p.graph p.fold =
-    omega (arith, c.dates-dates.ensures.value, c.loop-from.invariant.upto, c.loop-from-test.false) in
-    subst (λ (n : ℕ). HaveFolded c.loop-from.folds reducer ignores_nulls (cube_taken collections p.graph p.fold) c.args.plane.now n) end
-    (c.loop-from.invariant.seen collections of shows reducer ignores_nulls by)
-
-pub evaluate_slab-requires-clause-room : goal.evaluate_slab-requires-clause-room
-evaluate_slab-requires-clause-room g c = c.loop-from.invariant.buffers
-
 pub returns-clause-room : goal.returns-clause-room
 returns-clause-room g c = c.loop-from.invariant.buffers
 
@@ -155,14 +145,19 @@ returns-clause-folded g c =
     omega (arith, c.dates-dates.ensures.value, c.loop-from.invariant.upto, c.loop-from-test.false) in
     let kinds = c.loop-from.invariant.kinds c.reducer-reducer.result.0 c.reducer-reducer.result.1 c.reducer-reducer.ensures in
     record {
-      reducer = c.reducer-reducer.result.0;
-      ignores_nulls = c.reducer-reducer.result.1;
-      by = c.reducer-reducer.ensures;
-      cells = kinds.cells;
-      seen = kinds.seen;
-      kinds = kinds.kinds;
-      as_many = λ k below. kinds.as_many k below ∙ end;
-      room = c.loop-from.invariant.room 0 (omega arith);
+      seen = λ collections of shows reducer ignores_nulls by.
+          subst (λ (n : ℕ). HaveFolded c.loop-from.folds reducer ignores_nulls (cube_taken collections p.graph p.fold) c.args.plane.now n) end
+          (c.loop-from.invariant.seen collections of shows reducer ignores_nulls by);
+      kind = record {
+        reducer = c.reducer-reducer.result.0;
+        ignores_nulls = c.reducer-reducer.result.1;
+        by = c.reducer-reducer.ensures;
+        cells = kinds.cells;
+        seen = kinds.seen;
+        kinds = kinds.kinds;
+        as_many = λ k below. kinds.as_many k below ∙ end;
+        room = c.loop-from.invariant.room 0 (omega arith);
+      };
     }
 
 pub returns-clause-read : goal.returns-clause-read

@@ -14,17 +14,17 @@ pub loop-step-init : goal.loop-step-init
 loop-step-init g c =
     let rows = rows_of (λ z. (goal.CubeSource-dyn g z).seen z.1) c.args.catalogue.now in
     record {
-      room = c.requires.room;
+      room = c.requires.ready.room;
       read = has_most c.args.checked.now 0 (0 * c.args.schedule.now.largest) rows rows (Ok tt) (omega arith) (has_none c.args.checked.now rows);
       loaded = none_live c.args.checked.now c.args.schedule.now _;
     }
 
 pub load_slot-requires-clause-load : goal.load_slot-requires-clause-load
 load_slot-requires-clause-load g c =
-    loads_here c.args.checked.now c.args.schedule.now c.requires.given c.loop-step.step (c.loads-step-end.ensures.load c.loop-step.step c.loop-step-test.true)
+    loads_here c.args.checked.now c.args.schedule.now c.requires.ready.none_given c.loop-step.step (c.loads-step-end.ensures.load c.loop-step.step c.loop-step-test.true)
 
 pub load_slot-requires-clause-mounted : goal.load_slot-requires-clause-mounted
-load_slot-requires-clause-mounted g c = has_same _ _ c.loop-step.invariant.read.read.same c.args.checked.now c.requires.mounted
+load_slot-requires-clause-mounted g c = has_same _ _ c.loop-step.invariant.read.read.same c.args.checked.now c.requires.ready.mounted
 
 pub returns-in_err-load_slot-clause-read : goal.returns-in_err-load_slot-clause-read
 returns-in_err-load_slot-clause-read g c =
@@ -63,7 +63,7 @@ returns-clause-kinds g c =
     let schedule = c.args.schedule.now in
     let rows = rows_of (λ z. (goal.CubeSource-dyn g z).seen z.1) c.args.catalogue.now in
     let end : c.loop-step.step ≡ c.loads-step-end.result = omega (arith, c.loop-step-test.false, c.loop-step.auto.step-end) in
-    each_loaded graph schedule c.requires.schedule (AreOfKind graph schedule c.args.windows.now (lists_of c.loop-step.buffers))
+    each_loaded graph schedule c.requires.ready.scheduled (AreOfKind graph schedule c.args.windows.now (lists_of c.loop-step.buffers))
     c.loads-step-end.result c.loads-step-end.ensures.load c.loads-step-end.ensures.work
     (λ i below live.
     (subst (λ (n : ℕ). EachLive graph schedule n (IsLoadedAt graph schedule rows c.args.windows.now (lists_of c.loop-step.buffers))) end
@@ -75,7 +75,7 @@ returns-clause-value g c = λ collections of shows.
     let schedule = c.args.schedule.now in
     let rows = rows_of (λ z. (goal.CubeSource-dyn g z).seen z.1) c.args.catalogue.now in
     let end : c.loop-step.step ≡ c.loads-step-end.result = omega (arith, c.loop-step-test.false, c.loop-step.auto.step-end) in
-    each_loaded graph schedule c.requires.schedule (AreCells collections graph schedule c.args.windows.now (lists_of c.loop-step.buffers))
+    each_loaded graph schedule c.requires.ready.scheduled (AreCells collections graph schedule c.args.windows.now (lists_of c.loop-step.buffers))
     c.loads-step-end.result c.loads-step-end.ensures.load c.loads-step-end.ensures.work
     (λ i below live.
     (subst (λ (n : ℕ). EachLive graph schedule n (IsLoadedAt graph schedule rows c.args.windows.now (lists_of c.loop-step.buffers))) end

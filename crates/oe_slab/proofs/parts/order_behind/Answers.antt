@@ -1,9 +1,11 @@
-use Rattle.std.proofs.Common.{◌≡◌, ◌<◌, List, length, sym, ap, ◌∙◌, subst, arith}
+use Rattle.std.proofs.Common.{◌≡◌, ◌<◌, List, IfOk, length, sym, ap, ◌∙◌, subst, arith}
 use Rattle.oe_order.proofs.Graphs.{length-graph_of}
-use Rattle.oe_order.specs.Graph.{graph_of, IsAcyclic, RefersWithin}
+use Rattle.oe_order.specs.Graph.{IsAcyclic, Node, RefersWithin, graph_of}
 use Rattle.oe_order.specs.declared.Links.{Links}
 use Rattle.oe_plan.specs.Schedules.{as_load}
-use Rattle.oe_slab.proofs.PartLemmas.{refers_within, still_acyclic, steps_within}
+use Rattle.oe_slab.specs.Schedules.{IsOrderAlong}
+use Rattle.oe_slab.proofs.PartLemmas.{refers_within, steps_within, still_acyclic}
+use Rattle.oe_slab.proofs.ScheduleLemmas.{orders_along}
 use Rattle.oe_slab.proofs.parts.order_behind.Goals as goal
 
 pub order-requires-clause-named : goal.order-requires-clause-named
@@ -17,6 +19,14 @@ order-requires-clause-acyclic c =
     let same : graph_of c.as_slice.result.now ≡ as_load (graph_of c.args.links.now) c.args.node =
     ap graph_of c.as_slice.ensures.value ∙ c.in_ok-behind.ensures.graph in
     subst IsAcyclic (sym same) (still_acyclic (graph_of c.args.links.now) c.args.node c.requires.acyclic)
+
+pub returns-clause-along : goal.returns-clause-along
+returns-clause-along c =
+    let nodes = graph_of c.as_slice.result.now in
+    let same : nodes ≡ as_load (graph_of c.args.links.now) c.args.node =
+    ap graph_of c.as_slice.ensures.value ∙ c.in_ok-behind.ensures.graph in
+    subst (λ (ns : List Node). IfOk c.order.result (IsOrderAlong ns c.args.last)) same
+    (orders_along nodes c.args.last c.order.result c.order.ensures.listing c.order.ensures.evaluation c.order.ensures.slots)
 
 pub returns-clause-within : goal.returns-clause-within
 returns-clause-within c =

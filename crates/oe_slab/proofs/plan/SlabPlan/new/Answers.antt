@@ -9,6 +9,13 @@ use Rattle.oe_slab.specs.declared.cut.TimeCut.{TimeCut}
 use Rattle.oe_slab.specs.Plans.{IsSlabPlan}
 use Rattle.oe_slab.proofs.plan.SlabPlan.new.Goals as goal
 
+pub schedules_of-requires-clause-along : goal.schedules_of-requires-clause-along
+schedules_of-requires-clause-along c = record {
+  listing = c.in_ok-order.ensures.listing;
+  evaluation = c.in_ok-order.ensures.evaluation;
+  slotted = c.in_ok-order.ensures.slots;
+}
+
 pub invariant_of-result : goal.invariant_of-result
 invariant_of-result c =
     let graph = c.args.checked in

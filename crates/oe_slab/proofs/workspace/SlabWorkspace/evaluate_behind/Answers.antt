@@ -4,7 +4,7 @@ use Rattle.oe_cell.specs.declared.cell.Cell.TheVariants.{Empty}
 use Rattle.oe_fold.specs.declared.pass.Pass.{Pass}
 use Rattle.oe_plan.specs.Laws.{ArePicked}
 use Rattle.oe_plan.specs.Schedules.{AreWindowsFor, ScheduleOf}
-use Rattle.oe_plan.specs.Windows.{window_at}
+use Rattle.oe_plan.specs.Windows.{AreWindows, window_at}
 use Rattle.oe_check.specs.Checked.{CheckedGraph}
 use Rattle.oe_check.specs.Laws.{AreCollectionsOf}
 use Rattle.oe_steps.proofs.BufferLemmas.{with_items_is}
@@ -16,9 +16,30 @@ use Rattle.oe_window.specs.declared.window.Window.{Window}
 use Rattle.oe_slab.specs.Runs.{result_cube}
 use Rattle.oe_slab.specs.Slabs.{HaveFoldedAll}
 use Rattle.oe_slab.specs.Workspaces.{IsWorkspaceFor, SlabWorkspaceOf}
-use Rattle.oe_slab.proofs.BehindLemmas.{cut_few, result_at, result_cells}
+use Rattle.oe_slab.proofs.BehindLemmas.{cut_at, cut_few, result_at, result_cells}
 use Rattle.oe_slab.proofs.ResultLemmas.{holds_same, room_before, room_behind, still_room}
 use Rattle.oe_slab.proofs.workspace.SlabWorkspace.evaluate_behind.Goals as goal
+
+pub pick_windows-requires-clause-windows : goal.pick_windows-requires-clause-windows
+pick_windows-requires-clause-windows c =
+    let p = c.args.plan.now in
+    let chunk = c.requires.plane.0 in
+    let all_is : c.deref.result.now ≡ c.args.self.now.windows = c.deref.ensures.value ∙ ap (λ (w : SlabWorkspaceOf). w.windows) c.self.view_is in
+    (chunk, subst (AreWindows p.graph p.size chunk) (sym all_is) c.requires.plane.1.windows_are)
+
+pub put_plane-requires-clause-plane : goal.put_plane-requires-clause-plane
+put_plane-requires-clause-plane c = λ step below is_fold.
+    let p = c.args.plan.now in
+    let i = c.self.inside in
+    let is = c.behind-behind.ensures.valid in
+    let picked = c.pick_windows.new.picked in
+    let picked_long : length picked ≡ length i.windows_behind.items = c.pick_windows.auto.picked ∙ ap length c.deref_mut.ensures.value in
+    let picked_is : (with_items i.windows_behind picked).items ≡ picked = with_items_is i.windows_behind picked picked_long in
+    let all_is : c.deref.result.now ≡ c.args.self.now.windows = c.deref.ensures.value ∙ ap (λ (w : SlabWorkspaceOf). w.windows) c.self.view_is in
+    let are_picked : ArePicked p.graph p.behind c.args.self.now.windows picked = subst (λ (w : List Window). ArePicked p.graph p.behind w picked) all_is c.pick_windows.ensures.picked in
+    let each = c.pick_windows.ensures.serve.each in
+    subst (λ (w : List Window). window_at w step ≡ c.args.plane.now) (sym (c.deref-3.ensures.value ∙ picked_is))
+    (cut_at p is c.args.self.now.windows picked each are_picked c.args.plane.now c.requires.plane.1.plane_is step below is_fold)
 
 pub put_plane-requires-clause-room : goal.put_plane-requires-clause-room
 put_plane-requires-clause-room c =
@@ -50,7 +71,7 @@ put_plane-requires-clause-folds c =
       windows_behind = i.windows_behind.items;
     } in
     let room : IsWorkspaceFor p old = subst (IsWorkspaceFor p) (sym c.self.view_is) c.requires.room in
-    let few = cut_few p c.behind-behind.ensures.valid c.requires.windows.0 c.args.plane.now c.args.self.now.windows c.requires.windows.1 c.requires.plane in
+    let few = cut_few p c.behind-behind.ensures.valid c.requires.plane.0 c.args.plane.now c.args.self.now.windows c.requires.plane.1.windows_are c.requires.plane.1.plane_is in
     omega (arith, few, room.folds, ap length c.deref-2.ensures.value)
 
 pub evaluate_steps-requires-clause-kinds : goal.evaluate_steps-requires-clause-kinds

@@ -1,13 +1,11 @@
-use Rattle.std.proofs.Common.{◌≡◌, ◌∙◌, List, length, take, refl, sym, ap, subst}
+use Rattle.std.proofs.Common.{◌≡◌, ◌∙◌, List, length, refl, sym, ap, subst}
 use Rattle.oe_fold.specs.declared.pass.Pass.{Pass}
-use Rattle.oe_plan.specs.Windows.{AreWindows}
+use Rattle.oe_sources.specs.CatalogueRows.{rows_of}
 use Rattle.oe_steps.proofs.BufferLemmas.{with_items_is}
 use Rattle.oe_steps.specs.Buffers.{lists_of}
 use Rattle.oe_steps.specs.Steps.{HaveRoomFor}
-use Rattle.oe_window.specs.Windows.{position_count}
 use Rattle.oe_window.specs.declared.window.Window.{Window}
-use Rattle.oe_slab.specs.Schedules.{IsPlaneOf}
-use Rattle.oe_slab.specs.Slabs.{HaveFoldedAll}
+use Rattle.oe_slab.specs.Planes.{AreFolded, HasPlane, plane_folds}
 use Rattle.oe_slab.specs.Workspaces.{IsWorkspaceFor, SlabWorkspaceOf}
 use Rattle.oe_slab.proofs.ResultLemmas.{holds_same, room_before, room_behind, still_room}
 use Rattle.oe_slab.proofs.workspace.SlabWorkspace.fold.Goals as goal
@@ -26,7 +24,11 @@ fold_all-requires-clause-room g c =
       windows_behind = i.windows_behind.items;
     } in
     let room : IsWorkspaceFor p old = subst (IsWorkspaceFor p) (sym c.self.view_is) c.requires.room in
-    subst (λ bs. HaveRoomFor p.before (lists_of bs)) (sym c.deref_mut-3.ensures.value) (room_before p c.plane_of-plane.ensures.valid old room)
+    record {
+      windows_many = ap length c.deref_mut-2.ensures.value ∙ room.windows_before;
+      room = subst (λ bs. HaveRoomFor p.before (lists_of bs)) (sym c.deref_mut-3.ensures.value) (room_before p c.plane_of-plane.ensures.valid old room);
+      scratch_many = ap length c.deref_mut-4.ensures.value ∙ room.scratch;
+    }
 
 pub returns-in_err-fold_all-clause-room : goal.returns-in_err-fold_all-clause-room
 returns-in_err-fold_all-clause-room g c =
@@ -144,46 +146,26 @@ invariant_of-self-2 g c =
     (ap length (with_items_is i.windows_before c.fold_all.new.windows before_long) ∙ before_long) refl
     )
 
-pub returns-clause-windows : goal.returns-clause-windows
-returns-clause-windows g c =
-    let p = c.args.plan.now in
-    let i = c.self.inside in
-    let w = c.plane_of-plane.new.windows in
-    let long : length w ≡ length i.windows.items = c.plane_of-plane.auto.windows ∙ ap length c.deref_mut.ensures.value in
-    subst (AreWindows p.graph p.size c.args.chunk.now) (sym (with_items_is i.windows w long)) c.plane_of-plane.ensures.windows
-
-pub returns-clause-seen : goal.returns-clause-seen
-returns-clause-seen g c = λ collections of shows.
-    let p = c.args.plan.now in
-    let i = c.self.inside in
-    let plane = c.plane_of-plane.result in
-    let folds = c.fold_all.new.folds in
-    let long : length folds ≡ length i.folds.items = c.fold_all.auto.folds ∙ ap length c.deref_mut-5.ensures.value in
-    subst (λ (fs : List Pass). HaveFoldedAll collections p.graph p.fold plane (take (position_count plane) fs)) (sym (with_items_is i.folds folds long))
-    (c.in_ok-fold_all.ensures.seen collections of shows)
-
-pub fold_all-requires-clause-whole : goal.fold_all-requires-clause-whole
-fold_all-requires-clause-whole g c =
-    let p = c.args.plan.now in
-    let i = c.self.inside in
-    let w = c.plane_of-plane.new.windows in
-    let long : length w ≡ length i.windows.items = c.plane_of-plane.auto.windows ∙ ap length c.deref_mut.ensures.value in
-    let same : c.deref.result.now ≡ w = c.deref.ensures.value ∙ with_items_is i.windows w long in
-    (c.args.chunk.now, subst (AreWindows p.graph p.size c.args.chunk.now) (sym same) c.plane_of-plane.ensures.windows)
-
 pub fold_all-requires-clause-plane : goal.fold_all-requires-clause-plane
 fold_all-requires-clause-plane g c =
-    let p = c.args.plan.now in
     let i = c.self.inside in
     let w = c.plane_of-plane.new.windows in
     let long : length w ≡ length i.windows.items = c.plane_of-plane.auto.windows ∙ ap length c.deref_mut.ensures.value in
     let same : c.deref.result.now ≡ w = c.deref.ensures.value ∙ with_items_is i.windows w long in
-    subst (λ (ws : List Window). IsPlaneOf p.graph p.fold ws c.plane_of-plane.result) (sym same) c.plane_of-plane.ensures.plane
+    (c.args.chunk.now, subst (λ (ws : List Window). HasPlane c.args.plan.now c.args.chunk.now ws c.plane_of-plane.result) (sym same) c.plane_of-plane.ensures.plane)
 
 pub returns-clause-plane : goal.returns-clause-plane
 returns-clause-plane g c =
-    let p = c.args.plan.now in
     let i = c.self.inside in
     let w = c.plane_of-plane.new.windows in
     let long : length w ≡ length i.windows.items = c.plane_of-plane.auto.windows ∙ ap length c.deref_mut.ensures.value in
-    subst (λ (ws : List Window). IsPlaneOf p.graph p.fold ws c.plane_of-plane.result) (sym (with_items_is i.windows w long)) c.plane_of-plane.ensures.plane
+    subst (λ (ws : List Window). HasPlane c.args.plan.now c.args.chunk.now ws c.plane_of-plane.result) (sym (with_items_is i.windows w long)) c.plane_of-plane.ensures.plane
+
+pub returns-clause-folded : goal.returns-clause-folded
+returns-clause-folded g c =
+    let i = c.self.inside in
+    let rows = rows_of (λ z. (goal.CubeSource-dyn g z).seen z.1) c.args.catalogue.now in
+    let plane = c.plane_of-plane.result in
+    let folds = c.fold_all.new.folds in
+    let long : length folds ≡ length i.folds.items = c.fold_all.auto.folds ∙ ap length c.deref_mut-5.ensures.value in
+    subst (λ (fs : List Pass). AreFolded c.args.plan.now rows plane (plane_folds plane fs)) (sym (with_items_is i.folds folds long)) c.in_ok-fold_all.ensures.folded
