@@ -13,8 +13,16 @@ use Rattle.oe_client.specs.Commands.{AreCallParts, is_host, is_token, plain_comm
 use Rattle.oe_client.specs.declared.command.ClientCommand.{ClientCommand}
 use Rattle.oe_dims.specs.Names.{same_name}
 use Rattle.oe_http.specs.Again.{IsWritable, is_visible}
+use Rattle.oe_http.specs.Plain.{PlainRequest}
 use Rattle.oe_http.specs.Requests.{most_body}
+use Rattle.oe_dial.specs.Ends.{IsCommandFor}
 use Rattle.oe_dial.specs.Words.{PlainCall, SpellsCall, host_text, is_host_byte, is_host_name, token_of}
+
+-- a command is one for a call where each of its parts is
+pub command_for : {E : Type 0} (call : PlainCall) (request : PlainRequest) (result : Result ClientCommand E) → IfOk result (λ c. (plain_command c).request ≡ request)
+    → IfOk result (λ c. c.host ≡ host_text call.host call.port) → IfOk result (λ c. IsWritable (plain_command c).request c.host) → IfOk result (IsCommandFor call request)
+command_for call request (Ok command) request_is host_is writable = record { request_is = request_is; host_is = host_is; writable = writable }
+command_for call request (Err error) request_is host_is writable = tt
 
 host_byte_visible : (b : ℕ) → is_host_byte b ≡ true → is_visible b ≡ true
 host_byte_visible b is = grind (arith, nat_tests)

@@ -1,9 +1,10 @@
 -- How a call ends: what becomes of the input, the output and the door.
 use Rattle.std.specs.Prelude.{◌≡◌, ℕ, ◌+◌, ◌<◌, ◌≤◌, ◌⊎◌, Bool, true, false, List, [], length, Option, IfSome, IsErrOf, Result, Ok, Err}
 use Rattle.oe_client.specs.Calls.{Calls, ends}
-use Rattle.oe_client.specs.Commands.{request_of}
+use Rattle.oe_client.specs.Commands.{plain_command, request_of}
 use Rattle.oe_client.specs.declared.call.ClientFail.{ClientFail}
 use Rattle.oe_client.specs.declared.call.ClientFail.TheVariants as fail
+use Rattle.oe_client.specs.declared.command.ClientCommand.{ClientCommand}
 use Rattle.oe_http.specs.Again.{IsWritable}
 use Rattle.oe_http.specs.Plain.{PlainRequest}
 use Rattle.oe_http.specs.Requests.{most_body}
@@ -40,6 +41,10 @@ input_from before before_faults after after_faults = record {
   after = after;
   after_faults = after_faults;
 }
+
+-- of a source of type I
+abbrev pub input_of : {I : Type 0} → (I → Option (List ℕ)) → (I → ℕ) → I → I → Input
+input_of left faults before after = input_from (left before) (faults before) (left after) (faults after)
 
 -- the input was left alone
 abbrev pub IsInputSame : Input → Type 0
@@ -80,6 +85,22 @@ lent out out_faults door next_faults dial_faults link_faults = record {
   dial_faults = dial_faults;
   link_faults = link_faults;
 }
+
+-- an output of type O and a door of type D, by what is seen of them
+abbrev pub lends : {O D C : Type 0} → (O → Option (List ℕ)) → (O → ℕ) → (D → Option (VisibleDoor C)) → (D → ℕ) → (D → ℕ)
+    → (D → ℕ) → O → D → Lent C
+lends written out_faults visible next_faults dial_faults link_faults out door =
+    lent (written out) (out_faults out) (visible door) (next_faults door) (dial_faults door) (link_faults door)
+
+-- the request of a call, and the host and the port that it is written to, which reading gives back
+pub record IsCommandFor (call : PlainCall) (request : PlainRequest) (command : ClientCommand) : Type 0 where
+  pub request_is : (plain_command command).request ≡ request
+  pub host_is : command.host ≡ host_text call.host call.port
+  pub writable : IsWritable (plain_command command).request command.host
+
+-- the bytes that are sent for it
+abbrev pub command_bytes : ClientCommand → List ℕ
+command_bytes command = request_bytes (plain_command command).request command.host
 
 module _ {C : Type 0} (views : Views C) (before after : Lent C) where
   -- neither the output nor the door was used

@@ -8,9 +8,10 @@ use Rattle.oe_client.specs.declared.verbs.Argument.TheVariants.{Missing, Id, Job
 use Rattle.oe_http.specs.Again.{IsWritable}
 use Rattle.oe_http.specs.Plain.{PlainRequest}
 use Rattle.oe_http.specs.Written.{request_bytes}
-use Rattle.oe_outside.specs.Faults.{Rose}
+use Rattle.oe_outside.specs.Doors.{VisibleDoor}
+use Rattle.oe_outside.specs.Faults.{NeverFalls, Rose}
 use Rattle.oe_outside.specs.Visible.{Appends, AppendsPrefix}
-use Rattle.oe_dial.specs.Ends.{CallAnswers, CountsUp, DialEnds, Input, IsInputSame, Lent, Views}
+use Rattle.oe_dial.specs.Ends.{CallAnswers, CountsUp, DialEnds, Input, IsInputSame, Lent, Views, lent}
 use Rattle.oe_dial.specs.Words.{PlainCall, host_text}
 use Rattle.oe_dial.specs.declared.refusal.CallRefusal.{CallRefusal}
 use Rattle.oe_dial.specs.declared.refusal.CallRefusal.TheVariants.{ReadFault, InputTooLong, WriteFault, OutOfMemory, LinkFault, PeerInvalid, Refused}
@@ -18,6 +19,27 @@ use Rattle.oe_dial.specs.declared.refusal.CallRefusal.TheVariants.{ReadFault, In
 -- a page on the output: its body, and a line feed
 abbrev pub page_line : List ℕ → List ℕ
 page_line body = body ++ codes "\n"
+
+-- what is seen of a door whose connections are of type C, and its counters of calls of `next`, of dials and of
+-- connections that failed
+pub record DoorOf (C : Type 0) : Type 0 where
+  pub visible : Option (VisibleDoor C)
+  pub next_faults : ℕ
+  pub dial_faults : ℕ
+  pub link_faults : ℕ
+
+-- of a door of type D
+abbrev pub door_of : {D C : Type 0} → (D → Option (VisibleDoor C)) → (D → ℕ) → (D → ℕ) → (D → ℕ) → D → DoorOf C
+door_of visible next_faults dial_faults link_faults door = record {
+  visible = visible door;
+  next_faults = next_faults door;
+  dial_faults = dial_faults door;
+  link_faults = link_faults door;
+}
+
+-- what is lent: a door, and an output that holds these bytes
+abbrev pub lent_with : {C : Type 0} → Option (List ℕ) → ℕ → DoorOf C → Lent C
+lent_with out faults door = lent out faults door.visible door.next_faults door.dial_faults door.link_faults
 
 -- what is lent, with these bytes of a body in memory in place of the output
 abbrev pub with_body : {C : Type 0} → Lent C → List ℕ → ℕ → Lent C
@@ -100,6 +122,14 @@ module _ {C : Type 0} (views : Views C) (call : PlainCall) where
   Fetches offset before after (Err LinkFault) = EndsAsked offset before after (Err LinkFault)
   Fetches offset before after (Err PeerInvalid) = EndsAsked offset before after (Err PeerInvalid)
   Fetches offset before after (Err (Refused status body)) = EndsAsked offset before after (Err (Refused status body))
+
+  -- The same of a door alone, whatever becomes of the output. Its counter of `next` stays, and none of its others falls.
+  pub record FetchesOver (offset : ℕ) (before after : DoorOf C) (result : Result (List ℕ) CallRefusal) : Type 0 where
+    pub fetches : (out out_after : Option (List ℕ)) (faults faults_after : ℕ)
+        → Fetches offset (lent_with out faults before) (lent_with out_after faults_after after) result
+    pub next : after.next_faults ≡ before.next_faults
+    pub dials : NeverFalls before.dial_faults after.dial_faults
+    pub links : NeverFalls before.link_faults after.link_faults
 
   -- this body came, and it is a page of the list, behind which the next one begins there
   pub record IsTaken (offset : ℕ) (before after : Lent C) (body : List ℕ) (next : Option ℕ) : Type 0 where

@@ -1,11 +1,9 @@
 // A call, from its input to its output.
 ghost use Rattle.std.specs.Prelude.{◌≡◌, ◌≤◌, ◌++◌, ℕ, IfOk, List, length};
 ghost use Rattle.oe_client.specs.Commands as commands;
-ghost use Rattle.oe_http.specs.Again.{IsWritable};
 ghost use Rattle.oe_http.specs.Requests.{most_body};
-ghost use Rattle.oe_http.specs.Written.{request_bytes};
 ghost use Rattle.oe_dial.specs.Ends as spec;
-ghost use Rattle.oe_dial.specs.Ends.{CallAnswers, CountsUp, DialEnds, IsMadeOver, input_from, lent, views_of};
+ghost use Rattle.oe_dial.specs.Ends.{CallAnswers, CountsUp, DialEnds, IsCommandFor, IsMadeOver, command_bytes, input_of, lends, views_of};
 ghost use Rattle.oe_dial.specs.Words.{SpellsCall, host_text, plain_call};
 
 use crate::input::read_input;
@@ -33,12 +31,10 @@ pub fn call_back_end<I: Source, O: Sink, D: Door>(
     door: &mut D,
 ) -> Result<(), CallRefusal>
     requires spelled { (words : List (List ℕ)) × SpellsCall words (plain_call call.now) }
-    ensures { CallAnswers (views_of D.Conn.left D.Conn.written D.Conn.faults) (plain_call call.now)
-        (input_from (I.left input.old) (I.faults input.old) (I.left input.new) (I.faults input.new))
-        (lent (O.written out.old) (O.faults out.old) (D.visible door.old)
-        (D.faults door.old) (D.dial_faults door.old) (D.link_faults door.old))
-        (lent (O.written out.new) (O.faults out.new) (D.visible door.new)
-        (D.faults door.new) (D.dial_faults door.new) (D.link_faults door.new)) result }
+    ensures { let of = lends O.written O.faults D.visible D.faults D.dial_faults D.link_faults in
+        CallAnswers (views_of D.Conn.left D.Conn.written D.Conn.faults) (plain_call call.now)
+        (input_of I.left I.faults input.old input.new)
+        (of out.old door.old) (of out.new door.new) result }
 {
     match read_input(alloc, call.verb.5, input) {
         Ok(body) => match command_of(alloc, call, body) {
@@ -57,13 +53,9 @@ fn command_of(
 ) -> Result<ClientCommand, OutOfMemory>
     requires spelled { (words : List (List ℕ)) × SpellsCall words (plain_call call.now) }
     requires short { length input.items ≤ most_body }
-    ensures request { IfOk result (λ c. (commands.plain_command c).request
-        ≡ commands.request_of (plain_call call.now).verb (plain_call call.now).argument
-        (plain_call call.now).token input.items) }
-    ensures host { IfOk result (λ c. c.host
-        ≡ host_text (plain_call call.now).host (plain_call call.now).port) }
-    ensures writable { IfOk result
-        (λ c. IsWritable (commands.plain_command c).request c.host) }
+    ensures { IfOk result (IsCommandFor (plain_call call.now)
+        (commands.request_of (plain_call call.now).verb (plain_call call.now).argument
+        (plain_call call.now).token input.items)) }
 {
     let host = host_with_port(alloc, call.host.as_str(), call.port)?;
     client_command(alloc, call.verb, call.argument, call.token, host, input)
@@ -79,18 +71,13 @@ pub(crate) fn dial_and_call<O: Sink, D: Door>(
 ) -> Result<(), CallRefusal>
     requires named { 1 ≤ length (plain_call call.now).host }
     requires short { length (plain_call call.now).host ≤ 253 }
-    ensures ends { DialEnds (views_of D.Conn.left D.Conn.written D.Conn.faults)
-        (lent (O.written out.old) (O.faults out.old) (D.visible door.old)
-        (D.faults door.old) (D.dial_faults door.old) (D.link_faults door.old))
-        (lent (O.written out.new) (O.faults out.new) (D.visible door.new)
-        (D.faults door.new) (D.dial_faults door.new) (D.link_faults door.new))
-        (plain_call call.now).host (plain_call call.now).port
-        (request_bytes (commands.plain_command command.now).request command.now.host) result }
-    ensures counts { CountsUp (views_of D.Conn.left D.Conn.written D.Conn.faults)
-        (lent (O.written out.old) (O.faults out.old) (D.visible door.old)
-        (D.faults door.old) (D.dial_faults door.old) (D.link_faults door.old))
-        (lent (O.written out.new) (O.faults out.new) (D.visible door.new)
-        (D.faults door.new) (D.dial_faults door.new) (D.link_faults door.new)) }
+    ensures ends { let of = lends O.written O.faults D.visible D.faults D.dial_faults D.link_faults
+        in DialEnds (views_of D.Conn.left D.Conn.written D.Conn.faults) (of out.old door.old)
+        (of out.new door.new) (plain_call call.now).host (plain_call call.now).port
+        (command_bytes command.now) result }
+    ensures counts { let of = lends O.written O.faults D.visible D.faults D.dial_faults
+        D.link_faults in CountsUp (views_of D.Conn.left D.Conn.written D.Conn.faults)
+        (of out.old door.old) (of out.new door.new) }
 {
     match door.dial(call.host.as_str(), call.port) {
         Ok(conn) => ending_of(call_over(alloc, command, conn, out, door)),
@@ -106,13 +93,9 @@ fn call_over<O: Sink, D: Door>(
     out: &mut O,
     door: &mut D,
 ) -> Result<(), ClientFail>
-    ensures made { IsMadeOver (views_of D.Conn.left D.Conn.written D.Conn.faults)
-        (lent (O.written out.old) (O.faults out.old) (D.visible door.old)
-        (D.faults door.old) (D.dial_faults door.old) (D.link_faults door.old))
-        (lent (O.written out.new) (O.faults out.new) (D.visible door.new)
-        (D.faults door.new) (D.dial_faults door.new) (D.link_faults door.new))
-        conn (D.visible door.old)
-        (request_bytes (commands.plain_command command.now).request command.now.host) result }
+    ensures made { let of = lends O.written O.faults D.visible D.faults D.dial_faults D.link_faults
+        in IsMadeOver (views_of D.Conn.left D.Conn.written D.Conn.faults) (of out.old door.old)
+        (of out.new door.new) conn (D.visible door.old) (command_bytes command.now) result }
     ensures same_faults { D.faults door.new ≡ D.faults door.old }
     ensures same_dial_faults { D.dial_faults door.new ≡ D.dial_faults door.old }
 {

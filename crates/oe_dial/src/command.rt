@@ -2,7 +2,7 @@
 ghost use Rattle.std.specs.Prelude.{List, ℕ};
 ghost use Rattle.oe_outside.specs.Stream.{error_output};
 ghost use Rattle.oe_dial.specs.Answer.{Answers};
-ghost use Rattle.oe_dial.specs.Ends.{input_from, lent, views_of};
+ghost use Rattle.oe_dial.specs.Ends.{input_of, lends, views_of};
 ghost use Rattle.oe_dial.specs.Lists.{Makes};
 ghost use Rattle.oe_dial.specs.Words.{SpellsCall, plain_call};
 
@@ -40,13 +40,10 @@ pub fn client<I: Source, O: Sink, E: Sink, D: Door>(
     door: &mut D,
 ) -> u8
     requires spelled { (words : List (List ℕ)) × SpellsCall words (plain_call call.now) }
-    ensures { Answers (views_of D.Conn.left D.Conn.written D.Conn.faults) (plain_call call.now)
-        (input_from (I.left input.old) (I.faults input.old) (I.left input.new) (I.faults input.new))
-        (lent (O.written out.old) (O.faults out.old) (D.visible door.old)
-        (D.faults door.old) (D.dial_faults door.old) (D.link_faults door.old))
-        (lent (O.written out.new) (O.faults out.new) (D.visible door.new)
-        (D.faults door.new) (D.dial_faults door.new) (D.link_faults door.new))
-        (error_output E.written E.faults err.old err.new) result }
+    ensures { let of = lends O.written O.faults D.visible D.faults D.dial_faults D.link_faults in
+        Answers (views_of D.Conn.left D.Conn.written D.Conn.faults) (plain_call call.now)
+        (input_of I.left I.faults input.old input.new) (of out.old door.old)
+        (of out.new door.new) (error_output E.written E.faults err.old err.new) result }
 {
     match make_call(alloc, call, input, out, door) {
         Ok(()) => 0,
@@ -67,13 +64,10 @@ fn make_call<I: Source, O: Sink, D: Door>(
     door: &mut D,
 ) -> Result<(), CallRefusal>
     requires spelled { (words : List (List ℕ)) × SpellsCall words (plain_call call.now) }
-    ensures { Makes (views_of D.Conn.left D.Conn.written D.Conn.faults) (plain_call call.now)
-        (plain_call call.now).verb.argument
-        (input_from (I.left input.old) (I.faults input.old) (I.left input.new) (I.faults input.new))
-        (lent (O.written out.old) (O.faults out.old) (D.visible door.old)
-        (D.faults door.old) (D.dial_faults door.old) (D.link_faults door.old))
-        (lent (O.written out.new) (O.faults out.new) (D.visible door.new)
-        (D.faults door.new) (D.dial_faults door.new) (D.link_faults door.new)) result }
+    ensures { let of = lends O.written O.faults D.visible D.faults D.dial_faults D.link_faults in
+        Makes (views_of D.Conn.left D.Conn.written D.Conn.faults) (plain_call call.now)
+        (plain_call call.now).verb.argument (input_of I.left I.faults input.old input.new)
+        (of out.old door.old) (of out.new door.new) result }
 {
     match call.verb.3 {
         Argument::ListName => list_pages(alloc, call, out, door),

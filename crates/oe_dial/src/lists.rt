@@ -1,12 +1,11 @@
 // All pages of a list, one after the other.
-ghost use Rattle.std.specs.Prelude.{◌≡◌, ◌≤◌, IfOk, List, Option, ℕ};
+ghost use Rattle.std.specs.Prelude.{◌≡◌, ◌≤◌, IfOk, List, ℕ};
 ghost use Rattle.oe_client.specs.Commands as commands;
 ghost use Rattle.oe_client.specs.Pages.{last_offset};
-ghost use Rattle.oe_http.specs.Again.{IsWritable};
 ghost use Rattle.oe_outside.specs.Faults.{NeverFalls};
-ghost use Rattle.oe_dial.specs.Ends.{CountsUp, lent, views_of};
+ghost use Rattle.oe_dial.specs.Ends.{CountsUp, IsCommandFor, lends, views_of};
 ghost use Rattle.oe_dial.specs.Lists as spec;
-ghost use Rattle.oe_dial.specs.Words.{SpellsCall, host_text, plain_call};
+ghost use Rattle.oe_dial.specs.Words.{SpellsCall, plain_call};
 
 use crate::body::BodySink;
 use crate::call::{dial_and_call, host_with_port};
@@ -29,17 +28,12 @@ pub(crate) fn list_pages<O: Sink, D: Door>(
     door: &mut D,
 ) -> Result<(), CallRefusal>
     requires spelled { (words : List (List ℕ)) × SpellsCall words (plain_call call.now) }
-    ensures pages { spec.ListsPages (views_of D.Conn.left D.Conn.written D.Conn.faults)
-        (plain_call call.now)
-        (lent (O.written out.old) (O.faults out.old) (D.visible door.old)
-        (D.faults door.old) (D.dial_faults door.old) (D.link_faults door.old))
-        (lent (O.written out.new) (O.faults out.new) (D.visible door.new)
-        (D.faults door.new) (D.dial_faults door.new) (D.link_faults door.new)) result }
-    ensures counts { CountsUp (views_of D.Conn.left D.Conn.written D.Conn.faults)
-        (lent (O.written out.old) (O.faults out.old) (D.visible door.old)
-        (D.faults door.old) (D.dial_faults door.old) (D.link_faults door.old))
-        (lent (O.written out.new) (O.faults out.new) (D.visible door.new)
-        (D.faults door.new) (D.dial_faults door.new) (D.link_faults door.new)) }
+    ensures pages { let of = lends O.written O.faults D.visible D.faults D.dial_faults D.link_faults
+        in spec.ListsPages (views_of D.Conn.left D.Conn.written D.Conn.faults) (plain_call call.now)
+        (of out.old door.old) (of out.new door.new) result }
+    ensures counts { let of = lends O.written O.faults D.visible D.faults D.dial_faults
+        D.link_faults in CountsUp (views_of D.Conn.left D.Conn.written D.Conn.faults)
+        (of out.old door.old) (of out.new door.new) }
 {
     let mut offset: u64 = 0;
     loop {
@@ -61,17 +55,12 @@ fn take_page<O: Sink, D: Door>(
 ) -> Result<Option<u64>, CallRefusal>
     requires spelled { (words : List (List ℕ)) × SpellsCall words (plain_call call.now) }
     requires within { offset ≤ last_offset }
-    ensures takes { spec.TakesPage (views_of D.Conn.left D.Conn.written D.Conn.faults)
-        (plain_call call.now) offset
-        (lent (O.written out.old) (O.faults out.old) (D.visible door.old)
-        (D.faults door.old) (D.dial_faults door.old) (D.link_faults door.old))
-        (lent (O.written out.new) (O.faults out.new) (D.visible door.new)
-        (D.faults door.new) (D.dial_faults door.new) (D.link_faults door.new)) result }
-    ensures counts { CountsUp (views_of D.Conn.left D.Conn.written D.Conn.faults)
-        (lent (O.written out.old) (O.faults out.old) (D.visible door.old)
-        (D.faults door.old) (D.dial_faults door.old) (D.link_faults door.old))
-        (lent (O.written out.new) (O.faults out.new) (D.visible door.new)
-        (D.faults door.new) (D.dial_faults door.new) (D.link_faults door.new)) }
+    ensures takes { let of = lends O.written O.faults D.visible D.faults D.dial_faults D.link_faults
+        in spec.TakesPage (views_of D.Conn.left D.Conn.written D.Conn.faults) (plain_call call.now)
+        offset (of out.old door.old) (of out.new door.new) result }
+    ensures counts { let of = lends O.written O.faults D.visible D.faults D.dial_faults
+        D.link_faults in CountsUp (views_of D.Conn.left D.Conn.written D.Conn.faults)
+        (of out.old door.old) (of out.new door.new) }
 {
     match fetch_page(alloc, call, offset, door) {
         Ok(body) => deliver_page(alloc, list_of(call), offset, &body, out),
@@ -97,18 +86,9 @@ fn fetch_page<D: Door>(
     door: &mut D,
 ) -> Result<Vec<u8>, CallRefusal>
     requires spelled { (words : List (List ℕ)) × SpellsCall words (plain_call call.now) }
-    // whatever becomes of the output
-    ensures fetches { (out out_after : Option (List ℕ)) (faults faults_after : ℕ)
-        → spec.Fetches (views_of D.Conn.left D.Conn.written D.Conn.faults)
-        (plain_call call.now) offset
-        (lent out faults (D.visible door.old)
-        (D.faults door.old) (D.dial_faults door.old) (D.link_faults door.old))
-        (lent out_after faults_after (D.visible door.new)
-        (D.faults door.new) (D.dial_faults door.new) (D.link_faults door.new))
-        (spec.items_of_body result) }
-    ensures next { D.faults door.new ≡ D.faults door.old }
-    ensures dials { NeverFalls (D.dial_faults door.old) (D.dial_faults door.new) }
-    ensures links { NeverFalls (D.link_faults door.old) (D.link_faults door.new) }
+    ensures { let of = spec.door_of D.visible D.faults D.dial_faults D.link_faults in
+        spec.FetchesOver (views_of D.Conn.left D.Conn.written D.Conn.faults) (plain_call call.now)
+        offset (of door.old) (of door.new) (spec.items_of_body result) }
 {
     match command_at(alloc, call, offset) {
         Ok(command) => fetch_by(alloc, call, offset, &command, door),
@@ -123,12 +103,8 @@ fn command_at(
     offset: u64,
 ) -> Result<ClientCommand, OutOfMemory>
     requires spelled { (words : List (List ℕ)) × SpellsCall words (plain_call call.now) }
-    ensures request { IfOk result (λ c. (commands.plain_command c).request
-        ≡ spec.request_at (plain_call call.now) offset) }
-    ensures host { IfOk result (λ c. c.host
-        ≡ host_text (plain_call call.now).host (plain_call call.now).port) }
-    ensures writable { IfOk result
-        (λ c. IsWritable (commands.plain_command c).request c.host) }
+    ensures { IfOk result (IsCommandFor (plain_call call.now)
+        (spec.request_at (plain_call call.now) offset)) }
 {
     let host = host_with_port(alloc, call.host.as_str(), call.port)?;
     page_command(alloc, call.verb, call.argument, call.token, host, offset)
@@ -143,24 +119,11 @@ fn fetch_by<D: Door>(
     door: &mut D,
 ) -> Result<Vec<u8>, CallRefusal>
     requires spelled { (words : List (List ℕ)) × SpellsCall words (plain_call call.now) }
-    requires request { (commands.plain_command command.now).request
-        ≡ spec.request_at (plain_call call.now) offset }
-    requires host { command.now.host
-        ≡ host_text (plain_call call.now).host (plain_call call.now).port }
-    requires writable { IsWritable (commands.plain_command command.now).request
-        command.now.host }
-    // whatever becomes of the output
-    ensures fetches { (out out_after : Option (List ℕ)) (faults faults_after : ℕ)
-        → spec.Fetches (views_of D.Conn.left D.Conn.written D.Conn.faults)
-        (plain_call call.now) offset
-        (lent out faults (D.visible door.old)
-        (D.faults door.old) (D.dial_faults door.old) (D.link_faults door.old))
-        (lent out_after faults_after (D.visible door.new)
-        (D.faults door.new) (D.dial_faults door.new) (D.link_faults door.new))
-        (spec.items_of_body result) }
-    ensures next { D.faults door.new ≡ D.faults door.old }
-    ensures dials { NeverFalls (D.dial_faults door.old) (D.dial_faults door.new) }
-    ensures links { NeverFalls (D.link_faults door.old) (D.link_faults door.new) }
+    requires command { IsCommandFor (plain_call call.now)
+        (spec.request_at (plain_call call.now) offset) command.now }
+    ensures { let of = spec.door_of D.visible D.faults D.dial_faults D.link_faults in
+        spec.FetchesOver (views_of D.Conn.left D.Conn.written D.Conn.faults) (plain_call call.now)
+        offset (of door.old) (of door.new) (spec.items_of_body result) }
 {
     let mut page = BodySink::new(alloc);
     match dial_and_call(alloc, call, command, &mut page, door) {

@@ -21,8 +21,8 @@ returns-in-Ok-command_of g c =
     record {
       answer = inr (answered (views_of link.left link.written link.faults) (plain_call c.args.call.now) input before after
           c.in-Ok.body.items (plain_command c.in-Ok-command_of.command).request c.in-Ok-command_of.command.host
-          c.dial_and_call.result c.in-Ok.ensures.taken c.in-Ok-command_of.ensures.request
-          c.in-Ok-command_of.ensures.host c.in-Ok-command_of.ensures.writable c.dial_and_call.ensures.ends);
+          c.dial_and_call.result c.in-Ok.ensures.taken c.in-Ok-command_of.ensures.request_is
+          c.in-Ok-command_of.ensures.host_is c.in-Ok-command_of.ensures.writable c.dial_and_call.ensures.ends);
       input_taken = c.in-Ok.ensures.bounded;
       input_count = c.in-Ok.ensures.count;
       counts = c.dial_and_call.ensures.counts;
