@@ -4,6 +4,7 @@ use Rattle.sqlite.specs.Effect.{Database}
 use Rattle.sqlite.specs.Held.{Held, state}
 use Rattle.sqlite.specs.State.{Executes}
 use Rattle.sqlite.specs.Store.{Ghosts}
+use Rattle.sqlite.specs.Tree.{Trees}
 use Rattle.sqlite.specs.Values.{bound}
 use Rattle.sqlite.specs.Order.{Row}
 use Rattle.oe_database.specs.declared.statement.Statement.{Statement}
@@ -28,3 +29,7 @@ pub record IsMadeBy {S : Type 0} (g : Ghosts S) (Ran : Held S → Held S → Typ
   pub last : Held S
   pub ran : Ran (record old { in_transaction = true }) last
   pub is : db ≡ (state g last).now
+
+-- and these are its trees
+abbrev pub AreTreesMadeBy : {S : Type 0} → Ghosts S → (Held S → Held S → Type 0) → Held S → Trees → Type 0
+AreTreesMadeBy g Ran old trees = (db : Database) × IsMadeBy g Ran old db × (trees ≡ db.trees)

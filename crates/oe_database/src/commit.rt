@@ -3,7 +3,7 @@ ghost use Rattle.std.specs.Prelude.{◌≡◌, IsTrue, OnOk, OnErr, false};
 ghost use Rattle.sqlite.specs.Held.{state};
 ghost use Rattle.sqlite.specs.State.{HasCleanDisk, Survives};
 ghost use Rattle.oe_jobs.specs.Plain.{plain_change};
-ghost use Rattle.oe_database.specs.Each.{IsMadeBy};
+ghost use Rattle.oe_database.specs.Each.{AreTreesMadeBy, IsMadeBy};
 ghost use Rattle.oe_database.specs.Makes.{Makes};
 
 use crate::make::make;
@@ -25,9 +25,8 @@ pub(crate) fn commit<S: Alter>(
         (state S.Store conn.new).committed) }
     ensures none { HasCleanDisk (state S.Store conn.new) → IsTrue (state S.Store conn.new).is_open
         → OnErr result ((state S.Store conn.new).committed ≡ (state S.Store conn.old).committed) }
-    ensures crash { Survives (state S.Store conn.old) (state S.Store conn.new) (λ trees. (db : _)
-        × IsMadeBy S.Store (Makes S.Store (plain_change change.now)) conn.old db
-        × (trees ≡ db.trees)) }
+    ensures crash { Survives (state S.Store conn.old) (state S.Store conn.new)
+        (AreTreesMadeBy S.Store (Makes S.Store (plain_change change.now)) conn.old) }
     ensures mode { conn.old.in_transaction ≡ false → conn.new.in_transaction ≡ false }
 {
     if !conn.is_autocommit() {

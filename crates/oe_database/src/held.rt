@@ -4,6 +4,7 @@ ghost use Rattle.std.specs.Option.{option_map};
 ghost use Rattle.sqlite.specs.Held.{state};
 ghost use Rattle.sqlite.specs.State.{HasCleanDisk, KeepsCommit, Survives};
 ghost use Rattle.oe_jobs.specs.Plain.{plain_job};
+ghost use Rattle.oe_database.specs.Inside.{IfOkInside};
 ghost use Rattle.oe_database.specs.Makes.{AreEntry, HoldsJob};
 
 use crate::refusal::Refusal;
@@ -27,10 +28,9 @@ pub(crate) fn held_job<S: Alter>(
     number: &[u8],
 ) -> Result<Option<Job>, Refusal>
     ensures same_reference { tx.new.conn.ghost_name ≡ tx.old.conn.ghost_name }
-    ensures held { HasCleanDisk (state S.Store tx.new.conn.now)
-        → IsTrue (state S.Store tx.old.conn.now).in_transaction
-        → IfOk result (λ job. HoldsJob S.Store id.now number.now (option_map plain_job job)
-        tx.old.conn.now tx.new.conn.now × IsTrue (state S.Store tx.new.conn.now).in_transaction) }
+    ensures held { IfOkInside S.Store tx.old.conn.now tx.new.conn.now result (λ job.
+        HoldsJob S.Store id.now number.now (option_map plain_job job)
+        tx.old.conn.now tx.new.conn.now) }
     ensures kept { HasCleanDisk (state S.Store tx.new.conn.now)
         → IsTrue (state S.Store tx.old.conn.now).in_transaction
         → KeepsCommit (state S.Store tx.old.conn.now) (state S.Store tx.new.conn.now) }

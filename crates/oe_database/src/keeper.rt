@@ -5,7 +5,7 @@ ghost use Rattle.sqlite.specs.State.{HasCleanDisk, Survives};
 ghost use Rattle.oe_outside.specs.Faults.{HasCauseOf, NeverFalls, Rose, count_after};
 ghost use Rattle.oe_jobs.specs.Plain.{plain_book, plain_change};
 ghost use Rattle.oe_jobs.specs.Valid.{IsBook};
-ghost use Rattle.oe_database.specs.Each.{IsMadeBy};
+ghost use Rattle.oe_database.specs.Each.{AreTreesMadeBy, IsMadeBy};
 ghost use Rattle.oe_database.specs.Loads.{Loads};
 ghost use Rattle.oe_database.specs.Makes.{Makes};
 
@@ -114,8 +114,7 @@ impl<S: Alter> Keeper for SqliteKeeper<S> {
             → IsTrue (state S.Store self.new.conn).is_open → OnErr result
             ((state S.Store self.new.conn).committed ≡ (state S.Store self.old.conn).committed) }
         ensures crash { Survives (state S.Store self.old.conn) (state S.Store self.new.conn)
-            (λ trees. (b : _) × (db : _) × IsMadeBy S.Store (Loads S.Store b) self.old.conn db
-            × (trees ≡ db.trees)) }
+            (λ trees. (b : _) × AreTreesMadeBy S.Store (Loads S.Store b) self.old.conn trees) }
         ensures mode { self.old.conn.in_transaction ≡ false → self.new.conn.in_transaction ≡ false }
         ensures counted { self.new.faults ≡ count_after self.old.faults self.new.has_failed }
         ensures cause { HasCauseOf KeeperFail.Failed self.old.faults self.new.faults result }
@@ -146,9 +145,7 @@ impl<S: Alter> Keeper for SqliteKeeper<S> {
             → IsTrue (state S.Store self.new.conn).is_open → OnErr result
             ((state S.Store self.new.conn).committed ≡ (state S.Store self.old.conn).committed) }
         ensures crash { Survives (state S.Store self.old.conn) (state S.Store self.new.conn)
-            (λ trees. (db : _)
-            × IsMadeBy S.Store (Makes S.Store (plain_change change.now)) self.old.conn db
-            × (trees ≡ db.trees)) }
+            (AreTreesMadeBy S.Store (Makes S.Store (plain_change change.now)) self.old.conn) }
         ensures mode { self.old.conn.in_transaction ≡ false → self.new.conn.in_transaction ≡ false }
         ensures counted { self.new.faults ≡ count_after self.old.faults self.new.has_failed }
         ensures cause { HasCauseOf KeeperFail.Failed self.old.faults self.new.faults result }

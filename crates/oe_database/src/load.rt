@@ -4,7 +4,7 @@ ghost use Rattle.sqlite.specs.Held.{state};
 ghost use Rattle.sqlite.specs.State.{HasCleanDisk, Survives};
 ghost use Rattle.oe_jobs.specs.Plain.{plain_book, plain_job, plain_owned};
 ghost use Rattle.oe_jobs.specs.Valid.{IsBook};
-ghost use Rattle.oe_database.specs.Each.{IsMadeBy};
+ghost use Rattle.oe_database.specs.Each.{AreTreesMadeBy, IsMadeBy};
 ghost use Rattle.oe_database.specs.Inside.{Inside, Stays};
 ghost use Rattle.oe_database.specs.Loads.{Counts, HasBook, HasHead, HasProcesses, Loads};
 
@@ -37,8 +37,7 @@ pub(crate) fn load<S: Alter>(alloc: Global, conn: &mut Connection<S>) -> Result<
     ensures none { HasCleanDisk (state S.Store conn.new) → IsTrue (state S.Store conn.new).is_open
         → OnErr result ((state S.Store conn.new).committed ≡ (state S.Store conn.old).committed) }
     ensures crash { Survives (state S.Store conn.old) (state S.Store conn.new)
-        (λ trees. (b : _) × (db : _) × IsMadeBy S.Store (Loads S.Store b) conn.old db
-        × (trees ≡ db.trees)) }
+        (λ trees. (b : _) × AreTreesMadeBy S.Store (Loads S.Store b) conn.old trees) }
     ensures mode { conn.old.in_transaction ≡ false → conn.new.in_transaction ≡ false }
 {
     if !conn.is_autocommit() {

@@ -1,9 +1,10 @@
 // What a change makes in a transaction.
-ghost use Rattle.std.specs.Prelude.{◌≡◌, IsTrue, OnOk, Some};
+ghost use Rattle.std.specs.Prelude.{◌≡◌, IsTrue, Some};
 ghost use Rattle.sqlite.specs.Held.{state};
 ghost use Rattle.sqlite.specs.State.{HasCleanDisk, KeepsCommit, Survives};
 ghost use Rattle.oe_jobs.specs.Plain.{add_asset as adds_asset, drop_job as drops_job, drop_process as drops_process, plain_change, plain_job, plain_owned, put_job as puts_job, put_process as puts_process};
 ghost use Rattle.oe_database.specs.Each.{RanEach};
+ghost use Rattle.oe_database.specs.Inside.{OnOkInside};
 ghost use Rattle.oe_database.specs.Makes.{Makes};
 ghost use Rattle.oe_database.specs.Statements.{asset_statements};
 
@@ -27,10 +28,8 @@ pub(crate) fn make<S: Alter>(
     change: &Change,
 ) -> Result<(), Refusal>
     ensures same_reference { tx.new.conn.ghost_name ≡ tx.old.conn.ghost_name }
-    ensures made { HasCleanDisk (state S.Store tx.new.conn.now)
-        → IsTrue (state S.Store tx.old.conn.now).in_transaction → OnOk result
-        (Makes S.Store (plain_change change.now) tx.old.conn.now tx.new.conn.now
-        × IsTrue (state S.Store tx.new.conn.now).in_transaction) }
+    ensures made { OnOkInside S.Store tx.old.conn.now tx.new.conn.now result
+        (Makes S.Store (plain_change change.now) tx.old.conn.now tx.new.conn.now) }
     ensures kept { HasCleanDisk (state S.Store tx.new.conn.now)
         → IsTrue (state S.Store tx.old.conn.now).in_transaction
         → KeepsCommit (state S.Store tx.old.conn.now) (state S.Store tx.new.conn.now) }
@@ -58,10 +57,8 @@ fn make_job<S: Alter>(
     next: u64,
 ) -> Result<(), Refusal>
     ensures same_reference { tx.new.conn.ghost_name ≡ tx.old.conn.ghost_name }
-    ensures made { HasCleanDisk (state S.Store tx.new.conn.now)
-        → IsTrue (state S.Store tx.old.conn.now).in_transaction → OnOk result
-        (Makes S.Store (puts_job (plain_job job.now) next) tx.old.conn.now tx.new.conn.now
-        × IsTrue (state S.Store tx.new.conn.now).in_transaction) }
+    ensures made { OnOkInside S.Store tx.old.conn.now tx.new.conn.now result
+        (Makes S.Store (puts_job (plain_job job.now) next) tx.old.conn.now tx.new.conn.now) }
     ensures kept { HasCleanDisk (state S.Store tx.new.conn.now)
         → IsTrue (state S.Store tx.old.conn.now).in_transaction
         → KeepsCommit (state S.Store tx.old.conn.now) (state S.Store tx.new.conn.now) }
@@ -86,10 +83,8 @@ fn unmake_job<S: Alter>(
     id: &Text,
 ) -> Result<(), Refusal>
     ensures same_reference { tx.new.conn.ghost_name ≡ tx.old.conn.ghost_name }
-    ensures made { HasCleanDisk (state S.Store tx.new.conn.now)
-        → IsTrue (state S.Store tx.old.conn.now).in_transaction → OnOk result
-        (Makes S.Store (drops_job id.now) tx.old.conn.now tx.new.conn.now
-        × IsTrue (state S.Store tx.new.conn.now).in_transaction) }
+    ensures made { OnOkInside S.Store tx.old.conn.now tx.new.conn.now result
+        (Makes S.Store (drops_job id.now) tx.old.conn.now tx.new.conn.now) }
     ensures kept { HasCleanDisk (state S.Store tx.new.conn.now)
         → IsTrue (state S.Store tx.old.conn.now).in_transaction
         → KeepsCommit (state S.Store tx.old.conn.now) (state S.Store tx.new.conn.now) }
@@ -115,11 +110,9 @@ fn make_asset<S: Alter>(
     updated: i64,
 ) -> Result<(), Refusal>
     ensures same_reference { tx.new.conn.ghost_name ≡ tx.old.conn.ghost_name }
-    ensures made { HasCleanDisk (state S.Store tx.new.conn.now)
-        → IsTrue (state S.Store tx.old.conn.now).in_transaction → OnOk result
+    ensures made { OnOkInside S.Store tx.old.conn.now tx.new.conn.now result
         (Makes S.Store (adds_asset id.now asset.now log.now updated)
-        tx.old.conn.now tx.new.conn.now
-        × IsTrue (state S.Store tx.new.conn.now).in_transaction) }
+        tx.old.conn.now tx.new.conn.now) }
     ensures kept { HasCleanDisk (state S.Store tx.new.conn.now)
         → IsTrue (state S.Store tx.old.conn.now).in_transaction
         → KeepsCommit (state S.Store tx.old.conn.now) (state S.Store tx.new.conn.now) }
@@ -149,11 +142,9 @@ fn extend<S: Alter>(
     updated: i64,
 ) -> Result<(), Refusal>
     ensures same_reference { tx.new.conn.ghost_name ≡ tx.old.conn.ghost_name }
-    ensures ran { HasCleanDisk (state S.Store tx.new.conn.now)
-        → IsTrue (state S.Store tx.old.conn.now).in_transaction → OnOk result
-        (RanEach S.Store (asset_statements (Some number) (Some (plain_job job))
-        asset.now log.now updated) tx.old.conn.now tx.new.conn.now
-        × IsTrue (state S.Store tx.new.conn.now).in_transaction) }
+    ensures ran { OnOkInside S.Store tx.old.conn.now tx.new.conn.now result
+        (RanEach S.Store (asset_statements (Some number) (Some (plain_job job)) asset.now log.now
+        updated) tx.old.conn.now tx.new.conn.now) }
     ensures kept { HasCleanDisk (state S.Store tx.new.conn.now)
         → IsTrue (state S.Store tx.old.conn.now).in_transaction
         → KeepsCommit (state S.Store tx.old.conn.now) (state S.Store tx.new.conn.now) }
@@ -174,10 +165,8 @@ fn make_process<S: Alter>(
     owned: &Owned,
 ) -> Result<(), Refusal>
     ensures same_reference { tx.new.conn.ghost_name ≡ tx.old.conn.ghost_name }
-    ensures made { HasCleanDisk (state S.Store tx.new.conn.now)
-        → IsTrue (state S.Store tx.old.conn.now).in_transaction → OnOk result
-        (Makes S.Store (puts_process (plain_owned owned.now)) tx.old.conn.now tx.new.conn.now
-        × IsTrue (state S.Store tx.new.conn.now).in_transaction) }
+    ensures made { OnOkInside S.Store tx.old.conn.now tx.new.conn.now result
+        (Makes S.Store (puts_process (plain_owned owned.now)) tx.old.conn.now tx.new.conn.now) }
     ensures kept { HasCleanDisk (state S.Store tx.new.conn.now)
         → IsTrue (state S.Store tx.old.conn.now).in_transaction
         → KeepsCommit (state S.Store tx.old.conn.now) (state S.Store tx.new.conn.now) }
@@ -196,10 +185,8 @@ fn unmake_process<S: Alter>(
     id: &Text,
 ) -> Result<(), Refusal>
     ensures same_reference { tx.new.conn.ghost_name ≡ tx.old.conn.ghost_name }
-    ensures made { HasCleanDisk (state S.Store tx.new.conn.now)
-        → IsTrue (state S.Store tx.old.conn.now).in_transaction → OnOk result
-        (Makes S.Store (drops_process user.now id.now) tx.old.conn.now tx.new.conn.now
-        × IsTrue (state S.Store tx.new.conn.now).in_transaction) }
+    ensures made { OnOkInside S.Store tx.old.conn.now tx.new.conn.now result
+        (Makes S.Store (drops_process user.now id.now) tx.old.conn.now tx.new.conn.now) }
     ensures kept { HasCleanDisk (state S.Store tx.new.conn.now)
         → IsTrue (state S.Store tx.old.conn.now).in_transaction
         → KeepsCommit (state S.Store tx.old.conn.now) (state S.Store tx.new.conn.now) }
