@@ -6,7 +6,7 @@ use Rattle.oe_jobs.specs.Verdicts as verdicts
 use Rattle.oe_jobs.specs.declared.keeper.KeeperFail.{KeeperFail}
 use Rattle.oe_jobs.specs.declared.keeper.KeeperFail.TheVariants as fail
 use Rattle.oe_outside.specs.Faults.{NeverFalls, Rose, counted}
-use Rattle.oe_service.specs.States.{Event, Setting, State, commanded, next}
+use Rattle.oe_service.specs.States.{Event, Setting, State, at_book, command, commanded, next, reopened}
 use Rattle.oe_service.specs.declared.open.OpenBookFail.{OpenBookFail}
 use Rattle.oe_service.specs.declared.open.OpenBookFail.TheVariants as opening
 
@@ -48,6 +48,13 @@ pub record Goes (setting : Setting) (e : Event) (is_event : Bool) (before after 
     (kept kept_after : Option Kept) : Type 0 where
   pub state : after ≡ (if is_event then next setting e before else before)
   pub commits : CommitsOne kept (next setting e before).book kept_after
+
+-- it is that of each command of a user, at whatever moment, that makes this book, where it was done
+abbrev pub GoesByCommands : PlainBook → Bool → State → State → Option Kept → Option Kept → Type 0
+GoesByCommands made done before after kept kept_after =
+    (setting : Setting) (user : List ℕ) (asked : PlainCommand) (now : ℤ)
+    → made ≡ verdicts.next before.book user asked now
+    → Goes setting (command user asked now) done before after kept kept_after
 
 -- ---- a change that is committed and installed
 
@@ -97,3 +104,15 @@ pub record IsDecided (book made : PlainBook) : Type 0 where
 abbrev pub of_keeper : KeeperFail → OpenBookFail
 of_keeper fail.Failed = opening.KeeperFailed
 of_keeper fail.OutOfMemory = opening.OutOfMemory
+
+-- the state is that of the book that was kept, after the reopening
+abbrev pub IsReopened : Option Kept → State → Type 0
+IsReopened kept state = IfSome kept (λ (k : Kept). state ≡ at_book (reopened k.book))
+
+-- at most one commit was begun, which makes the reopened book
+abbrev pub CommitsReopened : Option Kept → Option Kept → Type 0
+CommitsReopened kept kept_after = IfSome kept (λ (k : Kept). CommitsOne kept (reopened k.book) kept_after)
+
+-- the book that was kept is
+abbrev pub KeepsBook : Option Kept → Option Kept → Type 0
+KeepsBook kept kept_after = IfSome kept (λ (k : Kept). IsKept kept_after k.book)

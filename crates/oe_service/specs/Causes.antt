@@ -46,6 +46,12 @@ outside rows spool spool_faults kept keeper_faults = record {
   keeper_faults = keeper_faults;
 }
 
+-- of collections, a spool of type P and a keeper of type K
+abbrev pub outside_of : {P K : Type 0} → (P → Option (List ℕ)) → (P → ℕ) → (K → Option Kept) → (K → ℕ) → List Row → P → K
+    → Outside
+outside_of bytes faults kept keeper_faults rows spool keeper =
+    outside rows (bytes spool) (faults spool) (kept keeper) (keeper_faults keeper)
+
 -- a cell is Over
 pub record HasOver (cube : Cube Cell) : Type 0 where
   pub number : ℕ

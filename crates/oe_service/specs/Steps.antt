@@ -9,6 +9,13 @@ use Rattle.oe_service.specs.GoesOn.{GoesOn, HasSizesOf, IsService, StaysWithin, 
 use Rattle.oe_service.specs.declared.answer.Ticked.{Ticked}
 use Rattle.oe_service.specs.declared.service.Service.{Service}
 
+-- A service is valid, and the keeper has its book. While a run is under way, what it loads is mounted as it was when it was
+-- planned, and the records that its rounds wrote stand in the spool.
+pub record IsServiceOver (s : Service) (o : Outside) : Type 0 where
+  pub valid : IsService s
+  pub is_kept : IsKept o.kept (plain_book s.book)
+  pub going : GoesOn s.run o.rows o.spool
+
 -- The running job takes a step that makes this book, or all stays as it was. A run that is under way afterwards is the
 -- one from before.
 pub record Steps (made : PlainBook) (s s_after : Service) (kept kept_after : Option Kept) (faults faults_after : ℕ)

@@ -8,7 +8,7 @@ ghost use Rattle.oe_jobs.specs.Machine as machine;
 ghost use Rattle.oe_jobs.specs.Plain.{plain_book, plain_change, plain_job};
 ghost use Rattle.oe_jobs.specs.Valid.{IsBook, IsEvent};
 ghost use Rattle.oe_service.specs.Calls.{IsKept};
-ghost use Rattle.oe_service.specs.Causes.{IsPlannable, PlanRefused, outside};
+ghost use Rattle.oe_service.specs.Causes.{IsPlannable, PlanRefused, outside, outside_of};
 ghost use Rattle.oe_service.specs.GoesOn.{GoesOn, HasRan, IsRunOf, IsService, MissesAsset};
 ghost use Rattle.oe_service.specs.Refusals.{code_of};
 ghost use Rattle.oe_service.specs.Runs as runs;
@@ -182,11 +182,9 @@ pub(crate) fn round<R: Threads + Sync, P: Store, K: Keeper, G: Gate>(
     requires left { IsSomeAnd service.old.run (λ r. r.done < chunk_total r.plan) }
     requires going { GoesOn service.old.run (rows_of seen catalogue.old) (P.bytes spool.old) }
     requires kept { IsKept (K.kept keeper.old) (plain_book service.old.book) }
-    ensures { TicksService
-        (outside (rows_of seen catalogue.old) (P.bytes spool.old) (P.faults spool.old)
-        (K.kept keeper.old) (K.faults keeper.old))
-        (outside (rows_of seen catalogue.new) (P.bytes spool.new) (P.faults spool.new)
-        (K.kept keeper.new) (K.faults keeper.new))
+    ensures { let out = outside_of P.bytes P.faults K.kept K.faults in TicksService
+        (out (rows_of seen catalogue.old) spool.old keeper.old)
+        (out (rows_of seen catalogue.new) spool.new keeper.new)
         now service.old service.new (K.has_failed keeper.new) result }
 {
     let Some(run) = &mut service.run else {
@@ -211,11 +209,9 @@ pub(crate) fn store<P: Store, K: Keeper>(
     requires complete { IsSomeAnd service.old.run (λ r. r.done ≡ chunk_total r.plan) }
     requires records { IfSome service.old.run (λ r. HasRunRecords r (P.bytes spool.old)) }
     requires kept { IsKept (K.kept keeper.old) (plain_book service.old.book) }
-    ensures { (rows : List Row) → GoesOn service.old.run rows (P.bytes spool.old) → TicksService
-        (outside rows (P.bytes spool.old) (P.faults spool.old) (K.kept keeper.old)
-        (K.faults keeper.old))
-        (outside rows (P.bytes spool.new) (P.faults spool.new) (K.kept keeper.new)
-        (K.faults keeper.new))
+    ensures { let out = outside_of P.bytes P.faults K.kept K.faults in (rows : List Row)
+        → GoesOn service.old.run rows (P.bytes spool.old)
+        → TicksService (out rows spool.old keeper.old) (out rows spool.new keeper.new)
         now service.old service.new (K.has_failed keeper.new) result }
 {
     let Some(run) = &mut service.run else {

@@ -1,13 +1,13 @@
 // The book opened.
-ghost use Rattle.std.specs.Prelude.{◌≡◌, IfOk, IfSome, IsErrOf, None, OnErr, OnOk, true};
+ghost use Rattle.std.specs.Prelude.{◌≡◌, IfOk, IsErrOf, None, OnErr, OnOk, true};
 ghost use Rattle.oe_jobs.specs.Events.{running_job};
 ghost use Rattle.oe_jobs.specs.Plain.{plain_book};
 ghost use Rattle.oe_jobs.specs.Valid.{IsBook};
 ghost use Rattle.oe_outside.specs.Faults.{HasCauseOf};
 ghost use Rattle.oe_plan.specs.Ranges.{IsWithinRanges};
-ghost use Rattle.oe_service.specs.Calls.{CommitsOne, Installs, IsKept};
+ghost use Rattle.oe_service.specs.Calls.{Installs, IsKept, CommitsReopened, IsReopened, KeepsBook};
 ghost use Rattle.oe_service.specs.GoesOn.{IsFree, IsService, state_of};
-ghost use Rattle.oe_service.specs.States.{at_book, reopened};
+ghost use Rattle.oe_service.specs.States.{reopened};
 
 use crate::service::{Service, install};
 use oe_jobs::{Book, Keeper, KeeperFail, reopen};
@@ -53,13 +53,10 @@ pub fn open_book<K: Keeper>(
 
     // No run is under way, no job runs, and the book is the one that is kept, after the reopening.
     ensures free { IfOk result IsFree }
-    ensures opened { IfOk result (λ s. IfSome (K.kept keeper.old)
-        (λ k. state_of s ≡ at_book (reopened k.book))) }
-    ensures commits { IfSome (K.kept keeper.old) (λ k. CommitsOne (K.kept keeper.old)
-        (reopened k.book) (K.kept keeper.new)) }
+    ensures opened { IfOk result (λ s. IsReopened (K.kept keeper.old) (state_of s)) }
+    ensures commits { CommitsReopened (K.kept keeper.old) (K.kept keeper.new) }
     ensures hidden { K.kept keeper.old ≡ None → K.kept keeper.new ≡ None }
-    ensures same { OnErr result (IfSome (K.kept keeper.old)
-        (λ k. IsKept (K.kept keeper.new) k.book)) }
+    ensures same { OnErr result (KeepsBook (K.kept keeper.old) (K.kept keeper.new)) }
     ensures cause { HasCauseOf OpenBookFail.KeeperFailed (K.faults keeper.old)
         (K.faults keeper.new) result }
     ensures last { IsErrOf result OpenBookFail.KeeperFailed → K.has_failed keeper.new ≡ true }

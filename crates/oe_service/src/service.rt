@@ -1,13 +1,11 @@
 // The service: its book, and the run of its running job.
-ghost use Rattle.std.specs.Prelude.{◌≡◌, ◌≤◌, ◌^◌, ℕ, ℤ, IfSome, List, None, []};
+ghost use Rattle.std.specs.Prelude.{◌≡◌, ◌≤◌, ◌^◌, IfSome, None, []};
 ghost use Rattle.oe_jobs.specs.Changes.{changed};
 ghost use Rattle.oe_jobs.specs.Events.{has_busy_job};
-ghost use Rattle.oe_jobs.specs.Plain.{PlainCommand, plain_book, plain_change};
+ghost use Rattle.oe_jobs.specs.Plain.{plain_book, plain_change};
 ghost use Rattle.oe_jobs.specs.Valid.{IsBook};
-ghost use Rattle.oe_jobs.specs.Verdicts as verdicts;
-ghost use Rattle.oe_service.specs.Calls.{Goes, Installs, IsDecided, IsKept, Obeys, is_done};
+ghost use Rattle.oe_service.specs.Calls.{Installs, IsDecided, IsKept, Obeys, is_done, GoesByCommands};
 ghost use Rattle.oe_service.specs.GoesOn.{HasSizesOf, IsService, records_end_of, state_of};
-ghost use Rattle.oe_service.specs.States.{Setting, command};
 
 use oe_book::keeps_running;
 use oe_dims::Text;
@@ -117,11 +115,9 @@ pub fn commit_change<K: Keeper>(
     ensures service { IsService service.new }
     ensures sizes { HasSizesOf service.old service.new }
     ensures kept { IsKept (K.kept keeper.new) (plain_book service.new.book) }
-    ensures goes { (setting : Setting) (user : List ℕ) (asked : PlainCommand) (now : ℤ)
-        → changed (plain_book service.old.book) (plain_change change)
-        ≡ verdicts.next (plain_book service.old.book) user asked now
-        → Goes setting (command user asked now) (is_done result) (state_of service.old)
-        (state_of service.new) (K.kept keeper.old) (K.kept keeper.new) }
+    ensures goes { GoesByCommands (changed (plain_book service.old.book) (plain_change change))
+        (is_done result) (state_of service.old) (state_of service.new)
+        (K.kept keeper.old) (K.kept keeper.new) }
     ensures obeys { Obeys (changed (plain_book service.old.book) (plain_change change))
         (state_of service.old) (state_of service.new) (K.kept keeper.old) (K.kept keeper.new)
         (K.faults keeper.old) (K.faults keeper.new) (K.has_failed keeper.new) result }

@@ -1,10 +1,7 @@
 // One tick of a service.
 ghost use Rattle.oe_dims.specs.Instant.{IsInstant};
-ghost use Rattle.oe_jobs.specs.Plain.{plain_book};
-ghost use Rattle.oe_service.specs.Calls.{IsKept};
-ghost use Rattle.oe_service.specs.Causes.{outside};
-ghost use Rattle.oe_service.specs.GoesOn.{GoesOn, IsService};
-ghost use Rattle.oe_service.specs.Steps.{TicksService};
+ghost use Rattle.oe_service.specs.Causes.{outside_of};
+ghost use Rattle.oe_service.specs.Steps.{TicksService, IsServiceOver};
 ghost use Rattle.oe_sources.specs.CatalogueRows.{rows_of};
 
 use crate::answer::Ticked;
@@ -33,19 +30,12 @@ pub fn tick<R: Threads + Sync, P: Store, K: Keeper, G: Gate>(
     gate: &G,
 ) -> Ticked
     requires moment { IsInstant now }
-    requires service { IsService service.old }
-
-    // The keeper has the service's book. While a run is under way, what it loads is mounted as it was when it was planned,
-    // and the records that its rounds wrote stand in the spool.
-    requires kept { IsKept (K.kept keeper.old) (plain_book service.old.book) }
-    requires going { GoesOn service.old.run (rows_of seen catalogue.old) (P.bytes spool.old) }
-
+    requires service { IsServiceOver service.old (outside_of P.bytes P.faults K.kept K.faults
+        (rows_of seen catalogue.old) spool.old keeper.old) }
     // Whatever it answers, this holds again; and the tick is an event, or none.
-    ensures { TicksService
-        (outside (rows_of seen catalogue.old) (P.bytes spool.old) (P.faults spool.old)
-        (K.kept keeper.old) (K.faults keeper.old))
-        (outside (rows_of seen catalogue.new) (P.bytes spool.new) (P.faults spool.new)
-        (K.kept keeper.new) (K.faults keeper.new))
+    ensures { let out = outside_of P.bytes P.faults K.kept K.faults in TicksService
+        (out (rows_of seen catalogue.old) spool.old keeper.old)
+        (out (rows_of seen catalogue.new) spool.new keeper.new)
         now service.old service.new (K.has_failed keeper.new) result }
 {
     if service.book.running().is_none() {

@@ -24,7 +24,7 @@ returns-else-misses_asset g c =
     let runs : is_some (running_job (plain_book s.book)) ≡ true = search rules in
     let job = some_of (running_job (plain_book s.book)) runs in
     let steps = rw (to_z-of_z w64 c.args.now c.ranges.now) at c.finish.ensures in
-    finished s c.finish.new.service c.requires.service job.0 job.1 c.args.now _ c.in-None.is _ _ _ _ _ _ _ _
+    finished s c.finish.new.service c.requires.service.valid job.0 job.1 c.args.now _ c.in-None.is _ _ _ _ _ _ _ _
     (none_missing (running_job (plain_book s.book)) job.0 job.1 c.misses_asset.result c.if-misses_asset.false
     c.misses_asset.ensures) steps
 
@@ -34,4 +34,4 @@ returns-then-done-chunks g c = rw (to_z-of_z w64 c.args.now c.ranges.now) at c.r
 pub returns-else-done-chunks : goal.returns-else-done-chunks
 returns-else-done-chunks g c =
     let rows = rows_of (λ z. (goal.CubeSource-dyn g z).seen z.1) c.args.catalogue.now in
-    rw (to_z-of_z w64 c.args.now c.ranges.now) at (c.store.ensures rows c.requires.going)
+    rw (to_z-of_z w64 c.args.now c.ranges.now) at (c.store.ensures rows c.requires.service.going)
