@@ -21,7 +21,7 @@ use Rattle.oe_routes.specs.declared.site.Site.{Site}
 use Rattle.oe_service.specs.Calls.{Goes, IsDecided, IsKept}
 use Rattle.oe_service.specs.Causes.{Outside}
 use Rattle.oe_service.specs.GoesOn.{GoesOn, HasSizesOf, IsService, state_of}
-use Rattle.oe_service.specs.States.{Event, State, no_command, setting_of}
+use Rattle.oe_service.specs.States.{Event, Setting, State, no_command, setting_of}
 use Rattle.oe_service.specs.declared.service.Service.{Service}
 use Rattle.oe_check.specs.Checked.{CheckedGraph}
 use Rattle.oe_sources.specs.Catalogue.{Row}
@@ -47,6 +47,14 @@ server_of site size workers = record {
   size = size;
   workers = workers;
 }
+
+-- with the sizes of a service
+abbrev pub server_for : Site → Service → ServerOf
+server_for site s = server_of site s.size s.workers
+
+-- what its events go by, over collections of these rows
+abbrev pub setting_for : List Row → Service → Setting
+setting_for rows s = setting_of (dims_of rows) s.size s.workers
 
 -- what a request is about at a moment, over the collections and the book as they are
 abbrev pub scene_at : ServerOf → Outside → PlainBook → ℤ → PlainScene

@@ -7,8 +7,9 @@ ghost use Rattle.oe_jobs.specs.Plain.{plain_book, plain_change};
 ghost use Rattle.oe_jobs.specs.Valid.{IsBook};
 ghost use Rattle.oe_routes.specs.Actions.{commit, plain_action, text_at};
 ghost use Rattle.oe_service.specs.Calls.{IsDecided, IsKept};
-ghost use Rattle.oe_service.specs.Causes.{outside};
+ghost use Rattle.oe_service.specs.Causes.{outside, outside_of};
 ghost use Rattle.oe_service.specs.GoesOn.{GoesOn, IsService};
+ghost use Rattle.oe_service.specs.Steps.{IsServiceOver};
 ghost use Rattle.oe_sources.specs.Catalogue.{Row};
 ghost use Rattle.oe_sources.specs.CatalogueRows.{rows_of};
 ghost use Rattle.oe_serve.specs.Links.{link_of};
@@ -38,16 +39,14 @@ pub(crate) fn act<R: Threads + Sync, L: Link, P: Store, K: Keeper, G: Gate>(
     spool: &mut P,
     keeper: &mut K,
 ) -> Served
-    requires service { IsService service.old }
-    requires kept { IsKept (K.kept keeper.old) (plain_book service.old.book) }
-    requires going { GoesOn service.old.run (rows_of seen catalogue.old) (P.bytes spool.old) }
+    requires service { IsServiceOver service.old (outside_of P.bytes P.faults K.kept K.faults
+        (rows_of seen catalogue.old) spool.old keeper.old) }
     requires may { MayAct (plain_book service.old.book) (rows_of seen catalogue.old) action }
     ensures { let of = link_of L.left L.written L.faults in
+        let out = outside_of P.bytes P.faults K.kept K.faults in
         Acts (plain_action (plain_book service.old.book) action) service.old service.new
-        (outside (rows_of seen catalogue.old) (P.bytes spool.old) (P.faults spool.old)
-        (K.kept keeper.old) (K.faults keeper.old))
-        (outside (rows_of seen catalogue.new) (P.bytes spool.new) (P.faults spool.new)
-        (K.kept keeper.new) (K.faults keeper.new))
+        (out (rows_of seen catalogue.old) spool.old keeper.old)
+        (out (rows_of seen catalogue.new) spool.new keeper.new)
         (of link.old) (of link.new) (K.has_failed keeper.new) result }
 {
     match action {

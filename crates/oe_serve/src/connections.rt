@@ -5,14 +5,13 @@ ghost use Rattle.oe_http.specs.Plain.{plain_request};
 ghost use Rattle.oe_jobs.specs.Plain.{plain_book};
 ghost use Rattle.oe_jobs.specs.Valid.{IsBook};
 ghost use Rattle.oe_routes.specs.Codes as codes;
-ghost use Rattle.oe_service.specs.Calls.{IsKept};
-ghost use Rattle.oe_service.specs.Causes.{outside};
-ghost use Rattle.oe_service.specs.GoesOn.{GoesOn, IsService};
+ghost use Rattle.oe_service.specs.Causes.{outside_of};
+ghost use Rattle.oe_service.specs.Steps.{IsServiceOver};
 ghost use Rattle.oe_sources.specs.CatalogueDims.{dims_of};
 ghost use Rattle.oe_sources.specs.CatalogueRows.{rows_of};
 ghost use Rattle.oe_serve.specs.Answers.{AsksAction, DecidesChange};
 ghost use Rattle.oe_serve.specs.Links.{SendsCode, link_of};
-ghost use Rattle.oe_serve.specs.Serves.{MayAct, ServesService, server_of};
+ghost use Rattle.oe_serve.specs.Serves.{MayAct, ServesService, server_for};
 
 use crate::actions::act;
 use crate::links::{answer_code, answer_out_of_memory};
@@ -45,21 +44,14 @@ pub fn serve_one<R: Threads + Sync, L: Link, P: Store, K: Keeper, G: Gate>(
     now: i64,
 ) -> Served
     requires moment { IsInstant now }
-    requires service { IsService service.old }
-
-    // The keeper has the service's book. While a run is under way, what it loads is mounted as it was when it was
-    // planned, and the records that its rounds wrote stand in the spool.
-    requires kept { IsKept (K.kept keeper.old) (plain_book service.old.book) }
-    requires going { GoesOn service.old.run (rows_of seen catalogue.old) (P.bytes spool.old) }
-
+    requires service { IsServiceOver service.old (outside_of P.bytes P.faults K.kept K.faults
+        (rows_of seen catalogue.old) spool.old keeper.old) }
     // Whatever it answers, this holds again; and the connection is the event of its request, or none.
     ensures { let of = link_of L.left L.written L.faults in
-        ServesService (server_of setup.now.site.now service.old.size service.old.workers) now
-        service.old service.new
-        (outside (rows_of seen catalogue.old) (P.bytes spool.old) (P.faults spool.old)
-        (K.kept keeper.old) (K.faults keeper.old))
-        (outside (rows_of seen catalogue.new) (P.bytes spool.new) (P.faults spool.new)
-        (K.kept keeper.new) (K.faults keeper.new))
+        let out = outside_of P.bytes P.faults K.kept K.faults in
+        ServesService (server_for setup.now.site.now service.old) now service.old service.new
+        (out (rows_of seen catalogue.old) spool.old keeper.old)
+        (out (rows_of seen catalogue.new) spool.new keeper.new)
         (of link.old) (of link.new) (K.has_failed keeper.new) result }
 {
     match read_request(setup.alloc, link) {

@@ -1,20 +1,16 @@
 // Turns of a server.
 ghost use Rattle.std.specs.Prelude.{◌≡◌};
 ghost use Rattle.oe_dims.specs.Instant.{IsInstant};
-ghost use Rattle.oe_jobs.specs.Plain.{plain_book};
 ghost use Rattle.oe_plan.specs.Ranges.{IsWithinRanges};
-ghost use Rattle.oe_service.specs.Calls.{IsKept};
-ghost use Rattle.oe_service.specs.Causes.{outside};
-ghost use Rattle.oe_service.specs.GoesOn.{GoesOn, IsService, state_of};
-ghost use Rattle.oe_service.specs.States.{setting_of};
-ghost use Rattle.oe_sources.specs.CatalogueDims.{dims_of};
+ghost use Rattle.oe_service.specs.Causes.{outside_of};
+ghost use Rattle.oe_service.specs.Steps.{IsServiceOver};
 ghost use Rattle.oe_sources.specs.CatalogueRows.{rows_of};
 ghost use Rattle.oe_serve.specs.Endings as endings;
 ghost use Rattle.oe_serve.specs.Links.{link_of};
-ghost use Rattle.oe_serve.specs.Serves.{server_of};
+ghost use Rattle.oe_serve.specs.Serves.{server_of, server_for, setting_for};
 ghost use Rattle.oe_serve.specs.Server.{IsKeeperFault, MakesTurns, ServerEnds};
 ghost use Rattle.oe_serve.specs.Steps.{MeetsOne, TicksOnce, TurnsOnce};
-ghost use Rattle.oe_serve.specs.Turns.{door_of, situation};
+ghost use Rattle.oe_serve.specs.Turns.{door_of, situation_of};
 
 use crate::command::ServeCommand;
 use crate::connections::serve_one;
@@ -90,21 +86,18 @@ pub fn serve<R: Threads + Sync, P: Store, K: Keeper, D: Door, C: Clock, G: Gate>
     clock: &mut C,
 ) -> Result<(), ServeFail>
     requires { IsWithinRanges command.size command.workers }
-    ensures ends { let seen_door = door_of D.visible D.faults D.dial_faults in
+    ensures ends { let out = outside_of P.bytes P.faults K.kept K.faults in
         ServerEnds (link_of D.Conn.left D.Conn.written D.Conn.faults)
         (server_of setup.now.site.now command.size command.workers) command.turns
-        (outside (rows_of seen catalogue.old) (P.bytes spool.old) (P.faults spool.old)
-        (K.kept keeper.old) (K.faults keeper.old))
-        (outside (rows_of seen catalogue.new) (P.bytes spool.new) (P.faults spool.new)
-        (K.kept keeper.new) (K.faults keeper.new))
-        (seen_door door.old) (seen_door door.new) (C.moment clock.old) (K.has_failed keeper.new)
-        result }
-    ensures keeper { IsKeeperFault
+        (out (rows_of seen catalogue.old) spool.old keeper.old)
+        (out (rows_of seen catalogue.new) spool.new keeper.new)
+        (door_of D.visible D.faults D.dial_faults door.old)
+        (door_of D.visible D.faults D.dial_faults door.new) (C.moment clock.old)
+        (K.has_failed keeper.new) result }
+    ensures keeper { let out = outside_of P.bytes P.faults K.kept K.faults in IsKeeperFault
         (server_of setup.now.site.now command.size command.workers)
-        (outside (rows_of seen catalogue.old) (P.bytes spool.old) (P.faults spool.old)
-        (K.kept keeper.old) (K.faults keeper.old))
-        (outside (rows_of seen catalogue.new) (P.bytes spool.new) (P.faults spool.new)
-        (K.kept keeper.new) (K.faults keeper.new)) (K.has_failed keeper.new) result }
+        (out (rows_of seen catalogue.old) spool.old keeper.old)
+        (out (rows_of seen catalogue.new) spool.new keeper.new) (K.has_failed keeper.new) result }
 {
     match open_book(setup.alloc, keeper, command.size, command.workers) {
         Ok(mut service) => take_turns(
@@ -132,21 +125,16 @@ fn take_turns<R: Threads + Sync, P: Store, K: Keeper, D: Door, C: Clock, G: Gate
     door: &mut D,
     clock: &mut C,
 ) -> Result<(), ServeFail>
-    requires service { IsService service.old }
-    requires kept { IsKept (K.kept keeper.old) (plain_book service.old.book) }
-    requires going { GoesOn service.old.run (rows_of seen catalogue.old) (P.bytes spool.old) }
-    ensures { let seen_door = door_of D.visible D.faults D.dial_faults in
+    requires service { IsServiceOver service.old (outside_of P.bytes P.faults K.kept K.faults
+        (rows_of seen catalogue.old) spool.old keeper.old) }
+    ensures { let at = situation_of P.bytes P.faults K.kept K.faults K.has_failed in
         MakesTurns (link_of D.Conn.left D.Conn.written D.Conn.faults)
-        (server_of setup.now.site.now service.old.size service.old.workers)
-        (setting_of (dims_of (rows_of seen catalogue.old)) service.old.size service.old.workers)
-        turns (C.moment clock.old)
-        (situation (state_of service.old)
-        (outside (rows_of seen catalogue.old) (P.bytes spool.old) (P.faults spool.old)
-        (K.kept keeper.old) (K.faults keeper.old)) (K.has_failed keeper.old))
-        (situation (state_of service.new)
-        (outside (rows_of seen catalogue.new) (P.bytes spool.new) (P.faults spool.new)
-        (K.kept keeper.new) (K.faults keeper.new)) (K.has_failed keeper.new))
-        (seen_door door.old) (seen_door door.new) result }
+        (server_for setup.now.site.now service.old)
+        (setting_for (rows_of seen catalogue.old) service.old) turns (C.moment clock.old)
+        (at service.old (rows_of seen catalogue.old) spool.old keeper.old)
+        (at service.new (rows_of seen catalogue.new) spool.new keeper.new)
+        (door_of D.visible D.faults D.dial_faults door.old)
+        (door_of D.visible D.faults D.dial_faults door.new) result }
 {
     for _ in 0..turns {
         match turn(setup, service, catalogue, spool, keeper, door, clock) {
@@ -168,19 +156,16 @@ fn turn<R: Threads + Sync, P: Store, K: Keeper, D: Door, C: Clock, G: Gate>(
     door: &mut D,
     clock: &mut C,
 ) -> Result<bool, ServeFail>
-    requires service { IsService service.old }
-    requires kept { IsKept (K.kept keeper.old) (plain_book service.old.book) }
-    requires going { GoesOn service.old.run (rows_of seen catalogue.old) (P.bytes spool.old) }
-    ensures turns { let seen_door = door_of D.visible D.faults D.dial_faults in
+    requires service { IsServiceOver service.old (outside_of P.bytes P.faults K.kept K.faults
+        (rows_of seen catalogue.old) spool.old keeper.old) }
+    ensures turns { let out = outside_of P.bytes P.faults K.kept K.faults in
         TurnsOnce (link_of D.Conn.left D.Conn.written D.Conn.faults)
-        (server_of setup.now.site.now service.old.size service.old.workers) (C.moment clock.old)
-        service.old service.new
-        (outside (rows_of seen catalogue.old) (P.bytes spool.old) (P.faults spool.old)
-        (K.kept keeper.old) (K.faults keeper.old))
-        (outside (rows_of seen catalogue.new) (P.bytes spool.new) (P.faults spool.new)
-        (K.kept keeper.new) (K.faults keeper.new))
+        (server_for setup.now.site.now service.old) (C.moment clock.old) service.old service.new
+        (out (rows_of seen catalogue.old) spool.old keeper.old)
+        (out (rows_of seen catalogue.new) spool.new keeper.new)
         (K.has_failed keeper.old) (K.has_failed keeper.new)
-        (seen_door door.old) (seen_door door.new) result }
+        (door_of D.visible D.faults D.dial_faults door.old)
+        (door_of D.visible D.faults D.dial_faults door.new) result }
     ensures clock { C.moment clock.new ≡ C.moment clock.old }
 {
     match door.next(service.is_busy()) {
@@ -210,18 +195,15 @@ fn meet<R: Threads + Sync, P: Store, K: Keeper, D: Door, G: Gate>(
     now: i64,
 )
     requires moment { IsInstant now }
-    requires service { IsService service.old }
-    requires kept { IsKept (K.kept keeper.old) (plain_book service.old.book) }
-    requires going { GoesOn service.old.run (rows_of seen catalogue.old) (P.bytes spool.old) }
-    ensures { let seen_door = door_of D.visible D.faults D.dial_faults in
+    requires service { IsServiceOver service.old (outside_of P.bytes P.faults K.kept K.faults
+        (rows_of seen catalogue.old) spool.old keeper.old) }
+    ensures { let out = outside_of P.bytes P.faults K.kept K.faults in
         MeetsOne (link_of D.Conn.left D.Conn.written D.Conn.faults)
-        (server_of setup.now.site.now service.old.size service.old.workers) now conn
-        service.old service.new
-        (outside (rows_of seen catalogue.old) (P.bytes spool.old) (P.faults spool.old)
-        (K.kept keeper.old) (K.faults keeper.old))
-        (outside (rows_of seen catalogue.new) (P.bytes spool.new) (P.faults spool.new)
-        (K.kept keeper.new) (K.faults keeper.new))
-        (seen_door door.old) (seen_door door.new) (K.has_failed keeper.new) }
+        (server_for setup.now.site.now service.old) now conn service.old service.new
+        (out (rows_of seen catalogue.old) spool.old keeper.old)
+        (out (rows_of seen catalogue.new) spool.new keeper.new)
+        (door_of D.visible D.faults D.dial_faults door.old)
+        (door_of D.visible D.faults D.dial_faults door.new) (K.has_failed keeper.new) }
 {
     serve_one(setup, service, &mut conn, catalogue, spool, keeper, now);
     door.done(conn);
@@ -237,14 +219,11 @@ fn end_turn<R: Threads + Sync, P: Store, K: Keeper, G: Gate>(
     now: i64,
 ) -> Result<bool, ServeFail>
     requires moment { IsInstant now }
-    requires service { IsService service.old }
-    requires kept { IsKept (K.kept keeper.old) (plain_book service.old.book) }
-    requires going { GoesOn service.old.run (rows_of seen catalogue.old) (P.bytes spool.old) }
-    ensures { TicksOnce
-        (outside (rows_of seen catalogue.old) (P.bytes spool.old) (P.faults spool.old)
-        (K.kept keeper.old) (K.faults keeper.old))
-        (outside (rows_of seen catalogue.new) (P.bytes spool.new) (P.faults spool.new)
-        (K.kept keeper.new) (K.faults keeper.new))
+    requires service { IsServiceOver service.old (outside_of P.bytes P.faults K.kept K.faults
+        (rows_of seen catalogue.old) spool.old keeper.old) }
+    ensures { let out = outside_of P.bytes P.faults K.kept K.faults in TicksOnce
+        (out (rows_of seen catalogue.old) spool.old keeper.old)
+        (out (rows_of seen catalogue.new) spool.new keeper.new)
         now service.old service.new (K.has_failed keeper.new) result }
 {
     let alloc = setup.alloc;

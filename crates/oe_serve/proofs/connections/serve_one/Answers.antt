@@ -25,7 +25,7 @@ returns-in-Ok g c =
     let reads : ReadsRequest (of c.args.link.now) (of c.read_request.new.link) =
     record { taken = read.taken; written = read.same; count = read.cause.count } in
     served_request c.args.setup.now.site.now c.args.now c.args.service.now _ (of c.args.link.now)
-    (of c.read_request.new.link) (of c.answer_out_of_memory.new.link) _ _ c.requires.service c.requires.kept c.requires.going
+    (of c.read_request.new.link) (of c.answer_out_of_memory.new.link) _ _ c.requires.service.valid c.requires.service.is_kept c.requires.service.going
     reads (plain_request c.in-Ok.request) c.in-Ok.ensures.request c.answer_out_of_memory.ensures
 
 pub returns : goal.returns
@@ -35,5 +35,5 @@ returns g c =
     let reads : ReadsRequest (of c.args.link.now) (of c.read_request.new.link) =
     record { taken = read.taken; written = read.same; count = read.cause.count } in
     served_refusal c.args.setup.now.site.now c.args.now c.args.service.now _ (of c.args.link.now)
-    (of c.read_request.new.link) (of c.answer_refusal.new.link) _ _ c.requires.service c.requires.kept c.requires.going
+    (of c.read_request.new.link) (of c.answer_refusal.new.link) _ _ c.requires.service.valid c.requires.service.is_kept c.requires.service.going
     reads c.in-Err.refusal c.in-Err.ensures.refused (λ e. c.in-Err.ensures.cause.failed (ap Err e)) c.answer_refusal.ensures

@@ -1,4 +1,4 @@
-use Rattle.std.proofs.Common.{ap, Err}
+use Rattle.std.proofs.Common.{Err, ap}
 use Rattle.oe_serve.proofs.Openings.{not_opened, opened, turns_made}
 use Rattle.oe_serve.proofs.turns.serve.Goals as goal
 
@@ -6,6 +6,15 @@ pub returns-in-Err-clause-ends : goal.returns-in-Err-clause-ends
 returns-in-Err-clause-ends g c =
     rw c.from.ensures (not_opened _ _ _ _ _ _ _ c.in-Err.ensures.hidden c.in-Err.ensures.commits _ _ _ _ _ _ c.in-Err.ensures.same
     c.in-Err.fail c.in-Err.ensures.cause (λ e. c.in-Err.ensures.last (ap Err e)))
+
+pub take_turns-requires : goal.take_turns-requires
+take_turns-requires g c = (
+  c.type_bounds.sync-R,
+  (
+    c.type_bounds.sync-G,
+    record { valid = c.in-Ok.ensures.valid; is_kept = c.in-Ok.ensures.kept; going = rw c.in-Ok.ensures.free.run tt },
+  ),
+)
 
 pub returns-in-Ok-clause-ends : goal.returns-in-Ok-clause-ends
 returns-in-Ok-clause-ends g c =

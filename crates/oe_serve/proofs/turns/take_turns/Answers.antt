@@ -5,12 +5,25 @@ use Rattle.oe_serve.proofs.turns.take_turns.Goals as goal
 
 pub loop-init : goal.loop-init
 loop-init g c = record {
-  service = c.requires.service;
+  service = c.requires.service.valid;
   sizes = record { size = refl; workers = refl };
-  going = c.requires.going;
+  going = c.requires.service.going;
   clock = refl;
-  so_far = so_far_none _ _ _ _ _ c.requires.kept;
+  so_far = so_far_none _ _ _ _ _ c.requires.service.is_kept;
 }
+
+pub turn-requires : goal.turn-requires
+turn-requires g c = (
+  c.type_bounds.sync-R,
+  (
+    c.type_bounds.sync-G,
+    record {
+      valid = c.loop.invariant.service;
+      is_kept = c.loop.invariant.so_far.turned.kept;
+      going = c.loop.invariant.going;
+    },
+  ),
+)
 
 pub loop-preserved : goal.loop-preserved
 loop-preserved g c =

@@ -5,6 +5,11 @@ use Rattle.oe_serve.proofs.DoorLemmas.{busy_of}
 use Rattle.oe_serve.proofs.TurnLemmas.{turn_alone, turn_met}
 use Rattle.oe_serve.proofs.turns.turn.Goals as goal
 
+pub end_turn-requires-clause-service : goal.end_turn-requires-clause-service
+end_turn-requires-clause-service g c κs within =
+    let keeps = c.meet.ensures.serves.keeps in
+    record { valid = keeps.service; is_kept = keeps.is_kept; going = keeps.going }
+
 pub returns-in-Conn-clause-turns : goal.returns-in-Conn-clause-turns
 returns-in-Conn-clause-turns g c =
     let seen = door_of g.D.Door.visible g.D.Door.faults g.D.Door.dial_faults in
