@@ -1,8 +1,7 @@
 // The command `check`: from the input to the least fault of its graph.
-ghost use Rattle.std.specs.Prelude.{ℕ, List, Option};
 ghost use Rattle.oe_sources.specs.CatalogueRows.{rows_of};
 ghost use Rattle.oe_top.specs.CheckAnswer.{CheckAnswers};
-ghost use Rattle.oe_top.specs.Objects.{objects};
+ghost use Rattle.oe_top.specs.Objects.{ForEachSpool};
 
 use crate::judge::{InputRefusal, judge_input};
 use oe_outside::{Sink, Source};
@@ -27,11 +26,8 @@ pub(crate) fn check<I: Source, O: Sink>(
     out: &mut O,
     catalogue: &Catalogue,
 ) -> Result<(), CheckRefusal>
-    ensures { (spool : Option (List ℕ)) (spool_faults : ℕ) → CheckAnswers
-        (objects (I.left input.old) (I.faults input.old) (O.written out.old) (O.faults out.old)
-        spool spool_faults (rows_of seen catalogue.now))
-        (objects (I.left input.new) (I.faults input.new) (O.written out.new) (O.faults out.new)
-        spool spool_faults (rows_of seen catalogue.now)) result }
+    ensures { ForEachSpool I.left I.faults O.written O.faults input.old out.old input.new out.new
+        (rows_of seen catalogue.now) (λ before after. CheckAnswers before after result) }
 {
     match judge_input(alloc, input, catalogue) {
         Ok(_checked) => match out.write(b"valid\n") {

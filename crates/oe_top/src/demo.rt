@@ -1,5 +1,5 @@
 // The command `demo`: the figures of a graph over a generated collection.
-ghost use Rattle.std.specs.Prelude.{◌≡◌, ◌≢◌, ◌-◌, ◌+◌, ◌++◌, ◌≤◌, ◌<◌, ℕ, List, Option, [], IfErr, IfOk, IfSome, OnOk, Some, length};
+ghost use Rattle.std.specs.Prelude.{◌≡◌, ◌≢◌, ◌-◌, ◌+◌, ◌++◌, ◌≤◌, ◌<◌, [], IfErr, IfOk, IfSome, OnOk, Some, length};
 ghost use Rattle.oe_cell.specs.Cells.{IsCell};
 ghost use Rattle.oe_cell.specs.Record.{record_of};
 ghost use Rattle.oe_cell.specs.Spelling.{cell_text};
@@ -10,14 +10,13 @@ ghost use Rattle.oe_engine.specs.Laws.{GivesCollections};
 ghost use Rattle.oe_engine.specs.Runs.{IsHiddenDamage, chunk_total};
 ghost use Rattle.oe_outside.specs.Faults.{HasCauseOf};
 ghost use Rattle.oe_plan.specs.Ranges.{IsWithinRanges};
-ghost use Rattle.oe_sources.specs.Catalogue.{Row};
 ghost use Rattle.oe_sources.specs.CatalogueDims.{AreDimsOf, dims_of};
 ghost use Rattle.oe_sources.specs.CatalogueRows.{rows_of};
 ghost use Rattle.oe_top.specs.DemoAnswer.{DemoAnswers, Demonstrates, IsDemonstration};
 ghost use Rattle.oe_top.specs.Demonstration.{HasSpooled, IsSpooled, demo_graph, figures_text};
 ghost use Rattle.oe_top.specs.Evaluated.{IsBegun};
 ghost use Rattle.oe_top.specs.Judged.{IsCheckedText};
-ghost use Rattle.oe_top.specs.Objects.{objects};
+ghost use Rattle.oe_top.specs.Objects.{ForEachInputAndRows};
 
 use crate::evaluation::{EvaluationFail, begin, complete, fail_of_run, fail_of_text};
 use crate::judge::{InputRefusal, judge_bytes};
@@ -78,12 +77,9 @@ pub(crate) fn demo<R: Threads + Sync, O: Sink, P: Store, G: Gate>(
     requires seed { source.0 ≤ 1000000000 }
     requires side { (1 ≤ source.1) × (source.1 ≤ 1024) }
     requires sizes { IsWithinRanges sizes.0 sizes.1 }
-    ensures { (input : Option (List ℕ)) (input_faults : ℕ) (rows : List Row)
-        → DemoAnswers source.0 source.1 sizes.0 sizes.1
-        (objects input input_faults (O.written out.old) (O.faults out.old)
-        (P.bytes spool.old) (P.faults spool.old) rows)
-        (objects input input_faults (O.written out.new) (O.faults out.new)
-        (P.bytes spool.new) (P.faults spool.new) rows) result }
+    ensures { ForEachInputAndRows O.written O.faults P.bytes P.faults out.old spool.old out.new
+        spool.new (λ before after. DemoAnswers source.0 source.1 sizes.0 sizes.1
+        before after result) }
 {
     let alloc = setup.alloc;
     let mut catalogue = Catalogue::generated(alloc, source.0, source.1)?;
@@ -148,12 +144,9 @@ fn write_figures<R: Threads + Sync, O: Sink, P: Store, G: Gate>(
     requires rows { run.plan.graph.rows ≡ dims_of (rows_of seen catalogue.old) }
     requires found { AreDimsOf (rows_of seen catalogue.old) run.plan.graph.rows }
     requires collections { GivesCollections (rows_of seen catalogue.old) }
-    ensures { (input : Option (List ℕ)) (input_faults : ℕ) (lent : List Row)
-        → Demonstrates (rows_of seen catalogue.old) run.plan.graph
-        (objects input input_faults (O.written out.old) (O.faults out.old)
-        (P.bytes spool.old) (P.faults spool.old) lent)
-        (objects input input_faults (O.written out.new) (O.faults out.new)
-        (P.bytes spool.new) (P.faults spool.new) lent) result }
+    ensures { ForEachInputAndRows O.written O.faults P.bytes P.faults out.old spool.old out.new
+        spool.new (λ before after. Demonstrates (rows_of seen catalogue.old) run.plan.graph
+        before after result) }
 {
     // Laws that the proof rests on; they do nothing.
     laws::collections_are_mounted();

@@ -1,10 +1,10 @@
 // The command `describe`: the mounted collections, or one of them, as the service describes them.
-ghost use Rattle.std.specs.Prelude.{◌≡◌, ◌++◌, ℕ, List, Option, IfOk, IfSome, IsSome, codes};
+ghost use Rattle.std.specs.Prelude.{◌≡◌, ◌++◌, IfOk, IfSome, IsSome, codes};
 ghost use Rattle.oe_dims.specs.Names.{same_name};
 ghost use Rattle.oe_sources.specs.Catalogue.{row_of};
 ghost use Rattle.oe_sources.specs.CatalogueRows.{rows_of};
 ghost use Rattle.oe_top.specs.DescribeAnswer.{DescribeAnswers, IsRowAt, ListingAnswers, collection_text, collections_text};
-ghost use Rattle.oe_top.specs.Objects.{objects};
+ghost use Rattle.oe_top.specs.Objects.{ForEachInputAndSpool};
 
 use oe_dims::{DimsRow, Text};
 use oe_memory::OutOfMemory;
@@ -37,12 +37,8 @@ pub(crate) fn describe_all<O: Sink>(
     out: &mut O,
     catalogue: &Catalogue,
 ) -> Result<(), UnwrittenCause>
-    ensures { (input : Option (List ℕ)) (input_faults : ℕ) (spool : Option (List ℕ))
-        (spool_faults : ℕ) → ListingAnswers
-        (objects input input_faults (O.written out.old) (O.faults out.old) spool spool_faults
-        (rows_of seen catalogue.now))
-        (objects input input_faults (O.written out.new) (O.faults out.new) spool spool_faults
-        (rows_of seen catalogue.now)) result }
+    ensures { ForEachInputAndSpool O.written O.faults out.old out.new (rows_of seen catalogue.now)
+        (rows_of seen catalogue.now) (λ before after. ListingAnswers before after result) }
 {
     match text_of_all(alloc, catalogue) {
         Ok(text) => match out.write(&text) {
@@ -60,12 +56,8 @@ pub(crate) fn describe<O: Sink>(
     out: &mut O,
     catalogue: &Catalogue,
 ) -> Result<(), DescribeRefusal>
-    ensures { (input : Option (List ℕ)) (input_faults : ℕ) (spool : Option (List ℕ))
-        (spool_faults : ℕ) → DescribeAnswers id.now
-        (objects input input_faults (O.written out.old) (O.faults out.old) spool spool_faults
-        (rows_of seen catalogue.now))
-        (objects input input_faults (O.written out.new) (O.faults out.new) spool spool_faults
-        (rows_of seen catalogue.now)) result }
+    ensures { ForEachInputAndSpool O.written O.faults out.old out.new (rows_of seen catalogue.now)
+        (rows_of seen catalogue.now) (λ before after. DescribeAnswers id.now before after result) }
 {
     if catalogue.place(id.as_str()).is_none() {
         return Err(DescribeRefusal::NotMounted);

@@ -1,12 +1,12 @@
 // The command `explain`: from the input to the lines that explain its least fault.
-ghost use Rattle.std.specs.Prelude.{◌+◌, ℕ, List, Option};
+ghost use Rattle.std.specs.Prelude.{◌+◌};
 ghost use Rattle.oe_graph.specs.Form.{most_input};
 ghost use Rattle.oe_outside.specs.Faults.{NeverFalls};
 ghost use Rattle.oe_outside.specs.Input.{TakesAtMost};
 ghost use Rattle.oe_sources.specs.CatalogueDims.{dims_of};
 ghost use Rattle.oe_sources.specs.CatalogueRows.{rows_of};
 ghost use Rattle.oe_top.specs.ExplainAnswer.{ExplainAnswers, FindsFault};
-ghost use Rattle.oe_top.specs.Objects.{objects};
+ghost use Rattle.oe_top.specs.Objects.{ForEachSpool};
 
 use crate::check::CheckRefusal;
 use crate::input::read_input;
@@ -25,11 +25,8 @@ pub(crate) fn explain<I: Source, O: Sink>(
     out: &mut O,
     catalogue: &Catalogue,
 ) -> Result<(), CheckRefusal>
-    ensures { (spool : Option (List ℕ)) (spool_faults : ℕ) → ExplainAnswers
-        (objects (I.left input.old) (I.faults input.old) (O.written out.old) (O.faults out.old)
-        spool spool_faults (rows_of seen catalogue.now))
-        (objects (I.left input.new) (I.faults input.new) (O.written out.new) (O.faults out.new)
-        spool spool_faults (rows_of seen catalogue.now)) result }
+    ensures { ForEachSpool I.left I.faults O.written O.faults input.old out.old input.new out.new
+        (rows_of seen catalogue.now) (λ before after. ExplainAnswers before after result) }
 {
     match find_fault(alloc, input, catalogue) {
         Ok(Some((fault, text))) => match out.write(&text) {

@@ -1,5 +1,5 @@
 // The command `part`: from the input to the records of some chunks of its run.
-ghost use Rattle.std.specs.Prelude.{◌≡◌, ◌<◌, ◌+◌, ◌↔◌, ℕ, [], List, Option, IfOk, IsErrOf, IsTrue};
+ghost use Rattle.std.specs.Prelude.{◌≡◌, ◌<◌, ◌+◌, ◌↔◌, ℕ, [], List, IfOk, IsErrOf, IsTrue};
 ghost use Rattle.oe_dims.specs.declared.dims.DimsRow.{DimsRow};
 ghost use Rattle.oe_engine.specs.Laws.{GivesCollections};
 ghost use Rattle.oe_engine.specs.Evaluations.{IsPlanOf};
@@ -10,7 +10,7 @@ ghost use Rattle.oe_sources.specs.CatalogueDims.{AreDimsOf, dims_of};
 ghost use Rattle.oe_sources.specs.CatalogueRows.{rows_of};
 ghost use Rattle.oe_steps.specs.Collections.{HasCollections};
 ghost use Rattle.oe_top.specs.Judged.{IsCheckedText};
-ghost use Rattle.oe_top.specs.Objects.{lends, objects};
+ghost use Rattle.oe_top.specs.Objects.{ForEachInput, lends};
 ghost use Rattle.oe_top.specs.PartAnswer.{AreChunksOf, EvaluatesChunks, PartAnswers, head_for};
 ghost use Rattle.oe_top.specs.PartEvaluated.{GoesThroughPart, IsPartBegun};
 
@@ -192,13 +192,10 @@ fn write_chunks<R: Threads + Sync, O: Sink, P: Store, G: Gate>(
     requires rows { run.plan.graph.rows ≡ dims_of (rows_of seen catalogue.old) }
     requires found { AreDimsOf (rows_of seen catalogue.old) run.plan.graph.rows }
     requires collections { GivesCollections (rows_of seen catalogue.old) }
-    // whatever became of the input before
-    ensures { (input input_after : Option (List ℕ)) (faults faults_after : ℕ)
-        → EvaluatesChunks head.now.graph run.plan.graph run.plan.size run.first
-        (run.first + run.count) (objects input faults (O.written out.old) (O.faults out.old)
-        (P.bytes spool.old) (P.faults spool.old) (rows_of seen catalogue.old))
-        (objects input_after faults_after (O.written out.new) (O.faults out.new)
-        (P.bytes spool.new) (P.faults spool.new) (rows_of seen catalogue.new)) result }
+    ensures { ForEachInput O.written O.faults P.bytes P.faults out.old spool.old out.new spool.new
+        (rows_of seen catalogue.old) (rows_of seen catalogue.new)
+        (λ before after. EvaluatesChunks head.now.graph run.plan.graph run.plan.size run.first
+        (run.first + run.count) before after result) }
 {
     // Laws that the proof rests on; they do nothing.
     laws::collections_are_mounted();

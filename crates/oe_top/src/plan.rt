@@ -1,8 +1,8 @@
 // The command `plan`: from the input to the figures of its plan.
-ghost use Rattle.std.specs.Prelude.{◌≡◌, ℕ, List, Option, IfOk};
+ghost use Rattle.std.specs.Prelude.{◌≡◌, IfOk};
 ghost use Rattle.oe_plan.specs.Ranges.{IsWithinRanges};
 ghost use Rattle.oe_sources.specs.CatalogueRows.{rows_of};
-ghost use Rattle.oe_top.specs.Objects.{objects};
+ghost use Rattle.oe_top.specs.Objects.{ForEachSpool};
 ghost use Rattle.oe_top.specs.PlanAnswer.{PlanAnswers, figures_text, plan_text};
 
 use crate::check::CheckRefusal;
@@ -27,11 +27,8 @@ pub(crate) fn plan<I: Source, O: Sink>(
     catalogue: &Catalogue,
 ) -> Result<(), CheckRefusal>
     requires { IsWithinRanges size workers }
-    ensures { (spool : Option (List ℕ)) (spool_faults : ℕ) → PlanAnswers size workers
-        (objects (I.left input.old) (I.faults input.old) (O.written out.old) (O.faults out.old)
-        spool spool_faults (rows_of seen catalogue.now))
-        (objects (I.left input.new) (I.faults input.new) (O.written out.new) (O.faults out.new)
-        spool spool_faults (rows_of seen catalogue.now)) result }
+    ensures { ForEachSpool I.left I.faults O.written O.faults input.old out.old input.new out.new
+        (rows_of seen catalogue.now) (λ before after. PlanAnswers size workers before after result) }
 {
     let checked = match judge_input(alloc, input, catalogue) {
         Ok(checked) => checked,

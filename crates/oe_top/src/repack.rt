@@ -1,9 +1,9 @@
 // The command `repack`: a mounted collection as a cube file in least widths.
-ghost use Rattle.std.specs.Prelude.{◌≡◌, ◌<◌, ℕ, List, Option, Some, length, slice_get, true};
+ghost use Rattle.std.specs.Prelude.{◌≡◌, ◌<◌, Some, length, slice_get, true};
 ghost use Rattle.oe_dims.specs.Names.{is_name};
 ghost use Rattle.oe_sources.specs.Catalogue.{row_index, row_of};
 ghost use Rattle.oe_sources.specs.CatalogueRows.{rows_of};
-ghost use Rattle.oe_top.specs.Objects.{objects};
+ghost use Rattle.oe_top.specs.Objects.{ForEachInputAndSpool};
 ghost use Rattle.oe_top.specs.RepackAnswer.{RepackAnswers};
 
 use crate::short_name::ShortName;
@@ -37,12 +37,8 @@ pub(crate) fn repack<O: Sink, G: Gate>(
     gate: &G,
 ) -> Result<(), RepackRefusal>
     requires { is_name id.now ≡ true }
-    ensures { (input : Option (List ℕ)) (input_faults : ℕ) (spool : Option (List ℕ))
-        (spool_faults : ℕ) → RepackAnswers id.now
-        (objects input input_faults (O.written out.old) (O.faults out.old) spool spool_faults
-        (rows_of seen catalogue.old))
-        (objects input input_faults (O.written out.new) (O.faults out.new) spool spool_faults
-        (rows_of seen catalogue.new)) result }
+    ensures { ForEachInputAndSpool O.written O.faults out.old out.new (rows_of seen catalogue.old)
+        (rows_of seen catalogue.new) (λ before after. RepackAnswers id.now before after result) }
 {
     let Some(place) = catalogue.place(id.as_str()) else {
         return Err(RepackRefusal::NotMounted);
@@ -69,12 +65,8 @@ fn write_anew<O: Sink, G: Gate>(
     requires within { place < length (rows_of seen catalogue.old) }
     requires found { slice_get (rows_of seen catalogue.old) place
         ≡ row_of (rows_of seen catalogue.old) id.now }
-    ensures { (input : Option (List ℕ)) (input_faults : ℕ) (spool : Option (List ℕ))
-        (spool_faults : ℕ) → RepackAnswers id.now
-        (objects input input_faults (O.written out.old) (O.faults out.old) spool spool_faults
-        (rows_of seen catalogue.old))
-        (objects input input_faults (O.written out.new) (O.faults out.new) spool spool_faults
-        (rows_of seen catalogue.new)) result }
+    ensures { ForEachInputAndSpool O.written O.faults out.old out.new (rows_of seen catalogue.old)
+        (rows_of seen catalogue.new) (λ before after. RepackAnswers id.now before after result) }
 {
     match oe_sources::repack(alloc, catalogue, place, id, out, gate) {
         Ok(()) => Ok(()),

@@ -1,12 +1,12 @@
 // The command `run`: from the input to the text of what its graph means.
-ghost use Rattle.std.specs.Prelude.{◌≡◌, ℕ, List, Option};
+ghost use Rattle.std.specs.Prelude.{◌≡◌};
 ghost use Rattle.oe_engine.specs.Laws.{GivesCollections};
 ghost use Rattle.oe_engine.specs.Runs.{chunk_total};
 ghost use Rattle.oe_plan.specs.Ranges.{IsWithinRanges};
 ghost use Rattle.oe_sources.specs.CatalogueDims.{AreDimsOf, dims_of};
 ghost use Rattle.oe_sources.specs.CatalogueRows.{rows_of};
 ghost use Rattle.oe_top.specs.Evaluated.{IsBegun};
-ghost use Rattle.oe_top.specs.Objects.{lends, objects};
+ghost use Rattle.oe_top.specs.Objects.{ForEachInput, lends};
 ghost use Rattle.oe_top.specs.RunAnswer.{Evaluates, RunAnswers};
 
 use crate::evaluation::{EvaluationFail, begin, complete, fail_of_run, fail_of_text};
@@ -57,8 +57,7 @@ pub(crate) fn run<R: Threads + Sync, I: Source, O: Sink, P: Store, G: Gate>(
 ) -> Result<(), RunRefusal>
     requires { IsWithinRanges sizes.0 sizes.1 }
     ensures { let lent = lends I.left I.faults O.written O.faults P.bytes P.faults in
-        RunAnswers sizes.0 sizes.1
-        (lent input.old out.old spool.old (rows_of seen catalogue.old))
+        RunAnswers sizes.0 sizes.1 (lent input.old out.old spool.old (rows_of seen catalogue.old))
         (lent input.new out.new spool.new (rows_of seen catalogue.new)) result }
 {
     let alloc = setup.alloc;
@@ -104,13 +103,9 @@ fn write_result<R: Threads + Sync, O: Sink, P: Store, G: Gate>(
     requires rows { run.plan.graph.rows ≡ dims_of (rows_of seen catalogue.old) }
     requires found { AreDimsOf (rows_of seen catalogue.old) run.plan.graph.rows }
     requires collections { GivesCollections (rows_of seen catalogue.old) }
-    // whatever became of the input before
-    ensures { (input input_after : Option (List ℕ)) (faults faults_after : ℕ)
-        → Evaluates run.plan.graph run.plan.size
-        (objects input faults (O.written out.old) (O.faults out.old)
-        (P.bytes spool.old) (P.faults spool.old) (rows_of seen catalogue.old))
-        (objects input_after faults_after (O.written out.new) (O.faults out.new)
-        (P.bytes spool.new) (P.faults spool.new) (rows_of seen catalogue.new)) result }
+    ensures { ForEachInput O.written O.faults P.bytes P.faults out.old spool.old out.new spool.new
+        (rows_of seen catalogue.old) (rows_of seen catalogue.new)
+        (λ before after. Evaluates run.plan.graph run.plan.size before after result) }
 {
     // Laws that the proof rests on; they do nothing.
     laws::collections_are_mounted();

@@ -1,11 +1,11 @@
 // The command `slab`: from the input to the text of what its graph means, where slabs of dates are folded one after the
 // other.
-ghost use Rattle.std.specs.Prelude.{◌≡◌, ℕ, List, Option};
+ghost use Rattle.std.specs.Prelude.{◌≡◌};
 ghost use Rattle.oe_engine.specs.Laws.{GivesCollections};
 ghost use Rattle.oe_slab.specs.Figures.{AreSlabSides};
 ghost use Rattle.oe_sources.specs.CatalogueDims.{AreDimsOf, dims_of};
 ghost use Rattle.oe_sources.specs.CatalogueRows.{rows_of};
-ghost use Rattle.oe_top.specs.Objects.{lends, objects};
+ghost use Rattle.oe_top.specs.Objects.{ForEachInput, lends};
 ghost use Rattle.oe_top.specs.SlabAnswer.{FoldsSlabs, SlabAnswers};
 ghost use Rattle.oe_top.specs.SlabEvaluated.{IsSlabBegun};
 
@@ -93,13 +93,9 @@ fn write_folded<O: Sink, P: Store, G: Gate>(
     requires rows { run.plan.graph.rows ≡ dims_of (rows_of seen catalogue.old) }
     requires found { AreDimsOf (rows_of seen catalogue.old) run.plan.graph.rows }
     requires collections { GivesCollections (rows_of seen catalogue.old) }
-    // whatever became of the input before
-    ensures { (input input_after : Option (List ℕ)) (faults faults_after : ℕ)
-        → FoldsSlabs run.plan.graph run.plan.size run.plan.fold
-        (objects input faults (O.written out.old) (O.faults out.old)
-        (P.bytes spool.old) (P.faults spool.old) (rows_of seen catalogue.old))
-        (objects input_after faults_after (O.written out.new) (O.faults out.new)
-        (P.bytes spool.new) (P.faults spool.new) (rows_of seen catalogue.new)) result }
+    ensures { ForEachInput O.written O.faults P.bytes P.faults out.old spool.old out.new spool.new
+        (rows_of seen catalogue.old) (rows_of seen catalogue.new)
+        (λ before after. FoldsSlabs run.plan.graph run.plan.size run.plan.fold before after result) }
 {
     // Laws that the proof rests on; they do nothing.
     laws::loads_are_mounted();

@@ -1,10 +1,10 @@
 // The command `slabplan`: from the input to the figures of a run that is folded slab by slab.
-ghost use Rattle.std.specs.Prelude.{ℕ, List, Option, IfOk, IsErrOf};
+ghost use Rattle.std.specs.Prelude.{IfOk, IsErrOf};
 ghost use Rattle.oe_slab.specs.Cuts.{HasNoTimeCut};
 ghost use Rattle.oe_slab.specs.Figures.{AreSlabSides};
 ghost use Rattle.oe_slab.specs.declared.figures.SlabNumbersFail.{SlabNumbersFail};
 ghost use Rattle.oe_sources.specs.CatalogueRows.{rows_of};
-ghost use Rattle.oe_top.specs.Objects.{objects};
+ghost use Rattle.oe_top.specs.Objects.{ForEachSpool};
 ghost use Rattle.oe_top.specs.SlabPlanAnswer.{IsSlabLine, SlabPlanAnswers};
 
 use crate::judge::{InputRefusal, judge_input};
@@ -39,11 +39,8 @@ pub(crate) fn slab_plan<I: Source, O: Sink>(
     catalogue: &Catalogue,
 ) -> Result<(), SlabPlanRefusal>
     requires { AreSlabSides size }
-    ensures { (spool : Option (List ℕ)) (spool_faults : ℕ) → SlabPlanAnswers size
-        (objects (I.left input.old) (I.faults input.old) (O.written out.old) (O.faults out.old)
-        spool spool_faults (rows_of seen catalogue.now))
-        (objects (I.left input.new) (I.faults input.new) (O.written out.new) (O.faults out.new)
-        spool spool_faults (rows_of seen catalogue.now)) result }
+    ensures { ForEachSpool I.left I.faults O.written O.faults input.old out.old input.new out.new
+        (rows_of seen catalogue.now) (λ before after. SlabPlanAnswers size before after result) }
 {
     let checked = match judge_input(alloc, input, catalogue) {
         Ok(checked) => checked,
