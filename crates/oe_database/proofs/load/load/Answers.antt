@@ -1,12 +1,11 @@
 use Rattle.std.proofs.Common.{◌≡◌, refl, sym, subst, arith, rules}
 use Rattle.sqlite.specs.Tree.{Trees}
-use Rattle.sqlite.specs.Effect.{Database}
 use Rattle.sqlite.specs.State.{HasCleanDisk, Survives}
 use Rattle.sqlite.specs.Held.{state}
 use Rattle.sqlite.proofs.StateLemmas.{survives_then}
 use Rattle.sqlite.proofs.Callers.{survives_begin}
 use Rattle.oe_jobs.specs.Plain.{PlainBook, plain_book}
-use Rattle.oe_database.specs.Each.{IsMadeBy}
+use Rattle.oe_database.specs.Each.{AreTreesMadeBy, IsMadeBy}
 use Rattle.oe_database.specs.Loads.{Loads}
 use Rattle.oe_database.proofs.load.load.Goals as goal
 
@@ -34,9 +33,9 @@ returns-clause-crash g c =
     let ran = λ (clean : HasCleanDisk (state g.S.Store last)).
     let made = c.in_ok-book.ensures.loads clean (rw begun) in
     let db : IsMadeBy g.S.Store Ran old (state g.S.Store last).now = record { last = last; ran = rw begun at made.0; is = refl } in db in
-    let P = λ (trees : Trees). (b : PlainBook) × (db : Database) × IsMadeBy g.S.Store (Loads g.S.Store b) old db × (trees ≡ db.trees) in
+    let P = λ (trees : Trees). (b : PlainBook) × AreTreesMadeBy g.S.Store (Loads g.S.Store b) old trees in
     let whole = survives_then (state g.S.Store old) (state g.S.Store last) (state g.S.Store end) _ _ P (λ _ db none. absurd none)
-    (λ clean db is. (plain_book c.in_ok-book.book, _, ran (omega (arith, c.commit.ensures.survives.clean)), is))
+    (λ clean db is. (plain_book c.in_ok-book.book, (_, ran (omega (arith, c.commit.ensures.survives.clean)), is)))
     (survives_begin g.S.Store old (state g.S.Store last) _ (rw begun at c.restore.ensures.stays.survives)) c.commit.ensures.survives in
     let same : end ≡ c.conn-2-1.given.0 = search rules in
     subst (λ h. Survives (state g.S.Store old) (state g.S.Store h) P) same whole
@@ -51,9 +50,9 @@ returns-in_err-commit-clause-crash g c =
     let ran = λ (clean : HasCleanDisk (state g.S.Store last)).
     let made = c.in_ok-book.ensures.loads clean (rw begun) in
     let db : IsMadeBy g.S.Store Ran old (state g.S.Store last).now = record { last = last; ran = rw begun at made.0; is = refl } in db in
-    let P = λ (trees : Trees). (b : PlainBook) × (db : Database) × IsMadeBy g.S.Store (Loads g.S.Store b) old db × (trees ≡ db.trees) in
+    let P = λ (trees : Trees). (b : PlainBook) × AreTreesMadeBy g.S.Store (Loads g.S.Store b) old trees in
     let whole = survives_then (state g.S.Store old) (state g.S.Store last) (state g.S.Store end) _ _ P (λ _ db none. absurd none)
-    (λ clean db is. (plain_book c.in_ok-book.book, _, ran (omega (arith, c.commit.ensures.survives.clean)), is))
+    (λ clean db is. (plain_book c.in_ok-book.book, (_, ran (omega (arith, c.commit.ensures.survives.clean)), is)))
     (survives_begin g.S.Store old (state g.S.Store last) _ (rw begun at c.restore.ensures.stays.survives)) c.commit.ensures.survives in
     let same : end ≡ c.conn-2-1.given.0 = search rules in
     subst (λ h. Survives (state g.S.Store old) (state g.S.Store h) P) same whole
