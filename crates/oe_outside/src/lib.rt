@@ -45,5 +45,5 @@ pub use memory_store::MemoryStore;
 pub use script_door::ScriptDoor;
 pub use sink::Sink;
 pub use source::Source;
-pub use store::{Store, fill_at};
+pub use store::{SharedStore, Store, fill_at, look_whole};
 pub use stream::{Pending, flush, send};

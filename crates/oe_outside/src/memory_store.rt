@@ -1,13 +1,13 @@
 // A store in memory.
 ghost use Rattle.std.specs.Prelude.{◌≡◌, ◌↔◌, ◌++◌, Some, take, drop, length, is_err, IsErr, IsTrue, IfOk, OnErr};
-ghost use Rattle.oe_outside.specs.Faults.{HasCause, count_after};
+ghost use Rattle.oe_outside.specs.Faults.{CountsFault, HasCause, count_after, counted};
 ghost use Rattle.oe_outside.specs.Memory.{fails_write_at, bytes_after_write};
 ghost use Rattle.oe_outside.specs.Script.{script_of, fails_next, after_call};
 ghost use Rattle.oe_outside.specs.Stored.{count_at, StaysOutside};
 
 use crate::pieces::{give, put};
 use crate::script::{Script, raise};
-use crate::{Failed, Store};
+use crate::{Failed, SharedStore, Store};
 use oe_memory::OutOfMemory;
 use std::marker::Model;
 
@@ -40,8 +40,8 @@ impl Model for MemoryStore {
 
 impl MemoryStore {
     /// A store of these bytes, which no write makes longer than the capacity. All the room is taken now, so that no
-    /// write takes memory. `failing` has the numbers of the calls that fail, counted from 0 over `length`, `read_at`
-    /// and `write_at` together, in any order.
+    /// write takes memory. `failing` has the numbers of the calls that fail, counted from 0 over `length`, `read_at`,
+    /// `write_at` and the looks that are refused together, in any order.
     ///
     /// Refuses: where an allocation was refused.
     pub fn new(
@@ -151,5 +151,35 @@ impl Store for MemoryStore {
             return Err(raise(&mut self.faults));
         }
         Ok(())
+    }
+}
+
+impl SharedStore for MemoryStore {
+    /// It fails exactly where the script says so of the next call, which [`SharedStore::count_fault`] counts, and then leaves the
+    /// whole buffer as it was. It leaves the buffer behind what it gives as it was. One that succeeds has no number.
+    fn look_at(&self, at: u64, into: &mut [u8]) -> Result<usize, Failed>
+        ensures fails { IsErr result ↔ IsTrue (fails_next self.now.script) }
+        ensures count { IfOk result (λ n. n ≡ count_at self.now.bytes at (length into.old)) }
+        ensures buffer { IfOk result
+            (λ n. into.new ≡ take n (drop at self.now.bytes) ++ drop n into.old) }
+        ensures untouched { IsErr result → into.new ≡ into.old }
+    {
+        if self.script.is_next_listed() {
+            return Err(Failed);
+        }
+        let from = (at as usize).min(self.bytes.len());
+        let room = into.len();
+        Ok(give(&self.bytes[from..], room, into))
+    }
+
+    fn count_fault(&mut self)
+        ensures bytes { self.new.bytes ≡ self.old.bytes }
+        ensures capacity { self.new.capacity ≡ self.old.capacity }
+        ensures script { self.new.script ≡ after_call self.old.script }
+        ensures faults { self.new.faults ≡ counted self.old.faults }
+        ensures cause { CountsFault self.old.faults self.new.faults }
+    {
+        let _listed = self.script.next_call();
+        let _failed = raise(&mut self.faults);
     }
 }

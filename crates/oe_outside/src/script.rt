@@ -38,12 +38,19 @@ impl Script {
         Ok(Script { failing, calls: 0 })
     }
 
+    /// The next call is to fail.
+    pub(crate) fn is_next_listed(&self) -> bool
+        ensures { result ≡ fails_next self.now }
+    {
+        self.failing.binary_search(&self.calls).is_ok()
+    }
+
     /// Counts a call, and answers whether it is to fail.
     pub(crate) fn next_call(&mut self) -> bool
         ensures listed { result ≡ fails_next self.old }
         ensures counted { self.new ≡ after_call self.old }
     {
-        let listed = self.failing.binary_search(&self.calls).is_ok();
+        let listed = self.is_next_listed();
         self.calls = self.calls.saturating_add(1);
         listed
     }
