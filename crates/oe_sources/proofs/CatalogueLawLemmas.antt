@@ -7,7 +7,7 @@ use Rattle.std.proofs.lemmas.List.Sums.{sum_by-cons}
 use Rattle.oe_cube.specs.Collections.{Collection}
 use Rattle.oe_dims.proofs.OrderLemmas.{same_name_is}
 use Rattle.oe_dims.specs.Names.{is_name, same_name}
-use Rattle.oe_sources.specs.Catalogue.{Row, cells_asked, collections_shown, mounted_ids, row_index, rows_at, rows_shown, source_at}
+use Rattle.oe_sources.specs.Catalogue.{CountsRow, Row, cells_asked, collections_shown, mounted_ids, row_index, rows_at, rows_shown, source_at}
 use Rattle.oe_sources.specs.CatalogueDims.{dims_row}
 use Rattle.oe_sources.specs.CatalogueLaws.{AskNoMoreThanRead, HaveValidIds, KeepCollections, KeepOutlines}
 use Rattle.oe_sources.specs.Source.{Source, asked_after, collection_of}
@@ -39,6 +39,13 @@ pub ask_no_more : AskNoMoreThanRead
 ask_no_more before index window cells after result below reads =
     rw reads.others (sum_at before index (source_at after index) (position_count window) below
     (rw reads.read.asked (asked_no_more (source_at before index).asked (position_count window))))
+
+-- the same of looks that are counted
+pub count_no_more : (before : List Row) (index cells : ℕ) (failed : Bool) (after : List Row) → index < length before → CountsRow before index cells failed after
+    → cells_asked after ≤ cells_asked before + cells
+count_no_more before index cells failed after below counts =
+    rw counts.others (sum_at before index (source_at after index) cells below
+    (rw counts.count.asked (asked_no_more (source_at before index).asked cells)))
 
 same_collection : (a b : Source) → b.shape ≡ a.shape → b.kind ≡ a.kind → b.contents ≡ a.contents → collection_of b ≡ collection_of a
 same_collection a b shape kind contents = rw (shape, kind, contents) refl

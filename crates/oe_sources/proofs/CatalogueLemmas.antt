@@ -11,13 +11,15 @@ use Rattle.oe_dims.specs.Dimensions.{all_differ}
 use Rattle.oe_dims.specs.Indices.{index_where}
 use Rattle.oe_dims.specs.Names.{is_name, same_name}
 use Rattle.oe_cell.specs.declared.cell.Cell.{Cell}
-use Rattle.oe_sources.specs.Catalogue.{id_taken, is_full, mount_refusal, ReadsRow, Row, box_row, has_box, is_boxed, is_mounted, kept_source, mounted_ids, mounted_index, row_index, row_of, row_shown, rows_at, rows_replaced, rows_shown, rows_without, source_at}
+use Rattle.oe_sources.specs.Catalogue.{id_taken, is_full, mount_refusal, CountsRow, MayFail, ReadsRow, Row, box_row, has_box, is_boxed, is_mounted, kept_source, mounted_ids, mounted_index, row_index, row_of, row_shown, rows_at, rows_replaced, rows_shown, rows_without, source_at}
 use Rattle.oe_sources.specs.CatalogueLaws.{NeverFailed}
-use Rattle.oe_sources.specs.Source.{Reads, Source}
+use Rattle.oe_sources.specs.Source.{CountsRead, Looks, Reads, Source, is_failed}
+use Rattle.oe_sources.proofs.SourceLemmas.{counted_read}
 use Rattle.oe_sources.specs.declared.catalogue.Kept.{Kept}
 use Rattle.oe_sources.specs.declared.catalogue.Kept.TheVariants.{Boxed, Generated}
 use Rattle.oe_sources.specs.declared.catalogue.Mounted.{Mounted}
 use Rattle.oe_sources.specs.declared.source.SourceFail.{SourceFail}
+use Rattle.oe_window.specs.Windows.{position_count}
 use Rattle.oe_window.specs.declared.window.Window.{Window}
 
 -- ---- the first index that passes, and what stands there
@@ -302,6 +304,39 @@ reads_row seen items k old new window cells result below is id boxed reads =
       read = rw (before, after) reads;
       others = rows ∙ ap (rows_at (rows_shown seen items) k) (sym after);
     }
+
+-- the same of a count
+pub counts_row : {B : Type 0} (seen : B → Source) (items : List (Mounted B)) (k : ℕ) (old new : Mounted B) (cells : ℕ) (failed : Bool)
+    → k < length (rows_shown seen items) → old ≡ get_or items k old → new.id ≡ old.id → is_boxed new.cube ≡ is_boxed old.cube
+    → CountsRead (kept_source seen old.cube) cells failed (kept_source seen new.cube)
+    → CountsRow (rows_shown seen items) k cells failed (rows_shown seen (set items k new))
+counts_row seen items k old new cells failed below is id boxed counts =
+    let before = source_shown seen items k old below is in
+    let rows = rows_set seen items k old new below is id boxed in
+    let after : source_at (rows_shown seen (set items k new)) k ≡ kept_source seen new.cube =
+    ap (λ rs. source_at rs k) rows ∙ source_at-rows_at (rows_shown seen items) k (kept_source seen new.cube) below in
+    record {
+      count = rw (before, after) counts;
+      others = rows ∙ ap (rows_at (rows_shown seen items) k) (sym after);
+    }
+
+-- a look at a row that is counted is a read of it
+pub counted_row : {before after : List Row} {k : ℕ} {window : Window} {cells : List Cell} (result : Result (Unit {0}) SourceFail)
+    → Looks (source_at before k) window cells result → CountsRow before k (position_count window) (is_failed result) after → ReadsRow before k window cells after result
+counted_row result looks counts = record { read = counted_read result looks counts.count; others = counts.others }
+
+-- a box stands at an index, seen from the item and from the row
+pub may_fail_shown : {B : Type 0} (seen : B → Source) (items : List (Mounted B)) (k : ℕ) (m : Mounted B) → k < length (rows_shown seen items) → m ≡ get_or items k m
+    → is_boxed m.cube ≡ true → MayFail (rows_shown seen items) k
+may_fail_shown seen [] k m below is boxed = absurd (omega arith)
+may_fail_shown seen (x ∷ items) zero m below is boxed = ap (λ (y : Mounted _). is_boxed y.cube) (sym is) ∙ boxed
+may_fail_shown seen (x ∷ items) (suc k) m below is boxed = may_fail_shown seen items k m (omega arith) is boxed
+
+pub boxed_item : {B : Type 0} (seen : B → Source) (items : List (Mounted B)) (k : ℕ) (m : Mounted B) → k < length (rows_shown seen items) → m ≡ get_or items k m
+    → MayFail (rows_shown seen items) k → is_boxed m.cube ≡ true
+boxed_item seen [] k m below is may = absurd (omega arith)
+boxed_item seen (x ∷ items) zero m below is may = ap (λ (y : Mounted _). is_boxed y.cube) is ∙ may
+boxed_item seen (x ∷ items) (suc k) m below is may = boxed_item seen items k m (omega arith) is may
 
 -- ---- mounting
 

@@ -1,5 +1,5 @@
 -- Reads of sources: counters, kinds of cells, and what is not damaged.
-use Rattle.std.proofs.Common.{◌≡◌, ℕ, zero, suc, ◌≤◌, Bool, true, List, [], ◌∷◌, inl, inr, refl, ◌∙◌, arith}
+use Rattle.std.proofs.Common.{◌≡◌, ℕ, zero, suc, ◌≤◌, Bool, true, List, [], ◌∷◌, Result, Ok, Err, IsErrOf, inl, inr, refl, ◌∙◌, arith}
 use Rattle.std.specs.Prelude.{slice_index_or}
 use Rattle.std.specs.List.{Contains, list_all}
 use Rattle.std.proofs.lemmas.List.Folds.{list_all-map}
@@ -12,8 +12,11 @@ use Rattle.oe_dims.specs.Positions.{number_of}
 use Rattle.oe_dims.specs.declared.kind.CellKind.{CellKind}
 use Rattle.oe_dims.specs.declared.kind.CellKind.TheVariants.{Numbers, Flags}
 use Rattle.oe_outside.specs.Faults.{NeverFalls, Rose, counted, last_count}
+use Rattle.oe_sources.specs.Source.{CountsRead, Looks, Reads, Source, is_failed}
+use Rattle.oe_sources.specs.declared.source.SourceFail.{SourceFail}
+use Rattle.oe_sources.specs.declared.source.SourceFail.TheVariants.{Failed, Damaged}
 use Rattle.oe_window.specs.Cells.{cell_at, cells_on}
-use Rattle.oe_window.specs.Windows.{positions}
+use Rattle.oe_window.specs.Windows.{position_count, positions}
 use Rattle.oe_window.specs.declared.window.Window.{Window}
 
 -- a counter that goes up by one
@@ -50,3 +53,23 @@ window_of_kind kind cube window all =
 -- an empty list contains nothing
 pub none_contained : (n : ℕ) → ¬ Contains [] n
 none_contained n (k, below, is) = omega (arith, below)
+
+-- ---- a look that is counted is a read
+
+pub failed_is : (result : Result (Unit {0}) SourceFail) → IsErrOf result Failed → is_failed result ≡ true
+failed_is (Ok done) err = cc
+failed_is (Err Failed) err = refl
+failed_is (Err (Damaged number)) err = cc
+
+pub counted_read : {before after : Source} {window : Window} {cells : List Cell} (result : Result (Unit {0}) SourceFail) → Looks before window cells result
+    → CountsRead before (position_count window) (is_failed result) after → Reads before window cells after result
+counted_read result looks counts = record {
+  given = looks.given;
+  of_kind = looks.of_kind;
+  damage = looks.damage;
+  cause = record { count = counts.falls; failed = λ err. counts.rose (failed_is result err) };
+  asked = counts.asked;
+  shape = counts.shape;
+  kind = counts.kind;
+  contents = counts.contents;
+}

@@ -1,5 +1,5 @@
 -- A catalogue: the collections by their ids, in the order in which they were mounted.
-use Rattle.std.specs.Prelude.{◌≡◌, ℕ, zero, suc, Bool, true, false, if◌then◌else◌, not, nat_le, List, [], ◌∷◌, length, map, codes, sum_by, Option, Some, None, Result}
+use Rattle.std.specs.Prelude.{◌≡◌, ℕ, zero, suc, Bool, true, false, if◌then◌else◌, not, nat_le, List, [], ◌∷◌, length, map, codes, slice_get, sum_by, Option, Some, None, IfSome, Result}
 use Rattle.std.specs.List.{filter, find}
 use Rattle.std.specs.Option.{option_map_or}
 use Rattle.oe_cell.specs.declared.cell.Cell.{Cell}
@@ -9,7 +9,7 @@ use Rattle.oe_dims.specs.Names.{is_name, same_name}
 use Rattle.oe_dims.specs.declared.kind.CellKind.TheVariants.{Numbers}
 use Rattle.oe_outside.specs.Faults.{NeverFalls}
 use Rattle.oe_sources.specs.Generated.{generated_contents, generated_shape}
-use Rattle.oe_sources.specs.Source.{Reads, Source, collection_of}
+use Rattle.oe_sources.specs.Source.{CountsRead, Reads, Source, collection_of}
 use Rattle.oe_sources.specs.declared.catalogue.Kept.{Kept}
 use Rattle.oe_sources.specs.declared.catalogue.Kept.TheVariants.{Boxed, Generated}
 use Rattle.oe_sources.specs.declared.catalogue.Mounted.{Mounted}
@@ -99,6 +99,15 @@ pub record ReadsRow (before : List Row) (index : ℕ) (window : Window) (cells :
     (result : Result (Unit {0}) SourceFail) : Type 0 where
   pub read : Reads (source_at before index) window cells (source_at after index) result
   pub others : after ≡ rows_at before index (source_at after index)
+
+-- the same was counted of the source of one row: all else in the catalogue stays
+pub record CountsRow (before : List Row) (index cells : ℕ) (failed : Bool) (after : List Row) : Type 0 where
+  pub count : CountsRead (source_at before index) cells failed (source_at after index)
+  pub others : after ≡ rows_at before index (source_at after index)
+
+-- the row of an index is a box, of which looks may fail
+abbrev pub MayFail : List Row → ℕ → Type 0
+MayFail rows index = IfSome (slice_get rows index) (λ (row : Row). row.boxed ≡ true)
 
 -- some reads of one row, or none: beside its two counters all in the catalogue stays
 pub record OnlyReads (before : List Row) (index : ℕ) (after : List Row) : Type 0 where

@@ -1,5 +1,5 @@
 -- What contracts see of a collection that is read, and of its reads.
-use Rattle.std.specs.Prelude.{◌≡◌, ℕ, ◌+◌, ◌≤◌, min, Bool, true, List, Option, IfSome, IfErr, OnOk, Result}
+use Rattle.std.specs.Prelude.{◌≡◌, ℕ, ◌+◌, min, Bool, true, false, List, Option, IfSome, IfErr, OnOk, Result, Ok, Err}
 use Rattle.std.specs.List.{Contains, list_all}
 use Rattle.std.specs.Option.{option_map}
 use Rattle.oe_cell.specs.declared.cell.Cell.{Cell}
@@ -9,7 +9,9 @@ use Rattle.oe_cube.specs.Kinds.{is_null_or_of}
 use Rattle.oe_dims.specs.Dimensions.{Dimensions}
 use Rattle.oe_dims.specs.Positions.{Position, number_of}
 use Rattle.oe_dims.specs.declared.kind.CellKind.{CellKind}
-use Rattle.oe_outside.specs.Faults.{HasCauseOf, count_after, last_count}
+use Rattle.oe_outside.specs.Faults.{HasCauseOf, NeverFalls, Rose, last_count}
+use Rattle.oe_sources.specs.declared.source.LookFail.{LookFail}
+use Rattle.oe_sources.specs.declared.source.LookFail.TheVariants as look
 use Rattle.oe_sources.specs.declared.source.SourceFail.{SourceFail}
 use Rattle.oe_sources.specs.declared.source.SourceFail.TheVariants.{Failed, Damaged}
 use Rattle.oe_window.specs.Cells.{cells_on}
@@ -64,6 +66,25 @@ abbrev pub TellsDamage : Dimensions → Option Contents → Window → SourceFai
 TellsDamage shape contents window Failed = Unit {0}
 TellsDamage shape contents window (Damaged number) = IsDamagedIn shape contents window number
 
+-- A look at a window: what it gives, and what its refusal says. It changes nothing.
+pub record Looks (source : Source) (window : Window) (cells : List Cell)
+    (result : Result (Unit {0}) SourceFail) : Type 0 where
+  pub given : OnOk result (IfSome source.contents (λ c. AreCellsOf source.shape c window cells))
+  pub of_kind : OnOk result (list_all (is_null_or_of source.kind) cells ≡ true)
+  pub damage : IfErr result (TellsDamage source.shape source.contents window)
+
+-- the same answer without the fault that was met
+abbrev pub answer_of : Result (Unit {0}) LookFail → Result (Unit {0}) SourceFail
+answer_of (Ok done) = Ok done
+answer_of (Err (look.Failed fault)) = Err Failed
+answer_of (Err (look.Damaged number)) = Err (Damaged number)
+
+-- it was answered `Failed`
+abbrev pub is_failed : Result (Unit {0}) SourceFail → Bool
+is_failed (Ok done) = false
+is_failed (Err Failed) = true
+is_failed (Err (Damaged number)) = false
+
 -- A read of a window: what it gives, what it refuses and why, and that it changes the two counters alone.
 pub record Reads (before : Source) (window : Window) (cells : List Cell) (after : Source)
     (result : Result (Unit {0}) SourceFail) : Type 0 where
@@ -76,11 +97,12 @@ pub record Reads (before : Source) (window : Window) (cells : List Cell) (after 
   pub kind : after.kind ≡ before.kind
   pub contents : after.contents ≡ before.contents
 
--- a read of so many cells was counted: the counter of faults rose where it is to fail, and all else is as it was
-pub record CountsRead (before : Source) (cells : ℕ) (fails : Bool) (after : Source) : Type 0 where
+-- so many cells were counted as asked for, and a fault exactly where a look met one; all else is as it was
+pub record CountsRead (before : Source) (cells : ℕ) (failed : Bool) (after : Source) : Type 0 where
   pub asked : after.asked ≡ asked_after before.asked cells
-  pub faults : after.faults ≡ count_after before.faults fails
-  pub bounded : before.faults ≤ last_count
+  pub falls : NeverFalls before.faults after.faults
+  pub rose : failed ≡ true → Rose before.faults after.faults
+  pub still : failed ≡ false → after.faults ≡ before.faults
   pub shape : after.shape ≡ before.shape
   pub kind : after.kind ≡ before.kind
   pub contents : after.contents ≡ before.contents

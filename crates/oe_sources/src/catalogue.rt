@@ -1,5 +1,5 @@
 // The collections that graphs may load.
-ghost use Rattle.std.specs.Prelude.{◌≡◌, ◌≤◌, ◌<◌, [], ◌∷◌, ◌++◌, length, take, drop, true, false, IfSome, IfOk, IfErr, OnErr, OnOk};
+ghost use Rattle.std.specs.Prelude.{◌≡◌, ◌≤◌, ◌<◌, [], ◌∷◌, ◌++◌, length, take, drop, true, false, is_some, IfSome, IfOk, IfErr, IsErrOf, OnErr, OnOk};
 ghost use Rattle.std.specs.List.{list_all};
 ghost use Rattle.oe_cube.specs.Collections.{IsCollection};
 ghost use Rattle.oe_dims.specs.Dimensions.{all_differ};
@@ -7,10 +7,13 @@ ghost use Rattle.oe_dims.specs.Names.{is_name, same_name};
 ghost use Rattle.oe_dims.specs.declared.dims.DimsRow.{DimsRow};
 ghost use Rattle.oe_sources.specs.Catalogue.{kept_source, is_boxed, mounted_ids, mounted_index, row_shown};
 ghost use Rattle.oe_sources.specs.CatalogueDims.{dims_row, put_row};
-ghost use Rattle.oe_sources.specs.Source.{Reads, collection_of};
+ghost use Rattle.oe_sources.specs.Source.{CountsRead, Looks, Reads, answer_of, collection_of};
 ghost use Rattle.oe_window.specs.Windows.{Holds, position_count, whole_window};
 
-use crate::{CubeSource, GeneratedCube, SourceFail};
+use crate::{
+    CubeSource, GeneratedCube, LookFail, Looker, Looking, Permit, ReadFault, SharedSource,
+    SourceFail,
+};
 use oe_cell::Cell;
 use oe_dims::{CellKind, Dims, DimsRow, Shape, Text, is_name, is_name_before};
 use oe_memory::OutOfMemory;
@@ -21,19 +24,19 @@ use std::alloc::Global;
 const MOST_COLLECTIONS: usize = 64;
 
 /// A collection that a caller boxed.
-type Boxed = Box<dyn CubeSource>;
+type Boxed = Box<dyn SharedSource>;
 
 /// Why a collection was not mounted. The box is handed back.
 #[derive(Drop)]
 pub enum MountFail {
     /// The id is not 1 to 64 bytes of letters, digits, `_`, `-` and `.`.
-    IdInvalid(Box<dyn CubeSource>),
+    IdInvalid(Box<dyn SharedSource>),
     /// A collection is mounted under this id.
-    IdTaken(Box<dyn CubeSource>),
+    IdTaken(Box<dyn SharedSource>),
     /// 64 collections are mounted.
-    Full(Box<dyn CubeSource>),
+    Full(Box<dyn SharedSource>),
     /// An allocation was refused.
-    OutOfMemory(Box<dyn CubeSource>),
+    OutOfMemory(Box<dyn SharedSource>),
 }
 
 /// What a row keeps: a box that a caller made, or a generated cube.
@@ -88,6 +91,61 @@ fn read_kept(cube: &mut Kept<Boxed>, window: &Window, into: &mut [Cell]) -> Resu
     match cube {
         Kept::Boxed(cube) => read_boxed(cube, window, into),
         Kept::Generated(cube) => cube.read(window, into),
+    }
+}
+
+fn look_boxed(
+    cube: &Boxed,
+    window: &Window,
+    bytes: &mut [u8],
+    into: &mut [Cell],
+) -> Result<(), LookFail>
+    requires inside { Holds (whole_window (seen cube.now).shape) window.now }
+    requires room { length into.old ≡ position_count window.now }
+    requires bytes { length bytes.old ≡ 65536 }
+    ensures { Looks (seen cube.now) window.now into.new (answer_of result) }
+{
+    let source = cube.as_ref();
+    source.look(&Looking::new(), window, bytes, into)
+}
+
+fn look_kept(
+    cube: &Kept<Boxed>,
+    window: &Window,
+    bytes: &mut [u8],
+    into: &mut [Cell],
+) -> Result<(), LookFail>
+    requires inside { Holds (whole_window (kept_source seen cube.now).shape) window.now }
+    requires room { length into.old ≡ position_count window.now }
+    requires bytes { length bytes.old ≡ 65536 }
+    ensures looks { Looks (kept_source seen cube.now) window.now into.new (answer_of result) }
+    ensures boxed { IsErrOf (answer_of result) SourceFail.Failed → is_boxed cube.now ≡ true }
+{
+    match cube {
+        Kept::Boxed(cube) => look_boxed(cube, window, bytes, into),
+        Kept::Generated(cube) => {
+            cube.look(window, into);
+            Ok(())
+        }
+    }
+}
+
+fn count_boxed(cube: &mut Boxed, cells: u64, fault: Option<ReadFault>)
+    ensures { CountsRead (seen cube.old) cells (is_some fault) (seen cube.new) }
+{
+    let source = cube.as_mut();
+    source.count(cells, fault);
+}
+
+fn count_kept(cube: &mut Kept<Boxed>, cells: u64, fault: Option<ReadFault>)
+    requires { is_some fault ≡ true → is_boxed cube.old ≡ true }
+    ensures counts { CountsRead (kept_source seen cube.old) cells (is_some fault)
+        (kept_source seen cube.new) }
+    ensures boxed { is_boxed cube.new ≡ is_boxed cube.old }
+{
+    match cube {
+        Kept::Boxed(cube) => count_boxed(cube, cells, fault),
+        Kept::Generated(cube) => cube.count(cells),
     }
 }
 
@@ -157,14 +215,14 @@ pub struct Catalogue {
 }
 
 impl Catalogue {
-    ghost use Rattle.std.specs.Prelude.{◌≡◌, ◌<◌, ◌∷◌, ◌++◌, [], length, slice_get, true, false, Some, None, IfOk, IfErr, OnOk, OnErr, IfSome, IfNone, OnSome, vec_len};
+    ghost use Rattle.std.specs.Prelude.{◌≡◌, ◌<◌, ◌≤◌, ◌+◌, ◌^◌, ◌∷◌, ◌++◌, [], length, slice_get, is_some, true, false, Some, None, IfOk, IfErr, IsErrOf, OnOk, OnErr, IfSome, IfNone, OnSome, vec_len};
     ghost use Rattle.oe_cube.specs.Collections.{IsCollection};
     ghost use Rattle.oe_dims.specs.Plain.{HaveRisingIds, plain_rows};
-    ghost use Rattle.oe_sources.specs.Catalogue.{ReadsRow, box_row, demonstration, has_box, mount_refusal, row_index, row_of, rows_replaced, rows_without, source_at};
+    ghost use Rattle.oe_sources.specs.Catalogue.{CountsRow, MayFail, ReadsRow, box_row, demonstration, has_box, mount_refusal, row_index, row_of, rows_replaced, rows_without, source_at};
     ghost use Rattle.oe_sources.specs.CatalogueDims.{AreDimsOf, dims_of};
     ghost use Rattle.oe_sources.specs.CatalogueLaws.{NeverFailed};
     ghost use Rattle.oe_sources.specs.CatalogueRows.{box_of, refusal_of, rows_in};
-    ghost use Rattle.oe_sources.specs.Source.{collection_of};
+    ghost use Rattle.oe_sources.specs.Source.{Looks, answer_of, collection_of};
     ghost use Rattle.oe_window.specs.Windows.{Holds, position_count, whole_window};
 
     /// A catalogue without collections. It takes no memory before the first one is mounted.
@@ -196,7 +254,7 @@ impl Catalogue {
     /// Refuses: `IdInvalid` exactly where the id is not valid; else `IdTaken` exactly where it is mounted; else `Full`
     /// exactly where 64 collections are mounted; else `OutOfMemory` where an allocation was refused. Each hands the box
     /// back and leaves the catalogue as it was.
-    pub fn mount(&mut self, id: &str, cube: Box<dyn CubeSource>) -> Result<(), MountFail>
+    pub fn mount(&mut self, id: &str, cube: Box<dyn SharedSource>) -> Result<(), MountFail>
         ensures allowed { OnOk result (mount_refusal (rows_in seen self.old) id.now ≡ None) }
         ensures refused { IfErr result (λ fail.
             refusal_of fail ≡ mount_refusal (rows_in seen self.old) id.now) }
@@ -222,7 +280,7 @@ impl Catalogue {
 
     /// Takes the collection of an id out, and answers its box; all other rows stay. It is `None` exactly where no box
     /// is mounted under the id; then the catalogue is as it was. It takes no memory.
-    pub fn detach(&mut self, id: &str) -> Option<Box<dyn CubeSource>>
+    pub fn detach(&mut self, id: &str) -> Option<Box<dyn SharedSource>>
         ensures handed { IfSome result (λ cube.
             row_of (rows_in seen self.old) id.now ≡ Some (box_row id.now (seen cube))) }
         ensures gone { OnSome result (rows_in seen self.new
@@ -245,8 +303,8 @@ impl Catalogue {
     pub fn replace(
         &mut self,
         id: &str,
-        cube: Box<dyn CubeSource>,
-    ) -> Result<Box<dyn CubeSource>, Box<dyn CubeSource>>
+        cube: Box<dyn SharedSource>,
+    ) -> Result<Box<dyn SharedSource>, Box<dyn SharedSource>>
         ensures handed { IfOk result (λ old.
             row_of (rows_in seen self.old) id.now ≡ Some (box_row id.now (seen old))) }
         ensures replaced { OnOk result (rows_in seen self.new
@@ -311,6 +369,59 @@ impl Catalogue {
     {
         let row = &mut self.rows[place as usize];
         read_kept(&mut row.cube, window, into)
+    }
+
+    /// Asks for so many cells of the collection of a row: the number of cells asked of it rises by that many, and stays at
+    /// 2^64 − 1, and so many more may be looked at with the permit. All else in the catalogue stays.
+    pub fn ask(&mut self, place: u32, cells: u64, permit: &mut Permit)
+        requires mounted { place < length (rows_in seen self.old) }
+        requires few { permit.old + cells < 2 ^ 64 }
+        ensures asked { CountsRow (rows_in seen self.old) place cells false
+            (rows_in seen self.new) }
+        ensures permit { permit.new ≡ permit.old + cells }
+    {
+        let row = &mut self.rows[place as usize];
+        count_kept(&mut row.cube, cells, None);
+        permit.raise(cells);
+    }
+
+    /// Looks at the cells of a window of the collection of a row, which were asked for: gives them as [`Catalogue::read`]
+    /// does, and counts nothing, so that several threads may look at once. Whatever it answers, its permit is for so many
+    /// cells less then. It takes no memory.
+    ///
+    /// Refuses: as [`CubeSource::look`] of that collection does.
+    pub fn look(
+        &self,
+        place: u32,
+        looker: &mut Looker,
+        window: &Window,
+        into: &mut [Cell],
+    ) -> Result<(), LookFail>
+        requires mounted { place < length (rows_in seen self.now) }
+        requires asked { position_count window.now ≤ looker.old }
+        requires inside { Holds (whole_window (source_at (rows_in seen self.now) place).shape)
+            window.now }
+        requires room { length into.old ≡ position_count window.now }
+        ensures looks { Looks (source_at (rows_in seen self.now) place) window.now into.new
+            (answer_of result) }
+        ensures spent { looker.new + position_count window.now ≡ looker.old }
+        ensures boxed { IsErrOf (answer_of result) SourceFail.Failed
+            → MayFail (rows_in seen self.now) place }
+    {
+        let _spent = looker.permit.split(into.len() as u64);
+        let row = &self.rows[place as usize];
+        look_kept(&row.cube, window, &mut looker.bytes, into)
+    }
+
+    /// Counts the fault that a look at the collection of a row met, if it met one. All else in the catalogue stays.
+    pub fn count_fault(&mut self, place: u32, fault: Option<ReadFault>)
+        requires mounted { place < length (rows_in seen self.old) }
+        requires boxed { is_some fault ≡ true → MayFail (rows_in seen self.old) place }
+        ensures { CountsRow (rows_in seen self.old) place 0 (is_some fault)
+            (rows_in seen self.new) }
+    {
+        let row = &mut self.rows[place as usize];
+        count_kept(&mut row.cube, 0, fault);
     }
 
     /// The shape of the collection of a row.

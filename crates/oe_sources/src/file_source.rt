@@ -1,15 +1,15 @@
 // Cube files as collections.
-ghost use Rattle.std.specs.Prelude.{◌≡◌, ◌≢◌, ◌↔◌, ◌+◌, ◌<◌, ◌≤◌, ◌*◌, ◌^◌, ℕ, Some, None, true, codes, length, slice_get, vec_len, IfOk, OnOk, IfErr, IfSome, MatchOption};
+ghost use Rattle.std.specs.Prelude.{◌≡◌, ◌≢◌, ◌↔◌, ◌+◌, ◌<◌, ◌≤◌, ◌*◌, ◌^◌, ℕ, Some, None, true, false, codes, length, slice_get, vec_len, IfOk, OnOk, IfErr, IfSome, MatchOption};
 ghost use Rattle.std.specs.List.{list_all};
 ghost use Rattle.std.specs.Option.{option_map};
 ghost use Rattle.oe_cube.specs.Kinds.{is_null_or_of};
-ghost use Rattle.oe_outside.specs.Faults.{HasCauseOf, NeverFalls};
+ghost use Rattle.oe_outside.specs.Faults.{HasCauseOf, NeverFalls, Rose};
 ghost use Rattle.oe_outside.specs.Stored.{StoreHolds};
 ghost use Rattle.oe_dims.specs.Dimensions.{cell_count};
 ghost use Rattle.oe_sources.specs.CubeFile.{IsCubeFile, cell_stored, contents_of};
 ghost use Rattle.oe_sources.specs.Head as spec;
 ghost use Rattle.oe_sources.specs.Head.{Head};
-ghost use Rattle.oe_sources.specs.Source.{AreCellsOf, TellsDamage};
+ghost use Rattle.oe_sources.specs.Source.{AreCellsOf, TellsDamage, asked_after};
 ghost use Rattle.oe_window.specs.Windows.{Holds, position_count, whole_window};
 ghost use Rattle.oe_wide.specs.Wide.{byte_count};
 ghost use Rattle.oe_sources.specs.OpenedFile.{AreOfKind, AreStoredFrom, HasRecords, IsDamageFrom, IsOpened, IsSpotOf};
@@ -19,11 +19,12 @@ ghost use Rattle.oe_sources.specs.Opening.{BeginsAlone, IsNoStart, IsStart, Star
 use crate::head::{Head, MOST_HEADER, START, Version, read_header};
 use crate::packing::{ROOM, room};
 use crate::sections::{Sections, Spot};
+use crate::source::{is_failed, met};
 use crate::stored::read_stored;
-use crate::{Catalogue, CubeSource, SourceFail};
+use crate::{Catalogue, CubeSource, LookFail, Looking, ReadFault, SharedSource, SourceFail};
 use oe_cell::Cell;
 use oe_dims::{CellKind, Shape, Text};
-use oe_outside::{Store, fill_at};
+use oe_outside::{SharedStore, Store, fill_at, look_whole};
 use oe_window::{Window, runs, size};
 use std::alloc::Global;
 use std::marker::Model;
@@ -270,7 +271,7 @@ fn open_records(alloc: Global, head: Head, base: u64, total: u64) -> Result<Open
     })
 }
 
-impl<S: Store + Drop> CubeSource for FileSource<S> {
+impl<S: SharedStore + Drop> CubeSource for FileSource<S> {
     ghost seen = { λ f. f.source };
 
     fn shape(&self) -> &Shape {
@@ -281,21 +282,53 @@ impl<S: Store + Drop> CubeSource for FileSource<S> {
         self.file.head.kind
     }
 
+    fn look(
+        &self,
+        _looking: &Looking,
+        window: &Window,
+        bytes: &mut [u8],
+        into: &mut [Cell],
+    ) -> Result<(), LookFail> {
+        met(read_window(&self.store, &self.file, bytes, window, into))
+    }
+
+    fn count(&mut self, cells: u64, fault: Option<ReadFault>) {
+        count_looks(&mut self.store, &mut self.asked, cells, fault.is_some());
+    }
+
     fn read(&mut self, window: &Window, into: &mut [Cell]) -> Result<(), SourceFail> {
-        self.asked = self.asked.saturating_add(size(window));
-        read_window(
-            &mut self.store,
+        let answer = read_window(
+            &self.store,
             &self.file,
             self.buffer.as_mut_slice(),
             window,
             into,
-        )
+        );
+        let failed = is_failed(&answer);
+        count_looks(&mut self.store, &mut self.asked, size(window), failed);
+        answer
     }
 }
 
-/// The cells of a window, run by run.
-fn read_window<S: Store>(
-    store: &mut S,
+impl<S: SharedStore + Drop + Send + Sync> SharedSource for FileSource<S> {}
+
+/// Counts looks at so many cells, and a fault of the store where one of them failed.
+fn count_looks<S: SharedStore>(store: &mut S, asked: &mut u64, cells: u64, failed: bool)
+    ensures asked { asked.new ≡ asked_after asked.old cells }
+    ensures falls { NeverFalls (S.faults store.old) (S.faults store.new) }
+    ensures rose { failed ≡ true → Rose (S.faults store.old) (S.faults store.new) }
+    ensures still { failed ≡ false → S.faults store.new ≡ S.faults store.old }
+    ensures same { S.bytes store.new ≡ S.bytes store.old }
+{
+    *asked = asked.saturating_add(cells);
+    if failed {
+        store.count_fault();
+    }
+}
+
+/// The cells of a window, run by run. It looks at the store, as all below it do, and counts nothing.
+fn read_window<S: SharedStore>(
+    store: &S,
     file: &Opened,
     buffer: &mut [u8],
     window: &Window,
@@ -303,16 +336,14 @@ fn read_window<S: Store>(
 ) -> Result<(), SourceFail>
     requires opened { IsOpened file.now }
     requires room { length buffer.old ≡ 65536 }
-    requires is_file { IfSome (S.bytes store.old) (λ all. IsCubeFile all file.now.head) }
+    requires is_file { IfSome (S.bytes store.now) (λ all. IsCubeFile all file.now.head) }
     requires inside { Holds (whole_window file.now.head.shape) window.now }
     requires counted { length into.old ≡ position_count window.now }
-    ensures given { OnOk result (IfSome (S.bytes store.old) (λ all.
+    ensures given { OnOk result (IfSome (S.bytes store.now) (λ all.
         AreCellsOf file.now.head.shape (contents_of file.now.head all) window.now into.new)) }
     ensures of_kind { OnOk result (list_all (is_null_or_of file.now.head.kind) into.new ≡ true) }
     ensures damage { IfErr result (TellsDamage file.now.head.shape
-        (option_map (contents_of file.now.head) (S.bytes store.old)) window.now) }
-    ensures cause { HasCauseOf SourceFail.Failed (S.faults store.old) (S.faults store.new) result }
-    ensures same { S.bytes store.new ≡ S.bytes store.old }
+        (option_map (contents_of file.now.head) (S.bytes store.now)) window.now) }
 {
     let mut done = 0;
     for (first, count) in runs(window, &file.head.shape) {
@@ -326,8 +357,8 @@ fn read_window<S: Store>(
 }
 
 /// The cells with the numbers from a first one on, piece by piece.
-fn read_run<S: Store>(
-    store: &mut S,
+fn read_run<S: SharedStore>(
+    store: &S,
     file: &Opened,
     buffer: &mut [u8],
     first: u64,
@@ -335,15 +366,13 @@ fn read_run<S: Store>(
 ) -> Result<(), SourceFail>
     requires opened { IsOpened file.now }
     requires room { length buffer.old ≡ 65536 }
-    requires is_file { IfSome (S.bytes store.old) (λ all. IsCubeFile all file.now.head) }
+    requires is_file { IfSome (S.bytes store.now) (λ all. IsCubeFile all file.now.head) }
     requires within { first + length into.old ≤ cell_count file.now.head.shape }
-    ensures read { OnOk result (AreStoredFrom file.now.head (S.bytes store.old) first
+    ensures read { OnOk result (AreStoredFrom file.now.head (S.bytes store.now) first
         (length into.old) into.new) }
     ensures of_kind { OnOk result (AreOfKind file.now.head.kind (length into.old) into.new) }
-    ensures damage { IfErr result (IsDamageFrom file.now.head (S.bytes store.old) first
+    ensures damage { IfErr result (IsDamageFrom file.now.head (S.bytes store.now) first
         (length into.old)) }
-    ensures cause { HasCauseOf SourceFail.Failed (S.faults store.old) (S.faults store.new) result }
-    ensures same { S.bytes store.new ≡ S.bytes store.old }
 {
     let mut done = 0;
     while done < into.len() {
@@ -357,8 +386,8 @@ fn read_run<S: Store>(
 
 /// As many cells from a number on as are of one section and fit the buffer, at least one and at most as many as there
 /// is room for. It answers how many.
-fn read_piece<S: Store>(
-    store: &mut S,
+fn read_piece<S: SharedStore>(
+    store: &S,
     file: &Opened,
     buffer: &mut [u8],
     number: u64,
@@ -366,17 +395,15 @@ fn read_piece<S: Store>(
 ) -> Result<usize, SourceFail>
     requires opened { IsOpened file.now }
     requires room { length buffer.old ≡ 65536 }
-    requires is_file { IfSome (S.bytes store.old) (λ all. IsCubeFile all file.now.head) }
+    requires is_file { IfSome (S.bytes store.now) (λ all. IsCubeFile all file.now.head) }
     requires some { 0 < length into.old }
     requires within { number + length into.old ≤ cell_count file.now.head.shape }
     ensures count { IfOk result (λ n. (0 < n) × (n ≤ length into.old)) }
-    ensures read { IfOk result (λ n. IfSome (S.bytes store.old) (λ all. (k : ℕ) → k < n →
+    ensures read { IfOk result (λ n. IfSome (S.bytes store.now) (λ all. (k : ℕ) → k < n →
         cell_stored file.now.head all (number + k) ≡ slice_get into.new k)) }
     ensures of_kind { IfOk result (λ n. AreOfKind file.now.head.kind n into.new) }
-    ensures damage { IfErr result (IsDamageFrom file.now.head (S.bytes store.old) number
+    ensures damage { IfErr result (IsDamageFrom file.now.head (S.bytes store.now) number
         (length into.old)) }
-    ensures cause { HasCauseOf SourceFail.Failed (S.faults store.old) (S.faults store.new) result }
-    ensures same { S.bytes store.new ≡ S.bytes store.old }
 {
     let spot = spot_of(file, number);
     let width = spot.width.bytes();
@@ -411,8 +438,8 @@ fn spot_of(file: &Opened, number: u64) -> Spot
 
 /// The cells of one section with the numbers from a first one on, whose record stands at the spot. The bytes have room
 /// for exactly their records.
-fn read_records<S: Store>(
-    store: &mut S,
+fn read_records<S: SharedStore>(
+    store: &S,
     spot: Spot,
     number: u64,
     bytes: &mut [u8],
@@ -423,16 +450,14 @@ fn read_records<S: Store>(
     requires few { number + length into.old ≤ 2 ^ 40 }
     ensures read { OnOk result ((head : Head) → IsSpotOf head number spot →
         length into.old ≤ spot.left →
-        IfSome (S.bytes store.old) (λ all. (k : ℕ) → k < length into.old →
+        IfSome (S.bytes store.now) (λ all. (k : ℕ) → k < length into.old →
         cell_stored head all (number + k) ≡ slice_get into.new k)) }
     ensures of_kind { OnOk result (AreOfKind spot.kind (length into.old) into.new) }
     ensures damage { IfErr result (λ e. (head : Head) → IsSpotOf head number spot →
-        length into.old ≤ spot.left → HasRecords head (S.bytes store.old) number (length into.old) →
-        IsDamageFrom head (S.bytes store.old) number (length into.old) e) }
-    ensures cause { HasCauseOf SourceFail.Failed (S.faults store.old) (S.faults store.new) result }
-    ensures same { S.bytes store.new ≡ S.bytes store.old }
+        length into.old ≤ spot.left → HasRecords head (S.bytes store.now) number (length into.old) →
+        IsDamageFrom head (S.bytes store.now) number (length into.old) e) }
 {
-    match fill_at(store, spot.offset, bytes) {
+    match look_whole(store, spot.offset, bytes) {
         Ok(true) => {}
         Ok(false) => return Err(SourceFail::Damaged(number)),
         Err(_) => return Err(SourceFail::Failed),

@@ -1,10 +1,11 @@
 // The collection that the demonstration reads.
-ghost use Rattle.std.specs.Prelude.{◌≡◌, ◌∷◌, [], codes, ◌+◌, ◌*◌, ◌%◌, ◌≤◌, ◌<◌, ℕ, length, map, slice_get, Some, IfOk, IsOk};
+ghost use Rattle.std.specs.Prelude.{◌≡◌, ◌∷◌, [], codes, ◌+◌, ◌*◌, ◌%◌, ◌≤◌, ◌<◌, ℕ, false, length, map, slice_get, Some, Ok, IfOk, IsOk, IfSome};
+ghost use Rattle.oe_cube.specs.Collections.{IsCollection};
 ghost use Rattle.oe_sources.specs.Generated.{IsRow, falling_labels, generated_cell, generated_contents, generated_days, generated_shape, rest_cell, rising_labels};
-ghost use Rattle.oe_sources.specs.Source.{Reads, Source};
+ghost use Rattle.oe_sources.specs.Source.{CountsRead, Looks, Reads, Source, collection_with};
 ghost use Rattle.oe_window.specs.Windows.{Holds, position_count, positions, whole_window};
 
-use crate::{CubeSource, SourceFail};
+use crate::SourceFail;
 use oe_cell::{Cell, whole_cell};
 use oe_dims::{CellKind, Shape, Text};
 use oe_memory::OutOfMemory;
@@ -25,7 +26,8 @@ const PIXEL: u32 = 10;
 
 /// A collection that is not kept: each cell is made from its indices when it is read. Four days from 2024-01-01, bands
 /// B1 and B2, and as many pixels along `y` as along `x`. The cell at the indices t, b, y and x is
-/// (SEED + 7x + 13y + 17t + 19b) mod 101, and null where that is 100. Its reads always succeed.
+/// (SEED + 7x + 13y + 17t + 19b) mod 101, and null where that is 100. Its reads and looks always succeed, so that it has no
+/// fault to count.
 #[derive(Drop)]
 pub struct GeneratedCube {
     seed: u32,
@@ -90,6 +92,51 @@ impl GeneratedCube {
     {
         let _side = self.side;
     }
+
+    /// The shape, which reading does not change.
+    pub fn shape(&self) -> &Shape
+        ensures value { result.now ≡ self.now.shape }
+        ensures sound { IfSome self.now.contents
+            (λ c. IsCollection (collection_with self.now.shape self.now.kind c)) }
+    {
+        &self.shape
+    }
+
+    /// The kind of the cells, which reading does not change.
+    pub fn kind(&self) -> CellKind
+        ensures { result ≡ self.now.kind }
+    {
+        let _side = self.side;
+        CellKind::Numbers
+    }
+
+    /// Gives the cells of a window in row-major order, and counts nothing.
+    pub fn look(&self, window: &Window, into: &mut [Cell])
+        requires inside { Holds (whole_window self.now.shape) window.now }
+        requires room { length into.old ≡ position_count window.now }
+        ensures { Looks self.now window.now into.new (Ok tt) }
+    {
+        make_cells(self.seed, window, into);
+    }
+
+    /// Counts looks at so many cells, as [`crate::CubeSource::count`] does.
+    pub fn count(&mut self, cells: u64)
+        ensures { CountsRead self.old cells false self.new }
+    {
+        self.asked = self.asked.saturating_add(cells);
+    }
+
+    /// Reads the cells of a window, as [`crate::CubeSource::read`] does. It never fails.
+    pub fn read(&mut self, window: &Window, into: &mut [Cell]) -> Result<(), SourceFail>
+        requires inside { Holds (whole_window self.old.shape) window.now }
+        requires room { length into.old ≡ position_count window.now }
+        ensures read { Reads self.old window.now into.new self.new result }
+        ensures ok { IsOk result }
+    {
+        self.look(window, into);
+        self.count(size(window));
+        Ok(())
+    }
 }
 
 fn days(alloc: Global) -> Result<Vec<i64>, OutOfMemory>
@@ -134,31 +181,6 @@ fn labels_upward(alloc: Global, side: u32) -> Result<Vec<i64>, OutOfMemory>
         labels.push(i64::from(PIXEL * index))?;
     }
     Ok(labels)
-}
-
-impl CubeSource for GeneratedCube {
-    ghost seen = { λ s. s };
-
-    fn shape(&self) -> &Shape {
-        &self.shape
-    }
-
-    fn kind(&self) -> CellKind {
-        let _side = self.side;
-        CellKind::Numbers
-    }
-
-    fn read(&mut self, window: &Window, into: &mut [Cell]) -> Result<(), SourceFail>
-        requires inside { Holds (whole_window self.old.shape) window.now }
-        requires room { length into.old ≡ position_count window.now }
-        ensures read { Reads self.old window.now into.new self.new result }
-        // It never fails.
-        ensures ok { IsOk result }
-    {
-        self.asked = self.asked.saturating_add(size(window));
-        make_cells(self.seed, window, into);
-        Ok(())
-    }
 }
 
 /// Makes the cells of a window, row by row.

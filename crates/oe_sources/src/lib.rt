@@ -2,7 +2,9 @@
 //!
 //! A [`CubeSource`] is a collection with a shape and a kind whose cells are read by windows; contracts see its contents
 //! where they are visible, its damaged positions, its fault counter and how many cells were asked of it.
-//! [`MemoryCube`], [`GeneratedCube`] and [`FileSource`] are such sources, and a [`Catalogue`] has them under their ids.
+//! [`MemoryCube`] and [`FileSource`] are such sources, and a [`Catalogue`] has them, or a [`GeneratedCube`], under their
+//! ids. A look gives the cells and counts nothing, so that several threads may look at once; a look that is counted is a
+//! read.
 //! [`pack`] writes a cube file, [`repack`] writes that of a mounted collection, and [`FileSource::open`] reads both
 //! versions. The layers above use that a read which
 //! answers `Ok` gave the visible cells, and that mounting, detaching and replacing change one id and leave all else.
@@ -16,6 +18,7 @@ mod head;
 mod laws;
 mod memory_cube;
 mod packing;
+mod permit;
 mod repacking;
 mod sections;
 mod source;
@@ -27,5 +30,6 @@ pub use generated_cube::GeneratedCube;
 pub use laws::{collections_stay, ids_are_valid, outlines_stay, reads_are_counted};
 pub use memory_cube::MemoryCube;
 pub use packing::{PackFail, pack};
+pub use permit::{Looker, Looking, Permit};
 pub use repacking::{RepackFail, repack};
-pub use source::{CubeSource, SourceFail};
+pub use source::{CubeSource, LookFail, ReadFault, SharedSource, SourceFail, split_fault};

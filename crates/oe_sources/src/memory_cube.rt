@@ -3,22 +3,25 @@ ghost use Rattle.std.specs.Prelude.{◌≡◌, true, length, Some, []};
 ghost use Rattle.std.specs.List.{list_all};
 ghost use Rattle.oe_cube.specs.Kinds.{is_null_or_of};
 ghost use Rattle.oe_dims.specs.Dimensions.{cell_count};
-ghost use Rattle.oe_sources.specs.Source.{CountsRead};
+ghost use Rattle.oe_sources.specs.Source.{CountsRead, Looks};
+ghost use Rattle.oe_window.specs.Windows.{Holds, position_count, whole_window};
 
-use crate::{CubeSource, SourceFail};
+use crate::source::met;
+use crate::{CubeSource, LookFail, Looking, ReadFault, SharedSource, SourceFail};
 use oe_cell::Cell;
 use oe_dims::{CellKind, Shape};
-use oe_window::{Window, copy_window, size};
+use oe_window::{Window, copy_window};
 use std::marker::Model;
+use std::sync::atomic::{AtomicU64, Ordering};
 
-/// A collection in memory without damage: its cells are visible. Its reads fail by their numbers.
+/// A collection in memory without damage: its cells are visible. Its reads and looks fail by their numbers.
 #[derive(Drop)]
 pub struct MemoryCube {
     shape: Shape,
     kind: CellKind,
     cells: Vec<Cell>,
     failing: Vec<u64>,
-    reads: u64,
+    reads: AtomicU64,
     faults: u64,
     asked: u64,
 }
@@ -44,8 +47,8 @@ impl Model for MemoryCube {
 }
 
 impl MemoryCube {
-    /// A collection of these cells, in row-major order. `failing` has the numbers of the reads that fail, counted from
-    /// 0. It takes no memory.
+    /// A collection of these cells, in row-major order. `failing` has the numbers of the reads and looks that fail, which
+    /// are counted together from 0, in the order in which they begin. It takes no memory.
     pub fn new(shape: Shape, kind: CellKind, cells: Vec<Cell>, failing: Vec<u64>) -> MemoryCube
         requires counted { length cells.items ≡ cell_count shape }
         requires of_kind { list_all (is_null_or_of kind) cells.items ≡ true }
@@ -63,23 +66,39 @@ impl MemoryCube {
             kind,
             cells,
             failing,
-            reads: 0,
+            reads: AtomicU64::new(0),
             faults: 0,
             asked: 0,
         }
     }
 
-    /// Counts a read of so many cells, and answers whether it is to fail.
-    fn count_read(&mut self, cells: u64) -> bool
-        ensures { CountsRead self.old cells result self.new }
+    /// Takes the next number, and answers whether it is listed.
+    fn is_next_listed(&self) -> bool {
+        let number = self.reads.fetch_add(1, Ordering::SeqCst);
+        self.failing.contains(&number)
+    }
+
+    /// Copies the cells of a window. It fails exactly where its number is listed.
+    fn copy_cells(&self, window: &Window, into: &mut [Cell]) -> Result<(), SourceFail>
+        requires inside { Holds (whole_window self.now.shape) window.now }
+        requires room { length into.old ≡ position_count window.now }
+        ensures { Looks self.now window.now into.new result }
     {
-        let fails = self.failing.contains(&self.reads);
-        self.reads = self.reads.saturating_add(1);
+        if self.is_next_listed() {
+            return Err(SourceFail::Failed);
+        }
+        copy_window(&self.cells, &self.shape, window, into);
+        Ok(())
+    }
+
+    /// Counts looks at so many cells, and a fault where one of them failed.
+    fn count_looks(&mut self, cells: u64, failed: bool)
+        ensures { CountsRead self.old cells failed self.new }
+    {
         self.asked = self.asked.saturating_add(cells);
-        if fails {
+        if failed {
             self.faults = self.faults.saturating_add(1);
         }
-        fails
     }
 }
 
@@ -95,11 +114,19 @@ impl CubeSource for MemoryCube {
     }
 
     /// It fails exactly where its number is listed.
-    fn read(&mut self, window: &Window, into: &mut [Cell]) -> Result<(), SourceFail> {
-        if self.count_read(size(window)) {
-            return Err(SourceFail::Failed);
-        }
-        copy_window(&self.cells, &self.shape, window, into);
-        Ok(())
+    fn look(
+        &self,
+        _looking: &Looking,
+        window: &Window,
+        _bytes: &mut [u8],
+        into: &mut [Cell],
+    ) -> Result<(), LookFail> {
+        met(self.copy_cells(window, into))
+    }
+
+    fn count(&mut self, cells: u64, fault: Option<ReadFault>) {
+        self.count_looks(cells, fault.is_some());
     }
 }
+
+impl SharedSource for MemoryCube {}

@@ -5,5 +5,5 @@ use Rattle.oe_sources.proofs.catalogue.read_boxed.Goals as goal
 
 pub read-requires : goal.read-requires
 read-requires g c κs =
-    let inside = subst (λ z. Holds (whole_window ((goal.CubeSource-dyn g z).seen z.1).shape) c.args.window.now) (sym c.as_mut.ensures.value.1) c.requires.inside in
+    let inside = subst (λ z. Holds (whole_window ((goal.SharedSource-dyn g z).CubeSource.seen z.1).shape) c.args.window.now) (sym c.as_mut.ensures.value.1) c.requires.inside in
     (refl, λ within. (tt, (by_part within (search of_a_part), (inside, c.requires.room))))

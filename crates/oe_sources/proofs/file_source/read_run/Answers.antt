@@ -1,7 +1,6 @@
 use Rattle.std.proofs.Common.{◌≡◌, ◌+◌, ◌-◌, ◌++◌, length, take, drop, sym, ap, ◌∙◌, subst, arith}
 use Rattle.std.proofs.lemmas.List.{length-append, length-take, length-take-le, length-drop}
 use Rattle.oe_dims.proofs.ShapeLemmas.{cell_count_within}
-use Rattle.oe_outside.proofs.Causes.{NeverFalls-trans}
 use Rattle.oe_sources.specs.OpenedFile.{AreOfKind, AreStoredFrom}
 use Rattle.oe_sources.proofs.ContentLemmas.{more_of_kind}
 use Rattle.oe_sources.proofs.PieceLemmas.{more_stored, put_end}
@@ -24,9 +23,7 @@ loop-done-preserved g c =
       within = omega (arith, ap length put, all, c.in-Ok.ensures.count.1, c.read_piece.auto.into, long);
       room = c.read_piece.auto.buffer ∙ c.loop-done.invariant.room;
       read = subst (AreStoredFrom c.args.file.now.head (g.S.Store.bytes c.args.store.now) c.args.first (done + c.in-Ok.count)) (sym put)
-          (more_stored (g.S.Store.bytes c.args.store.now) c.args.file.now.head c.args.first done c.in-Ok.count into new inside c.loop-done.invariant.read (rw c.loop-done.invariant.same at c.in-Ok.ensures.read));
+          (more_stored (g.S.Store.bytes c.args.store.now) c.args.file.now.head c.args.first done c.in-Ok.count into new inside c.loop-done.invariant.read c.in-Ok.ensures.read);
       of_kind = subst (AreOfKind c.args.file.now.head.kind (done + c.in-Ok.count)) (sym put)
           (more_of_kind c.args.file.now.head.kind done c.in-Ok.count into new inside c.loop-done.invariant.of_kind c.in-Ok.ensures.of_kind);
-      same = c.read_piece.ensures.same ∙ c.loop-done.invariant.same;
-      falls = NeverFalls-trans c.loop-done.invariant.falls c.read_piece.ensures.cause.count;
     }

@@ -1,10 +1,9 @@
-use Rattle.std.proofs.Common.{◌≡◌, ◌≤◌, ◌+◌, ◌-◌, ◌++◌, ℕ, List, Option, length, take, drop, refl, sym, ap, ◌∙◌, subst, arith}
+use Rattle.std.proofs.Common.{◌≡◌, ◌≤◌, ◌+◌, ◌-◌, ◌++◌, ℕ, length, take, drop, refl, sym, ap, ◌∙◌, subst, arith}
 use borrow.Rule.Slice.PartMut.{post_of}
 use Rattle.std.proofs.lemmas.List.{length-take, length-drop}
 use Rattle.oe_dims.specs.Dimensions.{Dimensions, cell_count}
 use Rattle.oe_sources.specs.declared.file_source.Opened.{Opened}
 use Rattle.oe_dims.proofs.ShapeLemmas.{cell_count_within}
-use Rattle.oe_outside.proofs.Causes.{NeverFalls-refl, NeverFalls-trans}
 use Rattle.oe_sources.specs.OpenedFile.{AreOfKind, AreStoredFrom, IsDamageFrom}
 use Rattle.oe_sources.proofs.ContentLemmas.{AreReadAt, all_of_kind, damage_in, front_of_kind, more_of_kind, more_read, none_read, number_count, run_within, window_read}
 use Rattle.oe_window.specs.Runs.{EndWithin, window_numbers}
@@ -28,8 +27,6 @@ loop-first-init g c =
       room = c.requires.room;
       read = none_read (g.S.Store.bytes c.args.store.now) c.args.file.now.head (window_numbers d w) c.args.into.now;
       of_kind = refl;
-      same = refl;
-      falls = NeverFalls-refl (g.S.Store.faults c.args.store.now);
     }
 
 pub overflow_add-end : goal.overflow_add-end
@@ -63,8 +60,7 @@ returns-in-Err-clause-damage g c =
     let run : (c.in-Some.first + count ≤ cell_count head.shape) × (done + count ≤ position_count w) × EndWithin (cell_count head.shape) c.next.new.self = run_within head.shape w c.loop-first.first-iterator c.next.new.self c.in-Some.first count done c.loop-first.invariant.visiting c.loop-first.invariant.within c.in-Some.ensures.steps in
     let room : done + count ≤ length into = omega (arith, run.1, c.loop-first.auto.into, c.requires.counted) in
     let part : length (take (done + count - done) (drop done into)) ≡ count = omega (arith, length-take (done + count - done) (drop done into), length-drop done into, room) in
-    let here : IsDamageFrom head (g.S.Store.bytes c.args.store.now) c.in-Some.first count c.in-Err.fail = subst (λ (o : Option (List ℕ)). IsDamageFrom head o c.in-Some.first count c.in-Err.fail) c.loop-first.invariant.same
-    (subst (λ (n : ℕ). IsDamageFrom head (g.S.Store.bytes c.loop-first.store) c.in-Some.first n c.in-Err.fail) part c.in-Err.ensures.damage) in
+    let here : IsDamageFrom head (g.S.Store.bytes c.args.store.now) c.in-Some.first count c.in-Err.fail = subst (λ (n : ℕ). IsDamageFrom head (g.S.Store.bytes c.args.store.now) c.in-Some.first n c.in-Err.fail) part c.in-Err.ensures.damage in
     damage_in (g.S.Store.bytes c.args.store.now) head w c.loop-first.first-iterator c.next.new.self c.in-Some.first count done c.in-Err.fail c.requires.inside c.loop-first.invariant.visiting c.in-Some.ensures.steps here
 
 pub loop-first-preserved : goal.loop-first-preserved
@@ -85,7 +81,7 @@ loop-first-preserved g c =
     let room : done + count ≤ length into = omega (arith, run.1, c.loop-first.auto.into, c.requires.counted) in
     let part : length (take (done + count - done) (drop done into)) ≡ count = omega (arith, length-take (done + count - done) (drop done into), length-drop done into, room) in
     let long : length new ≡ count = c.read_run.auto.into ∙ part in
-    let stored : AreStoredFrom head store first count new = subst (λ (o : Option (List ℕ)). AreStoredFrom head o first count new) c.loop-first.invariant.same (subst (λ (n : ℕ). AreStoredFrom head (g.S.Store.bytes c.loop-first.store) first n new) part c.in-Ok.ensures.read) in
+    let stored : AreStoredFrom head store first count new = subst (λ (n : ℕ). AreStoredFrom head store first n new) part c.in-Ok.ensures.read in
     let kinds : AreOfKind head.kind count new = subst (λ (n : ℕ). AreOfKind head.kind n new) part c.in-Ok.ensures.of_kind in
     record {
       next = tt;
@@ -95,8 +91,6 @@ loop-first-preserved g c =
       room = c.read_run.auto.buffer ∙ c.loop-first.invariant.room;
       read = more_read store head numbers left next first count done into new rest c.loop-first.invariant.visiting c.in-Some.ensures.steps (omega (arith, room)) long c.loop-first.invariant.read stored;
       of_kind = more_of_kind head.kind done count into (new ++ rest) (omega (arith, room)) c.loop-first.invariant.of_kind (front_of_kind head.kind count new rest (omega (arith, long)) kinds);
-      same = c.read_run.ensures.same ∙ c.loop-first.invariant.same;
-      falls = NeverFalls-trans c.loop-first.invariant.falls c.read_run.ensures.cause.count;
     }
 
 pub returns-clause-given : goal.returns-clause-given

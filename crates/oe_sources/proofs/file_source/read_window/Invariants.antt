@@ -1,6 +1,5 @@
 use Rattle.std.proofs.Common.{◌≡◌, length}
 use Rattle.oe_dims.specs.Dimensions.{cell_count}
-use Rattle.oe_outside.specs.Faults.{NeverFalls}
 use Rattle.oe_sources.specs.OpenedFile.{AreOfKind}
 use Rattle.oe_sources.proofs.ContentLemmas.{AreReadAt}
 use Rattle.oe_window.specs.Runs.{EndWithin, window_numbers}
@@ -14,8 +13,6 @@ invariant-loop-first g l = record {
   visiting : Visiting (window_numbers l.file.head.shape l.window) l.first-iterator l.done;
   within : EndWithin (cell_count l.file.head.shape) l.first-iterator;
   room : length l.buffer ≡ 65536;
-  read : AreReadAt (g.S.Store.bytes l.initial.store) l.file.head (window_numbers l.file.head.shape l.window) l.done l.into;
+  read : AreReadAt (g.S.Store.bytes l.store) l.file.head (window_numbers l.file.head.shape l.window) l.done l.into;
   of_kind : AreOfKind l.file.head.kind l.done l.into;
-  same : g.S.Store.bytes l.store ≡ g.S.Store.bytes l.initial.store;
-  falls : NeverFalls (g.S.Store.faults l.initial.store) (g.S.Store.faults l.store);
 }

@@ -6,10 +6,10 @@ use Rattle.oe_sources.proofs.repacking.find_widths.Given as goal
 
 abbrev pub invariant-loop-section : goal.invariant-loop-section
 invariant-loop-section g l =
-    let before = rows_in (λ cube. (goal.CubeSource-dyn g (cube.vtable, cube.value)).seen cube.value) l.fn.catalogue in
+    let before = rows_in (λ cube. (goal.SharedSource-dyn g (cube.vtable, cube.value)).CubeSource.seen cube.value) l.fn.catalogue in
     let source = source_at before l.place in
     record {
-      reads : OnlyReads before l.place (rows_in (λ cube. (goal.CubeSource-dyn g (cube.vtable, cube.value)).seen cube.value) l.catalogue);
+      reads : OnlyReads before l.place (rows_in (λ cube. (goal.SharedSource-dyn g (cube.vtable, cube.value)).CubeSource.seen cube.value) l.catalogue);
       room : length l.cells ≡ 65536;
       counted : length l.widths.items ≡ l.section;
       widths : IfSome source.contents (λ c. AreFirstWidths source.shape c l.section l.widths.items);

@@ -10,10 +10,10 @@ decreases-loop-done g l = l.rows - l.done
 
 abbrev pub invariant-loop-done : goal.invariant-loop-done
 invariant-loop-done g l =
-    let before = rows_in (λ cube. (goal.CubeSource-dyn g (cube.vtable, cube.value)).seen cube.value) l.fn.catalogue in
+    let before = rows_in (λ cube. (goal.SharedSource-dyn g (cube.vtable, cube.value)).CubeSource.seen cube.value) l.fn.catalogue in
     let source = source_at before l.place in
     record {
-      reads : OnlyReads before l.place (rows_in (λ cube. (goal.CubeSource-dyn g (cube.vtable, cube.value)).seen cube.value) l.catalogue);
+      reads : OnlyReads before l.place (rows_in (λ cube. (goal.SharedSource-dyn g (cube.vtable, cube.value)).CubeSource.seen cube.value) l.catalogue);
       room : length l.cells ≡ 65536;
       within : l.done ≤ l.rows;
       width : IfSome source.contents (λ c. IsWidthFrom c (l.section * plane_size source.shape) (l.done * l.sides.x) l.width);

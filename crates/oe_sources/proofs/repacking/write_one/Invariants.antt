@@ -12,11 +12,11 @@ decreases-loop-done g l = l.rows - l.done
 
 abbrev pub invariant-loop-done : goal.invariant-loop-done
 invariant-loop-done g l =
-    let before = rows_in (λ cube. (goal.CubeSource-dyn g (cube.vtable, cube.value)).seen cube.value) l.fn.catalogue in
+    let before = rows_in (λ cube. (goal.SharedSource-dyn g (cube.vtable, cube.value)).CubeSource.seen cube.value) l.fn.catalogue in
     let source = source_at before l.place in
     let size = plane_size source.shape in
     record {
-      reads : OnlyReads before l.place (rows_in (λ cube. (goal.CubeSource-dyn g (cube.vtable, cube.value)).seen cube.value) l.catalogue);
+      reads : OnlyReads before l.place (rows_in (λ cube. (goal.SharedSource-dyn g (cube.vtable, cube.value)).CubeSource.seen cube.value) l.catalogue);
       room : length l.cells ≡ 65536;
       within : l.done ≤ l.rows;
       buffer : vec_len l.buffer ≡ 65536;

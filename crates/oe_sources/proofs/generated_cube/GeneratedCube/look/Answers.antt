@@ -1,31 +1,23 @@
-use Rattle.std.proofs.Common.{◌≡◌, true, IfSome, sym, ap, subst, arith}
+use Rattle.std.proofs.Common.{◌≡◌, true, IfSome, sym, ap, subst}
 use Rattle.std.specs.List.{list_all}
 use Rattle.oe_cube.specs.Kinds.{is_null_or_of}
 use Rattle.oe_dims.specs.Dimensions.{Dimensions}
-use Rattle.oe_outside.specs.Faults.{NeverFalls}
-use Rattle.oe_outside.proofs.Causes.{NeverFalls-refl}
 use Rattle.oe_sources.specs.Generated.{generated_shape}
 use Rattle.oe_sources.specs.Source.{AreCellsOf, Source}
 use Rattle.oe_sources.proofs.GeneratedLemmas.{generated_kind, generated_window}
 use Rattle.oe_window.specs.Windows.{Holds, whole_window}
-use Rattle.oe_sources.proofs.generated_cube.GeneratedCubeCubeSource.read.Goals as goal
+use Rattle.oe_sources.proofs.generated_cube.GeneratedCube.look.Goals as goal
 
-pub returns-clause-read : goal.returns-clause-read
-returns-clause-read c =
+pub returns : goal.returns
+returns c =
     let w = c.args.window.now in
     let into = c.make_cells.new.into in
     let seed = c.self.inside.seed in
     let side = c.self.inside.side in
     let shape : generated_shape side ≡ c.args.self.now.shape = ap (λ (s : Source). s.shape) c.self.view_is in
     let inside : Holds (whole_window (generated_shape side)) w = subst (λ (d : Dimensions). Holds (whole_window d) w) (sym shape) c.requires.inside in
-    let asked : c.self.inside.asked ≡ c.args.self.now.asked = ap (λ (s : Source). s.asked) c.self.view_is in
     record {
       given = subst (λ (s : Source). IfSome s.contents (λ k. AreCellsOf s.shape k w into)) c.self.view_is (generated_window seed side w into inside c.make_cells.ensures);
       of_kind = subst (λ (s : Source). list_all (is_null_or_of s.kind) into ≡ true) c.self.view_is (generated_kind seed w into c.make_cells.ensures);
       damage = tt;
-      cause = record { count = subst (λ (s : Source). NeverFalls s.faults 0) c.self.view_is (NeverFalls-refl 0); failed = λ err. cc };
-      asked = omega (arith, c.saturating_add-self-inside.ensures, c.size.ensures.value, asked);
-      shape = shape;
-      kind = ap (λ (s : Source). s.kind) c.self.view_is;
-      contents = ap (λ (s : Source). s.contents) c.self.view_is;
     }

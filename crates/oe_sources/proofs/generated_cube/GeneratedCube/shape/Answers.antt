@@ -2,7 +2,7 @@ use Rattle.std.proofs.Common.{IfSome, subst}
 use Rattle.oe_cube.specs.Collections.{IsCollection}
 use Rattle.oe_sources.specs.Source.{Source, collection_with}
 use Rattle.oe_sources.proofs.GeneratedLemmas.{generated_collection, is_generated_shape}
-use Rattle.oe_sources.proofs.generated_cube.GeneratedCubeCubeSource.shape.Goals as goal
+use Rattle.oe_sources.proofs.generated_cube.GeneratedCube.shape.Goals as goal
 
 pub returns-clause-sound : goal.returns-clause-sound
 returns-clause-sound c =
