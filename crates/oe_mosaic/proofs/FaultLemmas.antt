@@ -7,7 +7,7 @@ use Rattle.std.proofs.lemmas.Option.{same_Some}
 use Rattle.oe_mosaic.specs.Mosaics.{fault_count, fault_counts}
 use Rattle.oe_mosaic.specs.PartFaults.{NoneFalls, SomeRose}
 use Rattle.oe_outside.specs.Faults.{NeverFalls, Rose, last_count}
-use Rattle.oe_outside.proofs.Causes.{NeverFalls-refl, NeverFalls-trans, then-Rose}
+use Rattle.oe_outside.proofs.Causes.{NeverFalls-refl}
 use Rattle.oe_sources.specs.Source.{Source}
 
 -- ---- counters over some calls
@@ -15,24 +15,6 @@ use Rattle.oe_sources.specs.Source.{Source}
 pub none_refl : (counts : List ℕ) → NoneFalls counts counts
 none_refl [] = tt
 none_refl (count ∷ counts) = (NeverFalls-refl count, none_refl counts)
-
-pub none_trans : (a b c : List ℕ) → NoneFalls a b → NoneFalls b c → NoneFalls a c
-none_trans [] [] [] h k = tt
-none_trans [] [] (z ∷ c) h k = absurd k
-none_trans [] (y ∷ b) c h k = absurd h
-none_trans (x ∷ a) [] c h k = absurd h
-none_trans (x ∷ a) (y ∷ b) [] h k = absurd k
-none_trans (x ∷ a) (y ∷ b) (z ∷ c) h k = (NeverFalls-trans h.0 k.0, none_trans a b c h.1 k.1)
-
-pub rose_later : (a b c : List ℕ) → NoneFalls a b → SomeRose b c → SomeRose a c
-rose_later [] [] c h k = k
-rose_later [] (y ∷ b) c h k = absurd h
-rose_later (x ∷ a) [] c h k = absurd h
-rose_later (x ∷ a) (y ∷ b) [] h k = absurd k
-rose_later (x ∷ a) (y ∷ b) (z ∷ c) h k = elim k [
-  | inl rose ↦ inl (then-Rose h.0 rose)
-  | inr later ↦ inr (rose_later a b c h.1 later)
-]
 
 -- ---- one counter
 

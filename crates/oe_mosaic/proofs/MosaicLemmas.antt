@@ -1,5 +1,5 @@
 -- A mosaic as a source: its collection, and what a read of it answers.
-use Rattle.std.proofs.Common.{◌≡◌, ℕ, zero, suc, ◌+◌, Bool, true, false, if◌then◌else◌, List, [], ◌∷◌, length, Option, Some, None, IfSome, Result, Ok, Err, IsErrOf, refl, sym, ap, ◌∙◌, subst, arith, cond, unwrap_or}
+use Rattle.std.proofs.Common.{◌≡◌, ℕ, zero, suc, ◌+◌, Bool, true, false, if◌then◌else◌, List, [], ◌∷◌, length, Option, Some, None, IfSome, Result, Ok, Err, refl, sym, ap, ◌∙◌, subst, arith, cond, unwrap_or}
 use Rattle.std.specs.List.{Contains, filter, find, list_all, range_with_len, slice_get}
 use Rattle.std.specs.Option.{option_and_then, option_map_or}
 use Rattle.std.proofs.lemmas.Bool.{and_parts}
@@ -16,12 +16,12 @@ use Rattle.oe_dims.specs.Dimensions.{Dimensions, IsShape, cell_count}
 use Rattle.oe_dims.specs.Positions.{IsPosition, Position, number_of, tuple_of}
 use Rattle.oe_dims.specs.declared.kind.CellKind.{CellKind}
 use Rattle.oe_dims.proofs.CubeLemmas.{length-tuples, number_below, slice_get-tuples}
-use Rattle.oe_mosaic.specs.Mosaics.{Part, are_visible, cell_in, contents_of_parts, deciding_part, fault_counts, first_kind, has_tuple, is_damaged_at, mosaic_cell, mosaic_contents, mosaic_shape, mosaic_source, numbers_where, parts_of}
+use Rattle.oe_mosaic.specs.Mosaics.{Part, are_visible, cell_in, contents_of_parts, deciding_part, fault_count, fault_counts, first_kind, has_tuple, is_damaged_at, mosaic_cell, mosaic_contents, mosaic_shape, mosaic_source, numbers_where, parts_of}
 use Rattle.oe_mosaic.specs.PartFaults.{SomeRose}
 use Rattle.oe_mosaic.specs.Parts.{ArePartsOfOne, IsSound}
 use Rattle.oe_mosaic.specs.Readings.{IsAnswer, IsDamagedThere, IsRead, OnlyReads}
 use Rattle.oe_mosaic.proofs.FaultLemmas.{count_falls, count_rose}
-use Rattle.oe_sources.specs.Source.{AreCellsOf, Contents, IsDamagedIn, Reads, Source, asked_after, collection_with}
+use Rattle.oe_sources.specs.Source.{AreCellsOf, Contents, CountsRead, IsDamagedIn, Looks, Source, asked_after, collection_with}
 use Rattle.oe_sources.specs.declared.source.SourceFail.{SourceFail}
 use Rattle.oe_sources.specs.declared.source.SourceFail.TheVariants.{Failed, Damaged}
 use Rattle.oe_sources.proofs.SourceLemmas.{all_true, null_fits}
@@ -144,47 +144,33 @@ damaged parts window n holds h = record {
       (number_there (is_damaged_at parts) (mosaic_shape parts) h.position (position_in (mosaic_shape parts) h.position (holds h.position h.inside)) (h.damaged visible)));
 }
 
-pub reads : {S : Type 0} (seen : S → Source) (items after : List S) (window : Window) (cells : List Cell) (asked : ℕ) (result : Result (Unit {0}) SourceFail)
-    → Holds (whole_window (mosaic_shape (parts_of seen items))) window → OnlyReads seen items after
-    → IsAnswer (parts_of seen items) (mosaic_shape (parts_of seen items)) window cells (fault_counts seen items) (fault_counts seen after) result
-    → Reads (mosaic_source seen items asked) window cells (mosaic_source seen after (asked_after asked (position_count window))) result
-reads seen items after window cells asked (Ok done) holds only h = record {
-  given = given (parts_of seen items) window cells holds h;
-  of_kind = h.of_kind;
-  damage = tt;
-  cause = record { count = count_falls seen items after only.falls; failed = λ err. cc };
-  asked = refl;
-  shape = ap mosaic_shape only.same;
-  kind = ap first_kind only.same;
-  contents = ap mosaic_contents only.same;
-}
-reads seen items after window cells asked (Err Failed) holds only h = record {
-  given = tt;
-  of_kind = tt;
-  damage = tt;
-  cause = record { count = count_falls seen items after only.falls; failed = λ err. count_rose seen items after only.falls h };
-  asked = refl;
-  shape = ap mosaic_shape only.same;
-  kind = ap first_kind only.same;
-  contents = ap mosaic_contents only.same;
-}
-reads seen items after window cells asked (Err (Damaged n)) holds only h = record {
-  given = tt;
-  of_kind = tt;
-  damage = damaged (parts_of seen items) window n holds h;
-  cause = record { count = count_falls seen items after only.falls; failed = λ err. cc };
-  asked = refl;
-  shape = ap mosaic_shape only.same;
-  kind = ap first_kind only.same;
-  contents = ap mosaic_contents only.same;
-}
+pub looks : {S : Type 0} (seen : S → Source) (items : List S) (window : Window) (cells : List Cell) (asked : ℕ) (result : Result (Unit {0}) SourceFail)
+    → Holds (whole_window (mosaic_shape (parts_of seen items))) window → IsAnswer (parts_of seen items) (mosaic_shape (parts_of seen items)) window cells result
+    → Looks (mosaic_source seen items asked) window cells result
+looks seen items window cells asked (Ok done) holds h = record { given = given (parts_of seen items) window cells holds h; of_kind = h.of_kind; damage = tt }
+looks seen items window cells asked (Err Failed) holds h = record { given = tt; of_kind = tt; damage = tt }
+looks seen items window cells asked (Err (Damaged n)) holds h = record { given = tt; of_kind = tt; damage = damaged (parts_of seen items) window n holds h }
 
--- a read fails only where the counter of a part rose
-pub failed_rose : (parts : List Part) (d : Dimensions) (window : Window) (cells : List Cell) (before after : List ℕ) (result : Result (Unit {0}) SourceFail)
-    → IsAnswer parts d window cells before after result → IsErrOf result Failed → SomeRose before after
-failed_rose parts d window cells before after (Ok done) h err = cc
-failed_rose parts d window cells before after (Err Failed) h err = h
-failed_rose parts d window cells before after (Err (Damaged n)) h err = cc
+-- the same where the shape is known by an equation
+pub looks_at : {S : Type 0} (seen : S → Source) (items : List S) (d : Dimensions) (window : Window) (cells : List Cell) (asked : ℕ) (result : Result (Unit {0}) SourceFail)
+    → d ≡ mosaic_shape (parts_of seen items) → Holds (whole_window (mosaic_shape (parts_of seen items))) window → IsAnswer (parts_of seen items) d window cells result
+    → Looks (mosaic_source seen items asked) window cells result
+looks_at seen items d window cells asked result shape holds h =
+    looks seen items window cells asked result holds (subst (λ (e : Dimensions). IsAnswer (parts_of seen items) e window cells result) shape h)
+
+-- what is counted of the parts is counted of the mosaic
+pub counts : {S : Type 0} (seen : S → Source) (items after : List S) (asked asked_then cells : ℕ) (failed : Bool) → asked_then ≡ asked_after asked cells → OnlyReads seen items after
+    → (failed ≡ true → SomeRose (fault_counts seen items) (fault_counts seen after)) → (failed ≡ false → after ≡ items)
+    → CountsRead (mosaic_source seen items asked) cells failed (mosaic_source seen after asked_then)
+counts seen items after asked asked_then cells failed counted only rose still = record {
+  asked = counted;
+  falls = count_falls seen items after only.falls;
+  rose = λ met. count_rose seen items after only.falls (rose met);
+  still = λ none. ap (fault_count seen) (still none);
+  shape = ap mosaic_shape only.same;
+  kind = ap first_kind only.same;
+  contents = ap mosaic_contents only.same;
+}
 
 -- a window without positions
 pub empty_read : (parts : List Part) (d : Dimensions) (window : Window) (cells : List Cell) → IsEmpty window → length cells ≡ position_count window → IsRead parts d window cells
@@ -193,12 +179,3 @@ empty_read parts d window cells empty long = record {
   undamaged = λ visible p in_. absurd (empty p in_);
   of_kind = ap (list_all (is_null_or_of (first_kind parts))) (nil_from_length cells (long ∙ count_of_empty window empty));
 }
-
--- the same where the shape and the number of cells asked are known by equations
-pub reads_at : {S : Type 0} (seen : S → Source) (items after : List S) (d : Dimensions) (window : Window) (cells : List Cell) (asked asked_then : ℕ) (result : Result (Unit {0}) SourceFail)
-    → d ≡ mosaic_shape (parts_of seen items) → asked_then ≡ asked_after asked (position_count window) → Holds (whole_window (mosaic_shape (parts_of seen items))) window → OnlyReads seen items after
-    → IsAnswer (parts_of seen items) d window cells (fault_counts seen items) (fault_counts seen after) result
-    → Reads (mosaic_source seen items asked) window cells (mosaic_source seen after asked_then) result
-reads_at seen items after d window cells asked asked_then result shape counted holds only h =
-    subst (λ (n : ℕ). Reads (mosaic_source seen items asked) window cells (mosaic_source seen after n) result) (sym counted)
-    (reads seen items after window cells asked result holds only (subst (λ (e : Dimensions). IsAnswer (parts_of seen items) e window cells (fault_counts seen items) (fault_counts seen after) result) shape h))

@@ -13,7 +13,6 @@ use Rattle.oe_dims.specs.Dimensions.{Dimensions, IsShape}
 use Rattle.oe_dims.specs.Positions.{Position, number_of, tuple_of}
 use Rattle.oe_dims.specs.declared.kind.CellKind.{CellKind}
 use Rattle.oe_dims.proofs.ShapeLemmas.{cell_count_within}
-use Rattle.oe_mosaic.specs.MosaicLaws.{HasAllLabels}
 use Rattle.oe_mosaic.specs.Mosaics.{Part, deciding_part, fault_counts, first_kind, is_damaged_at, mosaic_cell, part_of, parts_of}
 use Rattle.oe_mosaic.specs.PartFaults.{NoneFalls, SomeRose}
 use Rattle.oe_mosaic.specs.Parts.{ArePartsOfOne}
@@ -21,12 +20,14 @@ use Rattle.oe_mosaic.specs.Places.{AreHalves, HasBox, IsSingle, first_of, moved}
 use Rattle.oe_mosaic.specs.Readings.{AreApart, IsAnswer, IsDamagedThere, IsFoundIn, IsRead, OnlyReads}
 use Rattle.oe_mosaic.proofs.BoxLemmas.{box_cells, box_damaged, box_undamaged}
 use Rattle.oe_mosaic.proofs.DecideLemmas.{cell_none, damage_none, none_decides, one_visible}
-use Rattle.oe_mosaic.proofs.FaultLemmas.{none_refl, none_trans, rose_later, set_falls, set_rose}
+use Rattle.oe_mosaic.proofs.FaultLemmas.{none_refl, set_falls, set_rose}
 use Rattle.oe_mosaic.proofs.FindLemmas.{part_at}
 use Rattle.oe_mosaic.proofs.MosaicLemmas.{kind_of_each}
 use Rattle.oe_mosaic.proofs.PartLemmas.{get_there}
 use Rattle.oe_outside.specs.Faults.{NeverFalls, Rose}
-use Rattle.oe_sources.specs.Source.{AreCellsOf, Contents, IsDamagedIn, Reads, Source, collection_with}
+use Rattle.oe_sources.specs.Source.{AreCellsOf, Contents, CountsRead, IsDamagedIn, Looks, Source, answer_of, collection_with}
+use Rattle.oe_sources.specs.declared.source.LookFail.{LookFail}
+use Rattle.oe_sources.specs.declared.source.LookFail.TheVariants as look
 use Rattle.oe_sources.specs.declared.source.SourceFail.{SourceFail}
 use Rattle.oe_sources.specs.declared.source.SourceFail.TheVariants.{Failed, Damaged}
 use Rattle.oe_sources.proofs.SourceLemmas.{null_fits}
@@ -189,19 +190,16 @@ two_read parts d window front back one two halves first second = record {
 pub wider : (parts : List Part) (d : Dimensions) (window part : Window) (n : ℕ) → Holds window part → IsDamagedThere parts d part n → IsDamagedThere parts d window n
 wider parts d window part n holds h = record { position = h.position; inside = holds h.position h.inside; numbered = h.numbered; damaged = h.damaged }
 
-pub front_fails : (parts : List Part) (d : Dimensions) (window front back : Window) (one cells : List Cell) (before mid : List ℕ) (fail : SourceFail) → AreHalves window front back
-    → IsAnswer parts d front one before mid (Err fail) → IsAnswer parts d window cells before mid (Err fail)
-front_fails parts d window front back one cells before mid Failed halves h = h
-front_fails parts d window front back one cells before mid (Damaged n) halves h = wider parts d window front n halves.front_within h
+pub front_fails : (parts : List Part) (d : Dimensions) (window front back : Window) (one cells : List Cell) (fail : LookFail) → AreHalves window front back
+    → IsAnswer parts d front one (answer_of (Err fail)) → IsAnswer parts d window cells (answer_of (Err fail))
+front_fails parts d window front back one cells (look.Failed fault) halves h = tt
+front_fails parts d window front back one cells (look.Damaged n) halves h = wider parts d window front n halves.front_within h
 
-pub back_answers : (parts : List Part) (d : Dimensions) (window front back : Window) (one two : List Cell) (before mid after : List ℕ) (result : Result (Unit {0}) SourceFail) → AreHalves window front back
-    → IsRead parts d front one → NoneFalls before mid → IsAnswer parts d back two mid after result → IsAnswer parts d window (one ++ two) before after result
-back_answers parts d window front back one two before mid after (Ok done) halves first falls h = two_read parts d window front back one two halves first h
-back_answers parts d window front back one two before mid after (Err Failed) halves first falls h = rose_later before mid after falls h
-back_answers parts d window front back one two before mid after (Err (Damaged n)) halves first falls h = wider parts d window back n halves.back_within h
-
-pub only_trans : {S : Type 0} (seen : S → Source) (a b c : List S) → OnlyReads seen a b → OnlyReads seen b c → OnlyReads seen a c
-only_trans seen a b c h k = record { falls = none_trans (fault_counts seen a) (fault_counts seen b) (fault_counts seen c) h.falls k.falls; same = k.same ∙ h.same }
+pub back_answers : (parts : List Part) (d : Dimensions) (window front back : Window) (one two : List Cell) (result : Result (Unit {0}) SourceFail) → AreHalves window front back
+    → IsRead parts d front one → IsAnswer parts d back two result → IsAnswer parts d window (one ++ two) result
+back_answers parts d window front back one two (Ok done) halves first h = two_read parts d window front back one two halves first h
+back_answers parts d window front back one two (Err Failed) halves first h = tt
+back_answers parts d window front back one two (Err (Damaged n)) halves first h = wider parts d window back n halves.back_within h
 
 pub only_refl : {S : Type 0} (seen : S → Source) (a : List S) → OnlyReads seen a a
 only_refl seen a = record { falls = none_refl (fault_counts seen a); same = refl }
@@ -225,28 +223,29 @@ same_part before after shape kind contents =
     ∙ ap (λ (k : CellKind). record { shape = before.shape; kind = k; contents = after.contents }) kind
     ∙ ap (λ (c : Option Contents). record { shape = before.shape; kind = before.kind; contents = c }) contents
 
-pub part_only : {S : Type 0} (seen : S → Source) (items after : List S) (box : Window) (k : ℕ) (old new : S) (cells : List Cell) (result : Result (Unit {0}) SourceFail)
-    → k < length items → old ≡ get_or items k old → after ≡ set items k new → Reads (seen old) box cells (seen new) result → OnlyReads seen items after
-part_only seen items after box k old new cells result below is set_is reads =
-    one_read seen items after k old new (get_there items k old below ∙ ap Some (sym is)) set_is reads.cause.count
-    (same_part (seen old) (seen new) reads.shape reads.kind reads.contents)
+pub count_only : {S : Type 0} (seen : S → Source) (items after : List S) (k : ℕ) (old new : S) (cells : ℕ) (failed : Bool)
+    → k < length items → old ≡ get_or items k old → after ≡ set items k new → CountsRead (seen old) cells failed (seen new) → OnlyReads seen items after
+count_only seen items after k old new cells failed below is set_is counts =
+    one_read seen items after k old new (get_there items k old below ∙ ap Some (sym is)) set_is counts.falls
+    (same_part (seen old) (seen new) counts.shape counts.kind counts.contents)
 
-pub part_ok : {S : Type 0} (seen : S → Source) (items : List S) (d : Dimensions) (window box : Window) (k : ℕ) (old new : S) (cells : List Cell) (done : Unit {0})
-    → ArePartsOfOne (parts_of seen items) → k < length items → old ≡ get_or items k old → AreApart (parts_of seen items) d window k → IsFoundIn (parts_of seen items) d window k box
-    → Holds (whole_window d) window → length cells ≡ position_count window → Reads (seen old) box cells (seen new) (Ok done) → IsRead (parts_of seen items) d window cells
-part_ok seen items d window box k old new cells done h below is apart found holds long reads =
-    part_read (parts_of seen items) d window box k (part_of (seen old)) cells h (part_at seen items k old below is) apart (item_box seen items d window box k old below is found) holds long reads.given reads.of_kind
+pub count_rose_in : {S : Type 0} (seen : S → Source) (items after : List S) (k : ℕ) (old new : S) (cells : ℕ) (failed : Bool)
+    → k < length items → old ≡ get_or items k old → after ≡ set items k new → CountsRead (seen old) cells failed (seen new) → failed ≡ true
+    → SomeRose (fault_counts seen items) (fault_counts seen after)
+count_rose_in seen items after k old new cells failed below is set_is counts met =
+    one_rose seen items after k old new (get_there items k old below ∙ ap Some (sym is)) set_is (counts.rose met)
 
-pub part_failed : {S : Type 0} (seen : S → Source) (items after : List S) (box : Window) (k : ℕ) (old new : S) (cells : List Cell)
-    → k < length items → old ≡ get_or items k old → after ≡ set items k new → Reads (seen old) box cells (seen new) (Err Failed) → SomeRose (fault_counts seen items) (fault_counts seen after)
-part_failed seen items after box k old new cells below is set_is reads =
-    one_rose seen items after k old new (get_there items k old below ∙ ap Some (sym is)) set_is (reads.cause.failed refl)
+pub part_ok : {S : Type 0} (seen : S → Source) (items : List S) (d : Dimensions) (window box : Window) (k : ℕ) (item : S) (cells : List Cell) (done : Unit {0})
+    → ArePartsOfOne (parts_of seen items) → k < length items → item ≡ get_or items k item → AreApart (parts_of seen items) d window k → IsFoundIn (parts_of seen items) d window k box
+    → Holds (whole_window d) window → length cells ≡ position_count window → Looks (seen item) box cells (Ok done) → IsRead (parts_of seen items) d window cells
+part_ok seen items d window box k item cells done h below is apart found holds long looks =
+    part_read (parts_of seen items) d window box k (part_of (seen item)) cells h (part_at seen items k item below is) apart (item_box seen items d window box k item below is found) holds long looks.given looks.of_kind
 
-pub part_damaged : {S : Type 0} (seen : S → Source) (items : List S) (d : Dimensions) (window box : Window) (k n : ℕ) (old new : S) (cells : List Cell)
-    → ArePartsOfOne (parts_of seen items) → k < length items → old ≡ get_or items k old → AreApart (parts_of seen items) d window k → IsFoundIn (parts_of seen items) d window k box
-    → IsSingle window → ¬ IsEmpty window → Reads (seen old) box cells (seen new) (Err (Damaged n)) → IsDamagedThere (parts_of seen items) d window (number_of d (first_of window))
-part_damaged seen items d window box k n old new cells h below is apart found single some reads =
-    single_damaged (parts_of seen items) d window box k n (part_of (seen old)) h (part_at seen items k old below is) apart (item_box seen items d window box k old below is found) single some reads.damage
+pub part_damaged : {S : Type 0} (seen : S → Source) (items : List S) (d : Dimensions) (window box : Window) (k n : ℕ) (item : S) (cells : List Cell)
+    → ArePartsOfOne (parts_of seen items) → k < length items → item ≡ get_or items k item → AreApart (parts_of seen items) d window k → IsFoundIn (parts_of seen items) d window k box
+    → IsSingle window → ¬ IsEmpty window → Looks (seen item) box cells (Err (Damaged n)) → IsDamagedThere (parts_of seen items) d window (number_of d (first_of window))
+part_damaged seen items d window box k n item cells h below is apart found single some looks =
+    single_damaged (parts_of seen items) d window box k n (part_of (seen item)) h (part_at seen items k item below is) apart (item_box seen items d window box k item below is found) single some looks.damage
 
 -- ---- how many positions the halves have
 
@@ -264,16 +263,5 @@ back_holds d window front back h holds p in_ = holds p (h.back_within p in_)
 pub few_positions : (d : Dimensions) (window : Window) → IsShape d → Holds (whole_window d) window → position_count window < 2 ^ 64
 few_positions d window valid holds = omega (arith, count_within d window holds, cell_count_within d valid)
 
-pub parts_after : {S : Type 0} (seen : S → Source) (items after : List S) → OnlyReads seen items after → ArePartsOfOne (parts_of seen items) → ArePartsOfOne (parts_of seen after)
-parts_after seen items after only h = subst ArePartsOfOne (sym only.same) h
-
-pub labels_after : {S : Type 0} (seen : S → Source) (items after : List S) (d : Dimensions) → OnlyReads seen items after → HasAllLabels (parts_of seen items) d → HasAllLabels (parts_of seen after) d
-labels_after seen items after d only h = subst (λ (parts : List Part). HasAllLabels parts d) (sym only.same) h
-
 pub old_item : {S : Type 0} (items : List S) (k : ℕ) (item : S) → get_or items k item ≡ item → get_or items k item ≡ get_or items k (get_or items k item)
 old_item items k item is = sym (ap (get_or items k) is)
-
-pub fails_earlier : (parts : List Part) (d : Dimensions) (window : Window) (cells : List Cell) (start before after : List ℕ) (fail : SourceFail) → NoneFalls start before
-    → IsAnswer parts d window cells before after (Err fail) → IsAnswer parts d window cells start after (Err fail)
-fails_earlier parts d window cells start before after Failed falls h = rose_later start before after falls h
-fails_earlier parts d window cells start before after (Damaged n) falls h = h

@@ -8,13 +8,13 @@ use Rattle.oe_dims.specs.Cube.{tabulate}
 use Rattle.oe_dims.specs.Dimensions.{Dimensions}
 use Rattle.oe_dims.specs.Positions.{Position, number_of, tuple_of}
 use Rattle.oe_mosaic.specs.Mosaics.{Part, are_visible, fault_counts, first_kind, is_damaged_at, mosaic_cell, parts_of}
-use Rattle.oe_mosaic.specs.PartFaults.{NoneFalls, SomeRose}
+use Rattle.oe_mosaic.specs.PartFaults.{NoneFalls}
 use Rattle.oe_mosaic.specs.Places.{HasBox, HasNoTupleOf, side_sum}
 use Rattle.oe_mosaic.specs.declared.reading.Found.{Found}
 use Rattle.oe_mosaic.specs.declared.reading.Found.TheVariants as found
 use Rattle.oe_mosaic.specs.declared.reading.Tried.{Tried}
 use Rattle.oe_mosaic.specs.declared.reading.Tried.TheVariants as tried
-use Rattle.oe_sources.specs.Source.{Source}
+use Rattle.oe_sources.specs.Source.{Source, answer_of}
 use Rattle.oe_sources.specs.declared.source.SourceFail.{SourceFail}
 use Rattle.oe_sources.specs.declared.source.SourceFail.TheVariants as fail
 use Rattle.oe_window.specs.Cells.{cells_on}
@@ -52,19 +52,18 @@ pub record IsDamagedThere (parts : List Part) (d : Dimensions) (window : Window)
   pub numbered : number_of d position ≡ number
   pub damaged : are_visible parts ≡ true → is_damaged_at parts (tuple_of d position) ≡ true
 
--- what reading a window answers, given the fault counters of the parts before and after
-abbrev pub IsAnswer : List Part → Dimensions → Window → List Cell → List ℕ → List ℕ → Result (Unit {0}) SourceFail
-    → Type 0
-IsAnswer parts d window cells before after (Ok done) = IsRead parts d window cells
-IsAnswer parts d window cells before after (Err fail.Failed) = SomeRose before after
-IsAnswer parts d window cells before after (Err (fail.Damaged number)) = IsDamagedThere parts d window number
+-- what looking at a window answers
+abbrev pub IsAnswer : List Part → Dimensions → Window → List Cell → Result (Unit {0}) SourceFail → Type 0
+IsAnswer parts d window cells (Ok done) = IsRead parts d window cells
+IsAnswer parts d window cells (Err fail.Failed) = Unit {0}
+IsAnswer parts d window cells (Err (fail.Damaged number)) = IsDamagedThere parts d window number
 
--- the same of a try, which leaves what is to be read in two halves
-abbrev pub IsTried : List Part → Dimensions → Window → List Cell → List ℕ → List ℕ → Tried → Type 0
-IsTried parts d window cells before after (tried.Done result) = IsAnswer parts d window cells before after result
-IsTried parts d window cells before after (tried.Cut seam) = 4 < side_sum window
+-- the same of a try, which leaves what is to be looked at in two halves
+abbrev pub IsTried : List Part → Dimensions → Window → List Cell → Tried → Type 0
+IsTried parts d window cells (tried.Done result) = IsAnswer parts d window cells (answer_of result)
+IsTried parts d window cells (tried.Cut seam) = 4 < side_sum window
 
--- reading changes the counters of the parts alone
+-- counting changes the counters of the parts alone
 pub record OnlyReads {S : Type 0} (seen : S → Source) (before after : List S) : Type 0 where
   pub falls : NoneFalls (fault_counts seen before) (fault_counts seen after)
   pub same : parts_of seen after ≡ parts_of seen before

@@ -7,12 +7,12 @@ ghost use Rattle.oe_mosaic.specs.Mosaics.{bands_of_parts, labels_of_parts, mosai
 
 use crate::Parts;
 use crate::labels::{join_bands, join_labels};
-use crate::reading::read_any;
+use crate::reading::{count_looks, look_any};
 use oe_cell::Cell;
 use oe_dims::{CellKind, Kind, Shape, Text};
 use oe_memory::OutOfMemory;
-use oe_sources::{CubeSource, SourceFail};
-use oe_window::{Window, size};
+use oe_sources::{CubeSource, LookFail, Looking, ReadFault, SharedSource};
+use oe_window::Window;
 use std::alloc::Global;
 use std::marker::Model;
 
@@ -52,12 +52,7 @@ impl<S: CubeSource> Model for Mosaic<S> {
 }
 
 impl<S: CubeSource> Mosaic<S> {
-    ghost use Rattle.std.specs.Prelude.{IsErrOf};
-    ghost use Rattle.oe_mosaic.specs.Mosaics.{fault_counts};
-    ghost use Rattle.oe_mosaic.specs.MosaicStates.{TellsWhy, parts_handed, source_of};
-    ghost use Rattle.oe_mosaic.specs.PartFaults.{SomeRose};
-    ghost use Rattle.oe_sources.specs.Source.{Reads};
-    ghost use Rattle.oe_window.specs.Windows.{Holds, position_count, whole_window};
+    ghost use Rattle.oe_mosaic.specs.MosaicStates.{TellsWhy, parts_handed};
 
     /// The mosaic of these parts, of which nothing was asked yet.
     ///
@@ -84,22 +79,6 @@ impl<S: CubeSource> Mosaic<S> {
         }
     }
 
-    /// Reads the cells of a window in row-major order, as [`CubeSource::read`] does. It takes no memory, and asks a part
-    /// only for windows that the part has.
-    ///
-    /// Refuses: as that; and `Failed` only where the fault counter of a part rose.
-    pub fn read_parts(&mut self, window: &Window, into: &mut [Cell]) -> Result<(), SourceFail>
-        requires inside { Holds (whole_window (source_of S.seen self.old).shape) window.now }
-        requires room { length into.old ≡ position_count window.now }
-        ensures reads { Reads (source_of S.seen self.old) window.now into.new
-            (source_of S.seen self.new) result }
-        ensures failed { IsErrOf result SourceFail.Failed → SomeRose
-            (fault_counts S.seen self.old.parts) (fault_counts S.seen self.new.parts) }
-    {
-        self.asked = self.asked.saturating_add(size(window));
-        read_any(self.items.as_mut_slice(), &self.shape, window, into)
-    }
-
     /// All parts, in their order. It takes no memory.
     pub fn parts(self) -> Parts<S>
         ensures { result ≡ self.parts }
@@ -114,7 +93,11 @@ impl<S: CubeSource> Mosaic<S> {
 }
 
 impl<S: CubeSource> CubeSource for Mosaic<S> {
+    ghost use Rattle.std.specs.Prelude.{◌≡◌, is_some, true};
+    ghost use Rattle.oe_mosaic.specs.Mosaics.{fault_counts};
     ghost use Rattle.oe_mosaic.specs.MosaicStates.{source_of};
+    ghost use Rattle.oe_mosaic.specs.PartFaults.{SomeRose};
+    ghost use Rattle.oe_sources.specs.Source.{CountsRead};
 
     ghost seen = { λ m. source_of S.seen m };
 
@@ -127,10 +110,35 @@ impl<S: CubeSource> CubeSource for Mosaic<S> {
         self.items[0].kind()
     }
 
-    fn read(&mut self, window: &Window, into: &mut [Cell]) -> Result<(), SourceFail> {
-        self.read_parts(window, into)
+    fn look(
+        &self,
+        looking: &Looking,
+        window: &Window,
+        bytes: &mut [u8],
+        into: &mut [Cell],
+    ) -> Result<(), LookFail> {
+        look_any(
+            self.items.as_slice(),
+            &self.shape,
+            looking,
+            window,
+            bytes,
+            into,
+        )
+    }
+
+    /// The fault counter that rises is that of a part.
+    fn count(&mut self, cells: u64, fault: Option<ReadFault>)
+        ensures counted { CountsRead (source_of S.seen self.old) cells (is_some fault)
+            (source_of S.seen self.new) }
+        ensures rose { is_some fault ≡ true → SomeRose
+            (fault_counts S.seen self.old.parts) (fault_counts S.seen self.new.parts) }
+    {
+        count_looks(self.items.as_mut_slice(), &mut self.asked, cells, fault);
     }
 }
+
+impl<S: SharedSource> SharedSource for Mosaic<S> {}
 
 /// All labels of the parts along t, y or x.
 fn labels_of<S: CubeSource>(

@@ -1,12 +1,14 @@
-// A window of a mosaic read from its parts.
-ghost use Rattle.std.specs.Prelude.{◌≡◌, ◌<◌, ℕ, length, slice_index_or};
+// A window of a mosaic looked at in its parts, and what is counted of it.
+ghost use Rattle.std.specs.Prelude.{◌≡◌, ◌<◌, ℕ, false, is_some, length, slice_index_or, true};
 ghost use Rattle.oe_dims.specs.Dimensions.{IsShape, extent};
 ghost use Rattle.oe_dims.specs.Positions.{number_of};
 ghost use Rattle.oe_mosaic.specs.MosaicLaws.{HasAllLabels};
 ghost use Rattle.oe_mosaic.specs.Mosaics.{fault_counts, parts_of};
+ghost use Rattle.oe_mosaic.specs.PartFaults.{SomeRose};
 ghost use Rattle.oe_mosaic.specs.Parts.{ArePartsOfOne};
 ghost use Rattle.oe_mosaic.specs.Places.{first_of, side_sum};
 ghost use Rattle.oe_mosaic.specs.Readings.{Finds, IsAnswer, IsTried, OnlyReads};
+ghost use Rattle.oe_sources.specs.Source.{answer_of, asked_after};
 ghost use Rattle.oe_window.specs.Windows.{Holds, IsEmpty, position_count, whole_window};
 
 use crate::halves::{halves, is_single};
@@ -14,7 +16,7 @@ use crate::place::{Place, place_of};
 use crate::seam::seam;
 use oe_cell::Cell;
 use oe_dims::{Kind, Shape};
-use oe_sources::{CubeSource, SourceFail};
+use oe_sources::{CubeSource, LookFail, Looking, ReadFault};
 use oe_window::{Window, extent_of, size};
 
 /// Which part decides about the tuples of a window.
@@ -28,12 +30,12 @@ pub enum Found {
     Across(usize),
 }
 
-/// What came of reading a window at once.
+/// What came of looking at a window at once.
 #[derive(Drop)]
 pub enum Tried {
     /// This is the answer.
-    Done(Result<(), SourceFail>),
-    /// It is to be read in two halves, cut behind so many indices of the outermost dimension with several, or in the
+    Done(Result<(), LookFail>),
+    /// It is to be looked at in two halves, cut behind so many indices of the outermost dimension with several, or in the
     /// middle.
     Cut(usize),
 }
@@ -99,21 +101,22 @@ fn fill_null(into: &mut [Cell])
     }
 }
 
-/// Reads a window at once where one part decides about all of it, or none.
+/// Looks at a window at once where one part decides about all of it, or none.
 fn try_window<S: CubeSource>(
-    items: &mut [S],
+    items: &[S],
     shape: &Shape,
+    looking: &Looking,
     window: &Window,
+    bytes: &mut [u8],
     into: &mut [Cell],
 ) -> Tried
     requires inside { Holds (whole_window shape.now) window.now }
     requires filled { ¬ IsEmpty window.now }
     requires room { length into.old ≡ position_count window.now }
-    requires parts { ArePartsOfOne (parts_of S.seen items.old) }
-    requires labels { HasAllLabels (parts_of S.seen items.old) shape.now }
-    ensures tried { IsTried (parts_of S.seen items.old) shape.now window.now into.new
-        (fault_counts S.seen items.old) (fault_counts S.seen items.new) result }
-    ensures reads { OnlyReads S.seen items.old items.new }
+    requires bytes { length bytes.old ≡ 65536 }
+    requires parts { ArePartsOfOne (parts_of S.seen items.now) }
+    requires labels { HasAllLabels (parts_of S.seen items.now) shape.now }
+    ensures { IsTried (parts_of S.seen items.now) shape.now window.now into.new result }
 {
     match find(items, shape, window) {
         Found::Nowhere => {
@@ -121,12 +124,14 @@ fn try_window<S: CubeSource>(
             Tried::Done(Ok(()))
         }
         Found::Across(seam) => Tried::Cut(seam),
-        Found::In(index, part) => match items[index].read(&part, into) {
+        Found::In(index, part) => match items[index].look(looking, &part, bytes, into) {
             Ok(()) => Tried::Done(Ok(())),
-            Err(SourceFail::Failed) => Tried::Done(Err(SourceFail::Failed)),
-            Err(SourceFail::Damaged(_)) => {
+            Err(LookFail::Failed(fault)) => {
+                Tried::Done(Err(LookFail::Failed(fault.in_part(index as u32))))
+            }
+            Err(LookFail::Damaged(_)) => {
                 if is_single(window) {
-                    Tried::Done(Err(SourceFail::Damaged(first_number(shape, window))))
+                    Tried::Done(Err(LookFail::Damaged(first_number(shape, window))))
                 } else {
                     Tried::Cut(0)
                 }
@@ -135,55 +140,91 @@ fn try_window<S: CubeSource>(
     }
 }
 
-/// Reads the cells of a window, in row-major order, and asks each part only for what it decides. Where a position is
-/// damaged, the halves are read until it is found.
-fn read_window<S: CubeSource>(
-    items: &mut [S],
+/// Gives the cells of a window, in row-major order, and looks at each part only for what it decides. Where a position is
+/// damaged, the halves are looked at until it is found.
+fn look_window<S: CubeSource>(
+    items: &[S],
     shape: &Shape,
+    looking: &Looking,
     window: &Window,
+    bytes: &mut [u8],
     into: &mut [Cell],
-) -> Result<(), SourceFail>
+) -> Result<(), LookFail>
     requires inside { Holds (whole_window shape.now) window.now }
     requires filled { ¬ IsEmpty window.now }
     requires room { length into.old ≡ position_count window.now }
-    requires parts { ArePartsOfOne (parts_of S.seen items.old) }
-    requires labels { HasAllLabels (parts_of S.seen items.old) shape.now }
-    ensures answer { IsAnswer (parts_of S.seen items.old) shape.now window.now into.new
-        (fault_counts S.seen items.old) (fault_counts S.seen items.new) result }
-    ensures reads { OnlyReads S.seen items.old items.new }
+    requires bytes { length bytes.old ≡ 65536 }
+    requires parts { ArePartsOfOne (parts_of S.seen items.now) }
+    requires labels { HasAllLabels (parts_of S.seen items.now) shape.now }
+    ensures { IsAnswer (parts_of S.seen items.now) shape.now window.now into.new
+        (answer_of result) }
 {
-    match try_window(items, shape, window, into) {
+    match try_window(items, shape, looking, window, bytes, into) {
         Tried::Done(result) => result,
         Tried::Cut(seam) => {
             let _epsg = shape.epsg();
             let (front, back) = halves(window, seam);
             let (first, second) = into.split_at_mut(size(&front) as usize);
-            match read_window(items, shape, &front, first) {
-                Ok(()) => read_window(items, shape, &back, second),
+            match look_window(items, shape, looking, &front, bytes, first) {
+                Ok(()) => look_window(items, shape, looking, &back, bytes, second),
                 Err(fail) => Err(fail),
             }
         }
     }
 }
 
-/// Reads the cells of a window, which may be empty.
-#[tactic(auto, using(crate::proofs::MosaicLemmas::empty_read, crate::proofs::ReadLemmas::only_refl))]
-pub fn read_any<S: CubeSource>(
-    items: &mut [S],
+/// Gives the cells of a window, which may be empty.
+pub fn look_any<S: CubeSource>(
+    items: &[S],
     shape: &Shape,
+    looking: &Looking,
     window: &Window,
+    bytes: &mut [u8],
     into: &mut [Cell],
-) -> Result<(), SourceFail>
+) -> Result<(), LookFail>
     requires inside { Holds (whole_window shape.now) window.now }
     requires room { length into.old ≡ position_count window.now }
-    requires parts { ArePartsOfOne (parts_of S.seen items.old) }
-    requires labels { HasAllLabels (parts_of S.seen items.old) shape.now }
-    ensures answer { IsAnswer (parts_of S.seen items.old) shape.now window.now into.new
-        (fault_counts S.seen items.old) (fault_counts S.seen items.new) result }
-    ensures reads { OnlyReads S.seen items.old items.new }
+    requires bytes { length bytes.old ≡ 65536 }
+    requires parts { ArePartsOfOne (parts_of S.seen items.now) }
+    requires labels { HasAllLabels (parts_of S.seen items.now) shape.now }
+    ensures { IsAnswer (parts_of S.seen items.now) shape.now window.now into.new
+        (answer_of result) }
 {
     if window.is_empty() {
         return Ok(());
     }
-    read_window(items, shape, window, into)
+    look_window(items, shape, looking, window, bytes, into)
+}
+
+/// Counts so many cells as asked of a mosaic, and the fault that one of its parts met, which that part counts.
+pub fn count_looks<S: CubeSource>(
+    items: &mut [S],
+    asked: &mut u64,
+    cells: u64,
+    fault: Option<ReadFault>,
+)
+    requires { 0 < length items.old }
+    ensures asked { asked.new ≡ asked_after asked.old cells }
+    ensures only { OnlyReads S.seen items.old items.new }
+    ensures rose { is_some fault ≡ true
+        → SomeRose (fault_counts S.seen items.old) (fault_counts S.seen items.new) }
+    ensures still { is_some fault ≡ false → items.new ≡ items.old }
+{
+    *asked = asked.saturating_add(cells);
+    if fault.is_some() {
+        let part = part_of(&fault, items.len());
+        items[part].count(0, fault);
+    }
+}
+
+/// The place of the part that met a fault, among so many parts.
+fn part_of(fault: &Option<ReadFault>, parts: usize) -> usize
+    requires { 0 < parts }
+    ensures { result < parts }
+{
+    let part = match fault {
+        Some(fault) => fault.part() as usize,
+        None => 0,
+    };
+    part.min(parts - 1)
 }
