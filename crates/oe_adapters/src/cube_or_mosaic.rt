@@ -2,7 +2,7 @@
 use oe_cell::Cell;
 use oe_dims::{CellKind, Shape};
 use oe_mosaic::Mosaic;
-use oe_sources::{CubeSource, SourceFail};
+use oe_sources::{CubeSource, LookFail, Looking, ReadFault, SharedSource, SourceFail};
 use oe_window::Window;
 
 /// One collection, or a mosaic of several.
@@ -31,6 +31,26 @@ impl<S: CubeSource> CubeSource for CubeOrMosaic<S> {
         }
     }
 
+    fn look(
+        &self,
+        looking: &Looking,
+        window: &Window,
+        bytes: &mut [u8],
+        into: &mut [Cell],
+    ) -> Result<(), LookFail> {
+        match self {
+            CubeOrMosaic::Cube(cube) => cube.look(looking, window, bytes, into),
+            CubeOrMosaic::Mosaic(mosaic) => mosaic.look(looking, window, bytes, into),
+        }
+    }
+
+    fn count(&mut self, cells: u64, fault: Option<ReadFault>) {
+        match self {
+            CubeOrMosaic::Cube(cube) => cube.count(cells, fault),
+            CubeOrMosaic::Mosaic(mosaic) => mosaic.count(cells, fault),
+        }
+    }
+
     fn read(&mut self, window: &Window, into: &mut [Cell]) -> Result<(), SourceFail> {
         match self {
             CubeOrMosaic::Cube(cube) => cube.read(window, into),
@@ -38,3 +58,5 @@ impl<S: CubeSource> CubeSource for CubeOrMosaic<S> {
         }
     }
 }
+
+impl<S: SharedSource> SharedSource for CubeOrMosaic<S> {}

@@ -2,7 +2,7 @@
 ghost use Rattle.std.specs.Prelude.{◌≡◌, ◌≤◌, length, None, IfSome};
 ghost use Rattle.oe_outside.specs.Faults.{NeverFalls, Rose};
 
-use oe_outside::{Failed, Store};
+use oe_outside::{Failed, SharedStore, Store};
 use std::io::{ErrorKind, Seek, SeekFrom};
 use std::os::unix::fs::FileExt;
 
@@ -66,6 +66,20 @@ impl<F: FileExt + Seek> Store for FileStore<F> {
             Ok(()) => Ok(()),
             Err(_) => Err(self.fail()),
         }
+    }
+}
+
+impl<F: FileExt + Seek> SharedStore for FileStore<F> {
+    /// Reads as `read_at` does.
+    fn look_at(&self, at: u64, into: &mut [u8]) -> Result<usize, Failed> {
+        match read_to_end(&self.file, at, into) {
+            Some(count) => Ok(count),
+            None => Err(Failed),
+        }
+    }
+
+    fn count_fault(&mut self) {
+        let _failed = self.fail();
     }
 }
 

@@ -6,7 +6,7 @@ use oe_jobs::Book;
 use oe_keeper::MemoryKeeper;
 use oe_lines::{Answers, Fault, end_line, first_word, number_of, numbers_of};
 use oe_routes::{Site, Tokens};
-use oe_sources::{Catalogue, CubeSource, MountFail};
+use oe_sources::{Catalogue, MountFail, SharedSource};
 use std::alloc::Global;
 use std::thread::Threads;
 
@@ -108,7 +108,7 @@ fn mounted(outcome: Result<(), MountFail>) -> Result<(), Fault> {
 }
 
 /// Where a collection was taken out, it is dropped here.
-fn taken_out(outcome: Option<Box<dyn CubeSource>>) -> Result<(), Fault> {
+fn taken_out(outcome: Option<Box<dyn SharedSource>>) -> Result<(), Fault> {
     match outcome {
         Some(_) => Ok(()),
         None => Err(Fault::Line),

@@ -17,7 +17,7 @@ returns-clause-asks g c =
     record {
       base = c.args.setup.now.site.now.base;
       tokens = c.args.setup.now.site.now.tokens;
-      rows = dims_of (rows_of (λ z. (goal.CubeSource-dyn g z).seen z.1) c.args.catalogue.now);
+      rows = dims_of (rows_of (λ z. (goal.SharedSource-dyn g z).CubeSource.seen z.1) c.args.catalogue.now);
       book = plain_book c.args.service.now.book;
       moment = c.args.now;
     } in
@@ -28,7 +28,7 @@ returns-clause-asks g c =
 
 pub returns-clause-may : goal.returns-clause-may
 returns-clause-may g c =
-    let rows = rows_of (λ z. (goal.CubeSource-dyn g z).seen z.1) c.args.catalogue.now in
+    let rows = rows_of (λ z. (goal.SharedSource-dyn g z).CubeSource.seen z.1) c.args.catalogue.now in
     let s : PlainScene =
     record {
       base = c.args.setup.now.site.now.base;

@@ -23,8 +23,8 @@ returns-in-Ok g c =
 pub returns-in-Err : goal.returns-in-Err
 returns-in-Err g c =
     subst (λ (refusal : ResultRefusal). Completes c.args.run.now c.evaluate.new.run
-    (rows_of (λ z. (goal.CubeSource-dyn g z).seen z.1) c.args.catalogue.now)
-    (rows_of (λ z. (goal.CubeSource-dyn g z).seen z.1) c.evaluate.new.catalogue)
+    (rows_of (λ z. (goal.SharedSource-dyn g z).CubeSource.seen z.1) c.args.catalogue.now)
+    (rows_of (λ z. (goal.SharedSource-dyn g z).CubeSource.seen z.1) c.evaluate.new.catalogue)
     (g.P.Store.bytes c.args.spool.now) (g.P.Store.bytes c.evaluate.new.spool) (g.P.Store.faults c.args.spool.now)
     (g.P.Store.faults c.evaluate.new.spool) (Err refusal)) (sym c.of_run.ensures)
     (not_completed c.args.run.now c.evaluate.new.run _ _ _ _ _ _ c.requires.going c.in-Err.fail c.in-Err.ensures)

@@ -21,7 +21,7 @@ judge_asset-requires-clause-within g c =
 
 pub returns-in_err-checked-clause-refused : goal.returns-in_err-checked-clause-refused
 returns-in_err-checked-clause-refused g c =
-    let dims = dims_of (rows_of (λ z. (goal.CubeSource-dyn g z).seen z.1) c.args.catalogue.now) in
+    let dims = dims_of (rows_of (λ z. (goal.SharedSource-dyn g z).CubeSource.seen z.1) c.args.catalogue.now) in
     let job = plain_job c.args.job.now in
     let few : c.len.result ≡ length c.args.job.now.assets.items = omega (arith, c.len.ensures, c.args.job.now.assets.ok.0) in
     let reason = c.in_err-checked.field-0.0 in
@@ -33,7 +33,7 @@ returns-in_err-checked-clause-refused g c =
 
 pub returns-in_err-plan-clause-refused : goal.returns-in_err-plan-clause-refused
 returns-in_err-plan-clause-refused g c =
-    let dims = dims_of (rows_of (λ z. (goal.CubeSource-dyn g z).seen z.1) c.args.catalogue.now) in
+    let dims = dims_of (rows_of (λ z. (goal.SharedSource-dyn g z).CubeSource.seen z.1) c.args.catalogue.now) in
     let job = plain_job c.args.job.now in
     let few : c.len.result ≡ length c.args.job.now.assets.items = omega (arith, c.len.ensures, c.args.job.now.assets.ok.0) in
     let fail = c.in_err-plan.field-0.0 in
@@ -51,7 +51,7 @@ returns-in_err-plan-clause-refused g c =
 
 pub returns-clause-run : goal.returns-clause-run
 returns-clause-run g c =
-    let dims = dims_of (rows_of (λ z. (goal.CubeSource-dyn g z).seen z.1) c.args.catalogue.now) in
+    let dims = dims_of (rows_of (λ z. (goal.SharedSource-dyn g z).CubeSource.seen z.1) c.args.catalogue.now) in
     let job = plain_job c.args.job.now in
     let few : c.len.result ≡ length c.args.job.now.assets.items = omega (arith, c.len.ensures, c.args.job.now.assets.ok.0) in
     let checked = c.in_ok-checked.checked in
@@ -63,7 +63,7 @@ returns-clause-run g c =
 
 pub returns-clause-going : goal.returns-clause-going
 returns-clause-going g c =
-    let rows = rows_of (λ z. (goal.CubeSource-dyn g z).seen z.1) c.args.catalogue.now in
+    let rows = rows_of (λ z. (goal.SharedSource-dyn g z).CubeSource.seen z.1) c.args.catalogue.now in
     let dims = dims_of rows in
     let job = plain_job c.args.job.now in
     let few : c.len.result ≡ length c.args.job.now.assets.items = omega (arith, c.len.ensures, c.args.job.now.assets.ok.0) in
@@ -76,7 +76,7 @@ returns-clause-going g c =
 
 pub returns-clause-plannable : goal.returns-clause-plannable
 returns-clause-plannable g c =
-    let dims = dims_of (rows_of (λ z. (goal.CubeSource-dyn g z).seen z.1) c.args.catalogue.now) in
+    let dims = dims_of (rows_of (λ z. (goal.SharedSource-dyn g z).CubeSource.seen z.1) c.args.catalogue.now) in
     let job = plain_job c.args.job.now in
     let few : c.len.result ≡ length c.args.job.now.assets.items = omega (arith, c.len.ensures, c.args.job.now.assets.ok.0) in
     let checked = c.in_ok-checked.checked in

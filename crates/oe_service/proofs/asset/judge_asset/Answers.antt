@@ -16,7 +16,7 @@ judge-requires-clause-stored_valid g c =
 
 pub returns-in-Ok-clause-checked : goal.returns-in-Ok-clause-checked
 returns-in-Ok-clause-checked g c =
-    judged (plain_rows c.in_ok-dims.dims) (dims_of (rows_of (λ z. (goal.CubeSource-dyn g z).seen z.1) c.args.catalogue.now))
+    judged (plain_rows c.in_ok-dims.dims) (dims_of (rows_of (λ z. (goal.SharedSource-dyn g z).CubeSource.seen z.1) c.args.catalogue.now))
     (map plain_stored c.deref.result.now) (plain_ran c.args.ran.now) c.args.index (plain_graph c.in_ok-graph.graph)
     c.in_ok-dims.ensures.rows (ap (map plain_stored) c.deref.ensures.value) c.in_ok-graph.ensures.graph c.in-Ok.checked
     c.in-Ok.ensures.checked
@@ -24,14 +24,14 @@ returns-in-Ok-clause-checked g c =
 pub returns-in-Ok-clause-none : goal.returns-in-Ok-clause-none
 returns-in-Ok-clause-none g c =
     judged_faultless (plain_rows c.in_ok-dims.dims)
-    (dims_of (rows_of (λ z. (goal.CubeSource-dyn g z).seen z.1) c.args.catalogue.now)) (map plain_stored c.deref.result.now)
+    (dims_of (rows_of (λ z. (goal.SharedSource-dyn g z).CubeSource.seen z.1) c.args.catalogue.now)) (map plain_stored c.deref.result.now)
     (plain_ran c.args.ran.now) c.args.index (plain_graph c.in_ok-graph.graph) c.in_ok-dims.ensures.rows
     (ap (map plain_stored) c.deref.ensures.value) c.in_ok-graph.ensures.graph c.in-Ok.ensures.none
 
 pub returns-in-Err-Fault-clause-refused : goal.returns-in-Err-Fault-clause-refused
 returns-in-Err-Fault-clause-refused g c =
     least_refused (plain_rows c.in_ok-dims.dims)
-    (dims_of (rows_of (λ z. (goal.CubeSource-dyn g z).seen z.1) c.args.catalogue.now)) (map plain_stored c.deref.result.now)
+    (dims_of (rows_of (λ z. (goal.SharedSource-dyn g z).CubeSource.seen z.1) c.args.catalogue.now)) (map plain_stored c.deref.result.now)
     (plain_ran c.args.ran.now) c.args.index (plain_graph c.in_ok-graph.graph) c.in_ok-dims.ensures.rows
     (ap (map plain_stored) c.deref.ensures.value) c.in_ok-graph.ensures.graph _ c.in-Err-Fault.fault
     c.in-Err-Fault.field-0-is c.in-Err-Fault.ensures.refused

@@ -9,7 +9,7 @@ use Rattle.oe_service.proofs.ticks.tick.Goals as goal
 
 pub returns-then-is_none : goal.returns-then-is_none
 returns-then-is_none g c =
-    let rows = rows_of (λ z. (goal.CubeSource-dyn g z).seen z.1) c.args.catalogue.now in
+    let rows = rows_of (λ z. (goal.SharedSource-dyn g z).CubeSource.seen z.1) c.args.catalogue.now in
     rw (to_z-of_z w64 c.args.now c.ranges.now) at (c.start.ensures rows (g.P.Store.bytes c.args.spool.now)
     (g.P.Store.faults c.args.spool.now))
 
@@ -33,5 +33,5 @@ returns-then-done-chunks g c = rw (to_z-of_z w64 c.args.now c.ranges.now) at c.r
 
 pub returns-else-done-chunks : goal.returns-else-done-chunks
 returns-else-done-chunks g c =
-    let rows = rows_of (λ z. (goal.CubeSource-dyn g z).seen z.1) c.args.catalogue.now in
+    let rows = rows_of (λ z. (goal.SharedSource-dyn g z).CubeSource.seen z.1) c.args.catalogue.now in
     rw (to_z-of_z w64 c.args.now c.ranges.now) at (c.store.ensures rows c.requires.service.going)

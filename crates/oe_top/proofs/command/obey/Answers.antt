@@ -54,7 +54,7 @@ returns-in-Some-Explain g c =
 
 pub returns-in-Some-Pack : goal.returns-in-Some-Pack
 returns-in-Some-Pack g c =
-    let rows = rows_of (λ z. (goal.CubeSource-dyn g z).seen z.1) c.args.catalogue.now in
+    let rows = rows_of (λ z. (goal.SharedSource-dyn g z).CubeSource.seen z.1) c.args.catalogue.now in
     ends_pack c.args.words.now c.index-words-1.result _ _ _ c.pack.result c.ending_of_pack.result c.ending_of_pack.ensures
     (rw c.in-Some-Pack.field-0-is at c.in-Some-Pack.ensures.some) c.index-words-1.is
     (c.pack.ensures (g.P.Store.bytes c.args.spool.now) (g.P.Store.faults c.args.spool.now) rows)

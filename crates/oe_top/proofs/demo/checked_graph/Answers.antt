@@ -7,5 +7,5 @@ returns-in-Ok-clause-checked g c = rw (c.in_ok-dims.ensures.rows, c.as_bytes.ens
 
 pub unreachable-requires : goal.unreachable-requires
 unreachable-requires g c =
-    no_fault (rows_of (λ z. (goal.CubeSource-dyn g z).seen z.1) c.args.catalogue.now) c.requires _ _
+    no_fault (rows_of (λ z. (goal.SharedSource-dyn g z).CubeSource.seen z.1) c.args.catalogue.now) c.requires _ _
     c.in_ok-dims.ensures.rows c.as_bytes.ensures.value _ _ c.in-Err-Graph.field-0-is c.in-Err-Graph.ensures

@@ -9,27 +9,27 @@ use Rattle.oe_top.proofs.demo.write_figures.Goals as goal
 
 pub complete-requires-clause-mounted : goal.complete-requires-clause-mounted
 complete-requires-clause-mounted g c = λ _ _.
-    c.collections_are_mounted.ensures c.args.run.plan (rows_of (λ z. (goal.CubeSource-dyn g z).seen z.1) c.args.catalogue.now)
+    c.collections_are_mounted.ensures c.args.run.plan (rows_of (λ z. (goal.SharedSource-dyn g z).CubeSource.seen z.1) c.args.catalogue.now)
     c.requires.begun.planned c.requires.found
 
 pub generated_never_failed-requires : goal.generated_never_failed-requires
 generated_never_failed-requires g c =
-    let rows = rows_of (λ z. (goal.CubeSource-dyn g z).seen z.1) c.args.catalogue.now in
-    let rows_after = rows_of (λ z. (goal.CubeSource-dyn g z).seen z.1) c.complete.new.catalogue in
+    let rows = rows_of (λ z. (goal.SharedSource-dyn g z).CubeSource.seen z.1) c.args.catalogue.now in
+    let rows_after = rows_of (λ z. (goal.SharedSource-dyn g z).CubeSource.seen z.1) c.complete.new.catalogue in
     record { mounted = has_row rows rows_after c.requires.demonstration c.in-Err.ensures.through.goes.read }
 
 pub fail_of_run-requires : goal.fail_of_run-requires
 fail_of_run-requires g c =
-    let rows = rows_of (λ z. (goal.CubeSource-dyn g z).seen z.1) c.args.catalogue.now in
-    let rows_after = rows_of (λ z. (goal.CubeSource-dyn g z).seen z.1) c.complete.new.catalogue in
+    let rows = rows_of (λ z. (goal.SharedSource-dyn g z).CubeSource.seen z.1) c.args.catalogue.now in
+    let rows_after = rows_of (λ z. (goal.SharedSource-dyn g z).CubeSource.seen z.1) c.complete.new.catalogue in
     named c.args.run c.complete.new.run rows rows_after (g.P.Store.bytes c.args.spool.now) (g.P.Store.bytes c.complete.new.spool)
     (g.P.Store.faults c.args.spool.now) (g.P.Store.faults c.complete.new.spool)
     c.requires.demonstration c.checked.result.now c.in-Err.fail c.in-Err.ensures
 
 pub returns-in-Err : goal.returns-in-Err
 returns-in-Err g c = λ input input_faults lent.
-    let rows = rows_of (λ z. (goal.CubeSource-dyn g z).seen z.1) c.args.catalogue.now in
-    let rows_after = rows_of (λ z. (goal.CubeSource-dyn g z).seen z.1) c.complete.new.catalogue in
+    let rows = rows_of (λ z. (goal.SharedSource-dyn g z).CubeSource.seen z.1) c.args.catalogue.now in
+    let rows_after = rows_of (λ z. (goal.SharedSource-dyn g z).CubeSource.seen z.1) c.complete.new.catalogue in
     let graph_is = c.checked.ensures ∙ ap (λ (p : PlanOf). p.graph) c.in-Err.ensures.through.goes.plan in
     refused c.args.run c.complete.new.run rows rows_after (g.P.Store.bytes c.args.spool.now) (g.P.Store.bytes c.complete.new.spool)
     (g.P.Store.faults c.args.spool.now) (g.P.Store.faults c.complete.new.spool)
@@ -40,8 +40,8 @@ returns-in-Err g c = λ input input_faults lent.
 
 pub read_ends-requires-clause-first : goal.read_ends-requires-clause-first
 read_ends-requires-clause-first g c =
-    let rows = rows_of (λ z. (goal.CubeSource-dyn g z).seen z.1) c.args.catalogue.now in
-    let rows_after = rows_of (λ z. (goal.CubeSource-dyn g z).seen z.1) c.complete.new.catalogue in
+    let rows = rows_of (λ z. (goal.SharedSource-dyn g z).CubeSource.seen z.1) c.args.catalogue.now in
+    let rows_after = rows_of (λ z. (goal.SharedSource-dyn g z).CubeSource.seen z.1) c.complete.new.catalogue in
     has_spooled c.args.run c.complete.new.run rows rows_after (g.P.Store.bytes c.args.spool.now) (g.P.Store.bytes c.complete.new.spool)
     (g.P.Store.faults c.args.spool.now) (g.P.Store.faults c.complete.new.spool)
     c.requires.begun.planned c.requires.front c.in_default.ensures
@@ -49,8 +49,8 @@ read_ends-requires-clause-first g c =
 
 pub read_ends-requires-clause-last : goal.read_ends-requires-clause-last
 read_ends-requires-clause-last g c =
-    let rows = rows_of (λ z. (goal.CubeSource-dyn g z).seen z.1) c.args.catalogue.now in
-    let rows_after = rows_of (λ z. (goal.CubeSource-dyn g z).seen z.1) c.complete.new.catalogue in
+    let rows = rows_of (λ z. (goal.SharedSource-dyn g z).CubeSource.seen z.1) c.args.catalogue.now in
+    let rows_after = rows_of (λ z. (goal.SharedSource-dyn g z).CubeSource.seen z.1) c.complete.new.catalogue in
     has_spooled c.args.run c.complete.new.run rows rows_after (g.P.Store.bytes c.args.spool.now) (g.P.Store.bytes c.complete.new.spool)
     (g.P.Store.faults c.args.spool.now) (g.P.Store.faults c.complete.new.spool)
     c.requires.begun.planned c.requires.front c.in_default.ensures
@@ -58,8 +58,8 @@ read_ends-requires-clause-last g c =
 
 pub returns-in-Ok-write : goal.returns-in-Ok-write
 returns-in-Ok-write g c = λ input input_faults lent.
-    let rows = rows_of (λ z. (goal.CubeSource-dyn g z).seen z.1) c.args.catalogue.now in
-    let rows_after = rows_of (λ z. (goal.CubeSource-dyn g z).seen z.1) c.complete.new.catalogue in
+    let rows = rows_of (λ z. (goal.SharedSource-dyn g z).CubeSource.seen z.1) c.args.catalogue.now in
+    let rows_after = rows_of (λ z. (goal.SharedSource-dyn g z).CubeSource.seen z.1) c.complete.new.catalogue in
     written c.args.run c.complete.new.run rows rows_after (g.P.Store.bytes c.args.spool.now) (g.P.Store.bytes c.complete.new.spool)
     (g.P.Store.faults c.args.spool.now) (g.P.Store.faults c.complete.new.spool)
     c.requires.demonstration c.requires.collections c.requires.rows c.requires.begun.planned
@@ -72,8 +72,8 @@ returns-in-Ok-write g c = λ input input_faults lent.
 
 pub returns-in-Ok : goal.returns-in-Ok
 returns-in-Ok g c = λ input input_faults lent.
-    let rows = rows_of (λ z. (goal.CubeSource-dyn g z).seen z.1) c.args.catalogue.now in
-    let rows_after = rows_of (λ z. (goal.CubeSource-dyn g z).seen z.1) c.complete.new.catalogue in
+    let rows = rows_of (λ z. (goal.SharedSource-dyn g z).CubeSource.seen z.1) c.args.catalogue.now in
+    let rows_after = rows_of (λ z. (goal.SharedSource-dyn g z).CubeSource.seen z.1) c.complete.new.catalogue in
     stopped_figures c.args.run c.complete.new.run rows rows_after (g.P.Store.bytes c.args.spool.now) (g.P.Store.bytes c.complete.new.spool)
     (g.P.Store.faults c.args.spool.now) (g.P.Store.faults c.complete.new.spool)
     c.requires.demonstration c.requires.collections c.requires.rows c.requires.begun.planned
@@ -86,8 +86,8 @@ returns-in-Ok g c = λ input input_faults lent.
 
 pub returns : goal.returns
 returns g c = λ input input_faults lent.
-    let rows = rows_of (λ z. (goal.CubeSource-dyn g z).seen z.1) c.args.catalogue.now in
-    let rows_after = rows_of (λ z. (goal.CubeSource-dyn g z).seen z.1) c.complete.new.catalogue in
+    let rows = rows_of (λ z. (goal.SharedSource-dyn g z).CubeSource.seen z.1) c.args.catalogue.now in
+    let rows_after = rows_of (λ z. (goal.SharedSource-dyn g z).CubeSource.seen z.1) c.complete.new.catalogue in
     unspooled c.args.run c.complete.new.run rows rows_after (g.P.Store.bytes c.args.spool.now) (g.P.Store.bytes c.complete.new.spool)
     (g.P.Store.faults c.args.spool.now) (g.P.Store.faults c.complete.new.spool)
     c.requires.demonstration c.requires.collections c.requires.rows c.requires.begun.planned

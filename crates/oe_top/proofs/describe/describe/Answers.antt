@@ -8,7 +8,7 @@ use Rattle.oe_top.proofs.describe.describe.Goals as goal
 
 pub returns-in-Ok : goal.returns-in-Ok
 returns-in-Ok g c = λ input input_faults spool spool_faults.
-    let rows = rows_of (λ z. (goal.CubeSource-dyn g z).seen z.1) c.args.catalogue.now in
+    let rows = rows_of (λ z. (goal.SharedSource-dyn g z).CubeSource.seen z.1) c.args.catalogue.now in
     let before = objects input input_faults (g.O.Sink.written c.args.out.now) (g.O.Sink.faults c.args.out.now) spool spool_faults rows in
     let after = objects input input_faults (g.O.Sink.written c.write.new.self) (g.O.Sink.faults c.write.new.self) spool spool_faults rows in
     undescribed c.args.id.now before after WriteFault
@@ -24,7 +24,7 @@ returns-in-Ok g c = λ input input_faults spool spool_faults.
 
 pub returns : goal.returns
 returns g c = λ input input_faults spool spool_faults.
-    let rows = rows_of (λ z. (goal.CubeSource-dyn g z).seen z.1) c.args.catalogue.now in
+    let rows = rows_of (λ z. (goal.SharedSource-dyn g z).CubeSource.seen z.1) c.args.catalogue.now in
     let here = objects input input_faults (g.O.Sink.written c.args.out.now) (g.O.Sink.faults c.args.out.now) spool spool_faults rows in
     undescribed c.args.id.now here here OutOfMemory
     (has_place rows c.args.id.now c.place.result (rw c.as_str.ensures at c.place.ensures.none) (rw c.as_str.ensures at c.place.ensures.found) c.place.ensures.within c.if-is_none.ensures)

@@ -6,7 +6,7 @@ use Rattle.oe_top.proofs.explain.explain.Goals as goal
 
 pub returns-in-Err-write : goal.returns-in-Err-write
 returns-in-Err-write g c = λ spool spool_faults.
-    let rows = rows_of (λ z. (goal.CubeSource-dyn g z).seen z.1) c.args.catalogue.now in
+    let rows = rows_of (λ z. (goal.SharedSource-dyn g z).CubeSource.seen z.1) c.args.catalogue.now in
     let before = objects (g.I.Source.left c.args.input.now) (g.I.Source.faults c.args.input.now) (g.O.Sink.written c.args.out.now) (g.O.Sink.faults c.args.out.now) spool spool_faults rows in
     let after = objects (g.I.Source.left c.find_fault.new.input) (g.I.Source.faults c.find_fault.new.input) (g.O.Sink.written c.write.new.self) (g.O.Sink.faults c.write.new.self) spool spool_faults rows in
     record {

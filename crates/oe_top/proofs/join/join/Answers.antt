@@ -32,7 +32,7 @@ returns-in-Err-fit g c =
 
 pub returns-in_err-pending : goal.returns-in_err-pending
 returns-in_err-pending g c =
-    let rows = rows_of (λ z. (goal.CubeSource-dyn g z).seen z.1) c.args.catalogue.now in
+    let rows = rows_of (λ z. (goal.SharedSource-dyn g z).CubeSource.seen z.1) c.args.catalogue.now in
     let before = objects (g.I.Source.left c.args.input.now) (g.I.Source.faults c.args.input.now) (g.O.Sink.written c.args.out.now)
     (g.O.Sink.faults c.args.out.now) (g.P.Store.bytes c.args.spool.now) (g.P.Store.faults c.args.spool.now) rows in
     let after = objects (g.I.Source.left c.judge_and_keep.new.input) (g.I.Source.faults c.judge_and_keep.new.input)

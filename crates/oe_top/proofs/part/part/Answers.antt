@@ -13,7 +13,7 @@ are_chunks_of-requires g c = sides_valid c.args.sizes.0 c.args.sizes.1 c.require
 
 pub head_of-requires-clause-text : goal.head_of-requires-clause-text
 head_of-requires-clause-text g c =
-    (dims_of (rows_of (λ z. (goal.CubeSource-dyn g z).seen z.1) c.args.catalogue.now), rw c.deref.ensures.value c.in-Ok.ensures.text.1)
+    (dims_of (rows_of (λ z. (goal.SharedSource-dyn g z).CubeSource.seen z.1) c.args.catalogue.now), rw c.deref.ensures.value c.in-Ok.ensures.text.1)
 
 pub head_of-requires-clause-sides : goal.head_of-requires-clause-sides
 head_of-requires-clause-sides g c = sides_valid c.args.sizes.0 c.args.sizes.1 c.requires
@@ -30,7 +30,7 @@ write_chunks-requires-clause-rows g c κs within =
 
 pub write_chunks-requires-clause-found : goal.write_chunks-requires-clause-found
 write_chunks-requires-clause-found g c κs within =
-    let rows = rows_of (λ z. (goal.CubeSource-dyn g z).seen z.1) c.args.catalogue.now in
+    let rows = rows_of (λ z. (goal.SharedSource-dyn g z).CubeSource.seen z.1) c.args.catalogue.now in
     subst (λ (graph : CheckedGraph). AreDimsOf rows graph.rows) (sym c.in-Ok-begin_part.ensures.plan.graph_is) c.in-Ok.ensures.found
 
 pub returns-in-Ok-write_chunks : goal.returns-in-Ok-write_chunks

@@ -8,7 +8,7 @@ use Rattle.oe_top.proofs.run.run.Goals as goal
 
 pub write_result-requires-clause-found : goal.write_result-requires-clause-found
 write_result-requires-clause-found g c κs within =
-    let rows = rows_of (λ z. (goal.CubeSource-dyn g z).seen z.1) c.args.catalogue.now in
+    let rows = rows_of (λ z. (goal.SharedSource-dyn g z).CubeSource.seen z.1) c.args.catalogue.now in
     subst (λ (graph : CheckedGraph). AreDimsOf rows graph.rows) (sym c.in-Ok-begin.ensures.plan.graph_is) c.in-Ok.ensures.found
 
 pub returns-in-Ok-write_result : goal.returns-in-Ok-write_result

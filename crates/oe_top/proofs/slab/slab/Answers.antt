@@ -8,7 +8,7 @@ use Rattle.oe_top.proofs.slab.slab.Goals as goal
 
 pub write_folded-requires-clause-found : goal.write_folded-requires-clause-found
 write_folded-requires-clause-found g c κs within =
-    let rows = rows_of (λ z. (goal.CubeSource-dyn g z).seen z.1) c.args.catalogue.now in
+    let rows = rows_of (λ z. (goal.SharedSource-dyn g z).CubeSource.seen z.1) c.args.catalogue.now in
     subst (λ (graph : CheckedGraph). AreDimsOf rows graph.rows) (sym c.in-Ok-begin_slabs.ensures.plan.graph_is) c.in-Ok.ensures.found
 
 pub returns-in-Ok-write_folded : goal.returns-in-Ok-write_folded

@@ -4,6 +4,6 @@ use Rattle.oe_top.proofs.slab_evaluation.fold_through.Given as goal
 
 abbrev pub invariant-loop-chunk : goal.invariant-loop-chunk
 invariant-loop-chunk g l =
-    StandsBySlabs l.initial.run l.run (rows_of (λ z. (goal.CubeSource-dyn g z).seen z.1) l.initial.catalogue)
-    (rows_of (λ z. (goal.CubeSource-dyn g z).seen z.1) l.catalogue)
+    StandsBySlabs l.initial.run l.run (rows_of (λ z. (goal.SharedSource-dyn g z).CubeSource.seen z.1) l.initial.catalogue)
+    (rows_of (λ z. (goal.SharedSource-dyn g z).CubeSource.seen z.1) l.catalogue)
     (g.P.Store.bytes l.initial.spool) (g.P.Store.bytes l.spool) (g.P.Store.faults l.initial.spool) (g.P.Store.faults l.spool) l.chunk

@@ -7,7 +7,7 @@ use Rattle.oe_top.proofs.slab_plan.slab_plan.Goals as goal
 
 pub returns-in-Ok-write : goal.returns-in-Ok-write
 returns-in-Ok-write g c = λ spool spool_faults.
-    let rows = rows_of (λ z. (goal.CubeSource-dyn g z).seen z.1) c.args.catalogue.now in
+    let rows = rows_of (λ z. (goal.SharedSource-dyn g z).CubeSource.seen z.1) c.args.catalogue.now in
     let before = objects (g.I.Source.left c.args.input.now) (g.I.Source.faults c.args.input.now) (g.O.Sink.written c.args.out.now) (g.O.Sink.faults c.args.out.now) spool spool_faults rows in
     let after = objects (g.I.Source.left c.judge_input.new.input) (g.I.Source.faults c.judge_input.new.input) (g.O.Sink.written c.write.new.self) (g.O.Sink.faults c.write.new.self) spool spool_faults rows in
     record {
@@ -22,7 +22,7 @@ returns-in-Ok-write g c = λ spool spool_faults.
 
 pub returns-in-Ok-line_of : goal.returns-in-Ok-line_of
 returns-in-Ok-line_of g c = λ spool spool_faults.
-    let rows = rows_of (λ z. (goal.CubeSource-dyn g z).seen z.1) c.args.catalogue.now in
+    let rows = rows_of (λ z. (goal.SharedSource-dyn g z).CubeSource.seen z.1) c.args.catalogue.now in
     let before = objects (g.I.Source.left c.args.input.now) (g.I.Source.faults c.args.input.now) (g.O.Sink.written c.args.out.now) (g.O.Sink.faults c.args.out.now) spool spool_faults rows in
     let after = objects (g.I.Source.left c.judge_input.new.input) (g.I.Source.faults c.judge_input.new.input) (g.O.Sink.written c.write.new.self) (g.O.Sink.faults c.write.new.self) spool spool_faults rows in
     record {
