@@ -1,8 +1,8 @@
 -- One plane of what a node loads, from a box of its collection.
-use Rattle.std.proofs.Common.{◌≡◌, ℕ, zero, suc, ◌<◌, true, List, [], ◌∷◌, length, get_or, replicate, Option, Some, None, IfSome, refl, sym, ap, ◌∙◌, subst, arith, Result, Ok, Err, OnOk}
+use Rattle.std.proofs.Common.{◌≡◌, ℕ, zero, suc, ◌<◌, Bool, true, List, [], ◌∷◌, length, get_or, replicate, Option, Some, None, IfSome, refl, sym, ap, ◌∙◌, subst, arith, Result, Ok, Err, OnOk}
 use Rattle.std.specs.List.{All, list_all}
 use Rattle.std.specs.Option.{option_map}
-use Rattle.std.specs.Result.{IfErr, IsErrOf}
+use Rattle.std.specs.Result.{IfErr, IsErrAnd, IsErrOf}
 use Rattle.std.proofs.lemmas.List.{get_or_default}
 use Rattle.std.proofs.lemmas.Option.{same_Some}
 use Rattle.oe_cell.specs.declared.cell.Cell.TheVariants.{Empty}
@@ -25,9 +25,11 @@ use Rattle.oe_check.specs.Laws.{AreCollectionsOf}
 use Rattle.oe_meanings.specs.Meaning.{Datacube, restricted_cube, operated}
 use Rattle.oe_meanings.proofs.GraphLemmas.{cells_of_kind}
 use Rattle.oe_requests.specs.Operations.{Outline, keep}
-use Rattle.oe_sources.proofs.CatalogueLawLemmas.{ask_no_more}
-use Rattle.oe_sources.specs.Catalogue.{ReadsRow, Row, row_index, source_at}
-use Rattle.oe_sources.specs.Source.{AreCellsOf, Contents, collection_of, collection_with}
+use Rattle.oe_sources.proofs.CatalogueLawLemmas.{count_no_more}
+use Rattle.oe_sources.specs.Catalogue.{CountsRow, MayFail, Row, row_index, source_at}
+use Rattle.oe_sources.specs.Source.{AreCellsOf, Contents, Looks, answer_of, collection_of, collection_with, is_failed}
+use Rattle.oe_sources.specs.declared.source.LookFail.{LookFail}
+use Rattle.oe_sources.specs.declared.source.LookFail.TheVariants as look
 use Rattle.oe_sources.specs.declared.source.SourceFail.TheVariants.{Failed, Damaged}
 use Rattle.oe_sources.specs.declared.source.SourceFail.{SourceFail}
 use Rattle.oe_window.proofs.WholeLemmas.{in_whole, position_in}
@@ -36,9 +38,9 @@ use Rattle.oe_window.specs.Windows.{Holds, IsEmpty, position_count, whole_window
 use Rattle.oe_window.specs.declared.window.Window.{Window}
 use Rattle.oe_steps.proofs.LoadLemmas.{LoadsBy, id_of_load, loads_by}
 use Rattle.oe_steps.proofs.ScheduleLemmas.{node_within}
-use Rattle.oe_steps.proofs.ReadLemmas.{read_row}
+use Rattle.oe_steps.proofs.ReadLemmas.{count_read}
 use Rattle.oe_steps.specs.Collections.{HasCollections, IsLoadedBy, IsMountedAt, LoadRose, Shows}
-use Rattle.oe_steps.specs.Loads.{AreLoaded, HasRead, ReadsBox, refusal_for}
+use Rattle.oe_steps.specs.Loads.{AreLoaded, HasRead, LoadMayFail, TellsWhy, refusal_for}
 use Rattle.oe_steps.specs.Refusals.{IsOfSource, RefusalSays}
 use Rattle.oe_steps.specs.Steps.{loads_at, cell_kind_at, node_cells}
 use Rattle.oe_steps.specs.declared.fail.RunFail.TheVariants.{SourceFailed}
@@ -202,69 +204,88 @@ module _ (graph : CheckedGraph) (schedule : ScheduleOf) (is : IsSchedule graph s
         kinds = subst (All (IsOfKind (cell_kind_at graph schedule step))) (sym are) (nulls_of_kind (cell_kind_at graph schedule step) (position_count plane));
       }
 
-      loaded_by_answer : (cells : List Cell) (after : List Row) (answer : Result (Unit {0}) SourceFail) (node : ℕ) → ¬ IsEmpty box
-          → ReadsRow rows place box cells after answer → OnOk (refusal_for node answer) (AreLoaded graph rows (node_at schedule step) plane cells)
-      loaded_by_answer cells after (Ok u) node some reads = record {
-        values = λ collections has shows. given_cells sound collections has shows cells some reads.read.given;
-        kinds = of_kind cells reads.read.of_kind;
+      pub box_loaded : (cells : List Cell) (result : Result (Unit {0}) LookFail) → ¬ IsEmpty box → Looks (source_at rows place) box cells (answer_of result)
+          → OnOk result (AreLoaded graph rows (node_at schedule step) plane cells)
+      box_loaded cells (Ok u) some looks = record {
+        values = λ collections has shows. given_cells sound collections has shows cells some looks.given;
+        kinds = of_kind cells looks.of_kind;
       }
-      loaded_by_answer cells after (Err Failed) node some reads = tt
-      loaded_by_answer cells after (Err (Damaged number)) node some reads = tt
+      box_loaded cells (Err fail) some looks = tt
 
-      pub box_loaded : (cells : List Cell) (after : List Row) (result : Result (Unit {0}) RunFail) (node : ℕ) → ¬ IsEmpty box
-          → ReadsBox rows node place box cells after result → OnOk result (AreLoaded graph rows (node_at schedule step) plane cells)
-      box_loaded cells after result node some reads =
-          subst (λ r. OnOk r (AreLoaded graph rows (node_at schedule step) plane cells)) (sym reads.refusal)
-          (loaded_by_answer cells after reads.answer node some reads.read)
+    -- ---- why a look was refused
 
-    -- ---- what was read
-
-    rose_by_answer : (cells : List Cell) (after : List Row) (answer : Result (Unit {0}) SourceFail) → ReadsRow rows place box cells after answer
-        → IsErrOf (refusal_for (node_at schedule step) answer) SourceFailed → LoadRose graph rows after
-    rose_by_answer cells after (Ok u) reads err = absurd cc
-    rose_by_answer cells after (Err Failed) reads err = record {
-      step = run.run_step;
-      id = id.0;
-      index = place;
-      loaded = step_loads;
-      mounted = at;
-      rose = reads.read.cause.failed refl;
-    }
-    rose_by_answer cells after (Err (Damaged number)) reads err = absurd cc
-
-    says_by_answer : (cells : List Cell) (after : List Row) (answer : Result (Unit {0}) SourceFail)
-        → ReadsRow rows place box cells after answer
-        → IfErr (refusal_for (node_at schedule step) answer) (λ refusal. IsOfSource refusal × RefusalSays graph rows refusal)
-    says_by_answer cells after (Ok u) reads = tt
-    says_by_answer cells after (Err Failed) reads = (tt, tt)
-    says_by_answer cells after (Err (Damaged number)) reads =
-        let damage = reads.read.damage in
-        let needed = plane_is.needed damage.position damage.inside in (
-          tt,
-          record {
-            step = run.run_step;
-            id = id.0;
-            index = place;
-            loaded = step_loads;
-            node_is = run.same;
-            mounted = at;
-            position = damage.position;
-            inside = position_in (source_at rows place).shape damage.position (box_inside damage.position damage.inside);
-            number_is = damage.numbered;
-            damaged = damage.damaged;
-            kept = (needed.0, position_in (shape_of_node graph (node_at schedule step)) needed.0 (inner needed.0 needed.1), needed.2);
-          },
-        )
-
-    pub box_read : (cells : List Cell) (after : List Row) (result : Result (Unit {0}) RunFail) → ¬ IsEmpty box
-        → ReadsBox rows (node_at schedule step) place box cells after result → HasRead graph (position_count plane) rows after result
-    box_read cells after result some reads =
-        let asked = ask_no_more rows place box cells after reads.answer at.within reads.read in
-        let counted = plane_is.counted some in
+    pub box_refused : (cells : List Cell) (answer : Result (Unit {0}) SourceFail) → Looks (source_at rows place) box cells answer
+        → (IsErrOf answer Failed → MayFail rows place) → TellsWhy graph rows (node_at schedule step) answer
+    box_refused cells (Ok u) looks boxed = tt
+    box_refused cells (Err Failed) looks boxed = λ name index e mounted.
+        let same_id : id.0 ≡ name = same_Some id.0 name (sym id.1 ∙ e) in
+        let same : place ≡ index = same_Some place index (sym at.index_is ∙ (ap (row_index rows) same_id ∙ mounted.index_is)) in
+        subst (MayFail rows) same (boxed refl)
+    box_refused cells (Err (Damaged number)) looks boxed =
+        let damage = looks.damage in
+        let needed = plane_is.needed damage.position damage.inside in
         record {
-          read = read_row rows place box cells after reads.answer reads.read;
-          asked = omega arith;
-          cause = subst (λ r. IsErrOf r SourceFailed → LoadRose graph rows after) (sym reads.refusal) (rose_by_answer cells after reads.answer reads.read);
-          says = subst (λ r. IfErr r (λ refusal. IsOfSource refusal × RefusalSays graph rows refusal)) (sym reads.refusal)
-              (says_by_answer cells after reads.answer reads.read);
+          step = run.run_step;
+          id = id.0;
+          index = place;
+          loaded = step_loads;
+          node_is = run.same;
+          mounted = at;
+          position = damage.position;
+          inside = position_in (source_at rows place).shape damage.position (box_inside damage.position damage.inside);
+          number_is = damage.numbered;
+          damaged = damage.damaged;
+          kept = (needed.0, position_in (shape_of_node graph (node_at schedule step)) needed.0 (inner needed.0 needed.1), needed.2);
         }
+
+  -- ---- looks that are counted
+
+  rose_by : (after : List Row) (n : ℕ) (failed : Bool) (answer : Result (Unit {0}) SourceFail) → failed ≡ is_failed answer → CountsRow rows place n failed after
+      → IsErrOf (refusal_for (node_at schedule step) answer) SourceFailed → LoadRose graph rows after
+  rose_by after n failed (Ok u) same counts err = absurd cc
+  rose_by after n failed (Err Failed) same counts err = record {
+    step = run.run_step;
+    id = id.0;
+    index = place;
+    loaded = step_loads;
+    mounted = at;
+    rose = counts.count.rose same;
+  }
+  rose_by after n failed (Err (Damaged number)) same counts err = absurd cc
+
+  says_by : (answer : Result (Unit {0}) SourceFail) → TellsWhy graph rows (node_at schedule step) answer
+      → IfErr (refusal_for (node_at schedule step) answer) (λ refusal. IsOfSource refusal × RefusalSays graph rows refusal)
+  says_by (Ok u) why = tt
+  says_by (Err Failed) why = (tt, tt)
+  says_by (Err (Damaged number)) why = (tt, why)
+
+  pub settled : (n : ℕ) (after : List Row) (failed : Bool) (answer : Result (Unit {0}) SourceFail) → failed ≡ is_failed answer
+      → TellsWhy graph rows (node_at schedule step) answer → CountsRow rows place n failed after
+      → HasRead graph n rows after (refusal_for (node_at schedule step) answer)
+  settled n after failed answer same why counts = record {
+    read = count_read rows place n failed after counts;
+    asked = count_no_more rows place n failed after at.within counts;
+    cause = rose_by after n failed answer same counts;
+    says = says_by answer why;
+  }
+
+pub may_fail : (c : CheckedGraph) (rows : List Row) (node : ℕ) (answer : Result (Unit {0}) SourceFail) → TellsWhy c rows node answer → is_failed answer ≡ true → LoadMayFail c rows node
+may_fail c rows node (Ok u) why failed = absurd cc
+may_fail c rows node (Err Failed) why failed = why
+may_fail c rows node (Err (Damaged number)) why failed = absurd cc
+
+-- what holds where the look was answered holds where the run goes on
+pub ok_answer : (P : Type 0) (node : ℕ) (looked : Result (Unit {0}) LookFail) (result : Result (Unit {0}) RunFail) → result ≡ refusal_for node (answer_of looked)
+    → OnOk looked P → OnOk result P
+ok_answer P node looked result same ok = subst (λ r. OnOk r P) (sym same) (by looked ok)
+  where
+    by : (l : Result (Unit {0}) LookFail) → OnOk l P → OnOk (refusal_for node (answer_of l)) P
+    by (Ok u) h = h
+    by (Err (look.Failed fault)) h = tt
+    by (Err (look.Damaged number)) h = tt
+
+-- what `?` hands on is what was refused
+pub tells_handed : (c : CheckedGraph) (rows : List Row) (node : ℕ) (fail : LookFail) (result : Result (Unit {0}) LookFail) → IsErrAnd result (λ e. e ≡ fail)
+    → TellsWhy c rows node (answer_of (Err fail)) → TellsWhy c rows node (answer_of result)
+tells_handed c rows node fail (Ok u) is why = absurd is
+tells_handed c rows node fail (Err e) is why = subst (λ x. TellsWhy c rows node (answer_of (Err x))) (sym is) why

@@ -1,9 +1,8 @@
 -- What reads of collections leave: all but two counters as it was.
-use Rattle.std.proofs.Common.{◌≡◌, ℕ, zero, suc, ◌+◌, ◌<◌, ◌≤◌, cond, List, [], ◌∷◌, length, map, Option, Some, IfSome, Contains, refl, sym, ap, ◌∙◌, subst, arith, Result, Ok, Err}
+use Rattle.std.proofs.Common.{◌≡◌, ℕ, zero, suc, ◌+◌, ◌<◌, ◌≤◌, Bool, cond, List, [], ◌∷◌, length, map, Option, Some, IfSome, Contains, refl, sym, ap, ◌∙◌, subst, arith, Result, Ok, Err}
 use Rattle.std.specs.Option.{option_map}
 use Rattle.std.specs.Result.{IsErrAnd, IfErr}
 use Rattle.std.proofs.lemmas.List.{length-map}
-use Rattle.oe_cell.specs.declared.cell.Cell.{Cell}
 use Rattle.oe_dims.specs.Names.{same_name}
 use Rattle.oe_dims.specs.Positions.{IsPosition, number_of}
 use Rattle.oe_ops.specs.Needs.{HasLabelsOf}
@@ -12,17 +11,17 @@ use Rattle.oe_outside.specs.Faults.{NeverFalls}
 use Rattle.oe_plan.specs.Figures.{shape_of_node}
 use Rattle.oe_check.specs.Checked.{CheckedGraph}
 use Rattle.oe_meanings.specs.Graphs.{Collections}
-use Rattle.oe_sources.specs.Catalogue.{ReadsRow, Row, row_index, rows_at, source_at}
+use Rattle.oe_sources.specs.Catalogue.{CountsRow, MayFail, Row, row_index, rows_at, source_at}
 use Rattle.oe_sources.specs.Source.{Source, collection_of}
-use Rattle.oe_sources.specs.declared.source.SourceFail.{SourceFail}
-use Rattle.oe_window.specs.declared.window.Window.{Window}
 use Rattle.oe_steps.specs.Collections.{AreRead, HasCollections, IsMountedAt, LoadRose, Shows, without_counts}
-use Rattle.oe_steps.specs.Loads.{HasRead}
+use Rattle.oe_sources.specs.declared.source.SourceFail.{SourceFail}
+use Rattle.oe_sources.specs.declared.source.SourceFail.TheVariants.{Failed, Damaged}
+use Rattle.oe_steps.specs.Loads.{HasRead, TellsWhy}
 use Rattle.oe_steps.specs.Refusals.{IsOfSource, KeepsDamage, RefusalSays}
 use Rattle.oe_steps.specs.declared.fail.RunFail.TheVariants.{SourceFailed, SourceDamaged, SpoolFailed, Overflow}
 use Rattle.oe_steps.specs.declared.fail.RunFail.{RunFail}
 
--- ---- one read
+-- ---- looks at one row that are counted
 
 without_at : (rows : List Row) (index : ℕ) (s : Source) → s.shape ≡ (source_at rows index).shape → s.kind ≡ (source_at rows index).kind
     → s.contents ≡ (source_at rows index).contents → map without_counts (rows_at rows index s) ≡ map without_counts rows
@@ -39,13 +38,12 @@ counts_at (row ∷ rows) zero s (suc j) h = NeverFalls-refl _
 counts_at (row ∷ rows) (suc index) s zero h = NeverFalls-refl _
 counts_at (row ∷ rows) (suc index) s (suc j) h = counts_at rows index s j h
 
-pub read_row : (before : List Row) (index : ℕ) (window : Window) (cells : List Cell) (after : List Row) (result : Result (Unit {0}) SourceFail)
-    → ReadsRow before index window cells after result → AreRead before after
-read_row before index window cells after result reads = record {
-  same = ap (map without_counts) reads.others
-      ∙ without_at before index (source_at after index) reads.read.shape reads.read.kind reads.read.contents;
-  counts = λ j. subst (λ rows. NeverFalls (source_at before j).faults (source_at rows j).faults) (sym reads.others)
-      (counts_at before index (source_at after index) j reads.read.cause.count);
+pub count_read : (before : List Row) (index cells : ℕ) (failed : Bool) (after : List Row) → CountsRow before index cells failed after → AreRead before after
+count_read before index cells failed after counts = record {
+  same = ap (map without_counts) counts.others
+      ∙ without_at before index (source_at after index) counts.count.shape counts.count.kind counts.count.contents;
+  counts = λ j. subst (λ rows. NeverFalls (source_at before j).faults (source_at rows j).faults) (sym counts.others)
+      (counts_at before index (source_at after index) j counts.count.falls);
 }
 
 -- ---- several reads
@@ -68,6 +66,16 @@ index_without : (rows : List Row) (id : List ℕ) → row_index (map without_cou
 index_without [] id = refl
 index_without (row ∷ rows) id =
     ap (λ (rest : Option ℕ). cond (same_name row.id id) (Some 0) (option_map (λ n. n + 1) rest)) (index_without rows id)
+
+boxed_there : (rows : List Row) (index : ℕ) → MayFail rows index → MayFail (map without_counts rows) index
+boxed_there [] index may = may
+boxed_there (row ∷ rows) zero may = may
+boxed_there (row ∷ rows) (suc index) may = boxed_there rows index may
+
+boxed_back : (rows : List Row) (index : ℕ) → MayFail (map without_counts rows) index → MayFail rows index
+boxed_back [] index may = may
+boxed_back (row ∷ rows) zero may = may
+boxed_back (row ∷ rows) (suc index) may = boxed_back rows index may
 
 -- rows that are the same but for their counters
 module _ (before after : List Row) (same : map without_counts after ≡ map without_counts before) where
@@ -128,6 +136,13 @@ module _ (c : CheckedGraph) (before after : List Row) (same : map without_counts
   says_same (SourceDamaged load number) says = damage_same load number says
   says_same SpoolFailed says = says
   says_same (Overflow number) says = says
+
+  pub tells_same : (node : ℕ) (answer : Result (Unit {0}) SourceFail) → TellsWhy c before node answer → TellsWhy c after node answer
+  tells_same node (Ok u) why = tt
+  tells_same node (Err Failed) why = λ id index e mounted.
+      boxed_back after index (subst (λ rows. MayFail rows index) (sym same)
+      (boxed_there before index (why id index e (mounted_same after before (sym same) c id index mounted))))
+  tells_same node (Err (Damaged number)) why = damage_same node number why
 
 pub rose_first : (c : CheckedGraph) (a b d : List Row) → LoadRose c a b → AreRead b d → LoadRose c a d
 rose_first c a b d rose later = record {

@@ -1,35 +1,39 @@
 -- What reading the cells of a load gives.
-use Rattle.std.specs.Prelude.{◌≡◌, ◌≤◌, ℕ, ◌+◌, List, take, IsErrOf, IfErr, Result, Ok, Err}
+use Rattle.std.specs.Prelude.{◌≡◌, ◌≤◌, ⊤, ℕ, ◌+◌, List, take, Some, IsErrOf, IfErr, Result, Ok, Err}
 use Rattle.std.specs.List.{All}
 use Rattle.oe_cell.specs.declared.cell.Cell.{Cell}
 use Rattle.oe_cube.specs.Kinds.{IsOfKind}
 use Rattle.oe_plan.specs.Windows.{window_at}
-use Rattle.oe_check.specs.Checked.{CheckedGraph, outline_of_node}
+use Rattle.oe_check.specs.Checked.{CheckedGraph, collection_of_node, outline_of_node}
 use Rattle.oe_meanings.specs.Graphs.{Collections}
 use Rattle.oe_check.specs.Laws.{AreCollectionsOf}
-use Rattle.oe_sources.specs.Catalogue.{ReadsRow, Row, cells_asked}
+use Rattle.oe_sources.specs.Catalogue.{MayFail, Row, cells_asked}
 use Rattle.oe_sources.specs.declared.source.SourceFail.{SourceFail}
 use Rattle.oe_sources.specs.declared.source.SourceFail.TheVariants.{Failed, Damaged}
 use Rattle.oe_window.specs.declared.window.Window.{Window}
 use Rattle.oe_plan.specs.Schedules.{ScheduleOf, node_at}
-use Rattle.oe_steps.specs.Collections.{AreRead, LoadRose, Shows}
-use Rattle.oe_steps.specs.Refusals.{IsOfSource, RefusalSays}
+use Rattle.oe_steps.specs.Collections.{AreRead, IsMountedAt, LoadRose, Shows}
+use Rattle.oe_steps.specs.Refusals.{IsOfSource, KeepsDamage, RefusalSays}
 use Rattle.oe_steps.specs.Steps.{buffer_cells_at, node_cells}
 use Rattle.oe_steps.specs.declared.fail.RunFail.{RunFail}
 use Rattle.oe_steps.specs.declared.fail.RunFail.TheVariants.{SourceFailed, SourceDamaged}
 
--- the refusal of a read for a node
+-- looks at the collection that a node loads may fail
+abbrev pub LoadMayFail : CheckedGraph → List Row → ℕ → Type 0
+LoadMayFail c rows node =
+    (id : List ℕ) (index : ℕ) → collection_of_node c node ≡ Some id → IsMountedAt c rows id index → MayFail rows index
+
+-- what the refusal of a look for a node says
+abbrev pub TellsWhy : CheckedGraph → List Row → ℕ → Result (Unit {0}) SourceFail → Type 0
+TellsWhy c rows node (Ok done) = ⊤
+TellsWhy c rows node (Err Failed) = LoadMayFail c rows node
+TellsWhy c rows node (Err (Damaged number)) = KeepsDamage c rows node number
+
+-- the answer of a run to that of a look for a node
 abbrev pub refusal_for : ℕ → Result (Unit {0}) SourceFail → Result (Unit {0}) RunFail
 refusal_for node (Ok u) = Ok u
 refusal_for node (Err Failed) = Err SourceFailed
 refusal_for node (Err (Damaged number)) = Err (SourceDamaged node number)
-
--- a box of the collection of a row was read for a node
-pub record ReadsBox (before : List Row) (node index : ℕ) (box : Window) (cells : List Cell) (after : List Row)
-    (result : Result (Unit {0}) RunFail) : Type 0 where
-  pub answer : Result (Unit {0}) SourceFail
-  pub read : ReadsRow before index box cells after answer
-  pub refusal : result ≡ refusal_for node answer
 
 -- reading asked for so many cells at most, changed nothing but counters, and was refused for a cause
 pub record HasRead (c : CheckedGraph) (most : ℕ) (before after : List Row)

@@ -2,7 +2,8 @@
 //! are evaluated from them, step by step.
 //!
 //! A caller has a buffer for each slot of a schedule and a window for each of its steps. [`load_slot`] reads the cells
-//! of one step that loads a collection; the cells of a node whose cube is given are put into its slot by the caller.
+//! of one step that loads a collection; [`look_slot`] does so without counting what it asks, so that several threads may
+//! load at once, and [`settle`] counts it afterwards. The cells of a node whose cube is given are put into its slot by the caller.
 //! [`evaluate_steps`] evaluates all others, in order, and takes no memory. The layers above use that after it the
 //! buffers hold the cells of the last node's cube on its window, where before it they held those of each node that is
 //! loaded or given.
@@ -21,7 +22,7 @@ pub use buffers::{buffers_of, empty_window};
 pub use cells::look_at_cells;
 pub use fail::RunFail;
 pub use laws::loads_are_mounted;
-pub use loading::{load_front, load_slot, place_of};
+pub use loading::{ask, load_slot, look_front, look_slot, place_of, settle};
 pub use run::{evaluate_steps, loads, step_of_last};
 pub use step::{evaluate_step, front};
 pub use strips::{is_strip, take_part};

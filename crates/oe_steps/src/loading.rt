@@ -1,19 +1,20 @@
-// The cells of collections that windows need, read into buffers.
-ghost use Rattle.std.specs.Prelude.{◌≡◌, ◌≢◌, slice_index, ◌<◌, ◌≤◌, ◌+◌, ◌^◌, ℕ, List, true, Some, IfSome, OnOk, length, replicate, take};
+// The cells of collections that windows need: asked for, and put into buffers by looks.
+ghost use Rattle.std.specs.Prelude.{◌≡◌, ◌≢◌, slice_index, ◌<◌, ◌≤◌, ◌+◌, ◌^◌, ℕ, List, true, Ok, Some, IfSome, OnOk, length, replicate, take};
 ghost use Rattle.oe_cell.specs.declared.cell.Cell.TheVariants.{Empty};
 ghost use Rattle.oe_cube.specs.Collections.{IsCollection};
 ghost use Rattle.oe_dims.specs.Dimensions.{IsShape};
 ghost use Rattle.oe_steps.specs.Steps.{EachLive, HaveRoomFor, loads_at};
 ghost use Rattle.oe_steps.specs.Buffers.{buffer_at, lists_of};
 ghost use Rattle.oe_steps.specs.Collections.{AreRead, HasCollections, IsMountedAt};
-ghost use Rattle.oe_steps.specs.Loads.{AreLoaded, HasRead, IsLoadedAt, ReadsBox};
+ghost use Rattle.oe_steps.specs.Loads.{AreLoaded, HasRead, IsLoadedAt, TellsWhy, refusal_for};
 ghost use Rattle.oe_ops.specs.Needs.{plane_window};
 ghost use Rattle.oe_plan.specs.Figures.{shape_of_node};
 ghost use Rattle.oe_plan.specs.Schedules.{AreWindowsFor, IsSchedule, node_at};
+ghost use Rattle.oe_plan.specs.Windows.{window_at};
 ghost use Rattle.oe_check.specs.Checked.{collection_of_node};
 ghost use Rattle.oe_sources.specs.Catalogue.{Row, source_at};
 ghost use Rattle.oe_sources.specs.CatalogueRows.{rows_of};
-ghost use Rattle.oe_sources.specs.Source.{collection_of};
+ghost use Rattle.oe_sources.specs.Source.{answer_of, collection_of};
 ghost use Rattle.oe_window.specs.Windows.{Holds, position_count, span_length, whole_window};
 
 use crate::fail::RunFail;
@@ -22,7 +23,7 @@ use oe_check::Checked;
 use oe_dims::{Kind, Shape};
 use oe_ops::source_window;
 use oe_plan::Schedule;
-use oe_sources::{Catalogue, SourceFail};
+use oe_sources::{Catalogue, LookFail, Looker, Permit, SourceFail, split_fault};
 use oe_window::{Window, size};
 
 /// Reads the cells of a step that loads a collection, on its window, into the buffer of its slot. The buffers of the
@@ -54,33 +55,144 @@ pub fn load_slot(
     ensures read { HasRead checked.now schedule.now.largest
         (rows_of seen catalogue.old) (rows_of seen catalogue.new) result }
 {
+    let mut permit = Permit::none();
+    let cells = size(&windows[step as usize]);
+    ask(checked, schedule, catalogue, step, cells, &mut permit);
+    let mut looker = Looker::new(permit);
+    let looked = look_slot(
+        checked,
+        schedule,
+        catalogue,
+        step,
+        windows,
+        buffers,
+        &mut looker,
+    );
+    settle(checked, schedule, catalogue, step, looked)
+}
+
+/// Puts the cells of a step that loads a collection, on its window, into the buffer of its slot, by looks, for which they
+/// were asked. The buffers of the other slots stay as they are.
+///
+/// Refuses: where a look at a collection is refused.
+pub fn look_slot(
+    checked: &Checked,
+    schedule: &Schedule,
+    catalogue: &Catalogue,
+    step: u32,
+    windows: &[Window],
+    buffers: &mut [Vec<Cell>],
+    looker: &mut Looker,
+) -> Result<(), LookFail>
+    requires schedule { IsSchedule checked.now schedule.now }
+    requires step { step < length schedule.now.order.steps }
+    requires load { loads_at checked.now schedule.now step ≡ true }
+    requires mounted { HasCollections checked.now (rows_of seen catalogue.now) }
+    requires windows { AreWindowsFor checked.now schedule.now windows.now }
+    requires room { HaveRoomFor schedule.now (lists_of buffers.old) }
+    requires asked { position_count (window_at windows.now step) ≤ looker.old }
+    ensures room { HaveRoomFor schedule.now (lists_of buffers.new) }
+    ensures others { (slot : ℕ) → slot ≢ slice_index schedule.now.order.slots step
+        → buffer_at (lists_of buffers.new) slot ≡ buffer_at (lists_of buffers.old) slot }
+    ensures loaded { (rows : List Row) → AreRead rows (rows_of seen catalogue.now)
+        → EachLive checked.now schedule.now step
+        (IsLoadedAt checked.now schedule.now rows windows.now (lists_of buffers.old))
+        → OnOk result (EachLive checked.now schedule.now (step + 1)
+        (IsLoadedAt checked.now schedule.now rows windows.now (lists_of buffers.new))) }
+    ensures spent { OnOk result
+        (looker.old ≤ looker.new + position_count (window_at windows.now step)) }
+    ensures refused { TellsWhy checked.now (rows_of seen catalogue.now)
+        (node_at schedule.now step) (answer_of result) }
+{
     let slot = schedule.slot(step);
     let window = windows[step as usize];
     let buffer = buffers[slot as usize].as_mut_slice();
-    load_step(checked, schedule, catalogue, step, &window, buffer)
+    look_step(checked, schedule, catalogue, step, &window, looker, buffer)
 }
 
-/// Reads the cells of the node of a step on its window into the front of a buffer, plane by plane.
-fn load_step(
+/// Asks for so many cells of the collection that a step loads, which then may be looked at with the permit.
+pub fn ask(
     checked: &Checked,
     schedule: &Schedule,
     catalogue: &mut Catalogue,
     step: u32,
-    window: &Window,
-    buffer: &mut [Cell],
+    cells: u64,
+    permit: &mut Permit,
+)
+    requires schedule { IsSchedule checked.now schedule.now }
+    requires step { step < length schedule.now.order.steps }
+    requires load { loads_at checked.now schedule.now step ≡ true }
+    requires mounted { HasCollections checked.now (rows_of seen catalogue.old) }
+    requires few { permit.old + cells < 2 ^ 64 }
+    ensures asked { HasRead checked.now cells (rows_of seen catalogue.old)
+        (rows_of seen catalogue.new) (Ok tt) }
+    ensures permit { permit.new ≡ permit.old + cells }
+{
+    let place = place_of(checked, schedule, catalogue, step);
+    catalogue.ask(place, cells, permit);
+}
+
+/// Counts the fault that a look for a step met, if it met one.
+///
+/// Refuses: as the look was refused.
+pub fn settle(
+    checked: &Checked,
+    schedule: &Schedule,
+    catalogue: &mut Catalogue,
+    step: u32,
+    looked: Result<(), LookFail>,
 ) -> Result<(), RunFail>
     requires schedule { IsSchedule checked.now schedule.now }
     requires step { step < length schedule.now.order.steps }
     requires load { loads_at checked.now schedule.now step ≡ true }
     requires mounted { HasCollections checked.now (rows_of seen catalogue.old) }
+    requires refused { TellsWhy checked.now (rows_of seen catalogue.old)
+        (node_at schedule.now step) (answer_of looked) }
+    ensures answer { result ≡ refusal_for (node_at schedule.now step) (answer_of looked) }
+    ensures read { HasRead checked.now 0 (rows_of seen catalogue.old)
+        (rows_of seen catalogue.new) result }
+{
+    let place = place_of(checked, schedule, catalogue, step);
+    let (answer, fault) = split_fault(looked);
+    catalogue.count_fault(place, fault);
+    run_answer(schedule.node(step), answer)
+}
+
+/// The answer of a run to that of a look for a node.
+fn run_answer(node: u32, answer: Result<(), SourceFail>) -> Result<(), RunFail>
+    ensures { result ≡ refusal_for node answer }
+{
+    match answer {
+        Ok(()) => Ok(()),
+        Err(SourceFail::Failed) => Err(RunFail::SourceFailed),
+        Err(SourceFail::Damaged(number)) => Err(RunFail::SourceDamaged { load: node, number }),
+    }
+}
+
+/// Puts the cells of the node of a step on its window into the front of a buffer, plane by plane.
+fn look_step(
+    checked: &Checked,
+    schedule: &Schedule,
+    catalogue: &Catalogue,
+    step: u32,
+    window: &Window,
+    looker: &mut Looker,
+    buffer: &mut [Cell],
+) -> Result<(), LookFail>
+    requires schedule { IsSchedule checked.now schedule.now }
+    requires step { step < length schedule.now.order.steps }
+    requires load { loads_at checked.now schedule.now step ≡ true }
+    requires mounted { HasCollections checked.now (rows_of seen catalogue.now) }
     requires within { Holds (whole_window (shape_of_node checked.now (node_at schedule.now step)))
         window.now }
     requires few { position_count window.now < 2 ^ 64 }
     requires room { position_count window.now ≤ length buffer.old }
-    ensures loaded { OnOk result (AreLoaded checked.now (rows_of seen catalogue.old)
+    requires asked { position_count window.now ≤ looker.old }
+    ensures loaded { OnOk result (AreLoaded checked.now (rows_of seen catalogue.now)
         (node_at schedule.now step) window.now (take (position_count window.now) buffer.new)) }
-    ensures read { HasRead checked.now (position_count window.now)
-        (rows_of seen catalogue.old) (rows_of seen catalogue.new) result }
+    ensures spent { OnOk result (looker.old ≤ looker.new + position_count window.now) }
+    ensures refused { TellsWhy checked.now (rows_of seen catalogue.now)
+        (node_at schedule.now step) (answer_of result) }
 {
     let place = place_of(checked, schedule, catalogue, step);
     let mut done = 0;
@@ -88,7 +200,9 @@ fn load_step(
         let plane = window.plane(number);
         let count = size(&plane) as usize;
         let piece = &mut buffer[done..done + count];
-        load_plane(checked, schedule, catalogue, step, place, &plane, piece)?;
+        look_plane(
+            checked, schedule, catalogue, step, place, &plane, looker, piece,
+        )?;
         done += count;
     }
     Ok(())
@@ -120,30 +234,33 @@ fn clear(cells: &mut [Cell])
     cells.fill(Cell::Empty);
 }
 
-/// Reads the cells of the node of a step on one plane, from the collection of a row.
-fn load_plane(
+/// Puts the cells of the node of a step on one plane into some cells, from the collection of a row.
+fn look_plane(
     checked: &Checked,
     schedule: &Schedule,
-    catalogue: &mut Catalogue,
+    catalogue: &Catalogue,
     step: u32,
     place: u32,
     plane: &Window,
+    looker: &mut Looker,
     into: &mut [Cell],
-) -> Result<(), RunFail>
+) -> Result<(), LookFail>
     requires schedule { IsSchedule checked.now schedule.now }
     requires step { step < length schedule.now.order.steps }
     requires load { loads_at checked.now schedule.now step ≡ true }
     requires mounted { (id : List ℕ)
         → collection_of_node checked.now (node_at schedule.now step) ≡ Some id
-        → IsMountedAt checked.now (rows_of seen catalogue.old) id place }
+        → IsMountedAt checked.now (rows_of seen catalogue.now) id place }
     requires within { Holds (whole_window (shape_of_node checked.now (node_at schedule.now step)))
         plane.now }
     requires one { plane.now ≡ plane_window plane.now plane.now.t.from plane.now.bands.from }
     requires room { length into.old ≡ position_count plane.now }
-    ensures loaded { OnOk result (AreLoaded checked.now (rows_of seen catalogue.old)
+    requires asked { position_count plane.now ≤ looker.old }
+    ensures loaded { OnOk result (AreLoaded checked.now (rows_of seen catalogue.now)
         (node_at schedule.now step) plane.now into.new) }
-    ensures read { HasRead checked.now (position_count plane.now)
-        (rows_of seen catalogue.old) (rows_of seen catalogue.new) result }
+    ensures spent { looker.old ≤ looker.new + position_count plane.now }
+    ensures refused { TellsWhy checked.now (rows_of seen catalogue.now)
+        (node_at schedule.now step) (answer_of result) }
 {
     let node = schedule.node(step);
     let shape = checked.shape(node);
@@ -158,45 +275,50 @@ fn load_plane(
         clear(into);
         return Ok(());
     }
-    read_box(catalogue, node, place, &source, into)
+    catalogue.look(place, looker, &source, into)
 }
 
-/// Reads the cells of the node of a step on one row of a window into the front of some cells.
+/// Puts the cells of the node of a step on one row of a window into the front of some cells, by a look, for which they were
+/// asked.
 ///
-/// Refuses: where the read of the collection is refused.
-pub fn load_front(
+/// Refuses: where the look at the collection is refused.
+pub fn look_front(
     checked: &Checked,
     schedule: &Schedule,
-    catalogue: &mut Catalogue,
+    catalogue: &Catalogue,
     step: u32,
     place: u32,
     row: &Window,
+    looker: &mut Looker,
     cells: &mut [Cell],
-) -> Result<(), RunFail>
+) -> Result<(), LookFail>
     requires schedule { IsSchedule checked.now schedule.now }
     requires step { step < length schedule.now.order.steps }
     requires load { loads_at checked.now schedule.now step ≡ true }
     requires mounted { (id : List ℕ)
         → collection_of_node checked.now (node_at schedule.now step) ≡ Some id
-        → IsMountedAt checked.now (rows_of seen catalogue.old) id place }
+        → IsMountedAt checked.now (rows_of seen catalogue.now) id place }
     requires within { Holds (whole_window (shape_of_node checked.now (node_at schedule.now step)))
         row.now }
     requires one { row.now ≡ plane_window row.now row.now.t.from row.now.bands.from }
     requires count { position_count row.now ≡ span_length row.now.x }
     requires room { span_length row.now.x ≤ length cells.old }
-    ensures loaded { OnOk result (AreLoaded checked.now (rows_of seen catalogue.old)
+    requires asked { span_length row.now.x ≤ looker.old }
+    ensures loaded { OnOk result (AreLoaded checked.now (rows_of seen catalogue.now)
         (node_at schedule.now step) row.now (take (span_length row.now.x) cells.new)) }
-    ensures read { HasRead checked.now (span_length row.now.x)
-        (rows_of seen catalogue.old) (rows_of seen catalogue.new) result }
+    ensures spent { looker.old ≤ looker.new + span_length row.now.x }
+    ensures refused { TellsWhy checked.now (rows_of seen catalogue.now)
+        (node_at schedule.now step) (answer_of result) }
 {
     let count = row.x.to.saturating_sub(row.x.from) as usize;
-    load_plane(
+    look_plane(
         checked,
         schedule,
         catalogue,
         step,
         place,
         row,
+        looker,
         &mut cells[..count],
     )
 }
@@ -212,26 +334,4 @@ fn shape_of(catalogue: &Catalogue, place: u32) -> &Shape
     let shape = catalogue.shape(place);
     let _count = shape.count(Kind::Time);
     shape
-}
-
-/// Reads a box of the collection of a row, for a node.
-fn read_box(
-    catalogue: &mut Catalogue,
-    node: u32,
-    place: u32,
-    source: &Window,
-    into: &mut [Cell],
-) -> Result<(), RunFail>
-    requires mounted { place < length (rows_of seen catalogue.old) }
-    requires inside { Holds (whole_window (source_at (rows_of seen catalogue.old) place).shape)
-        source.now }
-    requires room { length into.old ≡ position_count source.now }
-    ensures { ReadsBox (rows_of seen catalogue.old) node place source.now into.new
-        (rows_of seen catalogue.new) result }
-{
-    match catalogue.read(place, source, into) {
-        Ok(()) => Ok(()),
-        Err(SourceFail::Failed) => Err(RunFail::SourceFailed),
-        Err(SourceFail::Damaged(number)) => Err(RunFail::SourceDamaged { load: node, number }),
-    }
 }

@@ -12,7 +12,7 @@ use Rattle.oe_slab.proofs.chunk.fold_all.Goals as goal
 pub returns-then-count-eq0-clause-folded : goal.returns-then-count-eq0-clause-folded
 returns-then-count-eq0-clause-folded g c =
     let p = c.args.plan.now in
-    let rows = rows_of (λ z. (goal.CubeSource-dyn g z).seen z.1) c.args.catalogue.now in
+    let rows = rows_of (λ z. (goal.SharedSource-dyn g z).CubeSource.seen z.1) c.args.catalogue.now in
     let zero : position_count c.args.plane.now ≡ 0 = omega (arith, c.size-count.ensures.value, c.if-count-eq0.true) in
     subst (λ (n : ℕ). AreFolded p rows c.args.plane.now (take n c.args.folds.now)) (sym zero) (none_are_folded p c.checked-graph.ensures.valid rows c.args.plane.now)
 
@@ -20,7 +20,7 @@ pub returns-clause-folded : goal.returns-clause-folded
 returns-clause-folded g c =
     let p = c.args.plan.now in
     let plane = c.args.plane.now in
-    let rows = rows_of (λ z. (goal.CubeSource-dyn g z).seen z.1) c.args.catalogue.now in
+    let rows = rows_of (λ z. (goal.SharedSource-dyn g z).CubeSource.seen z.1) c.args.catalogue.now in
     let new = c.fold_plane.new.folds in
     let rest = drop c.size-count.result c.args.folds.now in
     let few = length-take-le c.size-count.result c.args.folds.now (omega (arith, c.size-count.ensures.value, c.requires.folds)) in

@@ -7,8 +7,8 @@ use Rattle.oe_slab.proofs.evaluate.evaluate_part.Goals as goal
 pub returns-in_err-load_all-clause-read : goal.returns-in_err-load_all-clause-read
 returns-in_err-load_all-clause-read g c =
     let schedule = c.args.schedule.now in
-    let before = rows_of (λ z. (goal.CubeSource-dyn g z).seen z.1) c.args.catalogue.now in
-    let after = rows_of (λ z. (goal.CubeSource-dyn g z).seen z.1) c.load_all.new.catalogue in
+    let before = rows_of (λ z. (goal.SharedSource-dyn g z).CubeSource.seen z.1) c.args.catalogue.now in
+    let after = rows_of (λ z. (goal.SharedSource-dyn g z).CubeSource.seen z.1) c.load_all.new.catalogue in
     has_refused c.args.checked.now (load_count c.args.checked.now schedule * schedule.largest) before after c.in_err-load_all.field-0.0 c.from_residual.result c.from_residual.ensures.1
     c.in_err-load_all.ensures.read
 

@@ -13,7 +13,7 @@ use Rattle.oe_slab.proofs.evaluate.evaluate_slab.Goals as goal
 pub evaluate_part-requires-clause-ready : goal.evaluate_part-requires-clause-ready
 evaluate_part-requires-clause-ready g c =
     let p = c.args.plan.now in
-    let rows = rows_of (λ z. (goal.CubeSource-dyn g z).seen z.1) c.args.catalogue.now in
+    let rows = rows_of (λ z. (goal.SharedSource-dyn g z).CubeSource.seen z.1) c.args.catalogue.now in
     let schedules = c.before-2.ensures.valid.schedules in
     as_read (λ graph s. IsReadyPart graph s rows c.slab_windows.new.windows (lists_of c.args.buffers.now))
     p.graph c.checked.result.now p.before c.before-2.result.now c.checked.ensures.value c.before-2.ensures.value
@@ -56,7 +56,7 @@ returns-clause-evaluated g c =
 pub returns-clause-value : goal.returns-clause-value
 returns-clause-value g c =
     let p = c.args.plan.now in
-    let rows = rows_of (λ z. (goal.CubeSource-dyn g z).seen z.1) c.args.catalogue.now in
+    let rows = rows_of (λ z. (goal.SharedSource-dyn g z).CubeSource.seen z.1) c.args.catalogue.now in
     as_is (λ graph s. OnOk c.evaluate_part.result (ForEachVisible graph rows
     (λ collections. OfLast s (AreCells collections graph s c.slab_windows.new.windows (lists_of c.evaluate_part.new.buffers)))))
     p.graph c.checked.result.now p.before c.before-2.result.now c.checked.ensures.value c.before-2.ensures.value
@@ -65,8 +65,8 @@ returns-clause-value g c =
 pub returns-clause-read : goal.returns-clause-read
 returns-clause-read g c =
     let p = c.args.plan.now in
-    let rows = rows_of (λ z. (goal.CubeSource-dyn g z).seen z.1) c.args.catalogue.now in
-    let after = rows_of (λ z. (goal.CubeSource-dyn g z).seen z.1) c.evaluate_part.new.catalogue in
+    let rows = rows_of (λ z. (goal.SharedSource-dyn g z).CubeSource.seen z.1) c.args.catalogue.now in
+    let after = rows_of (λ z. (goal.SharedSource-dyn g z).CubeSource.seen z.1) c.evaluate_part.new.catalogue in
     subst (λ (n : ℕ). HasRead p.graph (load_count p.graph p.before * n) rows after c.evaluate_part.result) c.before-2.ensures.valid.schedules.before_largest
     (as_is (λ graph s. HasRead graph (load_count graph s * s.largest) rows after c.evaluate_part.result)
     p.graph c.checked.result.now p.before c.before-2.result.now c.checked.ensures.value c.before-2.ensures.value

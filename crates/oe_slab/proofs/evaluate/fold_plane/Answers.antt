@@ -21,7 +21,7 @@ use Rattle.oe_slab.proofs.evaluate.fold_plane.Goals as goal
 
 pub loop-from-init : goal.loop-from-init
 loop-from-init g c =
-    let rows = rows_of (λ z. (goal.CubeSource-dyn g z).seen z.1) c.args.catalogue.now in
+    let rows = rows_of (λ z. (goal.SharedSource-dyn g z).CubeSource.seen z.1) c.args.catalogue.now in
     let p = c.args.plan.now in
     let folds = c.begin_folds.new.folds in
     let begun : (reducer : Reducer) (ignores_nulls : Bool) → time_fold_of_node p.graph p.fold ≡ Some (reducer, ignores_nulls)
@@ -90,9 +90,9 @@ fold_dates-requires-clause-folds g c =
 pub returns-in_err-evaluate_slab-clause-read : goal.returns-in_err-evaluate_slab-clause-read
 returns-in_err-evaluate_slab-clause-read g c =
     let p = c.args.plan.now in
-    let before = rows_of (λ z. (goal.CubeSource-dyn g z).seen z.1) c.args.catalogue.now in
-    let now = rows_of (λ z. (goal.CubeSource-dyn g z).seen z.1) c.loop-from.catalogue in
-    let after = rows_of (λ z. (goal.CubeSource-dyn g z).seen z.1) c.evaluate_slab.new.catalogue in
+    let before = rows_of (λ z. (goal.SharedSource-dyn g z).CubeSource.seen z.1) c.args.catalogue.now in
+    let now = rows_of (λ z. (goal.SharedSource-dyn g z).CubeSource.seen z.1) c.loop-from.catalogue in
+    let after = rows_of (λ z. (goal.SharedSource-dyn g z).CubeSource.seen z.1) c.evaluate_slab.new.catalogue in
     let refusal = c.in_err-evaluate_slab.field-0.0 in
     let cells = load_count p.graph p.before * largest_slab p.graph p.size in
     let was = c.loop-from.invariant.read in
@@ -105,9 +105,9 @@ returns-in_err-evaluate_slab-clause-read g c =
 pub loop-from-preserved : goal.loop-from-preserved
 loop-from-preserved g c =
     let p = c.args.plan.now in
-    let before = rows_of (λ z. (goal.CubeSource-dyn g z).seen z.1) c.args.catalogue.now in
-    let now = rows_of (λ z. (goal.CubeSource-dyn g z).seen z.1) c.loop-from.catalogue in
-    let after = rows_of (λ z. (goal.CubeSource-dyn g z).seen z.1) c.evaluate_slab.new.catalogue in
+    let before = rows_of (λ z. (goal.SharedSource-dyn g z).CubeSource.seen z.1) c.args.catalogue.now in
+    let now = rows_of (λ z. (goal.SharedSource-dyn g z).CubeSource.seen z.1) c.loop-from.catalogue in
+    let after = rows_of (λ z. (goal.SharedSource-dyn g z).CubeSource.seen z.1) c.evaluate_slab.new.catalogue in
     let inv = c.loop-from.invariant in
     let to = c.min-to.result in
     let cells = load_count p.graph p.before * largest_slab p.graph p.size in
@@ -163,8 +163,8 @@ returns-clause-folded g c =
 pub returns-clause-read : goal.returns-clause-read
 returns-clause-read g c =
     let p = c.args.plan.now in
-    let before = rows_of (λ z. (goal.CubeSource-dyn g z).seen z.1) c.args.catalogue.now in
-    let now = rows_of (λ z. (goal.CubeSource-dyn g z).seen z.1) c.loop-from.catalogue in
+    let before = rows_of (λ z. (goal.SharedSource-dyn g z).CubeSource.seen z.1) c.args.catalogue.now in
+    let now = rows_of (λ z. (goal.SharedSource-dyn g z).CubeSource.seen z.1) c.loop-from.catalogue in
     let was = c.loop-from.invariant.read in
     let cells = load_count p.graph p.before * largest_slab p.graph p.size in
     has_most p.graph (was.0 * cells) (most_asked p) before now (Ok tt) (mul-le-mul was.1 (omega arith)) was.3

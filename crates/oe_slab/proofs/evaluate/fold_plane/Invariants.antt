@@ -18,8 +18,8 @@ use Rattle.oe_slab.proofs.evaluate.fold_plane.Given as goal
 -- the dates so far are folded
 abbrev pub invariant-loop-from : goal.invariant-loop-from
 invariant-loop-from g l =
-    let before = rows_of (λ z. (goal.CubeSource-dyn g z).seen z.1) l.fn.catalogue in
-    let now = rows_of (λ z. (goal.CubeSource-dyn g z).seen z.1) l.catalogue in
+    let before = rows_of (λ z. (goal.SharedSource-dyn g z).CubeSource.seen z.1) l.fn.catalogue in
+    let now = rows_of (λ z. (goal.SharedSource-dyn g z).CubeSource.seen z.1) l.catalogue in
     record {
       upto : l.from ≤ l.dates;
       long : length l.folds ≡ length l.fn.folds;

@@ -12,7 +12,7 @@ use Rattle.oe_slab.proofs.evaluate.load_all.Goals as goal
 
 pub loop-step-init : goal.loop-step-init
 loop-step-init g c =
-    let rows = rows_of (λ z. (goal.CubeSource-dyn g z).seen z.1) c.args.catalogue.now in
+    let rows = rows_of (λ z. (goal.SharedSource-dyn g z).CubeSource.seen z.1) c.args.catalogue.now in
     record {
       room = c.requires.ready.room;
       read = has_most c.args.checked.now 0 (0 * c.args.schedule.now.largest) rows rows (Ok tt) (omega arith) (has_none c.args.checked.now rows);
@@ -30,9 +30,9 @@ pub returns-in_err-load_slot-clause-read : goal.returns-in_err-load_slot-clause-
 returns-in_err-load_slot-clause-read g c =
     let graph = c.args.checked.now in
     let schedule = c.args.schedule.now in
-    let before = rows_of (λ z. (goal.CubeSource-dyn g z).seen z.1) c.args.catalogue.now in
-    let now = rows_of (λ z. (goal.CubeSource-dyn g z).seen z.1) c.loop-step.catalogue in
-    let after = rows_of (λ z. (goal.CubeSource-dyn g z).seen z.1) c.load_slot.new.catalogue in
+    let before = rows_of (λ z. (goal.SharedSource-dyn g z).CubeSource.seen z.1) c.args.catalogue.now in
+    let now = rows_of (λ z. (goal.SharedSource-dyn g z).CubeSource.seen z.1) c.loop-step.catalogue in
+    let after = rows_of (λ z. (goal.SharedSource-dyn g z).CubeSource.seen z.1) c.load_slot.new.catalogue in
     let n = c.loop-step.step in
     let refusal = c.in_err-load_slot.field-0.0 in
     has_refused graph (load_count graph schedule * schedule.largest) before after refusal c.from_residual.result c.from_residual.ensures.1
@@ -44,9 +44,9 @@ pub loop-step-preserved : goal.loop-step-preserved
 loop-step-preserved g c =
     let graph = c.args.checked.now in
     let schedule = c.args.schedule.now in
-    let before = rows_of (λ z. (goal.CubeSource-dyn g z).seen z.1) c.args.catalogue.now in
-    let now = rows_of (λ z. (goal.CubeSource-dyn g z).seen z.1) c.loop-step.catalogue in
-    let after = rows_of (λ z. (goal.CubeSource-dyn g z).seen z.1) c.load_slot.new.catalogue in
+    let before = rows_of (λ z. (goal.SharedSource-dyn g z).CubeSource.seen z.1) c.args.catalogue.now in
+    let now = rows_of (λ z. (goal.SharedSource-dyn g z).CubeSource.seen z.1) c.loop-step.catalogue in
+    let after = rows_of (λ z. (goal.SharedSource-dyn g z).CubeSource.seen z.1) c.load_slot.new.catalogue in
     let n = c.loop-step.step in
     let inv = c.loop-step.invariant in
     record {
@@ -61,7 +61,7 @@ pub returns-clause-kinds : goal.returns-clause-kinds
 returns-clause-kinds g c =
     let graph = c.args.checked.now in
     let schedule = c.args.schedule.now in
-    let rows = rows_of (λ z. (goal.CubeSource-dyn g z).seen z.1) c.args.catalogue.now in
+    let rows = rows_of (λ z. (goal.SharedSource-dyn g z).CubeSource.seen z.1) c.args.catalogue.now in
     let end : c.loop-step.step ≡ c.loads-step-end.result = omega (arith, c.loop-step-test.false, c.loop-step.auto.step-end) in
     each_loaded graph schedule c.requires.ready.scheduled (AreOfKind graph schedule c.args.windows.now (lists_of c.loop-step.buffers))
     c.loads-step-end.result c.loads-step-end.ensures.load c.loads-step-end.ensures.work
@@ -73,7 +73,7 @@ pub returns-clause-value : goal.returns-clause-value
 returns-clause-value g c = λ collections of shows.
     let graph = c.args.checked.now in
     let schedule = c.args.schedule.now in
-    let rows = rows_of (λ z. (goal.CubeSource-dyn g z).seen z.1) c.args.catalogue.now in
+    let rows = rows_of (λ z. (goal.SharedSource-dyn g z).CubeSource.seen z.1) c.args.catalogue.now in
     let end : c.loop-step.step ≡ c.loads-step-end.result = omega (arith, c.loop-step-test.false, c.loop-step.auto.step-end) in
     each_loaded graph schedule c.requires.ready.scheduled (AreCells collections graph schedule c.args.windows.now (lists_of c.loop-step.buffers))
     c.loads-step-end.result c.loads-step-end.ensures.load c.loads-step-end.ensures.work
@@ -85,8 +85,8 @@ pub returns-clause-read : goal.returns-clause-read
 returns-clause-read g c =
     let graph = c.args.checked.now in
     let schedule = c.args.schedule.now in
-    let before = rows_of (λ z. (goal.CubeSource-dyn g z).seen z.1) c.args.catalogue.now in
-    let now = rows_of (λ z. (goal.CubeSource-dyn g z).seen z.1) c.loop-step.catalogue in
+    let before = rows_of (λ z. (goal.SharedSource-dyn g z).CubeSource.seen z.1) c.args.catalogue.now in
+    let now = rows_of (λ z. (goal.SharedSource-dyn g z).CubeSource.seen z.1) c.loop-step.catalogue in
     let end : c.loop-step.step ≡ c.loads-step-end.result = omega (arith, c.loop-step-test.false, c.loop-step.auto.step-end) in
     let most : c.loop-step.step ≤ load_count graph schedule =
     omega (arith, end, loads_counted graph schedule c.loads-step-end.result c.loads-step-end.ensures.most c.loads-step-end.ensures.load) in

@@ -8,8 +8,8 @@ use Rattle.oe_slab.proofs.evaluate.load_all.Given as goal
 -- the steps so far are loaded
 abbrev pub invariant-loop-step : goal.invariant-loop-step
 invariant-loop-step g l =
-    let before = rows_of (λ z. (goal.CubeSource-dyn g z).seen z.1) l.fn.catalogue in
-    let now = rows_of (λ z. (goal.CubeSource-dyn g z).seen z.1) l.catalogue in
+    let before = rows_of (λ z. (goal.SharedSource-dyn g z).CubeSource.seen z.1) l.fn.catalogue in
+    let now = rows_of (λ z. (goal.SharedSource-dyn g z).CubeSource.seen z.1) l.catalogue in
     record {
       room : HaveRoomFor l.schedule (lists_of l.buffers);
       read : HasRead l.checked (l.step * l.schedule.largest) before now (Ok tt);

@@ -1,100 +1,44 @@
-use Rattle.std.proofs.Common.{◌≡◌, ◌<◌, length, get_or, set, take, refl, sym, ap, ◌∙◌, subst, arith}
-use Rattle.std.specs.Vec.{with_items}
+use Rattle.std.proofs.Common.{◌≤◌, ◌+◌, ℕ, sym, subst, arith}
 use Rattle.oe_plan.specs.Schedules.{node_at}
-use Rattle.oe_plan.specs.Windows.{window_at}
 use Rattle.oe_sources.specs.CatalogueRows.{rows_of}
-use Rattle.oe_window.specs.Windows.{position_count}
-use Rattle.oe_steps.proofs.BufferLemmas.{at_items, length-lists}
-use Rattle.oe_steps.proofs.EvalLemmas.{inside_at}
+use Rattle.oe_steps.proofs.PlaneLemmas.{ok_answer}
 use Rattle.oe_steps.proofs.ScheduleLemmas.{few, few_positions, step_of_windows}
-use Rattle.oe_steps.proofs.ReadLemmas.{has_most}
-use Rattle.oe_steps.proofs.StepLoadLemmas.{loaded_before, next_loaded, set_other, sizes_stay, slot_written}
-use Rattle.oe_steps.specs.Buffers.{buffer_at, lists_of}
-use Rattle.oe_steps.specs.Loads.{AreLoaded}
+use Rattle.oe_steps.proofs.ReadLemmas.{AreRead-trans, has_more, has_most, has_same}
 use Rattle.oe_steps.proofs.loading.load_slot.Goals as goal
-use Rattle.oe_steps.proofs.Outcomes.{on_ok}
 
 pub bounds-windows-step : goal.bounds-windows-step
 bounds-windows-step g c =
     omega (arith, step_of_windows c.args.checked.now c.args.schedule.now c.requires.schedule c.args.windows.now c.requires.windows, c.requires.step)
 
-pub bounds-buffers-slot : goal.bounds-buffers-slot
-bounds-buffers-slot g c =
-    omega (arith, c.slot-slot.ensures.below, c.requires.room.as_many, length-lists c.args.buffers.now)
-
-pub load_step-requires-clause-within : goal.load_step-requires-clause-within
-load_step-requires-clause-within g c =
-    inside_at c.args.checked.now c.args.schedule.now c.requires.schedule c.args.windows.now c.requires.windows c.args.step _
-    (window_at c.args.windows.now c.args.step) c.requires.step refl refl
-
-pub load_step-requires-clause-few : goal.load_step-requires-clause-few
-load_step-requires-clause-few g c =
+pub size-cells-requires : goal.size-cells-requires
+size-cells-requires g c =
     few_positions c.args.checked.now c.args.schedule.now c.requires.schedule c.args.windows.now c.requires.windows c.args.step c.requires.step
 
-pub load_step-requires-clause-room : goal.load_step-requires-clause-room
-load_step-requires-clause-room g c =
-    let graph = c.args.checked.now in
-    let schedule = c.args.schedule.now in
-    let slot = c.slot-slot.result in
-    let buffers = c.args.buffers.now in
-    let at = ap length (at_items buffers slot c.index-buffers-slot.result (omega (arith, c.slot-slot.ensures.below, c.requires.room.as_many, length-lists buffers))) in
-    let size = c.requires.room.each slot c.slot-slot.ensures.below in
-    let some = few graph schedule c.requires.schedule c.args.windows.now c.requires.windows c.args.step c.requires.step in
-    omega (arith, at, size, some, ap length c.as_mut_slice-buffer.ensures.value)
+pub ask-requires-clause-few : goal.ask-requires-clause-few
+ask-requires-clause-few g c = omega (arith, c.none-permit.ensures)
 
-pub returns-clause-room : goal.returns-clause-room
-returns-clause-room g c =
-    let graph = c.args.checked.now in
-    let schedule = c.args.schedule.now in
-    let slot = c.slot-slot.result in
-    let buffers = c.args.buffers.now in
-    let v = get_or buffers slot c.index-buffers-slot.result in
-    let out = c.load_step.new.buffer in
-    let inside : slot < length buffers = omega (arith, c.slot-slot.ensures.below, c.requires.room.as_many, length-lists buffers) in
-    let at = at_items buffers slot c.index-buffers-slot.result inside in
-    let long : length out ≡ length v.items = omega (arith, c.load_step.auto.buffer, ap length c.as_mut_slice-buffer.ensures.value) in
-    sizes_stay buffers slot schedule.order.width (schedule.largest) c.requires.room c.slot-slot.ensures.below v out at long
+pub look_slot-looked-requires-clause-mounted : goal.look_slot-looked-requires-clause-mounted
+look_slot-looked-requires-clause-mounted g c = has_same _ _ c.ask.ensures.asked.read.same c.args.checked.now c.requires.mounted
+
+pub look_slot-looked-requires-clause-asked : goal.look_slot-looked-requires-clause-asked
+look_slot-looked-requires-clause-asked g c =
+    omega (arith, c.none-permit.ensures, c.size-cells.ensures.value, c.ask.ensures.permit, c.new-looker.ensures)
+
+pub settle-requires-clause-mounted : goal.settle-requires-clause-mounted
+settle-requires-clause-mounted g c = has_same _ _ c.ask.ensures.asked.read.same c.args.checked.now c.requires.mounted
 
 pub returns-clause-loaded : goal.returns-clause-loaded
 returns-clause-loaded g c = λ rows read before.
-    let graph = c.args.checked.now in
-    let schedule = c.args.schedule.now in
-    let is = c.requires.schedule in
-    let step = c.args.step in
-    let windows = c.args.windows.now in
-    let now = rows_of (λ z. (goal.CubeSource-dyn g z).seen z.1) c.args.catalogue.now in
-    let largest = schedule.largest in
-    let count = position_count (window_at windows step) in
-    let slot = c.slot-slot.result in
-    let buffers = c.args.buffers.now in
-    let v = get_or buffers slot c.index-buffers-slot.result in
-    let out = c.load_step.new.buffer in
-    let inside : slot < length buffers = omega (arith, c.slot-slot.ensures.below, c.requires.room.as_many, length-lists buffers) in
-    let at = at_items buffers slot c.index-buffers-slot.result inside in
-    let long : length out ≡ length v.items = omega (arith, c.load_step.auto.buffer, ap length c.as_mut_slice-buffer.ensures.value) in
-    let is_slot = c.slot-slot.ensures.value in
-    let written = slot_written buffers slot schedule.order.width largest c.requires.room c.slot-slot.ensures.below v out at long in
-    let new = lists_of (set buffers slot (with_items v out)) in
-    on_ok _ _ c.load_step.result
-    (λ loaded.
-    next_loaded graph schedule is rows windows (lists_of buffers) new step c.requires.step
-    (λ k other. set_other buffers slot (with_items v out) k (λ e. other (e ∙ is_slot)))
-    before
-    (subst (AreLoaded graph rows (node_at schedule step) (window_at windows step))
-    (sym (ap (take count) (ap (buffer_at new) (sym is_slot) ∙ written)))
-    (loaded_before graph rows now (node_at schedule step) (window_at windows step) (take count out) read loaded)))
-    c.load_step.ensures.loaded
+    let now = rows_of (λ z. (goal.SharedSource-dyn g z).CubeSource.seen z.1) c.args.catalogue.now in
+    let asked = rows_of (λ z. (goal.SharedSource-dyn g z).CubeSource.seen z.1) c.ask.new.catalogue in
+    ok_answer _ (node_at c.args.schedule.now c.args.step) c.look_slot-looked.result c.settle.result c.settle.ensures.answer
+    (c.look_slot-looked.ensures.loaded rows (AreRead-trans rows now asked read c.ask.ensures.asked.read) before)
 
 pub returns-clause-read : goal.returns-clause-read
 returns-clause-read g c =
     let graph = c.args.checked.now in
     let schedule = c.args.schedule.now in
-    has_most graph (position_count (window_at c.args.windows.now c.args.step)) (schedule.largest) _ _ c.load_step.result
-    (few graph schedule c.requires.schedule c.args.windows.now c.requires.windows c.args.step c.requires.step)
-    c.load_step.ensures.read
-
-pub returns-clause-others : goal.returns-clause-others
-returns-clause-others g c = λ slot other.
-    let buffers = c.args.buffers.now in
-    let v = get_or buffers c.slot-slot.result c.index-buffers-slot.result in
-    set_other buffers c.slot-slot.result (with_items v c.load_step.new.buffer) slot (λ e. other (e ∙ c.slot-slot.ensures.value))
+    let n = c.size-cells.result in
+    let most = subst (λ (n : ℕ). n ≤ schedule.largest) (sym c.size-cells.ensures.value) (few graph schedule c.requires.schedule c.args.windows.now c.requires.windows c.args.step c.requires.step) in
+    has_most graph (n + 0) (schedule.largest) _ _ c.settle.result (omega (arith, most))
+    (has_more graph n 0 _ _ _ c.settle.result c.ask.ensures.asked c.settle.ensures.read)

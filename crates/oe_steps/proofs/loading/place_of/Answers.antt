@@ -13,7 +13,7 @@ pub unreachable-requires : goal.unreachable-requires
 unreachable-requires g c =
     let graph = c.args.checked.now in
     let schedule = c.args.schedule.now in
-    let rows = rows_of (λ z. (goal.CubeSource-dyn g z).seen z.1) c.args.catalogue.now in
+    let rows = rows_of (λ z. (goal.SharedSource-dyn g z).CubeSource.seen z.1) c.args.catalogue.now in
     let id : collection_of_node graph (node_at schedule c.args.step) ≡ Some c.in-Some.id.now =
     ap (λ n. collection_of_node graph n) (sym c.node-node.ensures)
     ∙ (sym c.collection.ensures ∙ ap (λ o. option_map (λ (t : Bor Text). t.now) o) c.in-Some.is) in
@@ -34,7 +34,7 @@ pub returns : goal.returns
 returns g c =
     let graph = c.args.checked.now in
     let schedule = c.args.schedule.now in
-    let rows = rows_of (λ z. (goal.CubeSource-dyn g z).seen z.1) c.args.catalogue.now in
+    let rows = rows_of (λ z. (goal.SharedSource-dyn g z).CubeSource.seen z.1) c.args.catalogue.now in
     let id : collection_of_node graph (node_at schedule c.args.step) ≡ Some c.in-Some.id.now =
     ap (λ n. collection_of_node graph n) (sym c.node-node.ensures)
     ∙ (sym c.collection.ensures ∙ ap (λ o. option_map (λ (t : Bor Text). t.now) o) c.in-Some.is) in (

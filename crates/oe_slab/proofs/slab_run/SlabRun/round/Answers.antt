@@ -20,7 +20,7 @@ pub returns-in_err-least-clause-writes : goal.returns-in_err-least-clause-writes
 returns-in_err-least-clause-writes g c =
     let i = c.self.inside in
     let p = i.plan in
-    let rows = rows_of (λ z. (goal.CubeSource-dyn g z).seen z.1) c.args.catalogue.now in
+    let rows = rows_of (λ z. (goal.SharedSource-dyn g z).CubeSource.seen z.1) c.args.catalogue.now in
     let old = g.P.Store.bytes c.args.spool.now in
     let new = g.P.Store.bytes c.write_chunk.new.spool in
     let one : 1 ≡ min 1 (chunk_total p - i.done) = omega (arith, c.chunks.ensures.value, c.if-left-eq0.false) in
@@ -34,7 +34,7 @@ pub returns-clause-writes : goal.returns-clause-writes
 returns-clause-writes g c =
     let i = c.self.inside in
     let p = i.plan in
-    let rows = rows_of (λ z. (goal.CubeSource-dyn g z).seen z.1) c.args.catalogue.now in
+    let rows = rows_of (λ z. (goal.SharedSource-dyn g z).CubeSource.seen z.1) c.args.catalogue.now in
     let old = g.P.Store.bytes c.args.spool.now in
     let new = g.P.Store.bytes c.write_chunk.new.spool in
     let one : 1 ≡ min 1 (chunk_total p - i.done) = omega (arith, c.chunks.ensures.value, c.if-left-eq0.false) in
@@ -58,7 +58,7 @@ returns-clause-writes g c =
 
 pub evaluate-requires-clause-mounted : goal.evaluate-requires-clause-mounted
 evaluate-requires-clause-mounted g c =
-    let rows = rows_of (λ z. (goal.CubeSource-dyn g z).seen z.1) c.args.catalogue.now in
+    let rows = rows_of (λ z. (goal.SharedSource-dyn g z).CubeSource.seen z.1) c.args.catalogue.now in
     subst (λ (r : SlabRunOf). HasCollections r.plan.graph rows) (sym c.self.view_is) c.requires.mounted
 
 pub write_chunk-requires-clause-counted : goal.write_chunk-requires-clause-counted
@@ -68,7 +68,7 @@ pub returns-in_err-evaluate-clause-writes : goal.returns-in_err-evaluate-clause-
 returns-in_err-evaluate-clause-writes g c =
     let i = c.self.inside in
     let p = i.plan in
-    let rows = rows_of (λ z. (goal.CubeSource-dyn g z).seen z.1) c.args.catalogue.now in
+    let rows = rows_of (λ z. (goal.SharedSource-dyn g z).CubeSource.seen z.1) c.args.catalogue.now in
     let old = g.P.Store.bytes c.args.spool.now in
     subst (λ (r : SlabRunOf). WritesChunk r rows old (run p i.base i.done i.over) old) c.self.view_is (writes_none p i.base i.done i.over rows old)
 
@@ -76,8 +76,8 @@ pub returns-in_err-evaluate-clause-reads : goal.returns-in_err-evaluate-clause-r
 returns-in_err-evaluate-clause-reads g c =
     let i = c.self.inside in
     let p = i.plan in
-    let rows = rows_of (λ z. (goal.CubeSource-dyn g z).seen z.1) c.args.catalogue.now in
-    let after = rows_of (λ z. (goal.CubeSource-dyn g z).seen z.1) c.evaluate.new.catalogue in
+    let rows = rows_of (λ z. (goal.SharedSource-dyn g z).CubeSource.seen z.1) c.args.catalogue.now in
+    let after = rows_of (λ z. (goal.SharedSource-dyn g z).CubeSource.seen z.1) c.evaluate.new.catalogue in
     let one : 1 ≡ min 1 (chunk_total p - i.done) = omega (arith, c.chunks.ensures.value, c.if-left-eq0.false) in
     subst (λ (r : SlabRunOf). ReadsChunk r rows after) c.self.view_is
     (reads_one p i.base i.done i.over rows after (Err c.in_err-evaluate.field-0.0) one c.in_err-evaluate.ensures.read)
@@ -86,8 +86,8 @@ pub returns-in_err-evaluate-clause-causes : goal.returns-in_err-evaluate-clause-
 returns-in_err-evaluate-clause-causes g c =
     let i = c.self.inside in
     let p = i.plan in
-    let rows = rows_of (λ z. (goal.CubeSource-dyn g z).seen z.1) c.args.catalogue.now in
-    let after = rows_of (λ z. (goal.CubeSource-dyn g z).seen z.1) c.evaluate.new.catalogue in
+    let rows = rows_of (λ z. (goal.SharedSource-dyn g z).CubeSource.seen z.1) c.args.catalogue.now in
+    let after = rows_of (λ z. (goal.SharedSource-dyn g z).CubeSource.seen z.1) c.evaluate.new.catalogue in
     let faults = g.P.Store.faults c.args.spool.now in
     subst (λ (r : SlabRunOf). HasCauses r rows after faults faults c.from_residual.result) c.self.view_is
     (causes_read p i.base i.done i.over rows after faults (most_asked p) c.in_err-evaluate.field-0.0 c.from_residual.result c.from_residual.ensures.1
@@ -97,8 +97,8 @@ pub returns-in_err-least-clause-reads : goal.returns-in_err-least-clause-reads
 returns-in_err-least-clause-reads g c =
     let i = c.self.inside in
     let p = i.plan in
-    let rows = rows_of (λ z. (goal.CubeSource-dyn g z).seen z.1) c.args.catalogue.now in
-    let after = rows_of (λ z. (goal.CubeSource-dyn g z).seen z.1) c.evaluate.new.catalogue in
+    let rows = rows_of (λ z. (goal.SharedSource-dyn g z).CubeSource.seen z.1) c.args.catalogue.now in
+    let after = rows_of (λ z. (goal.SharedSource-dyn g z).CubeSource.seen z.1) c.evaluate.new.catalogue in
     let one : 1 ≡ min 1 (chunk_total p - i.done) = omega (arith, c.chunks.ensures.value, c.if-left-eq0.false) in
     subst (λ (r : SlabRunOf). ReadsChunk r rows after) c.self.view_is
     (reads_one p i.base i.done i.over rows after (Ok tt) one c.in_ok-evaluate.ensures.read)
@@ -107,8 +107,8 @@ pub returns-in_err-least-clause-causes : goal.returns-in_err-least-clause-causes
 returns-in_err-least-clause-causes g c =
     let i = c.self.inside in
     let p = i.plan in
-    let rows = rows_of (λ z. (goal.CubeSource-dyn g z).seen z.1) c.args.catalogue.now in
-    let after = rows_of (λ z. (goal.CubeSource-dyn g z).seen z.1) c.evaluate.new.catalogue in
+    let rows = rows_of (λ z. (goal.SharedSource-dyn g z).CubeSource.seen z.1) c.args.catalogue.now in
+    let after = rows_of (λ z. (goal.SharedSource-dyn g z).CubeSource.seen z.1) c.evaluate.new.catalogue in
     let faults = g.P.Store.faults c.args.spool.now in
     let faults_after = g.P.Store.faults c.write_chunk.new.spool in
     let result = c.from_residual-in_err-least.result in
@@ -120,8 +120,8 @@ pub returns-clause-reads : goal.returns-clause-reads
 returns-clause-reads g c =
     let i = c.self.inside in
     let p = i.plan in
-    let rows = rows_of (λ z. (goal.CubeSource-dyn g z).seen z.1) c.args.catalogue.now in
-    let after = rows_of (λ z. (goal.CubeSource-dyn g z).seen z.1) c.evaluate.new.catalogue in
+    let rows = rows_of (λ z. (goal.SharedSource-dyn g z).CubeSource.seen z.1) c.args.catalogue.now in
+    let after = rows_of (λ z. (goal.SharedSource-dyn g z).CubeSource.seen z.1) c.evaluate.new.catalogue in
     let one : 1 ≡ min 1 (chunk_total p - i.done) = omega (arith, c.chunks.ensures.value, c.if-left-eq0.false) in
     subst (λ (r : SlabRunOf). ReadsChunk r rows after) c.self.view_is
     (reads_one p i.base i.done i.over rows after (Ok tt) one c.in_ok-evaluate.ensures.read)

@@ -164,7 +164,7 @@ returns-clause-plane g c =
 pub returns-clause-folded : goal.returns-clause-folded
 returns-clause-folded g c =
     let i = c.self.inside in
-    let rows = rows_of (λ z. (goal.CubeSource-dyn g z).seen z.1) c.args.catalogue.now in
+    let rows = rows_of (λ z. (goal.SharedSource-dyn g z).CubeSource.seen z.1) c.args.catalogue.now in
     let plane = c.plane_of-plane.result in
     let folds = c.fold_all.new.folds in
     let long : length folds ≡ length i.folds.items = c.fold_all.auto.folds ∙ ap length c.deref_mut-5.ensures.value in

@@ -1,23 +1,24 @@
-use Rattle.std.proofs.Common.{◌≡◌, ◌≤◌, ◌+◌, ◌-◌, ◌*◌, ◌++◌, ℕ, length, take, drop, Ok, Err, sym, ap, ◌∙◌, subst, arith}
+use Rattle.std.proofs.Common.{◌≡◌, ◌≤◌, ◌+◌, ◌-◌, ◌*◌, ◌++◌, ℕ, length, take, drop, sym, ap, ◌∙◌, subst, arith}
 use Rattle.std.proofs.lemmas.List.{length-take, length-drop}
 use Rattle.oe_plan.specs.Schedules.{node_at}
 use Rattle.oe_sources.specs.CatalogueRows.{rows_of}
 use Rattle.oe_window.specs.Parts.{IsPartFrom, plane_size}
 use Rattle.oe_window.specs.Windows.{position_count}
-use Rattle.oe_steps.proofs.ReadLemmas.{has_more, has_most, has_none, has_refused}
-use Rattle.oe_steps.proofs.StepLoadLemmas.{ends_within, front_written, loaded_all, loaded_before, loaded_more, loaded_none, mounted_for, one_plane}
-use Rattle.oe_steps.specs.Loads.{AreLoaded, HasLoadedTo, HasRead}
+use Rattle.oe_steps.proofs.PlaneLemmas.{tells_handed}
+use Rattle.oe_steps.proofs.ReadLemmas.{AreRead-refl}
+use Rattle.oe_steps.proofs.StepLoadLemmas.{ends_within, front_written, loaded_all, loaded_more, loaded_none, mounted_for, one_plane}
+use Rattle.oe_steps.specs.Loads.{AreLoaded, HasLoadedTo}
 use borrow.Rule.Slice.PartMut.{post_of}
-use Rattle.oe_steps.proofs.loading.load_step.Goals as goal
+use Rattle.oe_steps.proofs.loading.look_step.Goals as goal
 
 pub loop-number-init : goal.loop-number-init
 loop-number-init g c =
-    let rows = rows_of (λ z. (goal.CubeSource-dyn g z).seen z.1) c.args.catalogue.now in
+    let rows = rows_of (λ z. (goal.SharedSource-dyn g z).CubeSource.seen z.1) c.args.catalogue.now in
     record {
       done_is = omega arith;
       within = omega arith;
       room = c.requires.room;
-      read = has_none c.args.checked.now rows;
+      spent = omega arith;
       loaded = loaded_none c.args.checked.now rows (node_at c.args.schedule.now c.args.step) c.args.window.now c.args.buffer.now;
     }
 
@@ -50,25 +51,23 @@ slice_bounds-piece-end g c =
     let room = c.loop-number.invariant.room in
     omega (arith, size, done, room, fits.counted, fits.within)
 
-pub load_plane-requires-clause-mounted : goal.load_plane-requires-clause-mounted
-load_plane-requires-clause-mounted g c =
+pub look_plane-requires-clause-mounted : goal.look_plane-requires-clause-mounted
+look_plane-requires-clause-mounted g c =
     let graph = c.args.checked.now in
     let schedule = c.args.schedule.now in
-    let node = node_at schedule c.args.step in
-    let before = rows_of (λ z. (goal.CubeSource-dyn g z).seen z.1) c.args.catalogue.now in
-    let now = rows_of (λ z. (goal.CubeSource-dyn g z).seen z.1) c.loop-number.catalogue in
+    let rows = rows_of (λ z. (goal.SharedSource-dyn g z).CubeSource.seen z.1) c.args.catalogue.now in
     let at = c.place_of-place.ensures in
-    mounted_for graph schedule before now c.args.step c.place_of-place.result at.0 at.1 at.2 c.loop-number.invariant.read.read
+    mounted_for graph schedule rows rows c.args.step c.place_of-place.result at.0 at.1 at.2 (AreRead-refl rows)
 
-pub load_plane-requires-clause-within : goal.load_plane-requires-clause-within
-load_plane-requires-clause-within g c = λ q in'. c.requires.within q (c.plane-plane.ensures.part.inside q in')
+pub look_plane-requires-clause-within : goal.look_plane-requires-clause-within
+look_plane-requires-clause-within g c = λ q in'. c.requires.within q (c.plane-plane.ensures.part.inside q in')
 
-pub load_plane-requires-clause-one : goal.load_plane-requires-clause-one
-load_plane-requires-clause-one g c =
+pub look_plane-requires-clause-one : goal.look_plane-requires-clause-one
+look_plane-requires-clause-one g c =
     one_plane c.args.window.now c.plane-plane.result c.loop-number.number c.plane-plane.ensures.value
 
-pub load_plane-requires-clause-room : goal.load_plane-requires-clause-room
-load_plane-requires-clause-room g c =
+pub look_plane-requires-clause-room : goal.look_plane-requires-clause-room
+look_plane-requires-clause-room g c =
     let w = c.args.window.now in
     let n = c.loop-number.number in
     let fits = ends_within w c.plane-plane.result n c.planes-number-end.result c.plane-plane.ensures.value c.planes-number-end.ensures.value c.loop-number-test.true in
@@ -80,25 +79,18 @@ load_plane-requires-clause-room g c =
     let buffer = c.loop-number.buffer in
     omega (arith, length-take (k + m - k) (drop k buffer), length-drop k buffer, size, done, room, fits.counted, fits.within)
 
-pub returns-in_err-load_plane-clause-read : goal.returns-in_err-load_plane-clause-read
-returns-in_err-load_plane-clause-read g c =
+pub look_plane-requires-clause-asked : goal.look_plane-requires-clause-asked
+look_plane-requires-clause-asked g c =
     let w = c.args.window.now in
     let n = c.loop-number.number in
     let fits = ends_within w c.plane-plane.result n c.planes-number-end.result c.plane-plane.ensures.value c.planes-number-end.ensures.value c.loop-number-test.true in
-    let size = c.size-count.ensures.value in
     let done = c.loop-number.invariant.done_is in
-    let room = c.loop-number.invariant.room in
-    let graph = c.args.checked.now in
-    let schedule = c.args.schedule.now in
-    let node = node_at schedule c.args.step in
-    let before = rows_of (λ z. (goal.CubeSource-dyn g z).seen z.1) c.args.catalogue.now in
-    let now = rows_of (λ z. (goal.CubeSource-dyn g z).seen z.1) c.loop-number.catalogue in
-    let after = rows_of (λ z. (goal.CubeSource-dyn g z).seen z.1) c.load_plane.new.catalogue in
-    let k = c.loop-number.done in
-    let refusal = c.in_err-load_plane.field-0.0 in
-    has_refused graph (position_count w) before after refusal c.from_residual.result c.from_residual.ensures.1
-    (has_most graph (k + position_count c.plane-plane.result) (position_count w) before after (Err refusal) (omega (arith, done, fits.counted, fits.within))
-    (has_more graph k (position_count c.plane-plane.result) before now after (Err refusal) c.loop-number.invariant.read c.in_err-load_plane.ensures.read))
+    omega (arith, done, fits.counted, fits.within, c.requires.asked, c.loop-number.invariant.spent)
+
+pub returns-in_err-look_plane-clause-refused : goal.returns-in_err-look_plane-clause-refused
+returns-in_err-look_plane-clause-refused g c =
+    tells_handed c.args.checked.now (rows_of (λ z. (goal.SharedSource-dyn g z).CubeSource.seen z.1) c.args.catalogue.now) (node_at c.args.schedule.now c.args.step) c.in_err-look_plane.field-0.0 c.from_residual.result c.from_residual.ensures.1
+    c.in_err-look_plane.ensures.refused
 
 pub loop-number-preserved : goal.loop-number-preserved
 loop-number-preserved g c =
@@ -111,28 +103,25 @@ loop-number-preserved g c =
     let graph = c.args.checked.now in
     let schedule = c.args.schedule.now in
     let node = node_at schedule c.args.step in
-    let before = rows_of (λ z. (goal.CubeSource-dyn g z).seen z.1) c.args.catalogue.now in
-    let now = rows_of (λ z. (goal.CubeSource-dyn g z).seen z.1) c.loop-number.catalogue in
-    let after = rows_of (λ z. (goal.CubeSource-dyn g z).seen z.1) c.load_plane.new.catalogue in
+    let rows = rows_of (λ z. (goal.SharedSource-dyn g z).CubeSource.seen z.1) c.args.catalogue.now in
     let plane = c.plane-plane.result in
     let k = c.loop-number.done in
     let m = c.size-count.result in
     let buffer = c.loop-number.buffer in
-    let piece = c.load_plane.new.into in
+    let piece = c.look_plane.new.into in
     let rest = post_of k (k + m - k) buffer in
     let inside : k + m ≤ length buffer = omega (arith, size, done, room, fits.counted, fits.within) in
-    let long : length piece ≡ m = omega (arith, c.load_plane.auto.into, length-take (k + m - k) (drop k buffer), length-drop k buffer, inside) in
+    let long : length piece ≡ m = omega (arith, c.look_plane.auto.into, length-take (k + m - k) (drop k buffer), length-drop k buffer, inside) in
     let part : IsPartFrom k w plane = subst (λ (i : ℕ). IsPartFrom i w plane) (sym done) c.plane-plane.ensures.part in
     let written = front_written buffer piece rest k m (omega (arith, inside)) long in
-    let loaded : AreLoaded graph before node plane piece = loaded_before graph before now node plane piece c.loop-number.invariant.read.read c.in_ok-load_plane.ensures.loaded in
+    let loaded : AreLoaded graph rows node plane piece = c.in_ok-look_plane.ensures.loaded in
     record {
       done_is = omega (arith, size, done, fits.counted, fits.next);
-      within = omega (arith, inside, c.load_plane.auto.into);
-      room = omega (arith, room, c.load_plane.auto.into);
-      read = subst (λ (i : ℕ). HasRead graph (k + i) before after (Ok tt)) (sym size)
-          (has_more graph k (position_count plane) before now after (Ok tt) c.loop-number.invariant.read c.in_ok-load_plane.ensures.read);
-      loaded = subst (λ (i : ℕ). HasLoadedTo graph before node w (k + i) (take k buffer ++ (piece ++ rest))) (sym size)
-          (loaded_more graph before node w k plane buffer (take k buffer ++ (piece ++ rest)) piece part
+      within = omega (arith, inside, c.look_plane.auto.into);
+      room = omega (arith, room, c.look_plane.auto.into);
+      spent = omega (arith, size, c.loop-number.invariant.spent, c.look_plane.ensures.spent);
+      loaded = subst (λ (i : ℕ). HasLoadedTo graph rows node w (k + i) (take k buffer ++ (piece ++ rest))) (sym size)
+          (loaded_more graph rows node w k plane buffer (take k buffer ++ (piece ++ rest)) piece part
           (subst (λ (i : ℕ). take (k + i) (take k buffer ++ (piece ++ rest)) ≡ take k buffer ++ piece) size written)
           c.loop-number.invariant.loaded loaded);
     }
@@ -142,23 +131,17 @@ returns-clause-loaded g c =
     let graph = c.args.checked.now in
     let schedule = c.args.schedule.now in
     let node = node_at schedule c.args.step in
-    let before = rows_of (λ z. (goal.CubeSource-dyn g z).seen z.1) c.args.catalogue.now in
-    let now = rows_of (λ z. (goal.CubeSource-dyn g z).seen z.1) c.loop-number.catalogue in
+    let rows = rows_of (λ z. (goal.SharedSource-dyn g z).CubeSource.seen z.1) c.args.catalogue.now in
     let w = c.args.window.now in
     let end : c.loop-number.number ≡ c.planes-number-end.result = omega (arith, c.loop-number-test.false, c.loop-number.auto.number-end) in
     let all : c.loop-number.done ≡ position_count w =
     c.loop-number.invariant.done_is ∙ (ap (λ (m : ℕ). m * plane_size w) end ∙ c.planes-number-end.ensures.all) in
-    loaded_all graph before node w c.loop-number.done c.loop-number.buffer all c.loop-number.invariant.loaded
+    loaded_all graph rows node w c.loop-number.done c.loop-number.buffer all c.loop-number.invariant.loaded
 
-pub returns-clause-read : goal.returns-clause-read
-returns-clause-read g c =
-    let graph = c.args.checked.now in
-    let schedule = c.args.schedule.now in
-    let node = node_at schedule c.args.step in
-    let before = rows_of (λ z. (goal.CubeSource-dyn g z).seen z.1) c.args.catalogue.now in
-    let now = rows_of (λ z. (goal.CubeSource-dyn g z).seen z.1) c.loop-number.catalogue in
+pub returns-clause-spent : goal.returns-clause-spent
+returns-clause-spent g c =
     let w = c.args.window.now in
     let end : c.loop-number.number ≡ c.planes-number-end.result = omega (arith, c.loop-number-test.false, c.loop-number.auto.number-end) in
     let all : c.loop-number.done ≡ position_count w =
     c.loop-number.invariant.done_is ∙ (ap (λ (m : ℕ). m * plane_size w) end ∙ c.planes-number-end.ensures.all) in
-    subst (λ (i : ℕ). HasRead graph i before now (Ok tt)) all c.loop-number.invariant.read
+    omega (arith, all, c.loop-number.invariant.spent)
