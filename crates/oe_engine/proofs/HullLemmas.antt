@@ -1,10 +1,10 @@
 -- Steps that are loaded for several benches at once, row by row of a hull.
-use Rattle.std.proofs.Common.{◌≡◌, ℕ, zero, suc, ◌+◌, ◌*◌, ◌<◌, ◌≤◌, List, [], ◌∷◌, ◌++◌, length, get_or, set, Some, Result, Ok, Err, refl, sym, ap, ◌∙◌, subst, arith}
-use Rattle.std.proofs.Math.Nat.{mul-le-mul_right, mul_assoc, mul_comm}
+use Rattle.std.proofs.Common.{◌≡◌, ℕ, zero, suc, ◌+◌, ◌-◌, ◌*◌, ◌<◌, ◌≤◌, List, [], ◌∷◌, ◌++◌, length, map, get_or, set, Some, Result, Ok, Err, refl, sym, ap, ◌∙◌, subst, arith}
+use Rattle.std.proofs.Math.Nat.{add-mul, mul-le-mul_right, mul_assoc, mul_comm}
 use Rattle.std.proofs.lemmas.List.Elements.{All-cons, All-tail}
 use Rattle.std.proofs.lemmas.Option.{get_or_from_slice_get, same_Some, slice_get_within, slice_get-get_or}
 use Rattle.std.specs.List.{All, slice_get}
-use Rattle.std.specs.Result.{IsErrAnd, OnOk}
+use Rattle.std.specs.Result.{IsErr, IsErrAnd, OnOk}
 use Rattle.oe_cell.specs.declared.cell.Cell.{Cell}
 use Rattle.oe_ops.specs.Needs.{plane_window}
 use Rattle.oe_plan.specs.Plans.{IsPlan, PlanOf, schedule_of}
@@ -19,9 +19,13 @@ use Rattle.oe_engine.specs.Benches.{BenchOf, EachLive, IsBenchFor, KeepsState, n
 use Rattle.oe_steps.specs.Buffers.{buffer_at}
 use Rattle.oe_engine.specs.Chunks.{EachBench}
 use Rattle.oe_engine.specs.Hulls.{HasLoadedRows, HasLoadedSteps, HaveLoadedRows, IsBegun, IsStripped}
-use Rattle.oe_steps.specs.Loads.{HasLoadedTo}
-use Rattle.oe_engine.specs.Loads.{IsLoadedAt}
-use Rattle.oe_steps.specs.declared.fail.RunFail.{RunFail}
+use Rattle.oe_sources.specs.Source.{answer_of}
+use Rattle.oe_sources.specs.declared.source.LookFail.{LookFail}
+use Rattle.oe_sources.specs.declared.source.LookFail.TheVariants as look
+use Rattle.oe_steps.proofs.ReadLemmas.{shows_same}
+use Rattle.oe_steps.specs.Collections.{without_counts}
+use Rattle.oe_steps.specs.Loads.{HasLoadedTo, refusal_for}
+use Rattle.oe_engine.specs.Loads.{IsLoadedAt, LoadsBench}
 use Rattle.oe_steps.proofs.StepLoadLemmas.{loaded_all, loaded_none, next_loaded}
 use Rattle.oe_steps.proofs.StripLemmas.{rows_all}
 use Rattle.oe_steps.proofs.RowLemmas.{one_more}
@@ -144,7 +148,7 @@ begun_is p b begun = record {
   keeps = subst (KeepsState p b) (sym begun.state) tt;
 }
 
--- ---- how many cells are asked for
+-- ---- how many cells are looked at
 
 pub steps_turned : (loads many largest : ℕ) → loads * (many * largest) ≡ many * (loads * largest)
 steps_turned loads many largest =
@@ -160,9 +164,16 @@ step_asked step loads many largest before =
     let turned = steps_turned loads many largest in
     (one, omega arith)
 
+-- the benches of a piece that begins behind so many
+pub piece_asked : (from end many largest : ℕ) → from ≤ end → end ≤ many
+    → (from * largest + (end - from) * largest ≡ end * largest) × (end * largest ≤ many * largest)
+piece_asked from end many largest le most =
+    let whole : from + (end - from) ≡ end = omega arith in
+    (sym (add-mul from (end - from) largest) ∙ ap (λ n. n * largest) whole, mul-le-mul_right largest most)
+
 -- ---- what a refusal says of nothing
 
-pub none_if_refused : (r : Result (Unit {0}) RunFail) (refusal : RunFail) → IsErrAnd r (λ e. e ≡ refusal) → (X : Type 0) → OnOk r X
+pub none_if_refused : {E : Type 0} (r : Result (Unit {0}) E) (refusal : E) → IsErrAnd r (λ e. e ≡ refusal) → (X : Type 0) → OnOk r X
 none_if_refused (Ok u) refusal is X = absurd is
 none_if_refused (Err e) refusal is X = tt
 
@@ -195,3 +206,25 @@ one_row hull row n is = rw is refl
 
 pub row_long : (hull row : Window) (n : ℕ) → row ≡ row_of hull n → position_count row ≡ span_length row.x
 row_long hull row n is = rw is (row_of_size hull n)
+
+pub none_if_err : {E : Type 0} (r : Result (Unit {0}) E) → IsErr r → (X : Type 0) → OnOk r X
+none_if_err (Ok u) is X = absurd cc
+none_if_err (Err e) is X = tt
+
+pub refusal_is_err : (node : ℕ) (fail : LookFail) → IsErr (refusal_for node (answer_of (Err fail)))
+refusal_is_err node (look.Failed fault) = refl
+refusal_is_err node (look.Damaged number) = refl
+
+-- a round goes on only where all of its chunks are loaded
+pub ok_loaded : {E F : Type 0} (loaded : Result (Unit {0}) E) (result : Result (Unit {0}) F) (P Q : Type 0) → OnOk result (loaded ≡ Ok tt) → (P → Q) → OnOk loaded P → OnOk result Q
+ok_loaded loaded (Ok u) P Q same use_it ok = use_it (subst (λ l. OnOk l P) same ok)
+ok_loaded loaded (Err e) P Q same use_it ok = tt
+
+-- a bench that is loaded over rows of which only counters changed
+pub bench_before : (p : PlanOf) (before after : List Row) → map without_counts after ≡ map without_counts before → (k : ℕ) (b : BenchOf)
+    → LoadsBench p after k b → LoadsBench p before k b
+bench_before p before after same k b h = record {
+  keeps = h.keeps;
+  state = h.state;
+  loaded = λ collections has shows. h.loaded collections has (shows_same p.graph before after same collections shows);
+}

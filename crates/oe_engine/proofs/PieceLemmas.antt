@@ -1,23 +1,23 @@
 -- A step that is loaded for benches in pieces, one piece after another.
-use Rattle.std.proofs.Common.{◌≡◌, ℕ, zero, suc, ◌+◌, ◌-◌, ◌*◌, ◌≤◌, List, [], ◌∷◌, ◌++◌, length, take, drop, Result, Ok, Err, refl, sym, ap, ◌∙◌, subst, arith, append_assoc, length-append}
+use Rattle.std.proofs.Common.{◌≡◌, ℕ, zero, suc, ◌+◌, ◌-◌, ◌≤◌, List, [], ◌∷◌, ◌++◌, length, take, drop, Result, Ok, Err, refl, sym, ap, ◌∙◌, subst, arith, append_assoc, length-append}
 use borrow.Rule.Slice.PartMut.{drop_put, mid_len, mid_of, Post-is, post_of, put_mid, put_same, same_len_mid}
 use Rattle.std.proofs.lemmas.List.{take-append-drop, take_all}
-use Rattle.std.proofs.lemmas.List.Elements.{All-append, All-drop, All-nil}
+use Rattle.std.proofs.lemmas.List.Elements.{All-append, All-cons, All-drop, All-nil, All-tail}
 use Rattle.std.proofs.lemmas.Option.{slice_get_within}
 use Rattle.std.proofs.lemmas.Slice.{take-put_mid}
 use Rattle.std.specs.List.{All}
-use Rattle.std.specs.Result.{IsErrAnd}
+use Rattle.std.specs.Result.{IsErrAnd, result_and}
 use Rattle.oe_dims.proofs.FlatMapLemmas.{slice_get-append_left, slice_get-append_right}
-use Rattle.oe_plan.specs.Figures.{largest_window}
 use Rattle.oe_plan.specs.Plans.{PlanOf}
 use Rattle.oe_sources.specs.Catalogue.{Row}
-use Rattle.oe_engine.specs.Benches.{BenchOf}
+use Rattle.oe_engine.specs.Benches.{BenchOf, IsBenchFor, node_at}
 use Rattle.oe_engine.specs.Chunks.{EachBench}
-use Rattle.oe_engine.specs.Hulls.{HasLoadedSteps, IsBegun, LoadsStep}
-use Rattle.oe_steps.specs.Loads.{HasRead}
-use Rattle.oe_steps.specs.declared.fail.RunFail.{RunFail}
+use Rattle.oe_engine.specs.Hulls.{HasLoadedSteps, IsBegun, LoadsChunks, LoadsStep}
+use Rattle.oe_engine.specs.Loads.{LoadsBench}
+use Rattle.oe_engine.specs.declared.hulls.Note.{Note}
+use Rattle.oe_sources.specs.declared.source.LookFail.{LookFail}
 use Rattle.oe_engine.proofs.HullLemmas.{none_if_refused}
-use Rattle.oe_steps.proofs.ReadLemmas.{AreRead-trans, has_more, has_most, has_none, has_refused}
+use Rattle.oe_steps.proofs.PlaneLemmas.{tells_handed}
 use Rattle.oe_steps.proofs.StepLoadLemmas.{slice_more}
 use Rattle.oe_steps.proofs.Outcomes.{on_ok}
 
@@ -48,102 +48,98 @@ module _ (Holds : ℕ → BenchOf → Type 0) where
       subst (λ k. Holds k c) same (each j c is)))
       i b at)
 
+pub all_front : {X : Type 0} (P : X → Type 0) (one others : List X) → All P (one ++ others) → All P one
+all_front P [] others all = All-nil P
+all_front P (x ∷ one) others all = All-cons P x one (all 0 x (omega arith)) (all_front P one others (All-tail P x (one ++ others) all))
+
+pub all_behind : {X : Type 0} (P : X → Type 0) (one others : List X) → All P (one ++ others) → All P others
+all_behind P [] others all = all
+all_behind P (x ∷ one) others all = all_behind P one others (All-tail P x (one ++ others) all)
+
 -- ---- a step of two pieces
 
-counted : (n m each : ℕ) → n * each + m * each ≡ (n + m) * each
-counted n m each = omega arith
-
-module _ (p : PlanOf) (step : ℕ) where
-  pub loads_none : (rows : List Row) → LoadsStep p step rows rows [] [] (Ok tt)
-  loads_none rows = record {
+module _ (p : PlanOf) (step : ℕ) (rows : List Row) where
+  pub loads_none : LoadsStep p step rows [] [] (Ok tt)
+  loads_none = record {
     many = refl;
     begun = All-nil (IsBegun p);
-    loaded = λ others first read each i b at. absurd cc;
-    read = has_most p.graph 0 (0 * largest_window p.graph p.size) rows rows (Ok tt) (omega arith) (has_none p.graph rows);
+    loaded = λ first each i b at. absurd cc;
+    refused = tt;
   }
 
-  pub loads_both : (a b d : List Row) (one own others rest : List BenchOf) (result : Result (Unit {0}) RunFail)
-      → LoadsStep p step a b one own (Ok tt) → LoadsStep p step b d others rest result
-      → LoadsStep p step a d (one ++ others) (own ++ rest) result
-  loads_both a b d one own others rest result first second =
-      let largest = largest_window p.graph p.size in
+  pub loads_both : (one own others rest : List BenchOf) (result : Result (Unit {0}) LookFail)
+      → LoadsStep p step rows one own (Ok tt) → LoadsStep p step rows others rest result
+      → LoadsStep p step rows (one ++ others) (own ++ rest) result
+  loads_both one own others rest result first second =
       let count = length-append one others in
       let some = first.many in
       let more = second.many in
       record {
         many = omega (arith, length-append own rest, count, some, more);
         begun = All-append (IsBegun p) own rest first.begun second.begun;
-        loaded = λ rows k read each.
+        loaded = λ k each.
             on_ok _ _ result
             (λ loaded. each_both (HasLoadedSteps p rows (step + 1)) k own rest
-            (first.loaded rows k read (each_front (HasLoadedSteps p rows step) k one others each))
+            (first.loaded k (each_front (HasLoadedSteps p rows step) k one others each))
             (subst (λ n. EachBench (k + n) (HasLoadedSteps p rows (step + 1)) rest) (sym some) loaded))
-            (second.loaded rows (k + length one) (AreRead-trans rows a b read first.read.read)
-            (each_behind (HasLoadedSteps p rows step) k one others each));
-        read = subst (λ n. HasRead p.graph n a d result)
-            (counted (length one) (length others) largest ∙ ap (λ n. n * largest) (sym count))
-            (has_more p.graph (length one * largest) (length others * largest) a b d result first.read second.read);
+            (second.loaded (k + length one) (each_behind (HasLoadedSteps p rows step) k one others each));
+        refused = second.refused;
       }
 
   -- those that it does not come to stay as they are
-  pub loads_some : (a b : List Row) (one own rest : List BenchOf) (refusal : RunFail) (result : Result (Unit {0}) RunFail)
-      → IsErrAnd result (λ e. e ≡ refusal) → All (IsBegun p) rest → LoadsStep p step a b one own (Err refusal)
-      → LoadsStep p step a b (one ++ rest) (own ++ rest) result
-  loads_some a b one own rest refusal result is begun first =
-      let largest = largest_window p.graph p.size in
+  pub loads_some : (one own rest : List BenchOf) (fail : LookFail) (result : Result (Unit {0}) LookFail)
+      → IsErrAnd result (λ e. e ≡ fail) → All (IsBegun p) rest → LoadsStep p step rows one own (Err fail)
+      → LoadsStep p step rows (one ++ rest) (own ++ rest) result
+  loads_some one own rest fail result is begun first =
       let count = length-append one rest in
       let some = first.many in
-      let more : length one * largest + length rest * largest ≡ length (one ++ rest) * largest =
-      counted (length one) (length rest) largest ∙ ap (λ n. n * largest) (sym count) in
       record {
         many = omega (arith, length-append own rest, count, some);
         begun = All-append (IsBegun p) own rest first.begun begun;
-        loaded = λ rows k read each. none_if_refused result refusal is _;
-        read = has_refused p.graph (length (one ++ rest) * largest) a b refusal result is
-            (has_most p.graph (length one * largest) (length (one ++ rest) * largest) a b (Err refusal) (omega (arith, more)) first.read);
+        loaded = λ k each. none_if_refused result fail is _;
+        refused = tells_handed p.graph rows (node_at p step) fail result is first.refused;
       }
 
 -- ---- the first so many of some benches
 
 -- of these the step is loaded, and the others are as they were
-pub record HasLoadedFirst (p : PlanOf) (step n : ℕ) (before now : List Row) (old new : List BenchOf) : Type 0 where
+pub record HasLoadedFirst (p : PlanOf) (step n : ℕ) (rows : List Row) (old new : List BenchOf) : Type 0 where
   pub many : length new ≡ length old
   pub within : n ≤ length new
-  pub done : LoadsStep p step before now (take n old) (take n new) (Ok tt)
+  pub done : LoadsStep p step rows (take n old) (take n new) (Ok tt)
   pub left : drop n new ≡ drop n old
 
-pub first_none : (p : PlanOf) (step : ℕ) (rows : List Row) (benches : List BenchOf) → HasLoadedFirst p step 0 rows rows benches benches
+pub first_none : (p : PlanOf) (step : ℕ) (rows : List Row) (benches : List BenchOf) → HasLoadedFirst p step 0 rows benches benches
 first_none p step rows benches = record { many = refl; within = omega arith; done = loads_none p step rows; left = refl }
 
-module _ (p : PlanOf) (step n : ℕ) (before now : List Row) (old new : List BenchOf) (h : HasLoadedFirst p step n before now old new) where
+module _ (p : PlanOf) (step n : ℕ) (rows : List Row) (old new : List BenchOf) (h : HasLoadedFirst p step n rows old new) where
   pub first_begun : All (IsBegun p) old → All (IsBegun p) new
   first_begun begun =
       subst (All (IsBegun p)) (take-append-drop n new)
       (All-append (IsBegun p) (take n new) (drop n new) h.done.begun
       (subst (All (IsBegun p)) (sym h.left) (All-drop (IsBegun p) n old begun)))
 
-  pub first_all : length new ≤ n → LoadsStep p step before now old new (Ok tt)
+  pub first_all : length new ≤ n → LoadsStep p step rows old new (Ok tt)
   first_all most =
       let many = h.many in
-      subst (λ xs. LoadsStep p step before now old xs (Ok tt)) (take_all n new most)
-      (subst (λ xs. LoadsStep p step before now xs (take n new) (Ok tt)) (take_all n old (omega arith)) h.done)
+      subst (λ xs. LoadsStep p step rows old xs (Ok tt)) (take_all n new most)
+      (subst (λ xs. LoadsStep p step rows xs (take n new) (Ok tt)) (take_all n old (omega arith)) h.done)
 
-  module _ (end : ℕ) (from : n ≤ end) (to : end ≤ length new) (next : List Row) (piece : List BenchOf) where
+  module _ (end : ℕ) (from : n ≤ end) (to : end ≤ length new) (piece : List BenchOf) where
     same_piece : mid_of n (end - n) new ≡ mid_of n (end - n) old
     same_piece = ap (take (end - n)) h.left
 
     same_rest : post_of n (end - n) new ≡ post_of n (end - n) old
     same_rest = ap (drop (end - n)) h.left
 
-    -- both, where reading the piece answers so
-    with_piece : (result : Result (Unit {0}) RunFail) → LoadsStep p step now next (mid_of n (end - n) new) piece result
-        → LoadsStep p step before next (take n old ++ mid_of n (end - n) old) (take n new ++ piece) result
+    -- both, where the piece is answered so
+    with_piece : (result : Result (Unit {0}) LookFail) → LoadsStep p step rows (mid_of n (end - n) new) piece result
+        → LoadsStep p step rows (take n old ++ mid_of n (end - n) old) (take n new ++ piece) result
     with_piece result l =
-        loads_both p step before now next (take n old) (take n new) (mid_of n (end - n) old) piece result h.done
-        (subst (λ xs. LoadsStep p step now next xs piece result) same_piece l)
+        loads_both p step rows (take n old) (take n new) (mid_of n (end - n) old) piece result h.done
+        (subst (λ xs. LoadsStep p step rows xs piece result) same_piece l)
 
-    pub first_more : LoadsStep p step now next (mid_of n (end - n) new) piece (Ok tt)
-        → HasLoadedFirst p step end before next old (put_mid n (end - n) new piece)
+    pub first_more : LoadsStep p step rows (mid_of n (end - n) new) piece (Ok tt) → HasLoadedFirst p step end rows old (put_mid n (end - n) new piece)
     first_more l =
         let within = h.within in
         let long : length piece ≡ end - n = l.many ∙ mid_len n end new to in
@@ -154,22 +150,55 @@ module _ (p : PlanOf) (step n : ℕ) (before now : List Row) (old new : List Ben
         record {
           many = same ∙ h.many;
           within = omega arith;
-          done = subst (λ xs. LoadsStep p step before next (take end old) xs (Ok tt)) (sym written)
-              (subst (λ xs. LoadsStep p step before next xs (take n new ++ piece) (Ok tt)) taken (with_piece (Ok tt) l));
+          done = subst (λ xs. LoadsStep p step rows (take end old) xs (Ok tt)) (sym written)
+              (subst (λ xs. LoadsStep p step rows xs (take n new ++ piece) (Ok tt)) taken (with_piece (Ok tt) l));
           left = drop_put n end new piece from to long
               ∙ (sym (Post-is n end new from) ∙ (same_rest ∙ Post-is n end old from));
         }
 
-    pub first_refused : (refusal : RunFail) (result : Result (Unit {0}) RunFail) → IsErrAnd result (λ e. e ≡ refusal)
-        → All (IsBegun p) old → LoadsStep p step now next (mid_of n (end - n) new) piece (Err refusal)
-        → LoadsStep p step before next old (put_mid n (end - n) new piece) result
-    first_refused refusal result is begun l =
+    pub first_refused : (fail : LookFail) (result : Result (Unit {0}) LookFail) → IsErrAnd result (λ e. e ≡ fail)
+        → All (IsBegun p) old → LoadsStep p step rows (mid_of n (end - n) new) piece (Err fail)
+        → LoadsStep p step rows old (put_mid n (end - n) new piece) result
+    first_refused fail result is begun l =
         let rest = post_of n (end - n) old in
-        let all = loads_some p step before next (take n old ++ mid_of n (end - n) old) (take n new ++ piece) rest refusal result is
-        (All-drop (IsBegun p) (end - n) (drop n old) (All-drop (IsBegun p) n old begun)) (with_piece (Err refusal) l) in
+        let all = loads_some p step rows (take n old ++ mid_of n (end - n) old) (take n new ++ piece) rest fail result is
+        (All-drop (IsBegun p) (end - n) (drop n old) (All-drop (IsBegun p) n old begun)) (with_piece (Err fail) l) in
         let old_is : (take n old ++ mid_of n (end - n) old) ++ rest ≡ old =
         append_assoc (take n old) (mid_of n (end - n) old) rest ∙ put_same n (end - n) old in
         let new_is : (take n new ++ piece) ++ rest ≡ put_mid n (end - n) new piece =
         append_assoc (take n new) piece rest ∙ ap (λ xs. take n new ++ (piece ++ xs)) (sym same_rest) in
-        subst (λ xs. LoadsStep p step before next old xs result) new_is
-        (subst (λ xs. LoadsStep p step before next xs ((take n new ++ piece) ++ rest) result) old_is all)
+        subst (λ xs. LoadsStep p step rows old xs result) new_is
+        (subst (λ xs. LoadsStep p step rows xs ((take n new ++ piece) ++ rest) result) old_is all)
+
+-- ---- all steps, of two pieces
+
+pub chunks_and : (p : PlanOf) (rows : List Row) (first second : ℕ) (all one own others rest : List BenchOf)
+    (front back result : Result (Unit {0}) Note) → all ≡ one ++ others → second ≡ first + length one → result ≡ result_and front back
+    → LoadsChunks p rows first one own front → LoadsChunks p rows second others rest back
+    → LoadsChunks p rows first all (own ++ rest) result
+chunks_and p rows first second all one own others rest front back result parts at is a b =
+    subst (λ xs. LoadsChunks p rows first xs (own ++ rest) result) (sym parts)
+    (subst (LoadsChunks p rows first (one ++ others) (own ++ rest)) (sym is) (both front a))
+  where
+    both : (answer : Result (Unit {0}) Note) → LoadsChunks p rows first one own answer
+        → LoadsChunks p rows first (one ++ others) (own ++ rest) (result_and answer back)
+    both (Ok done) a =
+        let some = a.many in
+        let more = b.many in
+        record {
+          many = omega (arith, length-append own rest, length-append one others, some, more);
+          benches = All-append (IsBenchFor p) own rest a.benches b.benches;
+          loaded = on_ok _ _ back
+              (λ loaded. each_both (LoadsBench p rows) first own rest a.loaded
+              (subst (λ n. EachBench n (LoadsBench p rows) rest) (at ∙ ap (λ n. first + n) (sym some)) loaded)) b.loaded;
+          noted = b.noted;
+        }
+    both (Err note) a =
+        let some = a.many in
+        let more = b.many in
+        record {
+          many = omega (arith, length-append own rest, length-append one others, some, more);
+          benches = All-append (IsBenchFor p) own rest a.benches b.benches;
+          loaded = tt;
+          noted = a.noted;
+        }

@@ -1,6 +1,8 @@
--- Chunks that are loaded together: their windows of a step are strips of one hull, each row of which is read once.
-use Rattle.std.specs.Prelude.{◌≡◌, ◌<◌, ◌≤◌, ℕ, ◌+◌, ◌*◌, ◌^◌, List, length, false, true, Result, OnOk}
+-- Chunks that are loaded together: their windows of a step are strips of one hull, each row of which is looked at once.
+use Rattle.std.specs.Prelude.{◌≡◌, ◌<◌, ◌≤◌, ℕ, ◌+◌, ◌*◌, ◌^◌, List, length, false, true, Result, Err, IfErr, OnOk}
 use Rattle.std.specs.List.{All}
+use denote.Param.Members.{Shared}
+use denote.Ref.{MutBor}
 use Rattle.oe_cell.specs.declared.cell.Cell.{Cell}
 use Rattle.oe_window.specs.Windows.{Holds, position_count, span_length, whole_window}
 use Rattle.oe_window.specs.declared.window.Window.{Window}
@@ -8,15 +10,18 @@ use Rattle.oe_plan.specs.Figures.{largest_window, scratch_of, shape_of_node}
 use Rattle.oe_plan.specs.Plans.{PlanOf, schedule_of}
 use Rattle.oe_plan.specs.Windows.{window_at}
 use Rattle.oe_sources.specs.Catalogue.{Row}
-use Rattle.oe_engine.specs.Benches.{AreOfChunk, BenchOf, EachLive, HasRoomFor, IsAtChunk, is_load_at, node_at}
+use Rattle.oe_engine.specs.Benches.{AreOfChunk, BenchOf, EachLive, HasRoomFor, IsAtChunk, IsBenchFor, is_load_at, node_at}
 use Rattle.oe_engine.specs.Chunks.{EachBench}
-use Rattle.oe_steps.specs.Collections.{AreRead}
 use Rattle.oe_steps.specs.Strips as strips
 use Rattle.oe_steps.specs.Strips.{IsStripOf}
-use Rattle.oe_steps.specs.Loads.{HasRead}
-use Rattle.oe_engine.specs.Loads.{IsLoadedAt}
+use Rattle.oe_sources.specs.Source.{answer_of}
+use Rattle.oe_sources.specs.declared.source.LookFail.{LookFail}
+use Rattle.oe_steps.specs.Loads.{TellsWhy}
+use Rattle.oe_engine.specs.Evaluations.{most_asked}
+use Rattle.oe_engine.specs.Loads.{IsLoadedAt, LoadsBench}
+use Rattle.oe_engine.specs.Runs.{chunk_total}
 use Rattle.oe_engine.specs.declared.bench.State.TheVariants.{Idle}
-use Rattle.oe_steps.specs.declared.fail.RunFail.{RunFail}
+use Rattle.oe_engine.specs.declared.hulls.Note.{Note}
 
 -- ---- hulls
 
@@ -65,11 +70,46 @@ pub record HasLoadedRows (p : PlanOf) (rows : List Row) (step number k : ℕ) (b
 
 -- ---- one step of all
 
--- Of each of these benches one step more is loaded, whatever collections were visible when the first one was.
-pub record LoadsStep (p : PlanOf) (step : ℕ) (before after : List Row) (old new : List BenchOf)
-    (result : Result (Unit {0}) RunFail) : Type 0 where
+-- Of each of these benches one step more is loaded; a refusal says why a look for the step was refused.
+pub record LoadsStep (p : PlanOf) (step : ℕ) (rows : List Row) (old new : List BenchOf)
+    (result : Result (Unit {0}) LookFail) : Type 0 where
   pub many : length new ≡ length old
   pub begun : All (IsBegun p) new
-  pub loaded : (rows : List Row) (first : ℕ) → AreRead rows before → EachBench first (HasLoadedSteps p rows step) old
+  pub loaded : (first : ℕ) → EachBench first (HasLoadedSteps p rows step) old
       → OnOk result (EachBench first (HasLoadedSteps p rows (step + 1)) new)
-  pub read : HasRead p.graph (length old * largest_window p.graph p.size) before after result
+  pub refused : TellsWhy p.graph rows (node_at p step) (answer_of result)
+
+-- ---- all steps
+
+-- why a look for a step that loads a collection was refused
+pub record IsNote (p : PlanOf) (rows : List Row) (note : Note) : Type 0 where
+  pub within : note.step < length p.order.steps
+  pub load : is_load_at p note.step ≡ true
+  pub why : TellsWhy p.graph rows (node_at p note.step) (answer_of (Err note.fail))
+
+-- Each of these benches is loaded for its chunk, counted from a first one on; a refusal says why.
+pub record LoadsChunks (p : PlanOf) (rows : List Row) (first : ℕ) (old new : List BenchOf)
+    (result : Result (Unit {0}) Note) : Type 0 where
+  pub many : length new ≡ length old
+  pub benches : All (IsBenchFor p) new
+  pub loaded : OnOk result (EachBench first (LoadsBench p rows) new)
+  pub noted : IfErr result (IsNote p rows)
+
+-- ---- a function that loads chunks
+
+module _ {F : Type 0} (g : Shared F (ℕ × (ℕ × (MutBor (List BenchOf) × Unit {0})))
+    (Result (Unit {0}) Note × (MutBor (List BenchOf) × Unit {0}))) (f : F) (p : PlanOf) where
+  -- it may be called with the number of a first chunk, a bench for each chunk from there on, and a permit for their cells
+  abbrev pub MayLoad : Type 0
+  MayLoad = (first permit : ℕ) (benches : MutBor (List BenchOf)) → All (IsBenchFor p) benches.now
+      → first + length benches.now ≤ chunk_total p → length benches.now * most_asked p ≤ permit
+      → g.pre f (first, (permit, (benches, tt)))
+
+  -- each of its calls loads them
+  abbrev pub AlwaysLoads : List Row → Type 0
+  AlwaysLoads rows = (first permit : ℕ) (old new : MutBor (List BenchOf)) (result : Result (Unit {0}) Note)
+      → g.post f (first, (permit, (old, tt))) (result, (new, tt)) → LoadsChunks p rows first old.now new.now result
+
+  -- over whatever collections each of its calls loads them, these benches are loaded for the chunks from a first one on
+  pub record LoadsBy (first : ℕ) (old new : List BenchOf) (result : Result (Unit {0}) Note) : Type 0 where
+    pub loads : (rows : List Row) → AlwaysLoads rows → LoadsChunks p rows first old new result

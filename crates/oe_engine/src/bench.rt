@@ -15,8 +15,9 @@ ghost use Rattle.oe_render.specs.Rendered.{AppendsCube, AppendsCubePrefix, Count
 ghost use Rattle.oe_render.specs.Stored.{HasCells};
 ghost use Rattle.oe_render.specs.declared.rendering.RenderFail.{RenderFail};
 ghost use Rattle.oe_sources.specs.CatalogueRows.{rows_of};
-ghost use Rattle.oe_steps.specs.Collections.{HasCollections, AreRead, IsMountedAt};
-ghost use Rattle.oe_steps.specs.Loads.{HasRead, AreLoaded};
+ghost use Rattle.oe_steps.specs.Collections.{HasCollections, IsMountedAt};
+ghost use Rattle.oe_sources.specs.Source.{answer_of};
+ghost use Rattle.oe_steps.specs.Loads.{AreLoaded, TellsWhy};
 ghost use Rattle.oe_engine.specs.Loads.{LoadsBench};
 ghost use Rattle.oe_engine.specs.Runs.{chunk_total, result_shape};
 ghost use Rattle.oe_engine.specs.Hulls.{HasLoadedRows, HasLoadedSteps, IsBegun, IsStripped, LoadsFirst};
@@ -28,14 +29,14 @@ ghost use Rattle.oe_sources.specs.Catalogue.{Row};
 ghost use Rattle.oe_window.specs.Parts.{row_count, row_of};
 ghost use Rattle.oe_window.specs.Windows.{Holds, position_count, span_length, whole_window};
 
-use crate::steps::{evaluate_steps, front, load_front, load_slot, step_of_result, take_part};
+use crate::steps::{evaluate_steps, front, look_front, look_slot, step_of_result, take_part};
 use oe_cell::Cell;
 use oe_memory::OutOfMemory;
 use oe_outside::{Pending, Sink, Store};
 use oe_plan::Plan;
 use oe_render::{RenderFail, render};
-use oe_sources::Catalogue;
-use oe_steps::{RunFail, buffers_of, empty_window};
+use oe_sources::{Catalogue, LookFail, Looker};
+use oe_steps::{buffers_of, empty_window};
 use oe_window::Window;
 use std::alloc::Global;
 use std::marker::Model;
@@ -140,58 +141,72 @@ impl Bench {
         &self.scratch[..count]
     }
 
-    /// Reads the cells of a step that loads a collection.
+    /// Looks at the cells of a step that loads a collection.
     ///
-    /// Refuses: where a read of a collection is refused.
+    /// Refuses: where a look at a collection is refused.
     pub(crate) fn load_step(
         &mut self,
         plan: &Plan,
-        catalogue: &mut Catalogue,
+        catalogue: &Catalogue,
         step: u32,
-    ) -> Result<(), RunFail>
+        looker: &mut Looker,
+    ) -> Result<(), LookFail>
         requires step { step < length plan.now.order.steps }
         requires load { is_load_at plan.now step ≡ true }
-        requires mounted { HasCollections plan.now.graph (rows_of seen catalogue.old) }
+        requires mounted { HasCollections plan.now.graph (rows_of seen catalogue.now) }
         requires begun { IsBegun plan.now self.old }
+        requires asked { largest_window plan.now.graph plan.now.size ≤ looker.old }
         ensures begun { IsBegun plan.now self.new }
-        ensures loaded { (rows : List Row) (k : ℕ) → AreRead rows (rows_of seen catalogue.old)
-            → HasLoadedSteps plan.now rows step k self.old
-            → OnOk result (HasLoadedSteps plan.now rows (step + 1) k self.new) }
-        ensures read { HasRead plan.now.graph (largest_window plan.now.graph plan.now.size)
-            (rows_of seen catalogue.old) (rows_of seen catalogue.new) result }
+        ensures loaded { (k : ℕ)
+            → HasLoadedSteps plan.now (rows_of seen catalogue.now) step k self.old → OnOk result
+            (HasLoadedSteps plan.now (rows_of seen catalogue.now) (step + 1) k self.new) }
+        ensures spent { OnOk result
+            (looker.old ≤ looker.new + largest_window plan.now.graph plan.now.size) }
+        ensures refused { TellsWhy plan.now.graph (rows_of seen catalogue.now)
+            (node_at plan.now step) (answer_of result) }
     {
-        load_slot(plan, catalogue, step, &self.windows, &mut self.buffers)
+        look_slot(
+            plan,
+            catalogue,
+            step,
+            &self.windows,
+            &mut self.buffers,
+            looker,
+        )
     }
 
-    /// Reads a row of a hull into the cells to work with, from the collection of a row of the catalogue.
+    /// Looks at a row of a hull, in the collection of a row of the catalogue, and puts it into the cells to work with.
     ///
-    /// Refuses: where the read is refused.
-    pub(crate) fn read_row(
+    /// Refuses: where the look is refused.
+    pub(crate) fn look_row(
         &mut self,
         plan: &Plan,
-        catalogue: &mut Catalogue,
+        catalogue: &Catalogue,
         step: u32,
         place: u32,
         row: &Window,
-    ) -> Result<(), RunFail>
+        looker: &mut Looker,
+    ) -> Result<(), LookFail>
         requires step { step < length plan.now.order.steps }
         requires load { is_load_at plan.now step ≡ true }
         requires mounted { (id : List ℕ)
             → collection_of_node plan.now.graph (node_at plan.now step) ≡ Some id
-            → IsMountedAt plan.now.graph (rows_of seen catalogue.old) id place }
+            → IsMountedAt plan.now.graph (rows_of seen catalogue.now) id place }
         requires within { Holds
             (whole_window (shape_of_node plan.now.graph (node_at plan.now step))) row.now }
         requires one { row.now ≡ plane_window row.now row.now.t.from row.now.bands.from }
         requires count { position_count row.now ≡ span_length row.now.x }
         requires room { span_length row.now.x ≤ length self.old.scratch }
-        ensures loaded { OnOk result (AreLoaded plan.now.graph (rows_of seen catalogue.old)
+        requires asked { span_length row.now.x ≤ looker.old }
+        ensures loaded { OnOk result (AreLoaded plan.now.graph (rows_of seen catalogue.now)
             (node_at plan.now step) row.now (take (span_length row.now.x) self.new.scratch)) }
         ensures others { (record self.new { scratch = self.old.scratch }) ≡ self.old }
         ensures scratch { length self.new.scratch ≡ length self.old.scratch }
-        ensures read { HasRead plan.now.graph (span_length row.now.x)
-            (rows_of seen catalogue.old) (rows_of seen catalogue.new) result }
+        ensures spent { looker.old ≤ looker.new + span_length row.now.x }
+        ensures refused { TellsWhy plan.now.graph (rows_of seen catalogue.now)
+            (node_at plan.now step) (answer_of result) }
     {
-        load_front(plan, catalogue, step, place, row, &mut self.scratch)
+        look_front(plan, catalogue, step, place, row, looker, &mut self.scratch)
     }
 
     /// Takes its part of a row that it read itself.

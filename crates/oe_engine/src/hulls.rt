@@ -1,14 +1,16 @@
 // The chunks of a round, loaded together: where the windows of a step that are neighbours along x are strips of one
-// hull, each row of that is read once and dealt to the benches, so that a collection is read in long rows.
+// hull, each row of that is looked at once and dealt to the benches, so that a collection is looked at in long rows.
 ghost use Rattle.std.specs.Prelude.{◌≡◌, ◌<◌, ◌+◌, ◌*◌, ◌^◌, ◌≤◌, ℕ, List, Some, IsTrue, OnOk, length, true};
 ghost use Rattle.std.specs.List.{All};
 ghost use Rattle.oe_engine.specs.Benches.{IsAtChunk, IsBenchFor, is_load_at, node_at};
 ghost use Rattle.oe_engine.specs.Chunks.{EachBench};
-ghost use Rattle.oe_steps.specs.Collections.{AreRead, HasCollections, IsMountedAt};
-ghost use Rattle.oe_engine.specs.Hulls.{HasLoadedRows, HasLoadedSteps, IsBegun, IsReadable, IsStripped, LoadsFirst, LoadsStep};
-ghost use Rattle.oe_steps.specs.Loads.{AreLoaded, HasRead};
+ghost use Rattle.oe_engine.specs.Evaluations.{most_asked};
+ghost use Rattle.oe_steps.specs.Collections.{HasCollections, IsMountedAt};
+ghost use Rattle.oe_engine.specs.Hulls.{HasLoadedRows, HasLoadedSteps, IsBegun, IsReadable, IsStripped, LoadsChunks, LoadsFirst, LoadsStep};
+ghost use Rattle.oe_sources.specs.Source.{answer_of};
+ghost use Rattle.oe_steps.specs.Loads.{AreLoaded, TellsWhy};
 ghost use Rattle.oe_engine.specs.Loads.{LoadsBench};
-ghost use Rattle.oe_engine.specs.Runs.{chunk_total, load_count};
+ghost use Rattle.oe_engine.specs.Runs.{chunk_total};
 ghost use Rattle.oe_plan.specs.Figures.{largest_window};
 ghost use Rattle.oe_plan.specs.Plans.{IsPlan, PlanOf};
 ghost use Rattle.oe_check.specs.Checked.{collection_of_node};
@@ -21,35 +23,42 @@ use crate::bench::Bench;
 use crate::steps::{loads, place_of};
 use oe_cell::Cell;
 use oe_plan::Plan;
-use oe_sources::Catalogue;
-use oe_steps::{RunFail, is_strip};
+use oe_sources::{Catalogue, LookFail, Looker};
+use oe_steps::is_strip;
 use oe_window::{Window, holds, hull, size, whole};
 
-/// Loads the chunks from a first one on, each into a bench.
+/// The step for which a look was refused, and why.
+#[derive(Drop)]
+pub(crate) struct Note {
+    pub(crate) step: u32,
+    pub(crate) fail: LookFail,
+}
+
+/// Loads the chunks from a first one on, each into a bench, by looks.
 ///
-/// Refuses: where a read of a collection is refused.
+/// Refuses: where a look at a collection is refused.
 pub(crate) fn load_chunks(
     plan: &Plan,
     benches: &mut [Bench],
-    catalogue: &mut Catalogue,
+    catalogue: &Catalogue,
     first: u64,
-) -> Result<(), RunFail>
+    looker: &mut Looker,
+) -> Result<(), Note>
     requires benches { All (IsBenchFor plan.now) benches.old }
     requires chunks { first + length benches.old ≤ chunk_total plan.now }
-    requires mounted { HasCollections plan.now.graph (rows_of seen catalogue.old) }
-    ensures loaded { OnOk result
-        (EachBench first (LoadsBench plan.now (rows_of seen catalogue.old)) benches.new) }
-    ensures benches { All (IsBenchFor plan.now) benches.new }
-    ensures count { length benches.new ≡ length benches.old }
-    ensures read { HasRead plan.now.graph (length benches.old
-        * (load_count plan.now * largest_window plan.now.graph plan.now.size))
-        (rows_of seen catalogue.old) (rows_of seen catalogue.new) result }
+    requires mounted { HasCollections plan.now.graph (rows_of seen catalogue.now) }
+    requires asked { length benches.old * most_asked plan.now ≤ looker.old }
+    ensures { LoadsChunks plan.now (rows_of seen catalogue.now) first benches.old benches.new
+        result }
 {
     // A plan has at most 2^48 chunks, so that their numbers fit 64 bits.
     let _chunks = plan.chunks();
     begin_chunks(plan, benches, first);
     for step in 0..loads(plan) {
-        load_step_of_all(plan, benches, catalogue, step)?;
+        match load_step_of_all(plan, benches, catalogue, step, looker) {
+            Ok(()) => {}
+            Err(fail) => return Err(Note { step, fail }),
+        }
     }
     end_chunks(benches, first);
     Ok(())
@@ -83,26 +92,31 @@ fn end_chunks(benches: &mut [Bench], first: u64)
     }
 }
 
-/// Reads the cells of a step that loads a collection, for each of the benches.
+/// Loads the cells of a step that loads a collection, for each of the benches.
 ///
-/// Refuses: where a read of a collection is refused.
+/// Refuses: where a look at a collection is refused.
 fn load_step_of_all(
     plan: &Plan,
     benches: &mut [Bench],
-    catalogue: &mut Catalogue,
+    catalogue: &Catalogue,
     step: u32,
-) -> Result<(), RunFail>
+    looker: &mut Looker,
+) -> Result<(), LookFail>
     requires step { step < length plan.now.order.steps }
     requires load { is_load_at plan.now step ≡ true }
-    requires mounted { HasCollections plan.now.graph (rows_of seen catalogue.old) }
+    requires mounted { HasCollections plan.now.graph (rows_of seen catalogue.now) }
     requires begun { All (IsBegun plan.now) benches.old }
-    ensures { LoadsStep plan.now step (rows_of seen catalogue.old) (rows_of seen catalogue.new)
-        benches.old benches.new result }
+    requires asked { length benches.old * largest_window plan.now.graph plan.now.size
+        ≤ looker.old }
+    ensures loads { LoadsStep plan.now step (rows_of seen catalogue.now) benches.old benches.new
+        result }
+    ensures spent { OnOk result (looker.old ≤ looker.new
+        + length benches.old * largest_window plan.now.graph plan.now.size) }
 {
     let mut first = 0;
     while first < benches.len() {
         let end = end_of_neighbours(benches, first, step);
-        load_neighbours(plan, &mut benches[first..end], catalogue, step)?;
+        load_neighbours(plan, &mut benches[first..end], catalogue, step, looker)?;
         first = end;
     }
     Ok(())
@@ -132,29 +146,34 @@ fn is_beside(one: &Window, next: &Window) -> bool {
     beyond && one.t == next.t && one.bands == next.bands && one.y == next.y
 }
 
-/// Reads the cells of a step for neighbours: where that may be, row by row of the hull of their windows.
+/// Loads the cells of a step for neighbours: where that may be, row by row of the hull of their windows.
 fn load_neighbours(
     plan: &Plan,
     benches: &mut [Bench],
-    catalogue: &mut Catalogue,
+    catalogue: &Catalogue,
     step: u32,
-) -> Result<(), RunFail>
+    looker: &mut Looker,
+) -> Result<(), LookFail>
     requires step { step < length plan.now.order.steps }
     requires load { is_load_at plan.now step ≡ true }
-    requires mounted { HasCollections plan.now.graph (rows_of seen catalogue.old) }
+    requires mounted { HasCollections plan.now.graph (rows_of seen catalogue.now) }
     requires begun { All (IsBegun plan.now) benches.old }
-    ensures { LoadsStep plan.now step (rows_of seen catalogue.old) (rows_of seen catalogue.new)
-        benches.old benches.new result }
+    requires asked { length benches.old * largest_window plan.now.graph plan.now.size
+        ≤ looker.old }
+    ensures loads { LoadsStep plan.now step (rows_of seen catalogue.now) benches.old benches.new
+        result }
+    ensures spent { OnOk result (looker.old ≤ looker.new
+        + length benches.old * largest_window plan.now.graph plan.now.size) }
 {
     if benches.len() < 2 {
-        return load_each(plan, benches, catalogue, step);
+        return load_each(plan, benches, catalogue, step, looker);
     }
     let last = benches.len() - 1;
     let hull = hull(&benches[0].window(step), &benches[last].window(step));
     if is_readable(plan, step, benches.len(), &hull) && are_strips(plan, &hull, step, benches) {
-        load_rows(plan, benches, catalogue, step, &hull)
+        load_rows(plan, benches, catalogue, step, &hull, looker)
     } else {
-        load_each(plan, benches, catalogue, step)
+        load_each(plan, benches, catalogue, step, looker)
     }
 }
 
@@ -188,83 +207,96 @@ fn are_strips(plan: &Plan, hull: &Window, step: u32, benches: &[Bench]) -> bool
     true
 }
 
-/// Reads the cells of a step for each bench by itself.
+/// Loads the cells of a step for each bench by itself.
 fn load_each(
     plan: &Plan,
     benches: &mut [Bench],
-    catalogue: &mut Catalogue,
+    catalogue: &Catalogue,
     step: u32,
-) -> Result<(), RunFail>
+    looker: &mut Looker,
+) -> Result<(), LookFail>
     requires step { step < length plan.now.order.steps }
     requires load { is_load_at plan.now step ≡ true }
-    requires mounted { HasCollections plan.now.graph (rows_of seen catalogue.old) }
+    requires mounted { HasCollections plan.now.graph (rows_of seen catalogue.now) }
     requires begun { All (IsBegun plan.now) benches.old }
-    ensures { LoadsStep plan.now step (rows_of seen catalogue.old) (rows_of seen catalogue.new)
-        benches.old benches.new result }
+    requires asked { length benches.old * largest_window plan.now.graph plan.now.size
+        ≤ looker.old }
+    ensures loads { LoadsStep plan.now step (rows_of seen catalogue.now) benches.old benches.new
+        result }
+    ensures spent { OnOk result (looker.old ≤ looker.new
+        + length benches.old * largest_window plan.now.graph plan.now.size) }
 {
     for index in 0..benches.len() {
-        benches[index].load_step(plan, catalogue, step)?;
+        benches[index].load_step(plan, catalogue, step, looker)?;
     }
     Ok(())
 }
 
-/// Reads each row of a hull once, and deals it to the benches.
+/// Looks at each row of a hull once, and deals it to the benches.
 fn load_rows(
     plan: &Plan,
     benches: &mut [Bench],
-    catalogue: &mut Catalogue,
+    catalogue: &Catalogue,
     step: u32,
     hull: &Window,
-) -> Result<(), RunFail>
+    looker: &mut Looker,
+) -> Result<(), LookFail>
     requires step { step < length plan.now.order.steps }
     requires load { is_load_at plan.now step ≡ true }
-    requires mounted { HasCollections plan.now.graph (rows_of seen catalogue.old) }
+    requires mounted { HasCollections plan.now.graph (rows_of seen catalogue.now) }
     requires some { 0 < length benches.old }
     requires stripped { All (IsStripped plan.now hull.now step) benches.old }
     requires readable { IsReadable plan.now step (length benches.old) hull.now }
-    ensures { LoadsStep plan.now step (rows_of seen catalogue.old) (rows_of seen catalogue.new)
-        benches.old benches.new result }
+    requires asked { length benches.old * largest_window plan.now.graph plan.now.size
+        ≤ looker.old }
+    ensures loads { LoadsStep plan.now step (rows_of seen catalogue.now) benches.old benches.new
+        result }
+    ensures spent { OnOk result (looker.old ≤ looker.new
+        + length benches.old * largest_window plan.now.graph plan.now.size) }
 {
     // What a plan gives shows that it is valid: its slots keep the steps that are live apart.
     let _slot = plan.slot(step);
     let place = place_of(plan, catalogue, step);
     for number in 0..hull.rows() {
-        load_row(plan, benches, catalogue, step, place, hull, number)?;
+        load_row(plan, benches, catalogue, step, place, hull, number, looker)?;
     }
     Ok(())
 }
 
-/// Reads a row of a hull, from the collection of a row of the catalogue, and deals it to the benches.
+/// Looks at a row of a hull, in the collection of a row of the catalogue, and deals it to the benches.
 fn load_row(
     plan: &Plan,
     benches: &mut [Bench],
-    catalogue: &mut Catalogue,
+    catalogue: &Catalogue,
     step: u32,
     place: u32,
     hull: &Window,
     number: u64,
-) -> Result<(), RunFail>
+    looker: &mut Looker,
+) -> Result<(), LookFail>
     requires step { step < length plan.now.order.steps }
     requires load { is_load_at plan.now step ≡ true }
     requires mounted { (id : List ℕ)
         → collection_of_node plan.now.graph (node_at plan.now step) ≡ Some id
-        → IsMountedAt plan.now.graph (rows_of seen catalogue.old) id place }
+        → IsMountedAt plan.now.graph (rows_of seen catalogue.now) id place }
     requires some { 0 < length benches.old }
     requires stripped { All (IsStripped plan.now hull.now step) benches.old }
     requires readable { IsReadable plan.now step (length benches.old) hull.now }
     requires number { number < row_count hull.now }
+    requires asked { span_length hull.now.x ≤ looker.old }
     ensures count { length benches.new ≡ length benches.old }
     ensures stripped { All (IsStripped plan.now hull.now step) benches.new }
-    ensures loaded { (rows : List Row) (first : ℕ) → AreRead rows (rows_of seen catalogue.old)
-        → EachBench first (HasLoadedRows plan.now rows step number) benches.old
-        → OnOk result
-        (EachBench first (HasLoadedRows plan.now rows step (number + 1)) benches.new) }
-    ensures read { HasRead plan.now.graph (span_length hull.now.x) (rows_of seen catalogue.old)
-        (rows_of seen catalogue.new) result }
+    ensures loaded { (first : ℕ) → EachBench first
+        (HasLoadedRows plan.now (rows_of seen catalogue.now) step number) benches.old
+        → OnOk result (EachBench first
+        (HasLoadedRows plan.now (rows_of seen catalogue.now) step (number + 1)) benches.new) }
+    ensures spent { looker.old ≤ looker.new + span_length hull.now.x }
+    ensures refused { TellsWhy plan.now.graph (rows_of seen catalogue.now)
+        (node_at plan.now step) (answer_of result) }
 {
     let row = hull.row(number);
     let (one, others) = benches.split_at_mut(1);
-    one[0].read_row(plan, catalogue, step, place, &row)?;
+    one[0].look_row(plan, catalogue, step, place, &row, looker)?;
     one[0].take_own_row(plan, step, hull, number);
     let cells = one[0].scratch((hull.x.to - hull.x.from) as usize);
     deal_row(plan, others, step, hull, number, cells);

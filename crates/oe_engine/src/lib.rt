@@ -6,6 +6,7 @@
 //! result's cube on the chunk.
 #![tactic(auto)]
 
+mod asking;
 mod bench;
 mod chunks;
 mod evaluation;
@@ -13,6 +14,7 @@ mod hands;
 mod hulls;
 mod laws;
 mod lead;
+mod loading;
 mod over;
 mod part_run;
 mod round_table;

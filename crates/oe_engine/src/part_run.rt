@@ -97,9 +97,9 @@ impl PartRun {
         }
     }
 
-    /// Takes the next chunks, two for each worker or those that are left: loads them, has the workers evaluate each once
-    /// behind the gate, at once in threads of their own, and writes their records. Where a thread cannot be had, the
-    /// caller's does its work.
+    /// Takes the next chunks, two for each worker or those that are left: has the workers load them, and then evaluate
+    /// each once behind the gate, both at once in threads of their own, and writes their records. Where a thread cannot be
+    /// had, the caller's does its work.
     ///
     /// Refuses: `SourceFailed` and `SpoolFailed` only where the fault counter of a collection that is loaded, or of the
     /// spool, rose; `SourceDamaged` only with a damaged position that a load keeps. Then it stands at the same chunks.
@@ -125,7 +125,7 @@ impl PartRun {
         let count = left.min(self.benches.len() as u64);
         let end = count as usize;
         let first = self.first + self.done;
-        load_taken(&self.plan, &mut self.benches, end, catalogue, first)?;
+        load_taken(rt, &self.plan, &mut self.benches, end, catalogue, first)?;
         self.evaluations = evaluate_taken(
             rt,
             &mut self.crew,

@@ -1,5 +1,5 @@
 // The steps of a plan: those of its schedule.
-ghost use Rattle.std.specs.Prelude.{◌≡◌, ◌<◌, ◌≤◌, ◌+◌, ℕ, List, false, true, Some, OnOk, length, take};
+ghost use Rattle.std.specs.Prelude.{◌≡◌, ◌<◌, ◌≤◌, ◌+◌, ◌^◌, ℕ, List, false, true, Ok, Some, OnOk, length, take};
 ghost use Rattle.oe_engine.specs.Benches.{AreCells, AreOfChunk, AreOfKind, EachLive, EachLoad, HaveRoomFor, OfResult, buffer_cells_at, is_load_at, node_at};
 ghost use Rattle.oe_engine.specs.Hulls.{HaveLoadedRows};
 ghost use Rattle.oe_engine.specs.Loads.{IsLoadedAt};
@@ -12,16 +12,17 @@ ghost use Rattle.oe_meanings.specs.Graphs.{Collections};
 ghost use Rattle.oe_check.specs.Laws.{AreCollectionsOf};
 ghost use Rattle.oe_sources.specs.Catalogue.{Row};
 ghost use Rattle.oe_sources.specs.CatalogueRows.{rows_of};
+ghost use Rattle.oe_sources.specs.Source.{answer_of};
 ghost use Rattle.oe_steps.specs.Buffers.{lists_of};
-ghost use Rattle.oe_steps.specs.Collections.{AreRead, HasCollections, IsMountedAt};
-ghost use Rattle.oe_steps.specs.Loads.{AreLoaded, HasRead};
+ghost use Rattle.oe_steps.specs.Collections.{HasCollections, IsMountedAt};
+ghost use Rattle.oe_steps.specs.Loads.{AreLoaded, HasRead, TellsWhy, refusal_for};
 ghost use Rattle.oe_steps.specs.Strips.{IsStripOf};
 ghost use Rattle.oe_window.specs.Parts.{row_count, row_of};
 ghost use Rattle.oe_window.specs.Windows.{Holds, position_count, span_length, whole_window};
 
 use oe_cell::Cell;
 use oe_plan::Plan;
-use oe_sources::Catalogue;
+use oe_sources::{Catalogue, LookFail, Looker, Permit};
 use oe_steps::RunFail;
 use oe_window::Window;
 
@@ -81,37 +82,89 @@ pub(crate) fn evaluate_steps(
     oe_steps::evaluate_steps(plan.checked(), plan.schedule(), windows, buffers, scratch);
 }
 
-/// Reads the cells of a step that loads a collection, on its window, into the buffer of its slot.
+/// Puts the cells of a step that loads a collection, on its window, into the buffer of its slot.
 ///
-/// Refuses: where a read of a collection is refused.
-pub(crate) fn load_slot(
+/// Refuses: where a look at a collection is refused.
+pub(crate) fn look_slot(
     plan: &Plan,
-    catalogue: &mut Catalogue,
+    catalogue: &Catalogue,
     step: u32,
     windows: &[Window],
     buffers: &mut [Vec<Cell>],
-) -> Result<(), RunFail>
+    looker: &mut Looker,
+) -> Result<(), LookFail>
     requires step { step < length plan.now.order.steps }
     requires load { is_load_at plan.now step ≡ true }
-    requires mounted { HasCollections plan.now.graph (rows_of seen catalogue.old) }
+    requires mounted { HasCollections plan.now.graph (rows_of seen catalogue.now) }
     requires windows { AreOfChunk plan.now windows.now }
     requires room { HaveRoomFor plan.now (lists_of buffers.old) }
+    requires asked { largest_window plan.now.graph plan.now.size ≤ looker.old }
     ensures room { HaveRoomFor plan.now (lists_of buffers.new) }
-    ensures loaded { (rows : List Row) → AreRead rows (rows_of seen catalogue.old)
-        → EachLive plan.now step (IsLoadedAt plan.now rows windows.now (lists_of buffers.old))
-        → OnOk result (EachLive plan.now (step + 1)
-        (IsLoadedAt plan.now rows windows.now (lists_of buffers.new))) }
-    ensures read { HasRead plan.now.graph (largest_window plan.now.graph plan.now.size)
-        (rows_of seen catalogue.old) (rows_of seen catalogue.new) result }
+    ensures loaded { EachLive plan.now step (IsLoadedAt plan.now (rows_of seen catalogue.now)
+        windows.now (lists_of buffers.old))
+        → OnOk result (EachLive plan.now (step + 1) (IsLoadedAt plan.now
+        (rows_of seen catalogue.now) windows.now (lists_of buffers.new))) }
+    ensures spent { OnOk result
+        (looker.old ≤ looker.new + largest_window plan.now.graph plan.now.size) }
+    ensures refused { TellsWhy plan.now.graph (rows_of seen catalogue.now)
+        (node_at plan.now step) (answer_of result) }
 {
-    oe_steps::load_slot(
+    oe_steps::look_slot(
         plan.checked(),
         plan.schedule(),
         catalogue,
         step,
         windows,
         buffers,
+        looker,
     )
+}
+
+/// Asks for so many cells of the collection that a step loads, which then may be looked at with the permit.
+pub(crate) fn ask(
+    plan: &Plan,
+    catalogue: &mut Catalogue,
+    step: u32,
+    cells: u64,
+    permit: &mut Permit,
+)
+    requires step { step < length plan.now.order.steps }
+    requires load { is_load_at plan.now step ≡ true }
+    requires mounted { HasCollections plan.now.graph (rows_of seen catalogue.old) }
+    requires few { permit.old + cells < 2 ^ 64 }
+    ensures asked { HasRead plan.now.graph cells (rows_of seen catalogue.old)
+        (rows_of seen catalogue.new) (Ok tt) }
+    ensures permit { permit.new ≡ permit.old + cells }
+{
+    oe_steps::ask(
+        plan.checked(),
+        plan.schedule(),
+        catalogue,
+        step,
+        cells,
+        permit,
+    );
+}
+
+/// Counts the fault that a look for a step met, if it met one.
+///
+/// Refuses: as the look was refused.
+pub(crate) fn settle(
+    plan: &Plan,
+    catalogue: &mut Catalogue,
+    step: u32,
+    looked: Result<(), LookFail>,
+) -> Result<(), RunFail>
+    requires step { step < length plan.now.order.steps }
+    requires load { is_load_at plan.now step ≡ true }
+    requires mounted { HasCollections plan.now.graph (rows_of seen catalogue.old) }
+    requires refused { TellsWhy plan.now.graph (rows_of seen catalogue.old)
+        (node_at plan.now step) (answer_of looked) }
+    ensures answer { result ≡ refusal_for (node_at plan.now step) (answer_of looked) }
+    ensures read { HasRead plan.now.graph 0 (rows_of seen catalogue.old)
+        (rows_of seen catalogue.new) result }
+{
+    oe_steps::settle(plan.checked(), plan.schedule(), catalogue, step, looked)
 }
 
 /// The row of the collection that the node of a step loads.
@@ -125,37 +178,41 @@ pub(crate) fn place_of(plan: &Plan, catalogue: &Catalogue, step: u32) -> u32
     oe_steps::place_of(plan.checked(), plan.schedule(), catalogue, step)
 }
 
-/// Reads the cells of the node of a step on one row of a window into the front of some cells.
-pub(crate) fn load_front(
+/// Puts the cells of the node of a step on one row of a window into the front of some cells.
+pub(crate) fn look_front(
     plan: &Plan,
-    catalogue: &mut Catalogue,
+    catalogue: &Catalogue,
     step: u32,
     place: u32,
     row: &Window,
+    looker: &mut Looker,
     cells: &mut [Cell],
-) -> Result<(), RunFail>
+) -> Result<(), LookFail>
     requires step { step < length plan.now.order.steps }
     requires load { is_load_at plan.now step ≡ true }
     requires mounted { (id : List ℕ)
         → collection_of_node plan.now.graph (node_at plan.now step) ≡ Some id
-        → IsMountedAt plan.now.graph (rows_of seen catalogue.old) id place }
+        → IsMountedAt plan.now.graph (rows_of seen catalogue.now) id place }
     requires within { Holds (whole_window (shape_of_node plan.now.graph (node_at plan.now step)))
         row.now }
     requires one { row.now ≡ plane_window row.now row.now.t.from row.now.bands.from }
     requires count { position_count row.now ≡ span_length row.now.x }
     requires room { span_length row.now.x ≤ length cells.old }
-    ensures loaded { OnOk result (AreLoaded plan.now.graph (rows_of seen catalogue.old)
+    requires asked { span_length row.now.x ≤ looker.old }
+    ensures loaded { OnOk result (AreLoaded plan.now.graph (rows_of seen catalogue.now)
         (node_at plan.now step) row.now (take (span_length row.now.x) cells.new)) }
-    ensures read { HasRead plan.now.graph (span_length row.now.x)
-        (rows_of seen catalogue.old) (rows_of seen catalogue.new) result }
+    ensures spent { looker.old ≤ looker.new + span_length row.now.x }
+    ensures refused { TellsWhy plan.now.graph (rows_of seen catalogue.now)
+        (node_at plan.now step) (answer_of result) }
 {
-    oe_steps::load_front(
+    oe_steps::look_front(
         plan.checked(),
         plan.schedule(),
         catalogue,
         step,
         place,
         row,
+        looker,
         cells,
     )
 }

@@ -13,8 +13,9 @@ ghost use Rattle.oe_engine.specs.Loads.{LoadsBench};
 ghost use Rattle.oe_engine.specs.Runs.{chunk_total, evaluated_after, load_count};
 ghost use Rattle.oe_engine.specs.Workspaces.{AreBenchesFor};
 
+use crate::asking::{ask_for_chunks, settle_chunks};
 use crate::bench::Bench;
-use crate::hulls::load_chunks;
+use crate::loading::load_in_threads;
 use crate::round_table::Crew;
 use oe_outside::Gate;
 use oe_plan::Plan;
@@ -22,10 +23,12 @@ use oe_sources::Catalogue;
 use oe_steps::RunFail;
 use std::thread::Threads;
 
-/// Loads the chunks from a first one on into the first so many benches.
+/// Asks for the cells of the chunks from a first one on, and loads these into the first so many benches, at once in a
+/// thread for each worker.
 ///
 /// Refuses: where a read of a collection is refused.
-pub(crate) fn load_taken(
+pub(crate) fn load_taken<R: Threads + Sync>(
+    rt: &R,
     plan: &Plan,
     benches: &mut [Bench],
     count: usize,
@@ -33,6 +36,7 @@ pub(crate) fn load_taken(
     first: u64,
 ) -> Result<(), RunFail>
     requires count { count ≤ length benches.old }
+    requires few { count ≤ 2 * plan.now.workers }
     requires benches { All (IsBenchFor plan.now) benches.old }
     requires chunks { first + count ≤ chunk_total plan.now }
     requires mounted { HasCollections plan.now.graph (rows_of seen catalogue.old) }
@@ -45,7 +49,12 @@ pub(crate) fn load_taken(
         * (load_count plan.now * largest_window plan.now.graph plan.now.size))
         (rows_of seen catalogue.old) (rows_of seen catalogue.new) result }
 {
-    load_chunks(plan, &mut benches[..count], catalogue, first)
+    let mut permit = ask_for_chunks(plan, catalogue, count);
+    // No more threads than chunks: one that has none is not worth it.
+    let threads = count.min(plan.workers() as usize);
+    let taken = &mut benches[..count];
+    let loaded = load_in_threads(rt, plan, catalogue, first, threads, taken, &mut permit);
+    settle_chunks(plan, catalogue, loaded)
 }
 
 /// Has the workers evaluate the first so many benches, each once behind the gate. Answers the number of evaluations,

@@ -11,7 +11,7 @@ use oe_lines::{
 };
 use oe_outside::{MemorySink, MemorySource, MemoryStore};
 use oe_parts::RunParts;
-use oe_sources::{Catalogue, CubeSource, MountFail};
+use oe_sources::{Catalogue, MountFail, SharedSource};
 use oe_top::{Setup, openeo};
 use std::alloc::Global;
 use std::thread::Threads;
@@ -220,7 +220,7 @@ fn mount_answer(outcome: Result<(), MountFail>) -> Result<Answer, Fault> {
 }
 
 /// The answer where a collection was replaced, or was to be: `none` where none was mounted under the id.
-fn replace_answer(outcome: Result<Box<dyn CubeSource>, Box<dyn CubeSource>>) -> Answer {
+fn replace_answer(outcome: Result<Box<dyn SharedSource>, Box<dyn SharedSource>>) -> Answer {
     match outcome {
         Ok(_) => Answer::Word(""),
         Err(_) => Answer::Word("none\n"),
@@ -228,7 +228,7 @@ fn replace_answer(outcome: Result<Box<dyn CubeSource>, Box<dyn CubeSource>>) -> 
 }
 
 /// The answer where a collection was taken out, likewise.
-fn detach_answer(outcome: Option<Box<dyn CubeSource>>) -> Answer {
+fn detach_answer(outcome: Option<Box<dyn SharedSource>>) -> Answer {
     match outcome {
         Some(_) => Answer::Word(""),
         None => Answer::Word("none\n"),

@@ -59,10 +59,11 @@
 //!   call that fails while the text is written adds none.
 //! - The number of workers has no effect on what a run answers. Where it has two chunks and two workers or more, each is
 //!   evaluated in a thread of its own, so that they meet.
-//! - Chunks of a round that stand beside one another along x are read by one call for each row of the hull of their
-//!   windows, another chunk by one for each plane of its window. The records of a chunk are written by one call for each
-//!   of its rows. The text takes one call of the spool, since its buffer has room for all records, and two writes: when
-//!   the buffer is empty, and at the end.
+//! - The chunks of a round are dealt to the workers in pieces that stand side by side, of much the same length. Those of a
+//!   piece that stand beside one another along x are read by one call for each row of the hull of their windows, another
+//!   chunk by one for each plane of its window. The records of a chunk are written by one call for each of its rows. The
+//!   text takes one call of the spool, since its buffer has room for all records, and two writes: when the buffer is
+//!   empty, and at the end.
 //! - Cells by the definitions of openEO Processes, those of the graph with every process by a short program over fractions
 //!   that shares no code with these crates; records as `docs/formats.md` has them.
 //!

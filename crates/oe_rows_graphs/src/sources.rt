@@ -11,7 +11,7 @@ use oe_lines::{
     push_digits, push_number,
 };
 use oe_outside::{MemorySink, NoGate};
-use oe_sources::{Catalogue, CubeSource, MountFail, RepackFail, SourceFail, repack};
+use oe_sources::{Catalogue, CubeSource, MountFail, RepackFail, SharedSource, SourceFail, repack};
 use oe_window::whole;
 use std::alloc::Global;
 
@@ -175,7 +175,10 @@ fn spell_mounted(answer: Result<(), MountFail>, answers: &mut Answers) {
 }
 
 /// The old box of an id, or the given one where none was replaced.
-fn spell_replaced(answer: Result<Box<dyn CubeSource>, Box<dyn CubeSource>>, answers: &mut Answers) {
+fn spell_replaced(
+    answer: Result<Box<dyn SharedSource>, Box<dyn SharedSource>>,
+    answers: &mut Answers,
+) {
     match answer {
         Ok(cube) => spell_box("replaced", cube, answers),
         Err(cube) => spell_box("none", cube, answers),
@@ -183,7 +186,7 @@ fn spell_replaced(answer: Result<Box<dyn CubeSource>, Box<dyn CubeSource>>, answ
 }
 
 /// The box of an id that was taken out, if there was one.
-fn spell_detached(answer: Option<Box<dyn CubeSource>>, answers: &mut Answers) {
+fn spell_detached(answer: Option<Box<dyn SharedSource>>, answers: &mut Answers) {
     match answer {
         Some(cube) => spell_box("detached", cube, answers),
         None => push("none\n", answers),
@@ -191,7 +194,7 @@ fn spell_detached(answer: Option<Box<dyn CubeSource>>, answers: &mut Answers) {
 }
 
 /// A word, and the one cell of a box.
-fn spell_box(word: &str, mut cube: Box<dyn CubeSource>, answers: &mut Answers) {
+fn spell_box(word: &str, mut cube: Box<dyn SharedSource>, answers: &mut Answers) {
     push(word, answers);
     let shape = cube.shape();
     if shape.cells() != 1 {

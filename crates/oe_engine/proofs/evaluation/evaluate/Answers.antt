@@ -8,8 +8,8 @@ use Rattle.oe_engine.proofs.evaluation.evaluate.Goals as goal
 pub returns-in-Ok : goal.returns-in-Ok
 returns-in-Ok g c =
     subst (λ (result : Result (Unit {0}) RunFail). Evaluates c.args.run.now c.go_through.new.run
-    (rows_of (λ z. (goal.CubeSource-dyn g z).seen z.1) c.args.catalogue.now)
-    (rows_of (λ z. (goal.CubeSource-dyn g z).seen z.1) c.go_through.new.catalogue)
+    (rows_of (λ z. (goal.SharedSource-dyn g z).CubeSource.seen z.1) c.args.catalogue.now)
+    (rows_of (λ z. (goal.SharedSource-dyn g z).CubeSource.seen z.1) c.go_through.new.catalogue)
     (g.P.Store.bytes c.args.spool.now) (g.P.Store.bytes c.go_through.new.spool) (g.P.Store.faults c.args.spool.now)
     (g.P.Store.faults c.go_through.new.spool) result) (sym c.finish.ensures)
     (finished c.args.run.now c.go_through.new.run _ _ _ _ _ _ c.in-Ok.ensures.through)

@@ -1,19 +1,17 @@
-use Rattle.std.proofs.Common.{◌≡◌, ◌*◌, length, Ok}
+use Rattle.std.proofs.Common.{◌≡◌, ◌+◌, ◌*◌, ◌≤◌, length}
 use Rattle.std.specs.List.{All}
 use Rattle.oe_plan.specs.Figures.{largest_window}
 use Rattle.oe_sources.specs.CatalogueRows.{rows_of}
 use Rattle.oe_engine.specs.Chunks.{EachBench}
 use Rattle.oe_engine.specs.Hulls.{HasLoadedSteps, IsBegun}
-use Rattle.oe_steps.specs.Loads.{HasRead}
 use Rattle.oe_engine.proofs.hulls.load_chunks.Given as goal
 
 abbrev pub invariant-loop-step : goal.invariant-loop-step
 invariant-loop-step g l =
-    let before = rows_of (λ z. (goal.CubeSource-dyn g z).seen z.1) l.fn.catalogue in
-    let now = rows_of (λ z. (goal.CubeSource-dyn g z).seen z.1) l.catalogue in
+    let rows = rows_of (λ z. (goal.SharedSource-dyn g z).CubeSource.seen z.1) l.catalogue in
     record {
       many : length l.benches ≡ length l.fn.benches;
+      spent : l.fn.looker ≤ l.looker + l.step * (length l.fn.benches * largest_window l.plan.graph l.plan.size);
       begun : All (IsBegun l.plan) l.benches;
-      loaded : EachBench l.first (HasLoadedSteps l.plan before l.step) l.benches;
-      read : HasRead l.plan.graph (l.step * (length l.fn.benches * largest_window l.plan.graph l.plan.size)) before now (Ok tt);
+      loaded : EachBench l.first (HasLoadedSteps l.plan rows l.step) l.benches;
     }

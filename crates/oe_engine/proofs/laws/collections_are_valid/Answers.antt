@@ -10,7 +10,7 @@ use Rattle.oe_engine.proofs.laws.collections_are_valid.Goals as goal
 
 pub returns : goal.returns
 returns g c =
-    let rows = rows_of (λ z. (goal.CubeSource-dyn g z).seen z.1) c.args.catalogue.now in
+    let rows = rows_of (λ z. (goal.SharedSource-dyn g z).CubeSource.seen z.1) c.args.catalogue.now in
     gives_collections rows
     (subst (λ (dims : List DimsRow). names_rise (map (λ (row : DimsRow). row.id) dims) ≡ true) c.requires.rows c.requires.rising)
     (subst (AreDimsOf rows) c.requires.rows c.requires.found)

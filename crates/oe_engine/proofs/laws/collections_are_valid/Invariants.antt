@@ -6,5 +6,5 @@ use Rattle.oe_engine.proofs.laws.collections_are_valid.Given as goal
 
 abbrev pub invariant-loop-row : goal.invariant-loop-row
 invariant-loop-row g l =
-    let rows = rows_of (λ z. (goal.CubeSource-dyn g z).seen z.1) l.catalogue in
+    let rows = rows_of (λ z. (goal.SharedSource-dyn g z).CubeSource.seen z.1) l.catalogue in
     (k : ℕ) (d : DimsRow) → k < l.row-index → HasValid rows (get_or l.row-items k d)

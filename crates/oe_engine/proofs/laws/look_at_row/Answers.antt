@@ -6,7 +6,7 @@ use Rattle.oe_engine.proofs.laws.look_at_row.Goals as goal
 
 pub returns-in-Some : goal.returns-in-Some
 returns-in-Some g c =
-    let rows = rows_of (λ z. (goal.CubeSource-dyn g z).seen z.1) c.args.catalogue.now in
+    let rows = rows_of (λ z. (goal.SharedSource-dyn g z).CubeSource.seen z.1) c.args.catalogue.now in
     record {
       shape = c.count-count.ensures.valid;
       collection = valid_at rows c.in-Some.place c.args.row.now.id (c.in-Some.ensures.found ∙ ap (row_of rows) c.as_str.ensures)

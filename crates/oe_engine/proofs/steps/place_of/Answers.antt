@@ -42,7 +42,7 @@ place_of-requires-clause-mounted g c =
     let schedule = c.schedule.result.now in
     let same = c.checked.ensures.value in
     let is = c.schedule.ensures.value in
-    let rows = rows_of (λ z. (goal.CubeSource-dyn g z).seen z.1) c.args.catalogue.now in
+    let rows = rows_of (λ z. (goal.SharedSource-dyn g z).CubeSource.seen z.1) c.args.catalogue.now in
     as_read (λ g s. HasCollections g rows) p graph schedule same is c.requires.mounted
 
 pub returns : goal.returns
@@ -52,5 +52,5 @@ returns g c =
     let schedule = c.schedule.result.now in
     let same = c.checked.ensures.value in
     let is = c.schedule.ensures.value in
-    let rows = rows_of (λ z. (goal.CubeSource-dyn g z).seen z.1) c.args.catalogue.now in
+    let rows = rows_of (λ z. (goal.SharedSource-dyn g z).CubeSource.seen z.1) c.args.catalogue.now in
     of_plan (λ g s. (id : List ℕ) × (collection_of_node g (node_at s c.args.step) ≡ Some id) × IsMountedAt g rows id c.place_of.result) p graph schedule same is c.place_of.ensures

@@ -5,4 +5,4 @@ use Rattle.oe_rows_graphs.proofs.attempt.complete.Given as goal
 
 abbrev pub invariant-loop : goal.invariant-loop
 invariant-loop g l =
-    IsBetweenRounds l.run (rows_of (λ z. (goal.CubeSource-dyn g z).seen z.1) l.catalogue) (Some l.spool.bytes)
+    IsBetweenRounds l.run (rows_of (λ z. (goal.SharedSource-dyn g z).CubeSource.seen z.1) l.catalogue) (Some l.spool.bytes)

@@ -16,9 +16,13 @@ use Rattle.oe_engine.proofs.WrittenLemmas.{part}
 use Rattle.oe_engine.proofs.part_run.PartRun.round.Goals as goal
 
 pub load_taken-requires-clause-mounted : goal.load_taken-requires-clause-mounted
-load_taken-requires-clause-mounted g c =
-    let rows = rows_of (λ z. (goal.CubeSource-dyn g z).seen z.1) c.args.catalogue.now in
+load_taken-requires-clause-mounted g c κs within =
+    let rows = rows_of (λ z. (goal.SharedSource-dyn g z).CubeSource.seen z.1) c.args.catalogue.now in
     subst (λ (r : PartRunOf). HasCollections r.plan.graph rows) (sym c.self.view_is) c.requires.mounted
+
+pub load_taken-requires-clause-few : goal.load_taken-requires-clause-few
+load_taken-requires-clause-few g c =
+    omega (arith, c.min-count.ensures, c.len.ensures, c.self.invariant.3.as_many, c.self.inside.benches.ok.0)
 
 pub evaluate_taken-self-inside-requires-clause-loaded : goal.evaluate_taken-self-inside-requires-clause-loaded
 evaluate_taken-self-inside-requires-clause-loaded g c =
@@ -77,12 +81,12 @@ pub returns-in_err-load_taken-clause-reads : goal.returns-in_err-load_taken-clau
 returns-in_err-load_taken-clause-reads g c =
     let i = c.self.inside in
     let p = i.plan in
-    let rows = rows_of (λ z. (goal.CubeSource-dyn g z).seen z.1) c.args.catalogue.now in
+    let rows = rows_of (λ z. (goal.SharedSource-dyn g z).CubeSource.seen z.1) c.args.catalogue.now in
     let count = c.min-count.result in
     let in_round : count ≡ min (2 * p.workers) (i.count - i.done) =
     omega (arith, c.min-count.ensures, c.len.ensures, c.self.invariant.3.as_many, i.benches.ok.0) in
     let fits : i.evaluations ≤ last_count = omega (arith, c.self.ranges) in
-    let after = rows_of (λ z. (goal.CubeSource-dyn g z).seen z.1) c.load_taken.new.catalogue in
+    let after = rows_of (λ z. (goal.SharedSource-dyn g z).CubeSource.seen z.1) c.load_taken.new.catalogue in
     subst (λ (r : PartRunOf). ReadsPart r rows after) c.self.view_is
     (reads_chunks p i.base i.first i.count i.done i.evaluations count i.over in_round fits rows after (Err c.in_err-load_taken.field-0.0) count refl c.in_err-load_taken.ensures.read)
 
@@ -90,12 +94,12 @@ pub returns-in_err-write_chunks-clause-reads : goal.returns-in_err-write_chunks-
 returns-in_err-write_chunks-clause-reads g c =
     let i = c.self.inside in
     let p = i.plan in
-    let rows = rows_of (λ z. (goal.CubeSource-dyn g z).seen z.1) c.args.catalogue.now in
+    let rows = rows_of (λ z. (goal.SharedSource-dyn g z).CubeSource.seen z.1) c.args.catalogue.now in
     let count = c.min-count.result in
     let in_round : count ≡ min (2 * p.workers) (i.count - i.done) =
     omega (arith, c.min-count.ensures, c.len.ensures, c.self.invariant.3.as_many, i.benches.ok.0) in
     let fits : i.evaluations ≤ last_count = omega (arith, c.self.ranges) in
-    let after = rows_of (λ z. (goal.CubeSource-dyn g z).seen z.1) c.load_taken.new.catalogue in
+    let after = rows_of (λ z. (goal.SharedSource-dyn g z).CubeSource.seen z.1) c.load_taken.new.catalogue in
     subst (λ (r : PartRunOf). ReadsPart r rows after) c.self.view_is
     (reads_chunks p i.base i.first i.count i.done i.evaluations count i.over in_round fits rows after (Ok tt) count refl c.in_ok-load_taken.ensures.read)
 
@@ -103,12 +107,12 @@ pub returns-clause-reads : goal.returns-clause-reads
 returns-clause-reads g c =
     let i = c.self.inside in
     let p = i.plan in
-    let rows = rows_of (λ z. (goal.CubeSource-dyn g z).seen z.1) c.args.catalogue.now in
+    let rows = rows_of (λ z. (goal.SharedSource-dyn g z).CubeSource.seen z.1) c.args.catalogue.now in
     let count = c.min-count.result in
     let in_round : count ≡ min (2 * p.workers) (i.count - i.done) =
     omega (arith, c.min-count.ensures, c.len.ensures, c.self.invariant.3.as_many, i.benches.ok.0) in
     let fits : i.evaluations ≤ last_count = omega (arith, c.self.ranges) in
-    let after = rows_of (λ z. (goal.CubeSource-dyn g z).seen z.1) c.load_taken.new.catalogue in
+    let after = rows_of (λ z. (goal.SharedSource-dyn g z).CubeSource.seen z.1) c.load_taken.new.catalogue in
     subst (λ (r : PartRunOf). ReadsPart r rows after) c.self.view_is
     (reads_chunks p i.base i.first i.count i.done i.evaluations count i.over in_round fits rows after (Ok tt) count refl c.in_ok-load_taken.ensures.read)
 
@@ -116,7 +120,7 @@ pub returns-in_err-load_taken-clause-writes : goal.returns-in_err-load_taken-cla
 returns-in_err-load_taken-clause-writes g c =
     let i = c.self.inside in
     let p = i.plan in
-    let rows = rows_of (λ z. (goal.CubeSource-dyn g z).seen z.1) c.args.catalogue.now in
+    let rows = rows_of (λ z. (goal.SharedSource-dyn g z).CubeSource.seen z.1) c.args.catalogue.now in
     let count = c.min-count.result in
     let in_round : count ≡ min (2 * p.workers) (i.count - i.done) =
     omega (arith, c.min-count.ensures, c.len.ensures, c.self.invariant.3.as_many, i.benches.ok.0) in
@@ -129,7 +133,7 @@ pub returns-in_err-write_chunks-clause-writes : goal.returns-in_err-write_chunks
 returns-in_err-write_chunks-clause-writes g c =
     let i = c.self.inside in
     let p = i.plan in
-    let rows = rows_of (λ z. (goal.CubeSource-dyn g z).seen z.1) c.args.catalogue.now in
+    let rows = rows_of (λ z. (goal.SharedSource-dyn g z).CubeSource.seen z.1) c.args.catalogue.now in
     let count = c.min-count.result in
     let in_round : count ≡ min (2 * p.workers) (i.count - i.done) =
     omega (arith, c.min-count.ensures, c.len.ensures, c.self.invariant.3.as_many, i.benches.ok.0) in
@@ -156,7 +160,7 @@ pub returns-clause-writes : goal.returns-clause-writes
 returns-clause-writes g c =
     let i = c.self.inside in
     let p = i.plan in
-    let rows = rows_of (λ z. (goal.CubeSource-dyn g z).seen z.1) c.args.catalogue.now in
+    let rows = rows_of (λ z. (goal.SharedSource-dyn g z).CubeSource.seen z.1) c.args.catalogue.now in
     let count = c.min-count.result in
     let in_round : count ≡ min (2 * p.workers) (i.count - i.done) =
     omega (arith, c.min-count.ensures, c.len.ensures, c.self.invariant.3.as_many, i.benches.ok.0) in

@@ -9,7 +9,7 @@ use Rattle.oe_engine.proofs.rounds.Run.round.Goals as goal
 
 pub round-requires-clause-mounted : goal.round-requires-clause-mounted
 round-requires-clause-mounted g c κs within =
-    let rows = rows_of (λ z. (goal.CubeSource-dyn g z).seen z.1) c.args.catalogue.now in
+    let rows = rows_of (λ z. (goal.SharedSource-dyn g z).CubeSource.seen z.1) c.args.catalogue.now in
     subst (λ (r : RunOf). HasCollections r.plan.graph rows) (sym c.self.view_is) c.requires.mounted
 
 pub returns-clause-advances : goal.returns-clause-advances
@@ -19,7 +19,7 @@ returns-clause-advances g c =
 
 pub returns-clause-writes : goal.returns-clause-writes
 returns-clause-writes g c =
-    let rows = rows_of (λ z. (goal.CubeSource-dyn g z).seen z.1) c.args.catalogue.now in
+    let rows = rows_of (λ z. (goal.SharedSource-dyn g z).CubeSource.seen z.1) c.args.catalogue.now in
     let old = g.P.Store.bytes c.args.spool.now in
     let new = g.P.Store.bytes c.round.new.spool in
     let part = c.self.inside.part in
@@ -30,15 +30,15 @@ returns-clause-writes g c =
 
 pub returns-clause-reads : goal.returns-clause-reads
 returns-clause-reads g c =
-    let rows = rows_of (λ z. (goal.CubeSource-dyn g z).seen z.1) c.args.catalogue.now in
-    let after = rows_of (λ z. (goal.CubeSource-dyn g z).seen z.1) c.round.new.catalogue in
+    let rows = rows_of (λ z. (goal.SharedSource-dyn g z).CubeSource.seen z.1) c.args.catalogue.now in
+    let after = rows_of (λ z. (goal.SharedSource-dyn g z).CubeSource.seen z.1) c.round.new.catalogue in
     subst (λ (r : RunOf). ReadsChunks r rows after) c.self.view_is
     (run_reads c.self.inside.part c.self.invariant rows after c.round.ensures.reads)
 
 pub returns-clause-causes : goal.returns-clause-causes
 returns-clause-causes g c =
-    let rows = rows_of (λ z. (goal.CubeSource-dyn g z).seen z.1) c.args.catalogue.now in
-    let after = rows_of (λ z. (goal.CubeSource-dyn g z).seen z.1) c.round.new.catalogue in
+    let rows = rows_of (λ z. (goal.SharedSource-dyn g z).CubeSource.seen z.1) c.args.catalogue.now in
+    let after = rows_of (λ z. (goal.SharedSource-dyn g z).CubeSource.seen z.1) c.round.new.catalogue in
     subst (λ (r : RunOf). HasCauses r rows after (g.P.Store.faults c.args.spool.now) (g.P.Store.faults c.round.new.spool) c.round.result)
     c.self.view_is
     (run_causes c.self.inside.part rows after (g.P.Store.faults c.args.spool.now) (g.P.Store.faults c.round.new.spool) c.round.result

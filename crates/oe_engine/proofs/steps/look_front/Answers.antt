@@ -4,15 +4,16 @@ use Rattle.oe_plan.proofs.ScheduleLemmas.{plan_schedule}
 use Rattle.oe_plan.specs.Figures.{shape_of_node}
 use Rattle.oe_check.specs.Checked.{collection_of_node}
 use Rattle.oe_sources.specs.CatalogueRows.{rows_of}
+use Rattle.oe_sources.specs.Source.{answer_of}
 use Rattle.oe_steps.specs.Collections.{IsMountedAt}
-use Rattle.oe_steps.specs.Loads.{AreLoaded, HasRead}
+use Rattle.oe_steps.specs.Loads.{AreLoaded, TellsWhy}
 use Rattle.oe_steps.specs.Steps.{loads_at}
 use Rattle.oe_window.specs.Windows.{Holds, span_length, whole_window}
 use Rattle.oe_engine.proofs.ScheduleLemmas.{as_read, of_plan}
-use Rattle.oe_engine.proofs.steps.load_front.Goals as goal
+use Rattle.oe_engine.proofs.steps.look_front.Goals as goal
 
-pub load_front-requires-clause-schedule : goal.load_front-requires-clause-schedule
-load_front-requires-clause-schedule g c =
+pub look_front-requires-clause-schedule : goal.look_front-requires-clause-schedule
+look_front-requires-clause-schedule g c =
     let p = c.args.plan.now in
     let graph = c.checked.result.now in
     let schedule = c.schedule.result.now in
@@ -20,8 +21,8 @@ load_front-requires-clause-schedule g c =
     let is = c.schedule.ensures.value in
     as_read (λ g s. IsSchedule g s) p graph schedule same is (plan_schedule p c.schedule.ensures.valid)
 
-pub load_front-requires-clause-step : goal.load_front-requires-clause-step
-load_front-requires-clause-step g c =
+pub look_front-requires-clause-step : goal.look_front-requires-clause-step
+look_front-requires-clause-step g c =
     let p = c.args.plan.now in
     let graph = c.checked.result.now in
     let schedule = c.schedule.result.now in
@@ -29,8 +30,8 @@ load_front-requires-clause-step g c =
     let is = c.schedule.ensures.value in
     as_read (λ g s. c.args.step < length s.order.steps) p graph schedule same is c.requires.step
 
-pub load_front-requires-clause-load : goal.load_front-requires-clause-load
-load_front-requires-clause-load g c =
+pub look_front-requires-clause-load : goal.look_front-requires-clause-load
+look_front-requires-clause-load g c =
     let p = c.args.plan.now in
     let graph = c.checked.result.now in
     let schedule = c.schedule.result.now in
@@ -38,18 +39,18 @@ load_front-requires-clause-load g c =
     let is = c.schedule.ensures.value in
     as_read (λ g s. loads_at g s c.args.step ≡ true) p graph schedule same is c.requires.load
 
-pub load_front-requires-clause-mounted : goal.load_front-requires-clause-mounted
-load_front-requires-clause-mounted g c =
+pub look_front-requires-clause-mounted : goal.look_front-requires-clause-mounted
+look_front-requires-clause-mounted g c =
     let p = c.args.plan.now in
     let graph = c.checked.result.now in
     let schedule = c.schedule.result.now in
     let same = c.checked.ensures.value in
     let is = c.schedule.ensures.value in
-    let rows = rows_of (λ z. (goal.CubeSource-dyn g z).seen z.1) c.args.catalogue.now in
+    let rows = rows_of (λ z. (goal.SharedSource-dyn g z).CubeSource.seen z.1) c.args.catalogue.now in
     as_read (λ g s. (id : List ℕ) → collection_of_node g (node_at s c.args.step) ≡ Some id → IsMountedAt g rows id c.args.place) p graph schedule same is c.requires.mounted
 
-pub load_front-requires-clause-within : goal.load_front-requires-clause-within
-load_front-requires-clause-within g c =
+pub look_front-requires-clause-within : goal.look_front-requires-clause-within
+look_front-requires-clause-within g c =
     let p = c.args.plan.now in
     let graph = c.checked.result.now in
     let schedule = c.schedule.result.now in
@@ -64,16 +65,15 @@ returns-clause-loaded g c =
     let schedule = c.schedule.result.now in
     let same = c.checked.ensures.value in
     let is = c.schedule.ensures.value in
-    let rows = rows_of (λ z. (goal.CubeSource-dyn g z).seen z.1) c.args.catalogue.now in
-    of_plan (λ g s. OnOk c.load_front.result (AreLoaded g rows (node_at s c.args.step) c.args.row.now (take (span_length c.args.row.now.x) c.load_front.new.cells))) p graph schedule same is c.load_front.ensures.loaded
+    let rows = rows_of (λ z. (goal.SharedSource-dyn g z).CubeSource.seen z.1) c.args.catalogue.now in
+    of_plan (λ g s. OnOk c.look_front.result (AreLoaded g rows (node_at s c.args.step) c.args.row.now (take (span_length c.args.row.now.x) c.look_front.new.cells))) p graph schedule same is c.look_front.ensures.loaded
 
-pub returns-clause-read : goal.returns-clause-read
-returns-clause-read g c =
+pub returns-clause-refused : goal.returns-clause-refused
+returns-clause-refused g c =
     let p = c.args.plan.now in
     let graph = c.checked.result.now in
     let schedule = c.schedule.result.now in
     let same = c.checked.ensures.value in
     let is = c.schedule.ensures.value in
-    let rows = rows_of (λ z. (goal.CubeSource-dyn g z).seen z.1) c.args.catalogue.now in
-    let after = rows_of (λ z. (goal.CubeSource-dyn g z).seen z.1) c.load_front.new.catalogue in
-    of_plan (λ g s. HasRead g (span_length c.args.row.now.x) rows after c.load_front.result) p graph schedule same is c.load_front.ensures.read
+    let rows = rows_of (λ z. (goal.SharedSource-dyn g z).CubeSource.seen z.1) c.args.catalogue.now in
+    of_plan (λ g s. TellsWhy g rows (node_at s c.args.step) (answer_of c.look_front.result)) p graph schedule same is c.look_front.ensures.refused

@@ -1,0 +1,13 @@
+use Rattle.std.proofs.Common.{◌≡◌, ◌*◌, Ok}
+use Rattle.oe_sources.specs.CatalogueRows.{rows_of}
+use Rattle.oe_steps.specs.Loads.{HasRead}
+use Rattle.oe_engine.proofs.asking.ask_for_chunks.Given as goal
+
+abbrev pub invariant-loop-step : goal.invariant-loop-step
+invariant-loop-step g l =
+    let before = rows_of (λ z. (goal.SharedSource-dyn g z).CubeSource.seen z.1) l.fn.catalogue in
+    let now = rows_of (λ z. (goal.SharedSource-dyn g z).CubeSource.seen z.1) l.catalogue in
+    record {
+      read : HasRead l.plan.graph (l.step * l.cells) before now (Ok tt);
+      permit : l.permit ≡ l.step * l.cells;
+    }
