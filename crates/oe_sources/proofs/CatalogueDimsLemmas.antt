@@ -193,35 +193,35 @@ dims_rise rows differ = (put_all [] rows refl differ (λ id among. refl)).0
 pub dims_found : (rows : List Row) → all_differ (row_ids rows) ≡ true → AreDimsOf rows (dims_of rows)
 dims_found rows differ id = (put_all [] rows refl differ (λ id among. refl)).1 id ∙ first_of_none (option_map dims_row (row_of rows id))
 
-pub ids_shown : {B : Type 0} (seen : B → Source) (items : List (Mounted B)) → row_ids (rows_shown seen items) ≡ mounted_ids items
-ids_shown seen [] = refl
-ids_shown seen (x ∷ items) = ap (λ rest. x.id ∷ rest) (ids_shown seen items)
+pub ids_shown : {B : Type 0} (seen : B → Source) (seal : ℕ) (items : List (Mounted B)) → row_ids (rows_shown seen seal items) ≡ mounted_ids items
+ids_shown seen seal [] = refl
+ids_shown seen seal (x ∷ items) = ap (λ rest. x.id ∷ rest) (ids_shown seen seal items)
 
 -- the item of an index is put, and then the later ones
-put_step : {B : Type 0} (seen : B → Source) (done : List DimsRow) (items : List (Mounted B)) (n : ℕ) (m : Mounted B) → n < length items → m ≡ get_or items n m
-    → put_rows done (drop n (rows_shown seen items)) ≡ put_rows (put_row (dims_row (row_shown seen m)) done) (drop (suc n) (rows_shown seen items))
-put_step seen done [] n m below is = absurd (omega arith)
-put_step seen done (x ∷ items) zero m below is = ap (λ (y : Mounted _). put_rows (put_row (dims_row (row_shown seen y)) done) (rows_shown seen items)) (sym is)
-put_step seen done (x ∷ items) (suc n) m below is = put_step seen done items n m (omega arith) is
+put_step : {B : Type 0} (seen : B → Source) (seal : ℕ) (done : List DimsRow) (items : List (Mounted B)) (n : ℕ) (m : Mounted B) → n < length items → m ≡ get_or items n m
+    → put_rows done (drop n (rows_shown seen seal items)) ≡ put_rows (put_row (dims_row (row_shown seen seal m)) done) (drop (suc n) (rows_shown seen seal items))
+put_step seen seal done [] n m below is = absurd (omega arith)
+put_step seen seal done (x ∷ items) zero m below is = ap (λ (y : Mounted _). put_rows (put_row (dims_row (row_shown seen seal y)) done) (rows_shown seen seal items)) (sym is)
+put_step seen seal done (x ∷ items) (suc n) m below is = put_step seen seal done items n m (omega arith) is
 
-pub put_rows_step : {B : Type 0} (seen : B → Source) (done new all : List DimsRow) (items : List (Mounted B)) (n : ℕ) (m : Mounted B) → n < length items → m ≡ get_or items n m
-    → new ≡ put_row (dims_row (row_shown seen m)) done → put_rows done (drop n (rows_shown seen items)) ≡ all → put_rows new (drop (n + 1) (rows_shown seen items)) ≡ all
-put_rows_step seen done new all items n m below is added so_far =
-    rw (added, add-one) (sym (put_step seen done items n m below is) ∙ so_far)
+pub put_rows_step : {B : Type 0} (seen : B → Source) (seal : ℕ) (done new all : List DimsRow) (items : List (Mounted B)) (n : ℕ) (m : Mounted B) → n < length items → m ≡ get_or items n m
+    → new ≡ put_row (dims_row (row_shown seen seal m)) done → put_rows done (drop n (rows_shown seen seal items)) ≡ all → put_rows new (drop (n + 1) (rows_shown seen seal items)) ≡ all
+put_rows_step seen seal done new all items n m below is added so_far =
+    rw (added, add-one) (sym (put_step seen seal done items n m below is) ∙ so_far)
 
 -- at the end all are put
 pub put_rows_end : (done all : List DimsRow) (rows : List Row) (n : ℕ) → length rows ≤ n → put_rows done (drop n rows) ≡ all → done ≡ all
 put_rows_end done all rows n end so_far = ap (put_rows done) (sym (drop_all n rows end)) ∙ so_far
 
 -- where all items of a catalogue are put, the ids rise, and the rows are those of the catalogue
-pub dims_rise_in : {B : Type 0} (seen : B → Source) (done : List DimsRow) (put items : List (Mounted B)) (n : ℕ) → length put ≤ n → put ≡ items → all_differ (mounted_ids items) ≡ true
-    → put_rows done (drop n (rows_shown seen put)) ≡ put_rows [] (rows_shown seen put) → names_rise (ids done) ≡ true
-dims_rise_in seen done put items n end same differ so_far =
-    let all : done ≡ dims_of (rows_shown seen put) = put_rows_end done _ (rows_shown seen put) n (omega (arith, length-map put (row_shown seen), end)) so_far in
-    rw (all, same) (dims_rise (rows_shown seen items) (ap all_differ (ids_shown seen items) ∙ differ))
+pub dims_rise_in : {B : Type 0} (seen : B → Source) (seal : ℕ) (done : List DimsRow) (put items : List (Mounted B)) (n : ℕ) → length put ≤ n → put ≡ items → all_differ (mounted_ids items) ≡ true
+    → put_rows done (drop n (rows_shown seen seal put)) ≡ put_rows [] (rows_shown seen seal put) → names_rise (ids done) ≡ true
+dims_rise_in seen seal done put items n end same differ so_far =
+    let all : done ≡ dims_of (rows_shown seen seal put) = put_rows_end done _ (rows_shown seen seal put) n (omega (arith, length-map put (row_shown seen seal), end)) so_far in
+    rw (all, same) (dims_rise (rows_shown seen seal items) (ap all_differ (ids_shown seen seal items) ∙ differ))
 
-pub dims_found_in : {B : Type 0} (seen : B → Source) (done : List DimsRow) (put items : List (Mounted B)) (n : ℕ) → length put ≤ n → put ≡ items → all_differ (mounted_ids items) ≡ true
-    → put_rows done (drop n (rows_shown seen put)) ≡ put_rows [] (rows_shown seen put) → AreDimsOf (rows_shown seen items) done
-dims_found_in seen done put items n end same differ so_far =
-    let all : done ≡ dims_of (rows_shown seen put) = put_rows_end done _ (rows_shown seen put) n (omega (arith, length-map put (row_shown seen), end)) so_far in
-    rw (all, same) (dims_found (rows_shown seen items) (ap all_differ (ids_shown seen items) ∙ differ))
+pub dims_found_in : {B : Type 0} (seen : B → Source) (seal : ℕ) (done : List DimsRow) (put items : List (Mounted B)) (n : ℕ) → length put ≤ n → put ≡ items → all_differ (mounted_ids items) ≡ true
+    → put_rows done (drop n (rows_shown seen seal put)) ≡ put_rows [] (rows_shown seen seal put) → AreDimsOf (rows_shown seen seal items) done
+dims_found_in seen seal done put items n end same differ so_far =
+    let all : done ≡ dims_of (rows_shown seen seal put) = put_rows_end done _ (rows_shown seen seal put) n (omega (arith, length-map put (row_shown seen seal), end)) so_far in
+    rw (all, same) (dims_found (rows_shown seen seal items) (ap all_differ (ids_shown seen seal items) ∙ differ))

@@ -25,7 +25,7 @@ sum_at : (rows : List Row) (index : ℕ) (s : Source) (n : ℕ) → index < leng
     → cells_asked (rows_at rows index s) ≤ cells_asked rows + n
 sum_at [] index s n below more = absurd (omega arith)
 sum_at (row ∷ rows) zero s n below more =
-    rw (sum_cons row rows, sum_cons (record { id = row.id; source = s; boxed = row.boxed }) rows) (first row.source.asked s.asked (cells_asked rows) n more)
+    rw (sum_cons row rows, sum_cons (record { id = row.id; source = s; seal = row.seal }) rows) (first row.source.asked s.asked (cells_asked rows) n more)
   where
     first : (a b rest n : ℕ) → b ≤ a + n → b + rest ≤ a + rest + n
     first a b rest n more = omega (arith, more)
@@ -88,9 +88,9 @@ module _ {B : Type 0} (m : Mounted B) (rest : List Row) (id : List ℕ) (index :
   first_or_later true is e = subst (λ (name : List ℕ). is_name name ≡ true) (sym (same_name_is m.id id is)) valid
   first_or_later false is e = later (row_index rest id) refl e
 
-pub valid_ids : {B : Type 0} (seen : B → Source) (mounted : List (Mounted B)) → list_all is_name (mounted_ids mounted) ≡ true
-    → HaveValidIds (rows_shown seen mounted)
-valid_ids seen [] valid id index e = absurd cc
-valid_ids seen (m ∷ mounted) valid id index e =
+pub valid_ids : {B : Type 0} (seen : B → Source) (seal : ℕ) (mounted : List (Mounted B)) → list_all is_name (mounted_ids mounted) ≡ true
+    → HaveValidIds (rows_shown seen seal mounted)
+valid_ids seen seal [] valid id index e = absurd cc
+valid_ids seen seal (m ∷ mounted) valid id index e =
     let parts = and_parts (is_name m.id) (list_all is_name (mounted_ids mounted)) valid in
-    first_or_later m (rows_shown seen mounted) id index parts.0 (valid_ids seen mounted parts.1 id) (same_name m.id id) refl e
+    first_or_later m (rows_shown seen seal mounted) id index parts.0 (valid_ids seen seal mounted parts.1 id) (same_name m.id id) refl e

@@ -1,5 +1,6 @@
 -- Rows of a catalogue: the row of an id, and what mounting, detaching, replacing and reading leave.
-use Rattle.std.proofs.Common.{◌≡◌, ℕ, zero, suc, ◌+◌, ◌<◌, ◌≤◌, Bool, true, false, ◌||◌, not, List, [], ◌∷◌, ◌++◌, map, length, get_or, set, slice_get, is_some, nat_le, Option, Some, None, Result, Ok, Err, OnOk, OnErr, refl, sym, ap, ◌∙◌, subst, arith, inl, inr, IfSome}
+use Rattle.std.proofs.Common.{◌≡◌, ℕ, zero, suc, ◌+◌, ◌<◌, ◌≤◌, Bool, true, false, ◌||◌, not, List, [], ◌∷◌, ◌++◌, map, length, get_or, set, slice_get, is_some, nat_le, Option, Some, None, Result, Ok, Err, OnOk, OnErr, refl, sym, ap, ◌∙◌, subst, arith, inl, inr, IfSome, IsErrOf}
+use Rattle.std.specs.Prelude.{if◌then◌else◌}
 use Rattle.std.specs.List.{find, list_all, list_any, remove}
 use Rattle.std.specs.Option.{option_map, option_map_or}
 use Rattle.std.proofs.lemmas.Bool.{and_from, and_parts, cases_Bool, false≢true, not-true}
@@ -11,14 +12,18 @@ use Rattle.oe_dims.specs.Dimensions.{all_differ}
 use Rattle.oe_dims.specs.Indices.{index_where}
 use Rattle.oe_dims.specs.Names.{is_name, same_name}
 use Rattle.oe_cell.specs.declared.cell.Cell.{Cell}
-use Rattle.oe_sources.specs.Catalogue.{id_taken, is_full, mount_refusal, CountsRow, MayFail, ReadsRow, Row, box_row, has_box, is_boxed, is_mounted, kept_source, mounted_ids, mounted_index, row_index, row_of, row_shown, rows_at, rows_replaced, rows_shown, rows_without, source_at}
+use Rattle.oe_sources.specs.Catalogue.{id_taken, is_full, mount_refusal, CountsRow, IsFaultAt, ReadsRow, Row, box_row, has_box, is_boxed, is_mounted, kept_source, mounted_ids, mounted_index, row_index, row_of, row_sealed, row_shown, rows_at, rows_replaced, rows_sealed, rows_shown, rows_without, source_at}
 use Rattle.oe_sources.specs.CatalogueLaws.{NeverFailed}
-use Rattle.oe_sources.specs.Source.{CountsRead, Looks, Reads, Source, is_failed}
+use Rattle.oe_sources.specs.Source.{CountsRead, Looks, Reads, Source, answer_of, fault_of, is_failed}
 use Rattle.oe_sources.proofs.SourceLemmas.{counted_read}
 use Rattle.oe_sources.specs.declared.catalogue.Kept.{Kept}
 use Rattle.oe_sources.specs.declared.catalogue.Kept.TheVariants.{Boxed, Generated}
 use Rattle.oe_sources.specs.declared.catalogue.Mounted.{Mounted}
+use Rattle.oe_sources.specs.declared.source.LookFail.{LookFail}
+use Rattle.oe_sources.specs.declared.source.LookFail.TheVariants as look
+use Rattle.oe_sources.specs.declared.source.ReadFault.{ReadFault}
 use Rattle.oe_sources.specs.declared.source.SourceFail.{SourceFail}
+use Rattle.oe_sources.specs.declared.source.SourceFail.TheVariants.{Failed}
 use Rattle.oe_window.specs.Windows.{position_count}
 use Rattle.oe_window.specs.declared.window.Window.{Window}
 
@@ -58,15 +63,15 @@ find-map f test (x ∷ xs) = elim (cases_Bool (test (f x))) [
 
 -- ---- the row of an id
 
-pub row_index_shown : {B : Type 0} (seen : B → Source) (items : List (Mounted B)) (id : List ℕ) → row_index (rows_shown seen items) id ≡ mounted_index items id
-row_index_shown seen items id = index_where-map (row_shown seen) (λ row. same_name row.id id) items
+pub row_index_shown : {B : Type 0} (seen : B → Source) (seal : ℕ) (items : List (Mounted B)) (id : List ℕ) → row_index (rows_shown seen seal items) id ≡ mounted_index items id
+row_index_shown seen seal items id = index_where-map (row_shown seen seal) (λ row. same_name row.id id) items
 
-pub row_at_index : {B : Type 0} (seen : B → Source) (items : List (Mounted B)) (id : List ℕ) (k : ℕ) → mounted_index items id ≡ Some k
-    → slice_get (rows_shown seen items) k ≡ row_of (rows_shown seen items) id
-row_at_index seen items id k e = find_at_index (λ row. same_name row.id id) (rows_shown seen items) k (row_index_shown seen items id ∙ e)
+pub row_at_index : {B : Type 0} (seen : B → Source) (seal : ℕ) (items : List (Mounted B)) (id : List ℕ) (k : ℕ) → mounted_index items id ≡ Some k
+    → slice_get (rows_shown seen seal items) k ≡ row_of (rows_shown seen seal items) id
+row_at_index seen seal items id k e = find_at_index (λ row. same_name row.id id) (rows_shown seen seal items) k (row_index_shown seen seal items id ∙ e)
 
-pub row_missing : {B : Type 0} (seen : B → Source) (items : List (Mounted B)) (id : List ℕ) → mounted_index items id ≡ None → row_of (rows_shown seen items) id ≡ None
-row_missing seen items id e = find_none (λ row. same_name row.id id) (rows_shown seen items) (row_index_shown seen items id ∙ e)
+pub row_missing : {B : Type 0} (seen : B → Source) (seal : ℕ) (items : List (Mounted B)) (id : List ℕ) → mounted_index items id ≡ None → row_of (rows_shown seen seal items) id ≡ None
+row_missing seen seal items id e = find_none (λ row. same_name row.id id) (rows_shown seen seal items) (row_index_shown seen seal items id ∙ e)
 
 -- the id of the row at the index of an id is that id
 pub id_at_index : {B : Type 0} (items : List (Mounted B)) (id : List ℕ) (k : ℕ) (m : Mounted B) → mounted_index items id ≡ Some k → get_or items k m ≡ m → m.id ≡ id
@@ -83,31 +88,33 @@ index_within (x ∷ items) id k e = elim (cases_Bool (same_name x.id id)) [
   | inr f ↦ let later = later_index (mounted_index items id) k (rw f at e) in omega (arith, later.2, index_within items id later.0 later.1)
 ]
 
-pub index_shown_within : {B : Type 0} (seen : B → Source) (items : List (Mounted B)) (id : List ℕ) (k : ℕ) → mounted_index items id ≡ Some k → k < length (rows_shown seen items)
-index_shown_within seen items id k e = rw (length-map items (row_shown seen)) (index_within items id k e)
+pub index_shown_within : {B : Type 0} (seen : B → Source) (seal : ℕ) (items : List (Mounted B)) (id : List ℕ) (k : ℕ) → mounted_index items id ≡ Some k → k < length (rows_shown seen seal items)
+index_shown_within seen seal items id k e = rw (length-map items (row_shown seen seal)) (index_within items id k e)
 
 -- the row of an id, by the item at its index
-pub row_of_item : {B : Type 0} (seen : B → Source) (items : List (Mounted B)) (id : List ℕ) (k : ℕ) (m : Mounted B) → mounted_index items id ≡ Some k → get_or items k m ≡ m
-    → row_of (rows_shown seen items) id ≡ Some (row_shown seen m)
-row_of_item seen [] id k m e is = cc
-row_of_item seen (x ∷ items) id k m e is = elim (cases_Bool (same_name x.id id)) [
-  | inl t ↦ let first : 0 ≡ k = same_Some _ _ (rw t at e) in let same : x ≡ m = rw (← first) at is in rw t (ap (λ y. Some (row_shown seen y)) same)
-  | inr f ↦ let later = later_index (mounted_index items id) k (rw f at e) in rw f (row_of_item seen items id later.0 m later.1 (rw later.2 at is))
+pub row_of_item : {B : Type 0} (seen : B → Source) (seal : ℕ) (items : List (Mounted B)) (id : List ℕ) (k : ℕ) (m : Mounted B) → mounted_index items id ≡ Some k → get_or items k m ≡ m
+    → row_of (rows_shown seen seal items) id ≡ Some (row_shown seen seal m)
+row_of_item seen seal [] id k m e is = cc
+row_of_item seen seal (x ∷ items) id k m e is = elim (cases_Bool (same_name x.id id)) [
+  | inl t ↦ let first : 0 ≡ k = same_Some _ _ (rw t at e) in let same : x ≡ m = rw (← first) at is in rw t (ap (λ y. Some (row_shown seen seal y)) same)
+  | inr f ↦ let later = later_index (mounted_index items id) k (rw f at e) in rw f (row_of_item seen seal items id later.0 m later.1 (rw later.2 at is))
 ]
 
 -- no box under an id
-pub no_box_missing : {B : Type 0} (seen : B → Source) (items : List (Mounted B)) (id : List ℕ) → mounted_index items id ≡ None → has_box (rows_shown seen items) id ≡ false
-no_box_missing seen items id e = ap (λ (row : Option Row). option_map_or (λ (r : Row). r.boxed) row false) (row_missing seen items id e)
+pub no_box_missing : {B : Type 0} (seen : B → Source) (seal : ℕ) (items : List (Mounted B)) (id : List ℕ) → mounted_index items id ≡ None → has_box (rows_shown seen seal items) id ≡ false
+no_box_missing seen seal items id e = ap (λ (row : Option Row). option_map_or (λ (r : Row). is_some r.seal) row false) (row_missing seen seal items id e)
 
-pub no_box_here : {B : Type 0} (seen : B → Source) (items : List (Mounted B)) (id : List ℕ) (k : ℕ) (m : Mounted B) → mounted_index items id ≡ Some k → get_or items k m ≡ m
-    → is_boxed m.cube ≡ false → has_box (rows_shown seen items) id ≡ false
-no_box_here seen items id k m e is boxed = ap (λ (row : Option Row). option_map_or (λ (r : Row). r.boxed) row false) (row_of_item seen items id k m e is) ∙ boxed
+pub no_box_here : {B : Type 0} (seen : B → Source) (seal : ℕ) (items : List (Mounted B)) (id : List ℕ) (k : ℕ) (m : Mounted B) → mounted_index items id ≡ Some k → get_or items k m ≡ m
+    → is_boxed m.cube ≡ false → has_box (rows_shown seen seal items) id ≡ false
+no_box_here seen seal items id k m e is boxed =
+    ap (λ (row : Option Row). option_map_or (λ (r : Row). is_some r.seal) row false) (row_of_item seen seal items id k m e is)
+    ∙ ap (λ (b : Bool). is_some (if b then Some seal else None)) boxed
 
 -- the box at the index of an id
-pub box_at_index : {B : Type 0} (seen : B → Source) (items : List (Mounted B)) (id : List ℕ) (k : ℕ) (m : Mounted B) (cube : B) → mounted_index items id ≡ Some k → m ≡ get_or items k m → m.cube ≡ Boxed cube
-    → row_of (rows_shown seen items) id ≡ Some (box_row id (seen cube))
-box_at_index seen items id k m cube e is kept =
-    row_of_item seen items id k m e (sym is)
+pub box_at_index : {B : Type 0} (seen : B → Source) (seal : ℕ) (items : List (Mounted B)) (id : List ℕ) (k : ℕ) (m : Mounted B) (cube : B) → mounted_index items id ≡ Some k → m ≡ get_or items k m → m.cube ≡ Boxed cube
+    → row_of (rows_shown seen seal items) id ≡ Some (box_row seal id (seen cube))
+box_at_index seen seal items id k m cube e is kept =
+    row_of_item seen seal items id k m e (sym is)
     ∙ ap Some (rw (id_at_index items id k m e (sym is), kept) refl)
 
 -- what is known of an item by its index
@@ -125,24 +132,28 @@ pub no_generated : {B : Type 0} (items : List (Mounted B)) (k : ℕ) (m : Mounte
     → m.cube ≡ Generated cube → ⊥
 no_generated items k m cube below is boxed kept = generated_no_box m.cube cube kept (of_item (λ (x : Mounted _). is_boxed x.cube ≡ true) items k m below is boxed)
 
-pub item_within : {B : Type 0} (seen : B → Source) (items : List (Mounted B)) (k : ℕ) → k < length (rows_shown seen items) → k < length items
-item_within seen items k below = omega (arith, length-map items (row_shown seen), below)
+pub item_within : {B : Type 0} (seen : B → Source) (seal : ℕ) (items : List (Mounted B)) (k : ℕ) → k < length (rows_shown seen seal items) → k < length items
+item_within seen seal items k below = omega (arith, length-map items (row_shown seen seal), below)
 
 -- ---- the source of the row of an index
 
-pub source_shown : {B : Type 0} (seen : B → Source) (items : List (Mounted B)) (k : ℕ) (m : Mounted B) → k < length (rows_shown seen items) → m ≡ get_or items k m
-    → source_at (rows_shown seen items) k ≡ kept_source seen m.cube
-source_shown seen [] k m below is = absurd (omega arith)
-source_shown seen (x ∷ items) zero m below is = ap (λ (y : Mounted _). kept_source seen y.cube) (sym is)
-source_shown seen (x ∷ items) (suc k) m below is = source_shown seen items k m (omega arith) is
+pub source_shown : {B : Type 0} (seen : B → Source) (seal : ℕ) (items : List (Mounted B)) (k : ℕ) (m : Mounted B) → k < length (rows_shown seen seal items) → m ≡ get_or items k m
+    → source_at (rows_shown seen seal items) k ≡ kept_source seen m.cube
+source_shown seen seal [] k m below is = absurd (omega arith)
+source_shown seen seal (x ∷ items) zero m below is = ap (λ (y : Mounted _). kept_source seen y.cube) (sym is)
+source_shown seen seal (x ∷ items) (suc k) m below is = source_shown seen seal items k m (omega arith) is
+
+unsealed : (b : Bool) (seal : ℕ) → (if b then Some seal else None) ≡ None → b ≡ false
+unsealed true seal e = cc
+unsealed false seal e = refl
 
 -- what holds of a generated cube holds of the row of its index
-pub never_failed_shown : {B : Type 0} (seen : B → Source) (items : List (Mounted B)) (k : ℕ) (m : Mounted B) → k < length (rows_shown seen items) → m ≡ get_or items k m
-    → (is_boxed m.cube ≡ false → (kept_source seen m.cube).faults ≡ 0) → NeverFailed (rows_shown seen items) k
-never_failed_shown seen [] k m below is none = absurd (omega arith)
-never_failed_shown seen (x ∷ items) zero m below is none =
-    subst (λ (y : Mounted _). is_boxed y.cube ≡ false → (kept_source seen y.cube).faults ≡ 0) is none
-never_failed_shown seen (x ∷ items) (suc k) m below is none = never_failed_shown seen items k m (omega arith) is none
+pub never_failed_shown : {B : Type 0} (seen : B → Source) (seal : ℕ) (items : List (Mounted B)) (k : ℕ) (m : Mounted B) → k < length (rows_shown seen seal items) → m ≡ get_or items k m
+    → (is_boxed m.cube ≡ false → (kept_source seen m.cube).faults ≡ 0) → NeverFailed (rows_shown seen seal items) k
+never_failed_shown seen seal [] k m below is none = absurd (omega arith)
+never_failed_shown seen seal (x ∷ items) zero m below is none = λ e.
+    subst (λ (y : Mounted _). is_boxed y.cube ≡ false → (kept_source seen y.cube).faults ≡ 0) is none (unsealed (is_boxed x.cube) seal e)
+never_failed_shown seen seal (x ∷ items) (suc k) m below is none = never_failed_shown seen seal items k m (omega arith) is none
 
 pub source_at-rows_at : (rows : List Row) (k : ℕ) (s : Source) → k < length rows → source_at (rows_at rows k s) k ≡ s
 source_at-rows_at [] k s below = absurd (omega arith)
@@ -150,14 +161,14 @@ source_at-rows_at (row ∷ rows) zero s below = refl
 source_at-rows_at (row ∷ rows) (suc k) s below = source_at-rows_at rows k s (omega arith)
 
 -- an item with another cube of its kind in its place
-pub rows_set : {B : Type 0} (seen : B → Source) (items : List (Mounted B)) (k : ℕ) (old new : Mounted B) → k < length (rows_shown seen items) → old ≡ get_or items k old
+pub rows_set : {B : Type 0} (seen : B → Source) (seal : ℕ) (items : List (Mounted B)) (k : ℕ) (old new : Mounted B) → k < length (rows_shown seen seal items) → old ≡ get_or items k old
     → new.id ≡ old.id → is_boxed new.cube ≡ is_boxed old.cube
-    → rows_shown seen (set items k new) ≡ rows_at (rows_shown seen items) k (kept_source seen new.cube)
-rows_set seen [] k old new below is id boxed = absurd (omega arith)
-rows_set seen (x ∷ items) zero old new below is id boxed =
+    → rows_shown seen seal (set items k new) ≡ rows_at (rows_shown seen seal items) k (kept_source seen new.cube)
+rows_set seen seal [] k old new below is id boxed = absurd (omega arith)
+rows_set seen seal (x ∷ items) zero old new below is id boxed =
     let same : (new.id ≡ x.id) × (is_boxed new.cube ≡ is_boxed x.cube) = subst (λ (y : Mounted _). (new.id ≡ y.id) × (is_boxed new.cube ≡ is_boxed y.cube)) is (id, boxed) in
     rw (same.0, same.1) refl
-rows_set seen (x ∷ items) (suc k) old new below is id boxed = ap (λ rest. row_shown seen x ∷ rest) (rows_set seen items k old new (omega arith) is id boxed)
+rows_set seen seal (x ∷ items) (suc k) old new below is id boxed = ap (λ rest. row_shown seen seal x ∷ rest) (rows_set seen seal items k old new (omega arith) is id boxed)
 
 pub ids_set : {B : Type 0} (items : List (Mounted B)) (k : ℕ) (old new : Mounted B) → k < length items → old ≡ get_or items k old → new.id ≡ old.id
     → mounted_ids (set items k new) ≡ mounted_ids items
@@ -193,57 +204,58 @@ others_differ x id other same differ = elim (cases_Bool (same_name other id)) [
 
 -- ---- detaching
 
-filter_all : {B : Type 0} (seen : B → Source) (items : List (Mounted B)) (x id : List ℕ) → same_name x id ≡ true → list_any (same_name x) (mounted_ids items) ≡ false
-    → rows_without (rows_shown seen items) id ≡ rows_shown seen items
-filter_all seen [] x id same none = refl
-filter_all seen (y ∷ items) x id same none =
+filter_all : {B : Type 0} (seen : B → Source) (seal : ℕ) (items : List (Mounted B)) (x id : List ℕ) → same_name x id ≡ true → list_any (same_name x) (mounted_ids items) ≡ false
+    → rows_without (rows_shown seen seal items) id ≡ rows_shown seen seal items
+filter_all seen seal [] x id same none = refl
+filter_all seen seal (y ∷ items) x id same none =
     let parts = or_parts (same_name x y.id) _ none in
-    rw (others_differ x id y.id same parts.0) (ap (λ rest. row_shown seen y ∷ rest) (filter_all seen items x id same parts.1))
+    rw (others_differ x id y.id same parts.0) (ap (λ rest. row_shown seen seal y ∷ rest) (filter_all seen seal items x id same parts.1))
 
-pub rows_detached : {B : Type 0} (seen : B → Source) (items : List (Mounted B)) (id : List ℕ) (k : ℕ) → mounted_index items id ≡ Some k → all_differ (mounted_ids items) ≡ true
-    → rows_shown seen (remove items k) ≡ rows_without (rows_shown seen items) id
-rows_detached seen [] id k e differ = cc
-rows_detached seen (x ∷ items) id k e differ = elim (cases_Bool (same_name x.id id)) [
+rows_detached : {B : Type 0} (seen : B → Source) (seal : ℕ) (items : List (Mounted B)) (id : List ℕ) (k : ℕ) → mounted_index items id ≡ Some k → all_differ (mounted_ids items) ≡ true
+    → rows_shown seen seal (remove items k) ≡ rows_without (rows_shown seen seal items) id
+rows_detached seen seal [] id k e differ = cc
+rows_detached seen seal (x ∷ items) id k e differ = elim (cases_Bool (same_name x.id id)) [
   | inl t ↦
       let first : 0 ≡ k = same_Some _ _ (rw t at e) in
-      rw (← first, t) (sym (filter_all seen items x.id id t (head_differs x.id (mounted_ids items) differ)))
+      rw (← first, t) (sym (filter_all seen seal items x.id id t (head_differs x.id (mounted_ids items) differ)))
   | inr f ↦
       let later = later_index (mounted_index items id) k (rw f at e) in
-      rw (later.2, f) (ap (λ rest. row_shown seen x ∷ rest) (rows_detached seen items id later.0 later.1 (and_parts _ _ differ).1))
+      rw (later.2, f) (ap (λ rest. row_shown seen seal x ∷ rest) (rows_detached seen seal items id later.0 later.1 (and_parts _ _ differ).1))
 ]
 
 -- ---- replacing
 
-replace_none : {B : Type 0} (seen : B → Source) (items : List (Mounted B)) (x id : List ℕ) (s : Source) → same_name x id ≡ true → list_any (same_name x) (mounted_ids items) ≡ false
-    → rows_replaced (rows_shown seen items) id s ≡ rows_shown seen items
-replace_none seen [] x id s same none = refl
-replace_none seen (y ∷ items) x id s same none =
+replace_none : {B : Type 0} (seen : B → Source) (seal : ℕ) (items : List (Mounted B)) (x id : List ℕ) (s : Source) → same_name x id ≡ true → list_any (same_name x) (mounted_ids items) ≡ false
+    → rows_replaced (rows_shown seen seal items) id s ≡ rows_shown seen seal items
+replace_none seen seal [] x id s same none = refl
+replace_none seen seal (y ∷ items) x id s same none =
     let parts = or_parts (same_name x y.id) _ none in
-    rw (others_differ x id y.id same parts.0) (ap (λ rest. row_shown seen y ∷ rest) (replace_none seen items x id s same parts.1))
+    rw (others_differ x id y.id same parts.0) (ap (λ rest. row_shown seen seal y ∷ rest) (replace_none seen seal items x id s same parts.1))
 
-pub rows_changed : {B : Type 0} (seen : B → Source) (items : List (Mounted B)) (id : List ℕ) (k : ℕ) (old new : Mounted B) → mounted_index items id ≡ Some k → all_differ (mounted_ids items) ≡ true
-    → old ≡ get_or items k old → new.id ≡ old.id → is_boxed new.cube ≡ true
-    → rows_shown seen (set items k new) ≡ rows_replaced (rows_shown seen items) id (kept_source seen new.cube)
-rows_changed seen [] id k old new e differ is same boxed = cc
-rows_changed seen (x ∷ items) id k old new e differ is same boxed = elim (cases_Bool (same_name x.id id)) [
+rows_changed : {B : Type 0} (seen : B → Source) (seal : ℕ) (items : List (Mounted B)) (id : List ℕ) (k : ℕ) (old new : Mounted B) → mounted_index items id ≡ Some k → all_differ (mounted_ids items) ≡ true
+    → old ≡ get_or items k old → new.id ≡ old.id → is_boxed new.cube ≡ is_boxed old.cube
+    → rows_shown seen seal (set items k new) ≡ rows_replaced (rows_shown seen seal items) id (kept_source seen new.cube)
+rows_changed seen seal [] id k old new e differ is same boxed = cc
+rows_changed seen seal (x ∷ items) id k old new e differ is same boxed = elim (cases_Bool (same_name x.id id)) [
   | inl t ↦
       let first : 0 ≡ k = same_Some _ _ (rw t at e) in
       let there : old ≡ x = rw (← first) at is in
       let ids : new.id ≡ x.id = same ∙ ap (λ (y : Mounted _). y.id) there in
-      rw (← first, t, ids, boxed) (ap (λ rest. box_row x.id (kept_source seen new.cube) ∷ rest)
-      (sym (replace_none seen items x.id id (kept_source seen new.cube) t (head_differs x.id (mounted_ids items) differ))))
+      let same_box : is_boxed new.cube ≡ is_boxed x.cube = boxed ∙ ap (λ (y : Mounted _). is_boxed y.cube) there in
+      rw (← first, t, ids, same_box) (ap (λ (rest : List Row). (record (row_shown seen seal x) { source = kept_source seen new.cube }) ∷ rest)
+      (sym (replace_none seen seal items x.id id (kept_source seen new.cube) t (head_differs x.id (mounted_ids items) differ))))
   | inr f ↦
       let later = later_index (mounted_index items id) k (rw f at e) in
-      rw (later.2, f) (ap (λ rest. row_shown seen x ∷ rest)
-      (rows_changed seen items id later.0 old new later.1 (and_parts _ _ differ).1 (rw later.2 at is) same boxed))
+      rw (later.2, f) (ap (λ rest. row_shown seen seal x ∷ rest)
+      (rows_changed seen seal items id later.0 old new later.1 (and_parts _ _ differ).1 (rw later.2 at is) same boxed))
 ]
 
-pub box_replaced : {B : Type 0} (seen : B → Source) (items : List (Mounted B)) (id : List ℕ) (k : ℕ) (old new : Mounted B) (cube : B) → mounted_index items id ≡ Some k → all_differ (mounted_ids items) ≡ true
-    → old ≡ get_or items k old → new.id ≡ old.id → new.cube ≡ Boxed cube
-    → rows_shown seen (set items k new) ≡ rows_replaced (rows_shown seen items) id (seen cube)
-box_replaced seen items id k old new cube e differ is same kept =
-    rows_changed seen items id k old new e differ is same (ap is_boxed kept)
-    ∙ ap (λ k. rows_replaced (rows_shown seen items) id (kept_source seen k)) kept
+box_replaced : {B : Type 0} (seen : B → Source) (seal : ℕ) (items : List (Mounted B)) (id : List ℕ) (k : ℕ) (old new : Mounted B) (cube : B) → mounted_index items id ≡ Some k → all_differ (mounted_ids items) ≡ true
+    → old ≡ get_or items k old → new.id ≡ old.id → new.cube ≡ Boxed cube → is_boxed old.cube ≡ true
+    → rows_shown seen seal (set items k new) ≡ rows_replaced (rows_shown seen seal items) id (seen cube)
+box_replaced seen seal items id k old new cube e differ is same kept boxed =
+    rows_changed seen seal items id k old new e differ is same (ap is_boxed kept ∙ sym boxed)
+    ∙ ap (λ k. rows_replaced (rows_shown seen seal items) id (kept_source seen k)) kept
 
 -- ---- what the ids keep
 
@@ -284,67 +296,128 @@ differ_append (x ∷ items) m differ none = elim (cases_Bool (same_name x.id m.i
       and_from _ _ (ap not (none_append (same_name x.id) (λ (y : Mounted _). y.id) items m (head_differs x.id (mounted_ids items) differ) f)) (differ_append items m (and_parts _ _ differ).1 rest)
 ]
 
-pub rows_added : {B : Type 0} (seen : B → Source) (items : List (Mounted B)) (m : Mounted B) → rows_shown seen (items ++ m ∷ []) ≡ rows_shown seen items ++ row_shown seen m ∷ []
-rows_added seen [] m = refl
-rows_added seen (x ∷ items) m = ap (λ rest. row_shown seen x ∷ rest) (rows_added seen items m)
+pub rows_added : {B : Type 0} (seen : B → Source) (seal : ℕ) (items : List (Mounted B)) (m : Mounted B) → rows_shown seen seal (items ++ m ∷ []) ≡ rows_shown seen seal items ++ row_shown seen seal m ∷ []
+rows_added seen seal [] m = refl
+rows_added seen seal (x ∷ items) m = ap (λ rest. row_shown seen seal x ∷ rest) (rows_added seen seal items m)
 
 -- ---- reading
 
 -- a read of what an item keeps is a read of its row
-pub reads_row : {B : Type 0} (seen : B → Source) (items : List (Mounted B)) (k : ℕ) (old new : Mounted B) (window : Window) (cells : List Cell) (result : Result (Unit {0}) SourceFail)
-    → k < length (rows_shown seen items) → old ≡ get_or items k old → new.id ≡ old.id → is_boxed new.cube ≡ is_boxed old.cube
+pub reads_row : {B : Type 0} (seen : B → Source) (seal : ℕ) (items : List (Mounted B)) (k : ℕ) (old new : Mounted B) (window : Window) (cells : List Cell) (result : Result (Unit {0}) SourceFail)
+    → k < length (rows_shown seen seal items) → old ≡ get_or items k old → new.id ≡ old.id → is_boxed new.cube ≡ is_boxed old.cube
     → Reads (kept_source seen old.cube) window cells (kept_source seen new.cube) result
-    → ReadsRow (rows_shown seen items) k window cells (rows_shown seen (set items k new)) result
-reads_row seen items k old new window cells result below is id boxed reads =
-    let before = source_shown seen items k old below is in
-    let rows = rows_set seen items k old new below is id boxed in
-    let after : source_at (rows_shown seen (set items k new)) k ≡ kept_source seen new.cube =
-    ap (λ rs. source_at rs k) rows ∙ source_at-rows_at (rows_shown seen items) k (kept_source seen new.cube) below in
+    → ReadsRow (rows_shown seen seal items) k window cells (rows_shown seen seal (set items k new)) result
+reads_row seen seal items k old new window cells result below is id boxed reads =
+    let before = source_shown seen seal items k old below is in
+    let rows = rows_set seen seal items k old new below is id boxed in
+    let after : source_at (rows_shown seen seal (set items k new)) k ≡ kept_source seen new.cube =
+    ap (λ rs. source_at rs k) rows ∙ source_at-rows_at (rows_shown seen seal items) k (kept_source seen new.cube) below in
     record {
       read = rw (before, after) reads;
-      others = rows ∙ ap (rows_at (rows_shown seen items) k) (sym after);
+      others = rows ∙ ap (rows_at (rows_shown seen seal items) k) (sym after);
     }
 
 -- the same of a count
-pub counts_row : {B : Type 0} (seen : B → Source) (items : List (Mounted B)) (k : ℕ) (old new : Mounted B) (cells : ℕ) (failed : Bool)
-    → k < length (rows_shown seen items) → old ≡ get_or items k old → new.id ≡ old.id → is_boxed new.cube ≡ is_boxed old.cube
+pub counts_row : {B : Type 0} (seen : B → Source) (seal : ℕ) (items : List (Mounted B)) (k : ℕ) (old new : Mounted B) (cells : ℕ) (failed : Bool)
+    → k < length (rows_shown seen seal items) → old ≡ get_or items k old → new.id ≡ old.id → is_boxed new.cube ≡ is_boxed old.cube
     → CountsRead (kept_source seen old.cube) cells failed (kept_source seen new.cube)
-    → CountsRow (rows_shown seen items) k cells failed (rows_shown seen (set items k new))
-counts_row seen items k old new cells failed below is id boxed counts =
-    let before = source_shown seen items k old below is in
-    let rows = rows_set seen items k old new below is id boxed in
-    let after : source_at (rows_shown seen (set items k new)) k ≡ kept_source seen new.cube =
-    ap (λ rs. source_at rs k) rows ∙ source_at-rows_at (rows_shown seen items) k (kept_source seen new.cube) below in
+    → CountsRow (rows_shown seen seal items) k cells failed (rows_shown seen seal (set items k new))
+counts_row seen seal items k old new cells failed below is id boxed counts =
+    let before = source_shown seen seal items k old below is in
+    let rows = rows_set seen seal items k old new below is id boxed in
+    let after : source_at (rows_shown seen seal (set items k new)) k ≡ kept_source seen new.cube =
+    ap (λ rs. source_at rs k) rows ∙ source_at-rows_at (rows_shown seen seal items) k (kept_source seen new.cube) below in
     record {
       count = rw (before, after) counts;
-      others = rows ∙ ap (rows_at (rows_shown seen items) k) (sym after);
+      others = rows ∙ ap (rows_at (rows_shown seen seal items) k) (sym after);
     }
+
+-- a look at what an item keeps is a look at its row
+pub looks_shown : {B : Type 0} (seen : B → Source) (seal : ℕ) (items : List (Mounted B)) (k : ℕ) (m : Mounted B) (window : Window) (cells : List Cell) (a b : Result (Unit {0}) SourceFail)
+    → k < length (rows_shown seen seal items) → m ≡ get_or items k m → b ≡ a → Looks (kept_source seen m.cube) window cells a → Looks (source_at (rows_shown seen seal items) k) window cells b
+looks_shown seen seal items k m window cells a b below is same looks = rw (source_shown seen seal items k m below is, same) looks
 
 -- a look at a row that is counted is a read of it
 pub counted_row : {before after : List Row} {k : ℕ} {window : Window} {cells : List Cell} (result : Result (Unit {0}) SourceFail)
     → Looks (source_at before k) window cells result → CountsRow before k (position_count window) (is_failed result) after → ReadsRow before k window cells after result
 counted_row result looks counts = record { read = counted_read result looks counts.count; others = counts.others }
 
--- a box stands at an index, seen from the item and from the row
-pub may_fail_shown : {B : Type 0} (seen : B → Source) (items : List (Mounted B)) (k : ℕ) (m : Mounted B) → k < length (rows_shown seen items) → m ≡ get_or items k m
-    → is_boxed m.cube ≡ true → MayFail (rows_shown seen items) k
-may_fail_shown seen [] k m below is boxed = absurd (omega arith)
-may_fail_shown seen (x ∷ items) zero m below is boxed = ap (λ (y : Mounted _). is_boxed y.cube) (sym is) ∙ boxed
-may_fail_shown seen (x ∷ items) (suc k) m below is boxed = may_fail_shown seen items k m (omega arith) is boxed
+-- ---- faults
 
-pub boxed_item : {B : Type 0} (seen : B → Source) (items : List (Mounted B)) (k : ℕ) (m : Mounted B) → k < length (rows_shown seen items) → m ≡ get_or items k m
-    → MayFail (rows_shown seen items) k → is_boxed m.cube ≡ true
-boxed_item seen [] k m below is may = absurd (omega arith)
-boxed_item seen (x ∷ items) zero m below is may = ap (λ (y : Mounted _). is_boxed y.cube) is ∙ may
-boxed_item seen (x ∷ items) (suc k) m below is may = boxed_item seen items k m (omega arith) is may
+-- the seal of a box in its row, which a fault of it has, and back
+fault_shown : {B : Type 0} (seen : B → Source) (seal : ℕ) (items : List (Mounted B)) (k : ℕ) (m : Mounted B) (n : ℕ) → k < length (rows_shown seen seal items) → m ≡ get_or items k m
+    → is_boxed m.cube ≡ true → n ≡ seal → IfSome (slice_get (rows_shown seen seal items) k) (λ (row : Row). row.seal ≡ Some n)
+fault_shown seen seal [] k m n below is boxed own = absurd (omega arith)
+fault_shown seen seal (x ∷ items) zero m n below is boxed own =
+    ap (λ (y : Mounted _). if is_boxed y.cube then Some seal else None) (sym is) ∙ (ap (λ (b : Bool). if b then Some seal else None) boxed ∙ ap Some (sym own))
+fault_shown seen seal (x ∷ items) (suc k) m n below is boxed own = fault_shown seen seal items k m n (omega arith) is boxed own
+
+sealed_box : (b : Bool) (seal n : ℕ) → (if b then Some seal else None) ≡ Some n → b ≡ true
+sealed_box true seal n e = refl
+sealed_box false seal n e = cc
+
+boxed_item : {B : Type 0} (seen : B → Source) (seal : ℕ) (items : List (Mounted B)) (k : ℕ) (m : Mounted B) (n : ℕ) → k < length (rows_shown seen seal items) → m ≡ get_or items k m
+    → IfSome (slice_get (rows_shown seen seal items) k) (λ (row : Row). row.seal ≡ Some n) → is_boxed m.cube ≡ true
+boxed_item seen seal [] k m n below is has = absurd (omega arith)
+boxed_item seen seal (x ∷ items) zero m n below is has = ap (λ (y : Mounted _). is_boxed y.cube) is ∙ sealed_box (is_boxed x.cube) seal n has
+boxed_item seen seal (x ∷ items) (suc k) m n below is has = boxed_item seen seal items k m n (omega arith) is has
+
+-- what a look at a box met is a fault at its row, once it has the seal and the place
+pub fault_met : {B : Type 0} (seen : B → Source) (seal : ℕ) (items : List (Mounted B)) (k : ℕ) (m : Mounted B) (looked result : Result (Unit {0}) LookFail)
+    → k < length (rows_shown seen seal items) → m ≡ get_or items k m → answer_of result ≡ answer_of looked
+    → IfSome (fault_of result) (λ (f : ReadFault). f.place ≡ k) → IfSome (fault_of result) (λ (f : ReadFault). f.seal ≡ seal)
+    → (IsErrOf (answer_of looked) Failed → is_boxed m.cube ≡ true) → IfSome (fault_of result) (IsFaultAt (rows_shown seen seal items) k)
+fault_met seen seal items k m looked (Ok u) below is same place own boxed = tt
+fault_met seen seal items k m looked (Err (look.Failed fault)) below is same place own boxed = record {
+  place = place;
+  seal = fault_shown seen seal items k m fault.seal below is (boxed (subst (λ (a : Result (Unit {0}) SourceFail). IsErrOf a Failed) same refl)) own;
+}
+fault_met seen seal items k m looked (Err (look.Damaged number)) below is same place own boxed = tt
+
+-- where a fault was met at a row, a box stands
+pub fault_boxed : {B : Type 0} (seen : B → Source) (seal : ℕ) (items : List (Mounted B)) (k : ℕ) (m : Mounted B) (fault : Option ReadFault)
+    → k < length (rows_shown seen seal items) → m ≡ get_or items k m → IfSome fault (IsFaultAt (rows_shown seen seal items) k)
+    → is_some fault ≡ true → is_boxed m.cube ≡ true
+fault_boxed seen seal items k m None below is met some = absurd (false≢true some)
+fault_boxed seen seal items k m (Some fault) below is met some = boxed_item seen seal items k m fault.seal below is met.seal
+
+-- ---- another seal
+
+resealed : (b : Bool) (old new : ℕ) → (if b then Some new else None) ≡ option_map (λ (s : ℕ). new) (if b then Some old else None)
+resealed true old new = refl
+resealed false old new = refl
+
+row_resealed : {B : Type 0} (seen : B → Source) (old new : ℕ) (m : Mounted B) → row_shown seen new m ≡ row_sealed new (row_shown seen old m)
+row_resealed seen old new m = ap (λ (s : Option ℕ). record (row_shown seen old m) { seal = s }) (resealed (is_boxed m.cube) old new)
+
+rows_resealed : {B : Type 0} (seen : B → Source) (old new : ℕ) (items : List (Mounted B)) → rows_shown seen new items ≡ rows_sealed new (rows_shown seen old items)
+rows_resealed seen old new [] = refl
+rows_resealed seen old new (x ∷ items) =
+    ap (λ (row : Row). row ∷ rows_shown seen new items) (row_resealed seen old new x)
+    ∙ ap (λ (rest : List Row). row_sealed new (row_shown seen old x) ∷ rest) (rows_resealed seen old new items)
+
+-- what detaching and replacing leave, under the seal afterwards
+pub detached_sealed : {B : Type 0} (seen : B → Source) (old new : ℕ) (items after : List (Mounted B)) (id : List ℕ) (k : ℕ) → mounted_index items id ≡ Some k → all_differ (mounted_ids items) ≡ true
+    → after ≡ remove items k → rows_shown seen new after ≡ rows_sealed new (rows_without (rows_shown seen old items) id)
+detached_sealed seen old new items after id k e differ is =
+    rows_resealed seen old new after ∙ ap (rows_sealed new) (ap (rows_shown seen old) is ∙ rows_detached seen old items id k e differ)
+
+pub replaced_sealed : {B : Type 0} (seen : B → Source) (old new : ℕ) (items : List (Mounted B)) (id : List ℕ) (k : ℕ) (before after : Mounted B) (cube : B) → mounted_index items id ≡ Some k
+    → all_differ (mounted_ids items) ≡ true → before ≡ get_or items k before → after.id ≡ before.id → after.cube ≡ Boxed cube
+    → IfSome (slice_get items k) (λ (m : Mounted B). is_boxed m.cube ≡ true)
+    → rows_shown seen new (set items k after) ≡ rows_sealed new (rows_replaced (rows_shown seen old items) id (seen cube))
+replaced_sealed seen old new items id k before after cube e differ is same kept boxed =
+    rows_resealed seen old new (set items k after)
+    ∙ ap (rows_sealed new) (box_replaced seen old items id k before after cube e differ is same kept
+    (of_item (λ (m : Mounted _). is_boxed m.cube ≡ true) items k before (index_within items id k e) is boxed))
 
 -- ---- mounting
 
-pub is_mounted_shown : {B : Type 0} (seen : B → Source) (items : List (Mounted B)) (id : List ℕ) → is_mounted (rows_shown seen items) id ≡ is_some (mounted_index items id)
-is_mounted_shown seen [] id = refl
-is_mounted_shown seen (x ∷ items) id = elim (cases_Bool (same_name x.id id)) [
+pub is_mounted_shown : {B : Type 0} (seen : B → Source) (seal : ℕ) (items : List (Mounted B)) (id : List ℕ) → is_mounted (rows_shown seen seal items) id ≡ is_some (mounted_index items id)
+is_mounted_shown seen seal [] id = refl
+is_mounted_shown seen seal (x ∷ items) id = elim (cases_Bool (same_name x.id id)) [
   | inl t ↦ rw t refl
-  | inr f ↦ rw f (is_mounted_shown seen items id ∙ later_some (mounted_index items id))
+  | inr f ↦ rw f (is_mounted_shown seen seal items id ∙ later_some (mounted_index items id))
 ]
   where
     later_some : (index : Option ℕ) → is_some index ≡ is_some (option_map (λ n. n + 1) index)
@@ -354,18 +427,18 @@ is_mounted_shown seen (x ∷ items) id = elim (cases_Bool (same_name x.id id)) [
 pub refused_taken : (rows : List Row) (id : List ℕ) → is_name id ≡ true → is_mounted rows id ≡ true → Some id_taken ≡ mount_refusal rows id
 refused_taken rows id name taken = rw (name, taken) refl
 
-pub refused_full : {B : Type 0} (seen : B → Source) (items : List (Mounted B)) (id : List ℕ) → is_name id ≡ true → is_some (mounted_index items id) ≡ false → 64 ≤ length items
-    → Some is_full ≡ mount_refusal (rows_shown seen items) id
-refused_full seen items id name free full =
-    let most : nat_le 64 (length (rows_shown seen items)) ≡ true = grind (arith, length-map items (row_shown seen), full) in
-    let mounted : is_mounted (rows_shown seen items) id ≡ false = is_mounted_shown seen items id ∙ free in
+pub refused_full : {B : Type 0} (seen : B → Source) (seal : ℕ) (items : List (Mounted B)) (id : List ℕ) → is_name id ≡ true → is_some (mounted_index items id) ≡ false → 64 ≤ length items
+    → Some is_full ≡ mount_refusal (rows_shown seen seal items) id
+refused_full seen seal items id name free full =
+    let most : nat_le 64 (length (rows_shown seen seal items)) ≡ true = grind (arith, length-map items (row_shown seen seal), full) in
+    let mounted : is_mounted (rows_shown seen seal items) id ≡ false = is_mounted_shown seen seal items id ∙ free in
     rw (name, mounted, most) refl
 
-pub refused_nowhere : {B : Type 0} (seen : B → Source) (items : List (Mounted B)) (id : List ℕ) → is_name id ≡ true → is_some (mounted_index items id) ≡ false → length items < 64
-    → None ≡ mount_refusal (rows_shown seen items) id
-refused_nowhere seen items id name free few =
-    let most : nat_le 64 (length (rows_shown seen items)) ≡ false = grind (arith, length-map items (row_shown seen), few) in
-    let mounted : is_mounted (rows_shown seen items) id ≡ false = is_mounted_shown seen items id ∙ free in
+pub refused_nowhere : {B : Type 0} (seen : B → Source) (seal : ℕ) (items : List (Mounted B)) (id : List ℕ) → is_name id ≡ true → is_some (mounted_index items id) ≡ false → length items < 64
+    → None ≡ mount_refusal (rows_shown seen seal items) id
+refused_nowhere seen seal items id name free few =
+    let most : nat_le 64 (length (rows_shown seen seal items)) ≡ false = grind (arith, length-map items (row_shown seen seal), few) in
+    let mounted : is_mounted (rows_shown seen seal items) id ≡ false = is_mounted_shown seen seal items id ∙ free in
     rw (name, mounted, most) refl
 
 pub not_found : (found : Option ℕ) → is_some found ≡ false → found ≡ None

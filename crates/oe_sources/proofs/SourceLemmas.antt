@@ -1,5 +1,5 @@
 -- Reads of sources: counters, kinds of cells, and what is not damaged.
-use Rattle.std.proofs.Common.{◌≡◌, ℕ, zero, suc, ◌≤◌, Bool, true, List, [], ◌∷◌, Result, Ok, Err, IsErrOf, inl, inr, refl, ◌∙◌, arith}
+use Rattle.std.proofs.Common.{◌≡◌, ℕ, zero, suc, ◌≤◌, Bool, true, is_some, List, [], ◌∷◌, Result, Ok, Err, IsErrOf, inl, inr, refl, ◌∙◌, arith}
 use Rattle.std.specs.Prelude.{slice_index_or}
 use Rattle.std.specs.List.{Contains, list_all}
 use Rattle.std.proofs.lemmas.List.Folds.{list_all-map}
@@ -12,7 +12,9 @@ use Rattle.oe_dims.specs.Positions.{number_of}
 use Rattle.oe_dims.specs.declared.kind.CellKind.{CellKind}
 use Rattle.oe_dims.specs.declared.kind.CellKind.TheVariants.{Numbers, Flags}
 use Rattle.oe_outside.specs.Faults.{NeverFalls, Rose, counted, last_count}
-use Rattle.oe_sources.specs.Source.{CountsRead, Looks, Reads, Source, is_failed}
+use Rattle.oe_sources.specs.Source.{CountsRead, Looks, Reads, Source, answer_of, fault_of, is_failed}
+use Rattle.oe_sources.specs.declared.source.LookFail.{LookFail}
+use Rattle.oe_sources.specs.declared.source.LookFail.TheVariants as look
 use Rattle.oe_sources.specs.declared.source.SourceFail.{SourceFail}
 use Rattle.oe_sources.specs.declared.source.SourceFail.TheVariants.{Failed, Damaged}
 use Rattle.oe_window.specs.Cells.{cell_at, cells_on}
@@ -55,6 +57,12 @@ pub none_contained : (n : ℕ) → ¬ Contains [] n
 none_contained n (k, below, is) = omega (arith, below)
 
 -- ---- a look that is counted is a read
+
+-- a look met a fault exactly where it failed
+pub fault_counted : (looked : Result (Unit {0}) LookFail) → is_some (fault_of looked) ≡ is_failed (answer_of looked)
+fault_counted (Ok u) = refl
+fault_counted (Err (look.Failed fault)) = refl
+fault_counted (Err (look.Damaged number)) = refl
 
 pub failed_is : (result : Result (Unit {0}) SourceFail) → IsErrOf result Failed → is_failed result ≡ true
 failed_is (Ok done) err = cc

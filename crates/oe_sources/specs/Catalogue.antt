@@ -1,7 +1,7 @@
 -- A catalogue: the collections by their ids, in the order in which they were mounted.
-use Rattle.std.specs.Prelude.{◌≡◌, ℕ, zero, suc, Bool, true, false, if◌then◌else◌, not, nat_le, List, [], ◌∷◌, length, map, codes, slice_get, sum_by, Option, Some, None, IfSome, Result}
+use Rattle.std.specs.Prelude.{◌≡◌, ℕ, zero, suc, Bool, true, false, if◌then◌else◌, not, nat_le, List, [], ◌∷◌, length, map, codes, slice_get, sum_by, Option, Some, None, IfSome, is_some, Result}
 use Rattle.std.specs.List.{filter, find}
-use Rattle.std.specs.Option.{option_map_or}
+use Rattle.std.specs.Option.{option_map, option_map_or}
 use Rattle.oe_cell.specs.declared.cell.Cell.{Cell}
 use Rattle.oe_cube.specs.Collections.{Collection}
 use Rattle.oe_dims.specs.Indices.{index_where}
@@ -13,16 +13,18 @@ use Rattle.oe_sources.specs.Source.{CountsRead, Reads, Source, collection_of}
 use Rattle.oe_sources.specs.declared.catalogue.Kept.{Kept}
 use Rattle.oe_sources.specs.declared.catalogue.Kept.TheVariants.{Boxed, Generated}
 use Rattle.oe_sources.specs.declared.catalogue.Mounted.{Mounted}
+use Rattle.oe_sources.specs.declared.source.ReadFault.{ReadFault}
 use Rattle.oe_sources.specs.declared.source.SourceFail.{SourceFail}
 use Rattle.oe_window.specs.declared.window.Window.{Window}
 
 -- ---- rows
 
--- a collection under its id. It is a box that a caller made, or a generated cube, which no caller can take out.
+-- a collection under its id. A box that a caller made has the seal of its catalogue; a generated cube, which no caller can
+-- take out, has none.
 pub record Row : Type 0 where
   pub id : List ℕ
   pub source : Source
-  pub boxed : Bool
+  pub seal : Option ℕ
 
 -- the most rows of a catalogue
 abbrev pub most_collections : ℕ
@@ -40,11 +42,18 @@ abbrev pub is_mounted : List Row → List ℕ → Bool
 is_mounted rows id = option_map_or (λ row. true) (row_of rows id) false
 
 abbrev pub has_box : List Row → List ℕ → Bool
-has_box rows id = option_map_or (λ row. row.boxed) (row_of rows id) false
+has_box rows id = option_map_or (λ row. is_some row.seal) (row_of rows id) false
 
--- a box of a source under an id
-abbrev pub box_row : List ℕ → Source → Row
-box_row id source = record { id = id; source = source; boxed = true }
+-- a box of a source under an id, in a catalogue of a seal
+abbrev pub box_row : ℕ → List ℕ → Source → Row
+box_row seal id source = record { id = id; source = source; seal = Some seal }
+
+-- a row, where it is a box under this seal, and all rows so
+abbrev pub row_sealed : ℕ → Row → Row
+row_sealed seal row = record row { seal = option_map (λ old. seal) row.seal }
+
+abbrev pub rows_sealed : ℕ → List Row → List Row
+rows_sealed seal rows = map (row_sealed seal) rows
 
 -- ---- mounting, detaching and replacing
 
@@ -66,9 +75,12 @@ mount_refusal rows id =
 abbrev pub rows_without : List Row → List ℕ → List Row
 rows_without rows id = filter (λ row. not (same_name row.id id)) rows
 
--- the rows with a box of another source under an id; all other rows stay
+-- a row with another source where it is of an id, and all rows so
+abbrev pub row_replaced : List ℕ → Source → Row → Row
+row_replaced id source row = if same_name row.id id then record row { source = source } else row
+
 abbrev pub rows_replaced : List Row → List ℕ → Source → List Row
-rows_replaced rows id source = map (λ row. if same_name row.id id then box_row row.id source else row) rows
+rows_replaced rows id source = map (row_replaced id source) rows
 
 -- ---- reading
 
@@ -91,7 +103,7 @@ source_at (row ∷ rows) (suc index) = source_at rows index
 -- the rows with another source in the row of an index
 abbrev pub rows_at : List Row → ℕ → Source → List Row
 rows_at [] index source = []
-rows_at (row ∷ rows) zero source = record { id = row.id; source = source; boxed = row.boxed } ∷ rows
+rows_at (row ∷ rows) zero source = record { id = row.id; source = source; seal = row.seal } ∷ rows
 rows_at (row ∷ rows) (suc index) source = row ∷ rows_at rows index source
 
 -- a read of a window of the source of one row: all else in the catalogue stays
@@ -105,9 +117,11 @@ pub record CountsRow (before : List Row) (index cells : ℕ) (failed : Bool) (af
   pub count : CountsRead (source_at before index) cells failed (source_at after index)
   pub others : after ≡ rows_at before index (source_at after index)
 
--- the row of an index is a box, of which looks may fail
-abbrev pub MayFail : List Row → ℕ → Type 0
-MayFail rows index = IfSome (slice_get rows index) (λ (row : Row). row.boxed ≡ true)
+-- A look at the row of an index met this fault: it knows the index, and has the seal of the box that stands there. So no
+-- box was taken out of the catalogue since.
+pub record IsFaultAt (rows : List Row) (index : ℕ) (fault : ReadFault) : Type 0 where
+  pub place : fault.place ≡ index
+  pub seal : IfSome (slice_get rows index) (λ (row : Row). row.seal ≡ Some fault.seal)
 
 -- some reads of one row, or none: beside its two counters all in the catalogue stays
 pub record OnlyReads (before : List Row) (index : ℕ) (after : List Row) : Type 0 where
@@ -144,7 +158,7 @@ generated_source seed side = record {
 
 -- the catalogue of it alone
 abbrev pub demonstration : ℕ → ℕ → List Row
-demonstration seed side = record { id = codes "demo"; source = generated_source seed side; boxed = false } ∷ []
+demonstration seed side = record { id = codes "demo"; source = generated_source seed side; seal = None } ∷ []
 
 -- ---- what the code keeps
 
@@ -157,11 +171,13 @@ abbrev pub is_boxed : {B : Type 0} → Kept B → Bool
 is_boxed (Boxed cube) = true
 is_boxed (Generated cube) = false
 
-abbrev pub row_shown : {B : Type 0} → (B → Source) → Mounted B → Row
-row_shown seen m = record { id = m.id; source = kept_source seen m.cube; boxed = is_boxed m.cube }
+-- what contracts see of a row, and of all, in a catalogue of a seal
+abbrev pub row_shown : {B : Type 0} → (B → Source) → ℕ → Mounted B → Row
+row_shown seen seal m =
+    record { id = m.id; source = kept_source seen m.cube; seal = if is_boxed m.cube then Some seal else None }
 
-abbrev pub rows_shown : {B : Type 0} → (B → Source) → List (Mounted B) → List Row
-rows_shown seen mounted = map (row_shown seen) mounted
+abbrev pub rows_shown : {B : Type 0} → (B → Source) → ℕ → List (Mounted B) → List Row
+rows_shown seen seal mounted = map (row_shown seen seal) mounted
 
 -- the ids
 abbrev pub mounted_ids : {B : Type 0} → List (Mounted B) → List (List ℕ)

@@ -1,5 +1,5 @@
 -- What holds of every catalogue, and of every read of one.
-use Rattle.std.specs.Prelude.{◌≡◌, ℕ, ◌+◌, ◌<◌, ◌≤◌, true, false, List, length, map, slice_get, Some, IfSome, Result}
+use Rattle.std.specs.Prelude.{◌≡◌, ℕ, ◌+◌, ◌<◌, ◌≤◌, true, List, length, map, slice_get, Some, None, IfSome, Result}
 use Rattle.oe_cell.specs.declared.cell.Cell.{Cell}
 use Rattle.oe_dims.specs.Names.{is_name}
 use Rattle.oe_sources.specs.Catalogue.{ReadsRow, Row, cells_asked, collections_shown, row_index}
@@ -33,4 +33,4 @@ HaveValidIds rows = (id : List ℕ) (index : ℕ) → row_index rows id ≡ Some
 
 -- where the row of an index is of a generated cube, none of its reads has failed: its fault counter is 0
 abbrev pub NeverFailed : List Row → ℕ → Type 0
-NeverFailed rows index = IfSome (slice_get rows index) (λ (row : Row). row.boxed ≡ false → row.source.faults ≡ 0)
+NeverFailed rows index = IfSome (slice_get rows index) (λ (row : Row). row.seal ≡ None → row.source.faults ≡ 0)

@@ -10,6 +10,7 @@ pub mod HeadRead
 pub mod OpenedFile
 pub mod Opening
 pub mod Packed
+pub mod Permits
 pub mod Repacked
 pub mod Source
 pub mod StoredCell

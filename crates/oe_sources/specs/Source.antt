@@ -1,5 +1,5 @@
 -- What contracts see of a collection that is read, and of its reads.
-use Rattle.std.specs.Prelude.{◌≡◌, ℕ, ◌+◌, min, Bool, true, false, List, Option, IfSome, IfErr, OnOk, Result, Ok, Err}
+use Rattle.std.specs.Prelude.{◌≡◌, ℕ, ◌+◌, min, Bool, true, false, List, Option, Some, None, IfSome, IfErr, OnOk, Result, Ok, Err}
 use Rattle.std.specs.List.{Contains, list_all}
 use Rattle.std.specs.Option.{option_map}
 use Rattle.oe_cell.specs.declared.cell.Cell.{Cell}
@@ -12,6 +12,7 @@ use Rattle.oe_dims.specs.declared.kind.CellKind.{CellKind}
 use Rattle.oe_outside.specs.Faults.{HasCauseOf, NeverFalls, Rose, last_count}
 use Rattle.oe_sources.specs.declared.source.LookFail.{LookFail}
 use Rattle.oe_sources.specs.declared.source.LookFail.TheVariants as look
+use Rattle.oe_sources.specs.declared.source.ReadFault.{ReadFault}
 use Rattle.oe_sources.specs.declared.source.SourceFail.{SourceFail}
 use Rattle.oe_sources.specs.declared.source.SourceFail.TheVariants.{Failed, Damaged}
 use Rattle.oe_window.specs.Cells.{cells_on}
@@ -78,6 +79,12 @@ abbrev pub answer_of : Result (Unit {0}) LookFail → Result (Unit {0}) SourceFa
 answer_of (Ok done) = Ok done
 answer_of (Err (look.Failed fault)) = Err Failed
 answer_of (Err (look.Damaged number)) = Err (Damaged number)
+
+-- the fault that a look met, if it met one
+abbrev pub fault_of : Result (Unit {0}) LookFail → Option ReadFault
+fault_of (Ok done) = None
+fault_of (Err (look.Failed fault)) = Some fault
+fault_of (Err (look.Damaged number)) = None
 
 -- it was answered `Failed`
 abbrev pub is_failed : Result (Unit {0}) SourceFail → Bool

@@ -5,9 +5,9 @@ ghost use Rattle.oe_cube.specs.Collections.{IsCollection};
 ghost use Rattle.oe_dims.specs.Dimensions.{all_differ};
 ghost use Rattle.oe_dims.specs.Names.{is_name, same_name};
 ghost use Rattle.oe_dims.specs.declared.dims.DimsRow.{DimsRow};
-ghost use Rattle.oe_sources.specs.Catalogue.{kept_source, is_boxed, mounted_ids, mounted_index, row_shown};
-ghost use Rattle.oe_sources.specs.CatalogueDims.{dims_row, put_row};
-ghost use Rattle.oe_sources.specs.Source.{CountsRead, Looks, Reads, answer_of, collection_of};
+ghost use Rattle.oe_sources.specs.Catalogue.{kept_source, is_boxed, mounted_ids, mounted_index};
+ghost use Rattle.oe_sources.specs.CatalogueDims.{put_row};
+ghost use Rattle.oe_sources.specs.Source.{CountsRead, Looks, Reads, answer_of, collection_of, fault_of};
 ghost use Rattle.oe_window.specs.Windows.{Holds, position_count, whole_window};
 
 use crate::{
@@ -205,10 +205,13 @@ fn push_box(rows: &mut Vec<Mounted<Boxed>>, id: &str, cube: Boxed) -> Result<(),
     Ok(())
 }
 
-/// The collections by their ids, 64 at most. Contracts see the rows in the order in which they were mounted.
+/// The collections by their ids, 64 at most. Contracts see the rows in the order in which they were mounted, and a seal,
+/// whose value they do not tell: what was asked of one catalogue gives no look at another, nor at a box that was taken out
+/// meanwhile.
 #[derive(Drop)]
 pub struct Catalogue {
     rows: Vec<Mounted<Boxed>>,
+    seal: u64,
     pub ghost few: { length rows.items ≤ 64 },
     pub ghost valid: { list_all is_name (mounted_ids rows.items) ≡ true },
     pub ghost different: { all_differ (mounted_ids rows.items) ≡ true },
@@ -218,11 +221,12 @@ impl Catalogue {
     ghost use Rattle.std.specs.Prelude.{◌≡◌, ◌<◌, ◌≤◌, ◌+◌, ◌^◌, ◌∷◌, ◌++◌, [], length, slice_get, is_some, true, false, Some, None, IfOk, IfErr, IsErrOf, OnOk, OnErr, IfSome, IfNone, OnSome, vec_len};
     ghost use Rattle.oe_cube.specs.Collections.{IsCollection};
     ghost use Rattle.oe_dims.specs.Plain.{HaveRisingIds, plain_rows};
-    ghost use Rattle.oe_sources.specs.Catalogue.{CountsRow, MayFail, ReadsRow, box_row, demonstration, has_box, mount_refusal, row_index, row_of, rows_replaced, rows_without, source_at};
+    ghost use Rattle.oe_sources.specs.Catalogue.{CountsRow, IsFaultAt, ReadsRow, box_row, demonstration, has_box, mount_refusal, row_index, row_of, rows_replaced, rows_sealed, rows_without, source_at};
     ghost use Rattle.oe_sources.specs.CatalogueDims.{AreDimsOf, dims_of};
     ghost use Rattle.oe_sources.specs.CatalogueLaws.{NeverFailed};
-    ghost use Rattle.oe_sources.specs.CatalogueRows.{box_of, refusal_of, rows_in};
-    ghost use Rattle.oe_sources.specs.Source.{Looks, answer_of, collection_of};
+    ghost use Rattle.oe_sources.specs.CatalogueRows.{box_of, refusal_of, rows_in, seal_of};
+    ghost use Rattle.oe_sources.specs.Permits.{MayLook, Spends, permit_for_none, permit_raised};
+    ghost use Rattle.oe_sources.specs.Source.{Looks, answer_of, collection_of, fault_of};
     ghost use Rattle.oe_window.specs.Windows.{Holds, position_count, whole_window};
 
     /// A catalogue without collections. It takes no memory before the first one is mounted.
@@ -231,6 +235,7 @@ impl Catalogue {
     {
         Catalogue {
             rows: Vec::new(alloc),
+            seal: 0,
         }
     }
 
@@ -246,22 +251,23 @@ impl Catalogue {
         let id = Text::of(alloc, "demo")?;
         let mut rows = Vec::new(alloc);
         rows.push(Mounted { id, cube })?;
-        Ok(Catalogue { rows })
+        Ok(Catalogue { rows, seal: 0 })
     }
 
     /// Adds a collection under an id.
     ///
     /// Refuses: `IdInvalid` exactly where the id is not valid; else `IdTaken` exactly where it is mounted; else `Full`
     /// exactly where 64 collections are mounted; else `OutOfMemory` where an allocation was refused. Each hands the box
-    /// back and leaves the catalogue as it was.
+    /// back and leaves the catalogue as it was. Permits stay good.
     pub fn mount(&mut self, id: &str, cube: Box<dyn SharedSource>) -> Result<(), MountFail>
         ensures allowed { OnOk result (mount_refusal (rows_in seen self.old) id.now ≡ None) }
         ensures refused { IfErr result (λ fail.
             refusal_of fail ≡ mount_refusal (rows_in seen self.old) id.now) }
         ensures added { OnOk result (rows_in seen self.new
-            ≡ rows_in seen self.old ++ box_row id.now (seen cube) ∷ []) }
+            ≡ rows_in seen self.old ++ box_row (seal_of self.old) id.now (seen cube) ∷ []) }
         ensures handed { IfErr result (λ fail. box_of fail ≡ cube) }
         ensures kept { OnErr result (rows_in seen self.new ≡ rows_in seen self.old) }
+        ensures seal { seal_of self.new ≡ seal_of self.old }
     {
         if !is_name(id) {
             return Err(MountFail::IdInvalid(cube));
@@ -278,26 +284,30 @@ impl Catalogue {
         }
     }
 
-    /// Takes the collection of an id out, and answers its box; all other rows stay. It is `None` exactly where no box
-    /// is mounted under the id; then the catalogue is as it was. It takes no memory.
+    /// Takes the collection of an id out, and answers its box; all other rows stay, under another seal, so that permits and
+    /// faults of before are of no use any more. It is `None` exactly where no box is mounted under the id; then the
+    /// catalogue is as it was. It takes no memory.
     pub fn detach(&mut self, id: &str) -> Option<Box<dyn SharedSource>>
         ensures handed { IfSome result (λ cube.
-            row_of (rows_in seen self.old) id.now ≡ Some (box_row id.now (seen cube))) }
+            row_of (rows_in seen self.old) id.now
+            ≡ Some (box_row (seal_of self.old) id.now (seen cube))) }
         ensures gone { OnSome result (rows_in seen self.new
-            ≡ rows_without (rows_in seen self.old) id.now) }
+            ≡ rows_sealed (seal_of self.new) (rows_without (rows_in seen self.old) id.now)) }
         ensures none { IfNone result (has_box (rows_in seen self.old) id.now ≡ false) }
         ensures kept { IfNone result (rows_in seen self.new ≡ rows_in seen self.old) }
+        ensures seal { IfNone result (seal_of self.new ≡ seal_of self.old) }
     {
         let index = self.boxed_index(id)?;
         let Mounted { id: _, cube } = self.rows.remove(index);
+        self.seal = self.seal.wrapping_add(1);
         match cube {
             Kept::Boxed(cube) => Some(cube),
             Kept::Generated(_) => unreachable!(),
         }
     }
 
-    /// Puts another collection in the place of the one under this id, and answers the old box; all other rows stay. It
-    /// takes no memory.
+    /// Puts another collection in the place of the one under this id, and answers the old box; all other rows stay, under
+    /// another seal, as [`Catalogue::detach`] leaves them. It takes no memory.
     ///
     /// Refuses: exactly where no box is mounted under the id, with the given one; then the catalogue is as it was.
     pub fn replace(
@@ -306,16 +316,19 @@ impl Catalogue {
         cube: Box<dyn SharedSource>,
     ) -> Result<Box<dyn SharedSource>, Box<dyn SharedSource>>
         ensures handed { IfOk result (λ old.
-            row_of (rows_in seen self.old) id.now ≡ Some (box_row id.now (seen old))) }
-        ensures replaced { OnOk result (rows_in seen self.new
-            ≡ rows_replaced (rows_in seen self.old) id.now (seen cube)) }
+            row_of (rows_in seen self.old) id.now
+            ≡ Some (box_row (seal_of self.old) id.now (seen old))) }
+        ensures replaced { OnOk result (rows_in seen self.new ≡ rows_sealed (seal_of self.new)
+            (rows_replaced (rows_in seen self.old) id.now (seen cube))) }
         ensures refused { OnErr result (has_box (rows_in seen self.old) id.now ≡ false) }
         ensures given { IfErr result (λ given. given ≡ cube) }
         ensures kept { OnErr result (rows_in seen self.new ≡ rows_in seen self.old) }
+        ensures seal { OnErr result (seal_of self.new ≡ seal_of self.old) }
     {
         let Some(index) = self.boxed_index(id) else {
             return Err(cube);
         };
+        self.seal = self.seal.wrapping_add(1);
         let row = &mut self.rows[index];
         match std::mem::replace(&mut row.cube, Kept::Boxed(cube)) {
             Kept::Boxed(old) => Ok(old),
@@ -364,32 +377,43 @@ impl Catalogue {
         requires inside { Holds (whole_window (source_at (rows_in seen self.old) place).shape)
             window.now }
         requires room { length into.old ≡ position_count window.now }
-        ensures { ReadsRow (rows_in seen self.old) place window.now into.new
+        ensures read { ReadsRow (rows_in seen self.old) place window.now into.new
             (rows_in seen self.new) result }
+        ensures seal { seal_of self.new ≡ seal_of self.old }
     {
         let row = &mut self.rows[place as usize];
         read_kept(&mut row.cube, window, into)
     }
 
+    /// A permit for no cell of this catalogue, which [`Catalogue::ask`] raises.
+    pub fn permit(&self) -> Permit
+        ensures { result ≡ permit_for_none (seal_of self.now) }
+    {
+        Permit::none(self.seal)
+    }
+
     /// Asks for so many cells of the collection of a row: the number of cells asked of it rises by that many, and stays at
-    /// 2^64 − 1, and so many more may be looked at with the permit. All else in the catalogue stays.
+    /// 2^64 − 1, and so many more may be looked at with the permit, which is one of this catalogue. All else in the catalogue
+    /// stays.
     pub fn ask(&mut self, place: u32, cells: u64, permit: &mut Permit)
         requires mounted { place < length (rows_in seen self.old) }
-        requires few { permit.old + cells < 2 ^ 64 }
+        requires own { permit.old.seal ≡ seal_of self.old }
+        requires few { permit.old.left + cells < 2 ^ 64 }
         ensures asked { CountsRow (rows_in seen self.old) place cells false
             (rows_in seen self.new) }
-        ensures permit { permit.new ≡ permit.old + cells }
+        ensures permit { permit.new ≡ permit_raised cells permit.old }
+        ensures seal { seal_of self.new ≡ seal_of self.old }
     {
         let row = &mut self.rows[place as usize];
         count_kept(&mut row.cube, cells, None);
         permit.raise(cells);
     }
 
-    /// Looks at the cells of a window of the collection of a row, which were asked for: gives them as [`Catalogue::read`]
-    /// does, and counts nothing, so that several threads may look at once. Whatever it answers, its permit is for so many
-    /// cells less then. It takes no memory.
+    /// Looks at the cells of a window of the collection of a row, which were asked of this catalogue: gives them as
+    /// [`Catalogue::read`] does, and counts nothing, so that several threads may look at once. Whatever it answers, its
+    /// permit is for so many cells less then. It takes no memory.
     ///
-    /// Refuses: as [`CubeSource::look`] of that collection does.
+    /// Refuses: as [`CubeSource::look`] of that collection does; a fault that it met is one of this row.
     pub fn look(
         &self,
         place: u32,
@@ -398,27 +422,28 @@ impl Catalogue {
         into: &mut [Cell],
     ) -> Result<(), LookFail>
         requires mounted { place < length (rows_in seen self.now) }
-        requires asked { position_count window.now ≤ looker.old }
+        requires asked { MayLook (seal_of self.now) (position_count window.now) looker.old }
         requires inside { Holds (whole_window (source_at (rows_in seen self.now) place).shape)
             window.now }
         requires room { length into.old ≡ position_count window.now }
         ensures looks { Looks (source_at (rows_in seen self.now) place) window.now into.new
             (answer_of result) }
-        ensures spent { looker.new + position_count window.now ≡ looker.old }
-        ensures boxed { IsErrOf (answer_of result) SourceFail.Failed
-            → MayFail (rows_in seen self.now) place }
+        ensures spent { Spends (position_count window.now) looker.old looker.new }
+        ensures met { IfSome (fault_of result) (IsFaultAt (rows_in seen self.now) place) }
     {
         let _spent = looker.permit.split(into.len() as u64);
         let row = &self.rows[place as usize];
-        look_kept(&row.cube, window, &mut looker.bytes, into)
+        let looked = look_kept(&row.cube, window, &mut looker.bytes, into);
+        seal_fault(looked, place, self.seal)
     }
 
     /// Counts the fault that a look at the collection of a row met, if it met one. All else in the catalogue stays.
     pub fn count_fault(&mut self, place: u32, fault: Option<ReadFault>)
         requires mounted { place < length (rows_in seen self.old) }
-        requires boxed { is_some fault ≡ true → MayFail (rows_in seen self.old) place }
-        ensures { CountsRow (rows_in seen self.old) place 0 (is_some fault)
+        requires met { IfSome fault (IsFaultAt (rows_in seen self.old) place) }
+        ensures counted { CountsRow (rows_in seen self.old) place 0 (is_some fault)
             (rows_in seen self.new) }
+        ensures seal { seal_of self.new ≡ seal_of self.old }
     {
         let row = &mut self.rows[place as usize];
         count_kept(&mut row.cube, 0, fault);
@@ -478,9 +503,26 @@ impl Catalogue {
     }
 }
 
+/// The answer of a look at a row of the catalogue with this seal. A fault that it met is one of that row then.
+fn seal_fault(looked: Result<(), LookFail>, place: u32, seal: u64) -> Result<(), LookFail>
+    ensures answer { answer_of result ≡ answer_of looked }
+    ensures place { IfSome (fault_of result) (λ fault. fault.place ≡ place) }
+    ensures seal { IfSome (fault_of result) (λ fault. fault.seal ≡ seal) }
+{
+    match looked {
+        Ok(()) => Ok(()),
+        Err(LookFail::Failed(fault)) => Err(LookFail::Failed(fault.at(place, seal))),
+        Err(LookFail::Damaged(number)) => Err(LookFail::Damaged(number)),
+    }
+}
+
 /// The shape and the kind of a collection under its id.
 fn dims_row_of(row: &Mounted<Boxed>) -> Result<DimsRow, OutOfMemory>
-    ensures { IfOk result (λ r. r ≡ dims_row (row_shown seen row.now)) }
+    ensures { IfOk result (λ r. r ≡ record {
+      id = row.now.id;
+      shape = (kept_source seen row.now.cube).shape;
+      kind = (kept_source seen row.now.cube).kind;
+    }) }
 {
     Ok(DimsRow {
         id: row.id.copy()?,

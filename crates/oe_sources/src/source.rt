@@ -3,7 +3,7 @@ ghost use Rattle.std.specs.Prelude.{◌≡◌, ℕ, Option, is_some, length, tru
 ghost use Rattle.oe_cube.specs.Collections.{IsCollection};
 ghost use Rattle.oe_dims.specs.Dimensions.{Dimensions};
 ghost use Rattle.oe_dims.specs.declared.kind.CellKind.{CellKind};
-ghost use Rattle.oe_sources.specs.Source.{Contents, CountsRead, Looks, Reads, Source, answer_of, collection_with, is_failed};
+ghost use Rattle.oe_sources.specs.Source.{Contents, CountsRead, Looks, Reads, Source, answer_of, collection_with, fault_of, is_failed};
 ghost use Rattle.oe_window.specs.Windows.{Holds, position_count, whole_window};
 
 use crate::packing::ROOM;
@@ -31,17 +31,42 @@ pub enum LookFail {
 }
 
 /// A fault that a look met, and that is not counted yet. Only a source makes one, so that whoever says that a read failed
-/// was told so by a look.
+/// was told so by a look. A catalogue seals those of its collections: such a fault knows of which row of which catalogue it
+/// is, and is counted for no other.
 #[derive(Drop)]
 pub struct ReadFault {
     part: u32,
+    place: u32,
+    seal: u64,
 }
 
 impl ReadFault {
-    /// The same fault as met in the part of this place, from 0, of a source of several.
+    /// One that is of no catalogue yet: no contract tells what its seal is.
+    fn new(part: u32) -> ReadFault {
+        ReadFault {
+            part,
+            place: 0,
+            seal: 0,
+        }
+    }
+
+    /// The same fault as met in the part of this place, from 0, of a source of several. It is of no catalogue yet, even
+    /// where the given one was.
     pub fn in_part(self, part: u32) -> ReadFault {
-        let ReadFault { part: _ } = self;
-        ReadFault { part }
+        let ReadFault { .. } = self;
+        ReadFault::new(part)
+    }
+
+    /// The same fault as met by a look at a row of the catalogue with this seal.
+    pub(crate) fn at(self, place: u32, seal: u64) -> ReadFault
+        ensures place { result.place ≡ place }
+        ensures seal { result.seal ≡ seal }
+    {
+        ReadFault {
+            part: self.part,
+            place,
+            seal,
+        }
     }
 
     /// The place of the part that met it, 0 where the source has no parts.
@@ -115,7 +140,7 @@ pub(crate) fn met(answer: Result<(), SourceFail>) -> Result<(), LookFail>
 {
     match answer {
         Ok(()) => Ok(()),
-        Err(SourceFail::Failed) => Err(LookFail::Failed(ReadFault { part: 0 })),
+        Err(SourceFail::Failed) => Err(LookFail::Failed(ReadFault::new(0))),
         Err(SourceFail::Damaged(number)) => Err(LookFail::Damaged(number)),
     }
 }
@@ -123,7 +148,7 @@ pub(crate) fn met(answer: Result<(), SourceFail>) -> Result<(), LookFail>
 /// The answer of a look as one of a read, and the fault that it met, to be counted.
 pub fn split_fault(answer: Result<(), LookFail>) -> (Result<(), SourceFail>, Option<ReadFault>)
     ensures answer { result.0 ≡ answer_of answer }
-    ensures fault { is_some result.1 ≡ is_failed (answer_of answer) }
+    ensures fault { result.1 ≡ fault_of answer }
 {
     match answer {
         Ok(()) => (Ok(()), None),

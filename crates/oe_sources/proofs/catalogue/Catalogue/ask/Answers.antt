@@ -12,7 +12,7 @@ invariant_of-self g c =
     let items = c.args.self.now.rows.items in
     let row = c.index_mut-row.result.now in
     let new : Mounted _ = record { id = row.id; cube = c.count_kept.new.cube } in
-    let ids = ids_set items c.args.place row new (item_within _ items c.args.place c.requires.mounted) c.index_mut-row.ensures.value refl in
+    let ids = ids_set items c.args.place row new (item_within _ _ items c.args.place c.requires.mounted) c.index_mut-row.ensures.value refl in
     let few : length (set items c.args.place new) ≤ 64 = omega (arith, length-set items c.args.place new, c.args.self.now.few) in
     record {
       few = few;
@@ -22,5 +22,5 @@ invariant_of-self g c =
 
 pub returns-clause-asked : goal.returns-clause-asked
 returns-clause-asked g c =
-    counts_row _ c.args.self.now.rows.items c.args.place c.index_mut-row.result.now (record { id = c.index_mut-row.result.now.id; cube = c.count_kept.new.cube })
+    counts_row _ _ c.args.self.now.rows.items c.args.place c.index_mut-row.result.now (record { id = c.index_mut-row.result.now.id; cube = c.count_kept.new.cube })
     c.args.cells false c.requires.mounted c.index_mut-row.ensures.value refl c.count_kept.ensures.boxed c.count_kept.ensures.counts

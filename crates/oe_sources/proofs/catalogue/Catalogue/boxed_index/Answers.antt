@@ -8,7 +8,7 @@ pub returns-in_err-index-clause-none : goal.returns-in_err-index-clause-none
 returns-in_err-index-clause-none g c =
     let items = c.args.self.now.rows.items in
     let index : mounted_index items c.args.id.now ≡ None = rw c.as_slice.ensures.value at (sym c.index_of.ensures ∙ c.in_err-index.was) in
-    rw c.from_residual.ensures (no_box_missing _ items c.args.id.now index)
+    rw c.from_residual.ensures (no_box_missing _ _ items c.args.id.now index)
 
 pub index-requires : goal.index-requires
 index-requires g c =
@@ -33,4 +33,4 @@ pub returns-else-is_boxed-clause-none : goal.returns-else-is_boxed-clause-none
 returns-else-is_boxed-clause-none g c =
     let items = c.args.self.now.rows.items in
     let index : mounted_index items c.args.id.now ≡ Some c.in_ok-index.index = rw c.as_slice.ensures.value at (sym c.index_of.ensures ∙ c.in_ok-index.was) in
-    no_box_here _ items c.args.id.now c.in_ok-index.index c.index.result.now index (sym c.index.ensures) (sym c.is_boxed.ensures ∙ c.if-is_boxed.false)
+    no_box_here _ _ items c.args.id.now c.in_ok-index.index c.index.result.now index (sym c.index.ensures) (sym c.is_boxed.ensures ∙ c.if-is_boxed.false)

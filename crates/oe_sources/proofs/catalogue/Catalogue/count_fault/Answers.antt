@@ -4,19 +4,19 @@ use Rattle.std.proofs.lemmas.List.{length-set}
 use Rattle.oe_dims.specs.Dimensions.{all_differ}
 use Rattle.oe_dims.specs.Names.{is_name}
 use Rattle.oe_sources.specs.declared.catalogue.Mounted.{Mounted}
-use Rattle.oe_sources.proofs.CatalogueLemmas.{boxed_item, counts_row, ids_set, item_within}
+use Rattle.oe_sources.proofs.CatalogueLemmas.{counts_row, fault_boxed, ids_set, item_within}
 use Rattle.oe_sources.proofs.catalogue.Catalogue.count_fault.Goals as goal
 
 pub count_kept-requires : goal.count_kept-requires
-count_kept-requires g c = λ failed.
-    boxed_item _ c.args.self.now.rows.items c.args.place c.index_mut-row.result.now c.requires.mounted c.index_mut-row.ensures.value (c.requires.boxed failed)
+count_kept-requires g c =
+    fault_boxed _ c.args.self.now.seal c.args.self.now.rows.items c.args.place c.index_mut-row.result.now c.args.fault c.requires.mounted c.index_mut-row.ensures.value c.requires.met
 
 pub invariant_of-self : goal.invariant_of-self
 invariant_of-self g c =
     let items = c.args.self.now.rows.items in
     let row = c.index_mut-row.result.now in
     let new : Mounted _ = record { id = row.id; cube = c.count_kept.new.cube } in
-    let ids = ids_set items c.args.place row new (item_within _ items c.args.place c.requires.mounted) c.index_mut-row.ensures.value refl in
+    let ids = ids_set items c.args.place row new (item_within _ _ items c.args.place c.requires.mounted) c.index_mut-row.ensures.value refl in
     let few : length (set items c.args.place new) ≤ 64 = omega (arith, length-set items c.args.place new, c.args.self.now.few) in
     record {
       few = few;
@@ -24,7 +24,7 @@ invariant_of-self g c =
       different = ap all_differ ids ∙ c.args.self.now.different;
     }
 
-pub returns : goal.returns
-returns g c =
-    counts_row _ c.args.self.now.rows.items c.args.place c.index_mut-row.result.now (record { id = c.index_mut-row.result.now.id; cube = c.count_kept.new.cube })
+pub returns-clause-counted : goal.returns-clause-counted
+returns-clause-counted g c =
+    counts_row _ _ c.args.self.now.rows.items c.args.place c.index_mut-row.result.now (record { id = c.index_mut-row.result.now.id; cube = c.count_kept.new.cube })
     0 (is_some c.args.fault) c.requires.mounted c.index_mut-row.ensures.value refl c.count_kept.ensures.boxed c.count_kept.ensures.counts

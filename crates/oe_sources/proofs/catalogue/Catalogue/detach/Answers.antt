@@ -1,9 +1,8 @@
 use Rattle.std.proofs.Common.{◌<◌, ◌≤◌, length, ap, ◌∙◌, arith}
 use Rattle.std.proofs.lemmas.List.Edits.{length-remove}
 use Rattle.oe_dims.specs.Names.{is_name}
-use Rattle.oe_sources.specs.Catalogue.{rows_shown}
 use Rattle.oe_sources.specs.declared.catalogue.Mounted.{Mounted}
-use Rattle.oe_sources.proofs.CatalogueLemmas.{all_remove, box_at_index, differ_remove, index_within, no_generated, rows_detached}
+use Rattle.oe_sources.proofs.CatalogueLemmas.{all_remove, box_at_index, detached_sealed, differ_remove, index_within, no_generated}
 use Rattle.oe_sources.proofs.catalogue.Catalogue.detach.Goals as goal
 
 pub remove-cube-requires : goal.remove-cube-requires
@@ -29,9 +28,9 @@ unreachable-requires g c =
 
 pub returns-clause-handed : goal.returns-clause-handed
 returns-clause-handed g c =
-    box_at_index _ c.args.self.now.rows.items c.args.id.now c.in_ok-index.index c.remove-cube.result c.in-Boxed.cube c.in_ok-index.ensures.index c.remove-cube.ensures.value c.in-Boxed.is
+    box_at_index _ _ c.args.self.now.rows.items c.args.id.now c.in_ok-index.index c.remove-cube.result c.in-Boxed.cube c.in_ok-index.ensures.index c.remove-cube.ensures.value c.in-Boxed.is
 
 pub returns-clause-gone : goal.returns-clause-gone
 returns-clause-gone g c =
-    ap (rows_shown _) c.remove-cube.ensures.items
-    ∙ rows_detached _ c.args.self.now.rows.items c.args.id.now c.in_ok-index.index c.in_ok-index.ensures.index c.args.self.now.different
+    detached_sealed _ c.args.self.now.seal _ c.args.self.now.rows.items c.remove-cube.new.self.items c.args.id.now c.in_ok-index.index
+    c.in_ok-index.ensures.index c.args.self.now.different c.remove-cube.ensures.items

@@ -5,4 +5,4 @@ use Rattle.oe_sources.proofs.catalogue.Catalogue.kind.Goals as goal
 
 pub returns : goal.returns
 returns g c =
-    c.kind_of.ensures ∙ ap (λ (s : Source). s.kind) (sym (source_shown _ c.args.self.now.rows.items c.args.place c.index.result.now c.requires.mounted c.index.ensures))
+    c.kind_of.ensures ∙ ap (λ (s : Source). s.kind) (sym (source_shown _ _ c.args.self.now.rows.items c.args.place c.index.result.now c.requires.mounted c.index.ensures))

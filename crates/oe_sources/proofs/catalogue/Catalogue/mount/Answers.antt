@@ -13,14 +13,14 @@ returns-then-is_some-clause-refused g c =
     let items = c.args.self.now.rows.items in
     let name : is_name c.args.id.now ≡ true = sym c.is_name.ensures ∙ c.if-not-is_name.false in
     let found : is_some (mounted_index items c.args.id.now) ≡ true = rw c.as_slice.ensures.value at (ap is_some (sym c.index_of.ensures) ∙ sym c.is_some.ensures ∙ c.if-is_some.true) in
-    refused_taken _ c.args.id.now name (is_mounted_shown _ items c.args.id.now ∙ found)
+    refused_taken _ c.args.id.now name (is_mounted_shown _ _ items c.args.id.now ∙ found)
 
 pub returns-then-len-ge-MOST_COLLECTIONS-clause-refused : goal.returns-then-len-ge-MOST_COLLECTIONS-clause-refused
 returns-then-len-ge-MOST_COLLECTIONS-clause-refused g c =
     let items = c.args.self.now.rows.items in
     let name : is_name c.args.id.now ≡ true = sym c.is_name.ensures ∙ c.if-not-is_name.false in
     let free : is_some (mounted_index items c.args.id.now) ≡ false = rw c.as_slice.ensures.value at (ap is_some (sym c.index_of.ensures) ∙ sym c.is_some.ensures ∙ c.if-is_some.false) in
-    refused_full _ items c.args.id.now name free (omega (arith, ap length c.as_slice.ensures.value, c.as_slice.ensures.len, c.len.ensures, c.if-len-ge-MOST_COLLECTIONS.true))
+    refused_full _ _ items c.args.id.now name free (omega (arith, ap length c.as_slice.ensures.value, c.as_slice.ensures.len, c.len.ensures, c.if-len-ge-MOST_COLLECTIONS.true))
 
 pub invariant_of-self : goal.invariant_of-self
 invariant_of-self g c =
@@ -45,11 +45,11 @@ returns-in-Ok-clause-allowed g c =
     let items = c.args.self.now.rows.items in
     let name : is_name c.args.id.now ≡ true = sym c.is_name.ensures ∙ c.if-not-is_name.false in
     let free : is_some (mounted_index items c.args.id.now) ≡ false = rw c.as_slice.ensures.value at (ap is_some (sym c.index_of.ensures) ∙ sym c.is_some.ensures ∙ c.if-is_some.false) in
-    sym (refused_nowhere _ items c.args.id.now name free (omega (arith, ap length c.as_slice.ensures.value, c.as_slice.ensures.len, c.len.ensures, c.if-len-ge-MOST_COLLECTIONS.false)))
+    sym (refused_nowhere _ _ items c.args.id.now name free (omega (arith, ap length c.as_slice.ensures.value, c.as_slice.ensures.len, c.len.ensures, c.if-len-ge-MOST_COLLECTIONS.false)))
 
 pub returns-in-Err-clause-refused : goal.returns-in-Err-clause-refused
 returns-in-Err-clause-refused g c =
     let items = c.args.self.now.rows.items in
     let name : is_name c.args.id.now ≡ true = sym c.is_name.ensures ∙ c.if-not-is_name.false in
     let free : is_some (mounted_index items c.args.id.now) ≡ false = rw c.as_slice.ensures.value at (ap is_some (sym c.index_of.ensures) ∙ sym c.is_some.ensures ∙ c.if-is_some.false) in
-    refused_nowhere _ items c.args.id.now name free (omega (arith, ap length c.as_slice.ensures.value, c.as_slice.ensures.len, c.len.ensures, c.if-len-ge-MOST_COLLECTIONS.false))
+    refused_nowhere _ _ items c.args.id.now name free (omega (arith, ap length c.as_slice.ensures.value, c.as_slice.ensures.len, c.len.ensures, c.if-len-ge-MOST_COLLECTIONS.false))

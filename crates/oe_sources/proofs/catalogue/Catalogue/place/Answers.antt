@@ -13,28 +13,28 @@ pub returns-in-Some-clause-index : goal.returns-in-Some-clause-index
 returns-in-Some-clause-index g c =
     let items = c.args.self.now.rows.items in
     let index : mounted_index items c.args.id.now ≡ Some c.in-Some.index = rw c.as_slice.ensures.value at (sym c.index_of.ensures ∙ c.in-Some.is) in
-    sym (row_index_shown _ items c.args.id.now ∙ index)
+    sym (row_index_shown _ _ items c.args.id.now ∙ index)
 
 pub returns-in-Some-clause-within : goal.returns-in-Some-clause-within
 returns-in-Some-clause-within g c =
     let items = c.args.self.now.rows.items in
     let index : mounted_index items c.args.id.now ≡ Some c.in-Some.index = rw c.as_slice.ensures.value at (sym c.index_of.ensures ∙ c.in-Some.is) in
-    index_shown_within _ items c.args.id.now c.in-Some.index index
+    index_shown_within _ _ items c.args.id.now c.in-Some.index index
 
 pub returns-in-Some-clause-found : goal.returns-in-Some-clause-found
 returns-in-Some-clause-found g c =
     let items = c.args.self.now.rows.items in
     let index : mounted_index items c.args.id.now ≡ Some c.in-Some.index = rw c.as_slice.ensures.value at (sym c.index_of.ensures ∙ c.in-Some.is) in
-    row_at_index _ items c.args.id.now c.in-Some.index index
+    row_at_index _ _ items c.args.id.now c.in-Some.index index
 
 pub returns-in-None-clause-index : goal.returns-in-None-clause-index
 returns-in-None-clause-index g c =
     let items = c.args.self.now.rows.items in
     let index : mounted_index items c.args.id.now ≡ None = rw c.as_slice.ensures.value at (sym c.index_of.ensures ∙ c.in-None.is) in
-    sym (row_index_shown _ items c.args.id.now ∙ index)
+    sym (row_index_shown _ _ items c.args.id.now ∙ index)
 
 pub returns-in-None-clause-none : goal.returns-in-None-clause-none
 returns-in-None-clause-none g c =
     let items = c.args.self.now.rows.items in
     let index : mounted_index items c.args.id.now ≡ None = rw c.as_slice.ensures.value at (sym c.index_of.ensures ∙ c.in-None.is) in
-    row_missing _ items c.args.id.now index
+    row_missing _ _ items c.args.id.now index

@@ -4,7 +4,7 @@ use Rattle.std.proofs.lemmas.List.{length-set}
 use Rattle.oe_dims.specs.Dimensions.{all_differ}
 use Rattle.oe_dims.specs.Names.{is_name}
 use Rattle.oe_sources.specs.declared.catalogue.Mounted.{Mounted}
-use Rattle.oe_sources.proofs.CatalogueLemmas.{box_at_index, box_replaced, ids_set, index_within, no_generated}
+use Rattle.oe_sources.proofs.CatalogueLemmas.{box_at_index, ids_set, index_within, no_generated, replaced_sealed}
 use Rattle.oe_sources.proofs.catalogue.Catalogue.replace.Goals as goal
 
 pub index_mut-row-requires : goal.index_mut-row-requires
@@ -33,12 +33,12 @@ unreachable-requires g c =
 
 pub returns-clause-handed : goal.returns-clause-handed
 returns-clause-handed g c =
-    box_at_index _ c.args.self.now.rows.items c.args.id.now c.in-Some.index c.index_mut-row.result.now c.in-Boxed.old c.in-Some.ensures.index c.index_mut-row.ensures.value
+    box_at_index _ _ c.args.self.now.rows.items c.args.id.now c.in-Some.index c.index_mut-row.result.now c.in-Boxed.old c.in-Some.ensures.index c.index_mut-row.ensures.value
     (sym c.replace.ensures.value ∙ c.in-Boxed.is)
 
 pub returns-clause-replaced : goal.returns-clause-replaced
 returns-clause-replaced g c =
     let items = c.args.self.now.rows.items in
     let row = c.index_mut-row.result.now in
-    box_replaced _ items c.args.id.now c.in-Some.index row (record { id = row.id; cube = c.replace.new.dest }) c.args.cube c.in-Some.ensures.index c.args.self.now.different c.index_mut-row.ensures.value refl
-    c.replace.ensures.after
+    replaced_sealed _ c.args.self.now.seal _ items c.args.id.now c.in-Some.index row (record { id = row.id; cube = c.replace.new.dest }) c.args.cube
+    c.in-Some.ensures.index c.args.self.now.different c.index_mut-row.ensures.value refl c.replace.ensures.after c.in-Some.ensures.boxed
