@@ -26,8 +26,8 @@ use Rattle.oe_meanings.specs.Meaning.{Datacube, restricted_cube, operated}
 use Rattle.oe_meanings.proofs.GraphLemmas.{cells_of_kind}
 use Rattle.oe_requests.specs.Operations.{Outline, keep}
 use Rattle.oe_sources.proofs.CatalogueLawLemmas.{count_no_more}
-use Rattle.oe_sources.specs.Catalogue.{CountsRow, MayFail, Row, row_index, source_at}
-use Rattle.oe_sources.specs.Source.{AreCellsOf, Contents, Looks, answer_of, collection_of, collection_with, is_failed}
+use Rattle.oe_sources.specs.Catalogue.{CountsRow, IsFaultAt, Row, row_index, source_at}
+use Rattle.oe_sources.specs.Source.{AreCellsOf, Contents, Looks, answer_of, collection_of, collection_with, fault_of, is_failed}
 use Rattle.oe_sources.specs.declared.source.LookFail.{LookFail}
 use Rattle.oe_sources.specs.declared.source.LookFail.TheVariants as look
 use Rattle.oe_sources.specs.declared.source.SourceFail.TheVariants.{Failed, Damaged}
@@ -40,7 +40,7 @@ use Rattle.oe_steps.proofs.LoadLemmas.{LoadsBy, id_of_load, loads_by}
 use Rattle.oe_steps.proofs.ScheduleLemmas.{node_within}
 use Rattle.oe_steps.proofs.ReadLemmas.{count_read}
 use Rattle.oe_steps.specs.Collections.{HasCollections, IsLoadedBy, IsMountedAt, LoadRose, Shows}
-use Rattle.oe_steps.specs.Loads.{AreLoaded, HasRead, LoadMayFail, TellsWhy, refusal_for}
+use Rattle.oe_steps.specs.Loads.{AreLoaded, HasRead, TellsWhy, refusal_for}
 use Rattle.oe_steps.specs.Refusals.{IsOfSource, RefusalSays}
 use Rattle.oe_steps.specs.Steps.{loads_at, cell_kind_at, node_cells}
 use Rattle.oe_steps.specs.declared.fail.RunFail.TheVariants.{SourceFailed}
@@ -214,14 +214,14 @@ module _ (graph : CheckedGraph) (schedule : ScheduleOf) (is : IsSchedule graph s
 
     -- ---- why a look was refused
 
-    pub box_refused : (cells : List Cell) (answer : Result (Unit {0}) SourceFail) → Looks (source_at rows place) box cells answer
-        → (IsErrOf answer Failed → MayFail rows place) → TellsWhy graph rows (node_at schedule step) answer
-    box_refused cells (Ok u) looks boxed = tt
-    box_refused cells (Err Failed) looks boxed = λ name index e mounted.
+    pub box_refused : (cells : List Cell) (looked : Result (Unit {0}) LookFail) → Looks (source_at rows place) box cells (answer_of looked)
+        → IfSome (fault_of looked) (IsFaultAt rows place) → TellsWhy graph rows (node_at schedule step) looked
+    box_refused cells (Ok u) looks met = tt
+    box_refused cells (Err (look.Failed fault)) looks met = λ name index e mounted.
         let same_id : id.0 ≡ name = same_Some id.0 name (sym id.1 ∙ e) in
         let same : place ≡ index = same_Some place index (sym at.index_is ∙ (ap (row_index rows) same_id ∙ mounted.index_is)) in
-        subst (MayFail rows) same (boxed refl)
-    box_refused cells (Err (Damaged number)) looks boxed =
+        subst (λ (i : ℕ). IsFaultAt rows i fault) same met
+    box_refused cells (Err (look.Damaged number)) looks met =
         let damage = looks.damage in
         let needed = plane_is.needed damage.position damage.inside in
         record {
@@ -253,26 +253,28 @@ module _ (graph : CheckedGraph) (schedule : ScheduleOf) (is : IsSchedule graph s
   }
   rose_by after n failed (Err (Damaged number)) same counts err = absurd cc
 
-  says_by : (answer : Result (Unit {0}) SourceFail) → TellsWhy graph rows (node_at schedule step) answer
-      → IfErr (refusal_for (node_at schedule step) answer) (λ refusal. IsOfSource refusal × RefusalSays graph rows refusal)
+  says_by : (looked : Result (Unit {0}) LookFail) → TellsWhy graph rows (node_at schedule step) looked
+      → IfErr (refusal_for (node_at schedule step) (answer_of looked)) (λ refusal. IsOfSource refusal × RefusalSays graph rows refusal)
   says_by (Ok u) why = tt
-  says_by (Err Failed) why = (tt, tt)
-  says_by (Err (Damaged number)) why = (tt, why)
+  says_by (Err (look.Failed fault)) why = (tt, tt)
+  says_by (Err (look.Damaged number)) why = (tt, why)
 
-  pub settled : (n : ℕ) (after : List Row) (failed : Bool) (answer : Result (Unit {0}) SourceFail) → failed ≡ is_failed answer
-      → TellsWhy graph rows (node_at schedule step) answer → CountsRow rows place n failed after
-      → HasRead graph n rows after (refusal_for (node_at schedule step) answer)
-  settled n after failed answer same why counts = record {
+  pub settled : (n : ℕ) (after : List Row) (failed : Bool) (looked : Result (Unit {0}) LookFail) → failed ≡ is_failed (answer_of looked)
+      → TellsWhy graph rows (node_at schedule step) looked → CountsRow rows place n failed after
+      → HasRead graph n rows after (refusal_for (node_at schedule step) (answer_of looked))
+  settled n after failed looked same why counts = record {
     read = count_read rows place n failed after counts;
     asked = count_no_more rows place n failed after at.within counts;
-    cause = rose_by after n failed answer same counts;
-    says = says_by answer why;
+    cause = rose_by after n failed (answer_of looked) same counts;
+    says = says_by looked why;
   }
 
-pub may_fail : (c : CheckedGraph) (rows : List Row) (node : ℕ) (answer : Result (Unit {0}) SourceFail) → TellsWhy c rows node answer → is_failed answer ≡ true → LoadMayFail c rows node
-may_fail c rows node (Ok u) why failed = absurd cc
-may_fail c rows node (Err Failed) why failed = why
-may_fail c rows node (Err (Damaged number)) why failed = absurd cc
+-- the fault that is told of a node is one of the row at which its collection is mounted
+pub met_at : (c : CheckedGraph) (rows : List Row) (node : ℕ) (looked : Result (Unit {0}) LookFail) → TellsWhy c rows node looked
+    → (id : List ℕ) (index : ℕ) → collection_of_node c node ≡ Some id → IsMountedAt c rows id index → IfSome (fault_of looked) (IsFaultAt rows index)
+met_at c rows node (Ok u) why id index e mounted = tt
+met_at c rows node (Err (look.Failed fault)) why id index e mounted = why id index e mounted
+met_at c rows node (Err (look.Damaged number)) why id index e mounted = tt
 
 -- what holds where the look was answered holds where the run goes on
 pub ok_answer : (P : Type 0) (node : ℕ) (looked : Result (Unit {0}) LookFail) (result : Result (Unit {0}) RunFail) → result ≡ refusal_for node (answer_of looked)
@@ -286,6 +288,6 @@ ok_answer P node looked result same ok = subst (λ r. OnOk r P) (sym same) (by l
 
 -- what `?` hands on is what was refused
 pub tells_handed : (c : CheckedGraph) (rows : List Row) (node : ℕ) (fail : LookFail) (result : Result (Unit {0}) LookFail) → IsErrAnd result (λ e. e ≡ fail)
-    → TellsWhy c rows node (answer_of (Err fail)) → TellsWhy c rows node (answer_of result)
+    → TellsWhy c rows node (Err fail) → TellsWhy c rows node result
 tells_handed c rows node fail (Ok u) is why = absurd is
-tells_handed c rows node fail (Err e) is why = subst (λ x. TellsWhy c rows node (answer_of (Err x))) (sym is) why
+tells_handed c rows node fail (Err e) is why = subst (λ x. TellsWhy c rows node (Err x)) (sym is) why

@@ -11,12 +11,10 @@ use Rattle.oe_outside.specs.Faults.{NeverFalls}
 use Rattle.oe_plan.specs.Figures.{shape_of_node}
 use Rattle.oe_check.specs.Checked.{CheckedGraph}
 use Rattle.oe_meanings.specs.Graphs.{Collections}
-use Rattle.oe_sources.specs.Catalogue.{CountsRow, MayFail, Row, row_index, rows_at, source_at}
+use Rattle.oe_sources.specs.Catalogue.{CountsRow, Row, row_index, rows_at, source_at}
 use Rattle.oe_sources.specs.Source.{Source, collection_of}
 use Rattle.oe_steps.specs.Collections.{AreRead, HasCollections, IsMountedAt, LoadRose, Shows, without_counts}
-use Rattle.oe_sources.specs.declared.source.SourceFail.{SourceFail}
-use Rattle.oe_sources.specs.declared.source.SourceFail.TheVariants.{Failed, Damaged}
-use Rattle.oe_steps.specs.Loads.{HasRead, TellsWhy}
+use Rattle.oe_steps.specs.Loads.{HasRead}
 use Rattle.oe_steps.specs.Refusals.{IsOfSource, KeepsDamage, RefusalSays}
 use Rattle.oe_steps.specs.declared.fail.RunFail.TheVariants.{SourceFailed, SourceDamaged, SpoolFailed, Overflow}
 use Rattle.oe_steps.specs.declared.fail.RunFail.{RunFail}
@@ -66,16 +64,6 @@ index_without : (rows : List Row) (id : List ℕ) → row_index (map without_cou
 index_without [] id = refl
 index_without (row ∷ rows) id =
     ap (λ (rest : Option ℕ). cond (same_name row.id id) (Some 0) (option_map (λ n. n + 1) rest)) (index_without rows id)
-
-boxed_there : (rows : List Row) (index : ℕ) → MayFail rows index → MayFail (map without_counts rows) index
-boxed_there [] index may = may
-boxed_there (row ∷ rows) zero may = may
-boxed_there (row ∷ rows) (suc index) may = boxed_there rows index may
-
-boxed_back : (rows : List Row) (index : ℕ) → MayFail (map without_counts rows) index → MayFail rows index
-boxed_back [] index may = may
-boxed_back (row ∷ rows) zero may = may
-boxed_back (row ∷ rows) (suc index) may = boxed_back rows index may
 
 -- rows that are the same but for their counters
 module _ (before after : List Row) (same : map without_counts after ≡ map without_counts before) where
@@ -136,13 +124,6 @@ module _ (c : CheckedGraph) (before after : List Row) (same : map without_counts
   says_same (SourceDamaged load number) says = damage_same load number says
   says_same SpoolFailed says = says
   says_same (Overflow number) says = says
-
-  pub tells_same : (node : ℕ) (answer : Result (Unit {0}) SourceFail) → TellsWhy c before node answer → TellsWhy c after node answer
-  tells_same node (Ok u) why = tt
-  tells_same node (Err Failed) why = λ id index e mounted.
-      boxed_back after index (subst (λ rows. MayFail rows index) (sym same)
-      (boxed_there before index (why id index e (mounted_same after before (sym same) c id index mounted))))
-  tells_same node (Err (Damaged number)) why = damage_same node number why
 
 pub rose_first : (c : CheckedGraph) (a b d : List Row) → LoadRose c a b → AreRead b d → LoadRose c a d
 rose_first c a b d rose later = record {

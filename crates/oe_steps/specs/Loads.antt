@@ -7,7 +7,10 @@ use Rattle.oe_plan.specs.Windows.{window_at}
 use Rattle.oe_check.specs.Checked.{CheckedGraph, collection_of_node, outline_of_node}
 use Rattle.oe_meanings.specs.Graphs.{Collections}
 use Rattle.oe_check.specs.Laws.{AreCollectionsOf}
-use Rattle.oe_sources.specs.Catalogue.{MayFail, Row, cells_asked}
+use Rattle.oe_sources.specs.Catalogue.{IsFaultAt, Row, cells_asked}
+use Rattle.oe_sources.specs.declared.source.LookFail.{LookFail}
+use Rattle.oe_sources.specs.declared.source.LookFail.TheVariants as look
+use Rattle.oe_sources.specs.declared.source.ReadFault.{ReadFault}
 use Rattle.oe_sources.specs.declared.source.SourceFail.{SourceFail}
 use Rattle.oe_sources.specs.declared.source.SourceFail.TheVariants.{Failed, Damaged}
 use Rattle.oe_window.specs.declared.window.Window.{Window}
@@ -18,16 +21,17 @@ use Rattle.oe_steps.specs.Steps.{buffer_cells_at, node_cells}
 use Rattle.oe_steps.specs.declared.fail.RunFail.{RunFail}
 use Rattle.oe_steps.specs.declared.fail.RunFail.TheVariants.{SourceFailed, SourceDamaged}
 
--- looks at the collection that a node loads may fail
-abbrev pub LoadMayFail : CheckedGraph → List Row → ℕ → Type 0
-LoadMayFail c rows node =
-    (id : List ℕ) (index : ℕ) → collection_of_node c node ≡ Some id → IsMountedAt c rows id index → MayFail rows index
+-- a look at the collection that a node loads met this fault
+abbrev pub IsFaultOf : CheckedGraph → List Row → ℕ → ReadFault → Type 0
+IsFaultOf c rows node fault =
+    (id : List ℕ) (index : ℕ) → collection_of_node c node ≡ Some id → IsMountedAt c rows id index
+    → IsFaultAt rows index fault
 
 -- what the refusal of a look for a node says
-abbrev pub TellsWhy : CheckedGraph → List Row → ℕ → Result (Unit {0}) SourceFail → Type 0
+abbrev pub TellsWhy : CheckedGraph → List Row → ℕ → Result (Unit {0}) LookFail → Type 0
 TellsWhy c rows node (Ok done) = ⊤
-TellsWhy c rows node (Err Failed) = LoadMayFail c rows node
-TellsWhy c rows node (Err (Damaged number)) = KeepsDamage c rows node number
+TellsWhy c rows node (Err (look.Failed fault)) = IsFaultOf c rows node fault
+TellsWhy c rows node (Err (look.Damaged number)) = KeepsDamage c rows node number
 
 -- the answer of a run to that of a look for a node
 abbrev pub refusal_for : ℕ → Result (Unit {0}) SourceFail → Result (Unit {0}) RunFail

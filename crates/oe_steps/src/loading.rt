@@ -13,7 +13,8 @@ ghost use Rattle.oe_plan.specs.Schedules.{AreWindowsFor, IsSchedule, node_at};
 ghost use Rattle.oe_plan.specs.Windows.{window_at};
 ghost use Rattle.oe_check.specs.Checked.{collection_of_node};
 ghost use Rattle.oe_sources.specs.Catalogue.{Row, source_at};
-ghost use Rattle.oe_sources.specs.CatalogueRows.{rows_of};
+ghost use Rattle.oe_sources.specs.CatalogueRows.{rows_of, seal_of};
+ghost use Rattle.oe_sources.specs.Permits.{MayLook, SpendsAtMost, permit_raised};
 ghost use Rattle.oe_sources.specs.Source.{answer_of, collection_of};
 ghost use Rattle.oe_window.specs.Windows.{Holds, position_count, span_length, whole_window};
 
@@ -55,7 +56,7 @@ pub fn load_slot(
     ensures read { HasRead checked.now schedule.now.largest
         (rows_of seen catalogue.old) (rows_of seen catalogue.new) result }
 {
-    let mut permit = Permit::none();
+    let mut permit = catalogue.permit();
     let cells = size(&windows[step as usize]);
     ask(checked, schedule, catalogue, step, cells, &mut permit);
     let mut looker = Looker::new(permit);
@@ -90,7 +91,8 @@ pub fn look_slot(
     requires mounted { HasCollections checked.now (rows_of seen catalogue.now) }
     requires windows { AreWindowsFor checked.now schedule.now windows.now }
     requires room { HaveRoomFor schedule.now (lists_of buffers.old) }
-    requires asked { position_count (window_at windows.now step) ≤ looker.old }
+    requires asked { MayLook (seal_of catalogue.now) (position_count (window_at windows.now step))
+        looker.old }
     ensures room { HaveRoomFor schedule.now (lists_of buffers.new) }
     ensures others { (slot : ℕ) → slot ≢ slice_index schedule.now.order.slots step
         → buffer_at (lists_of buffers.new) slot ≡ buffer_at (lists_of buffers.old) slot }
@@ -99,10 +101,10 @@ pub fn look_slot(
         (IsLoadedAt checked.now schedule.now rows windows.now (lists_of buffers.old))
         → OnOk result (EachLive checked.now schedule.now (step + 1)
         (IsLoadedAt checked.now schedule.now rows windows.now (lists_of buffers.new))) }
-    ensures spent { OnOk result
-        (looker.old ≤ looker.new + position_count (window_at windows.now step)) }
+    ensures spent { OnOk result (SpendsAtMost (position_count (window_at windows.now step))
+        looker.old looker.new) }
     ensures refused { TellsWhy checked.now (rows_of seen catalogue.now)
-        (node_at schedule.now step) (answer_of result) }
+        (node_at schedule.now step) result }
 {
     let slot = schedule.slot(step);
     let window = windows[step as usize];
@@ -110,7 +112,8 @@ pub fn look_slot(
     look_step(checked, schedule, catalogue, step, &window, looker, buffer)
 }
 
-/// Asks for so many cells of the collection that a step loads, which then may be looked at with the permit.
+/// Asks for so many cells of the collection that a step loads, which then may be looked at with the permit, one of this
+/// catalogue.
 pub fn ask(
     checked: &Checked,
     schedule: &Schedule,
@@ -123,16 +126,18 @@ pub fn ask(
     requires step { step < length schedule.now.order.steps }
     requires load { loads_at checked.now schedule.now step ≡ true }
     requires mounted { HasCollections checked.now (rows_of seen catalogue.old) }
-    requires few { permit.old + cells < 2 ^ 64 }
+    requires own { permit.old.seal ≡ seal_of catalogue.old }
+    requires few { permit.old.left + cells < 2 ^ 64 }
     ensures asked { HasRead checked.now cells (rows_of seen catalogue.old)
         (rows_of seen catalogue.new) (Ok tt) }
-    ensures permit { permit.new ≡ permit.old + cells }
+    ensures permit { permit.new ≡ permit_raised cells permit.old }
+    ensures seal { seal_of catalogue.new ≡ seal_of catalogue.old }
 {
     let place = place_of(checked, schedule, catalogue, step);
     catalogue.ask(place, cells, permit);
 }
 
-/// Counts the fault that a look for a step met, if it met one.
+/// Counts the fault that a look for a step met, if it met one: of that look, and of the collection that the step loads.
 ///
 /// Refuses: as the look was refused.
 pub fn settle(
@@ -147,7 +152,7 @@ pub fn settle(
     requires load { loads_at checked.now schedule.now step ≡ true }
     requires mounted { HasCollections checked.now (rows_of seen catalogue.old) }
     requires refused { TellsWhy checked.now (rows_of seen catalogue.old)
-        (node_at schedule.now step) (answer_of looked) }
+        (node_at schedule.now step) looked }
     ensures answer { result ≡ refusal_for (node_at schedule.now step) (answer_of looked) }
     ensures read { HasRead checked.now 0 (rows_of seen catalogue.old)
         (rows_of seen catalogue.new) result }
@@ -187,12 +192,12 @@ fn look_step(
         window.now }
     requires few { position_count window.now < 2 ^ 64 }
     requires room { position_count window.now ≤ length buffer.old }
-    requires asked { position_count window.now ≤ looker.old }
+    requires asked { MayLook (seal_of catalogue.now) (position_count window.now) looker.old }
     ensures loaded { OnOk result (AreLoaded checked.now (rows_of seen catalogue.now)
         (node_at schedule.now step) window.now (take (position_count window.now) buffer.new)) }
-    ensures spent { OnOk result (looker.old ≤ looker.new + position_count window.now) }
+    ensures spent { OnOk result (SpendsAtMost (position_count window.now) looker.old looker.new) }
     ensures refused { TellsWhy checked.now (rows_of seen catalogue.now)
-        (node_at schedule.now step) (answer_of result) }
+        (node_at schedule.now step) result }
 {
     let place = place_of(checked, schedule, catalogue, step);
     let mut done = 0;
@@ -255,12 +260,12 @@ fn look_plane(
         plane.now }
     requires one { plane.now ≡ plane_window plane.now plane.now.t.from plane.now.bands.from }
     requires room { length into.old ≡ position_count plane.now }
-    requires asked { position_count plane.now ≤ looker.old }
+    requires asked { MayLook (seal_of catalogue.now) (position_count plane.now) looker.old }
     ensures loaded { OnOk result (AreLoaded checked.now (rows_of seen catalogue.now)
         (node_at schedule.now step) plane.now into.new) }
-    ensures spent { looker.old ≤ looker.new + position_count plane.now }
+    ensures spent { SpendsAtMost (position_count plane.now) looker.old looker.new }
     ensures refused { TellsWhy checked.now (rows_of seen catalogue.now)
-        (node_at schedule.now step) (answer_of result) }
+        (node_at schedule.now step) result }
 {
     let node = schedule.node(step);
     let shape = checked.shape(node);
@@ -303,12 +308,12 @@ pub fn look_front(
     requires one { row.now ≡ plane_window row.now row.now.t.from row.now.bands.from }
     requires count { position_count row.now ≡ span_length row.now.x }
     requires room { span_length row.now.x ≤ length cells.old }
-    requires asked { span_length row.now.x ≤ looker.old }
+    requires asked { MayLook (seal_of catalogue.now) (span_length row.now.x) looker.old }
     ensures loaded { OnOk result (AreLoaded checked.now (rows_of seen catalogue.now)
         (node_at schedule.now step) row.now (take (span_length row.now.x) cells.new)) }
-    ensures spent { looker.old ≤ looker.new + span_length row.now.x }
+    ensures spent { SpendsAtMost (span_length row.now.x) looker.old looker.new }
     ensures refused { TellsWhy checked.now (rows_of seen catalogue.now)
-        (node_at schedule.now step) (answer_of result) }
+        (node_at schedule.now step) result }
 {
     let count = row.x.to.saturating_sub(row.x.from) as usize;
     look_plane(

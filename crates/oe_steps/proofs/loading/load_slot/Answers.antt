@@ -1,6 +1,7 @@
-use Rattle.std.proofs.Common.{◌≤◌, ◌+◌, ℕ, sym, subst, arith}
+use Rattle.std.proofs.Common.{◌≡◌, ◌≤◌, ◌+◌, ℕ, sym, ap, ◌∙◌, subst, arith}
 use Rattle.oe_plan.specs.Schedules.{node_at}
-use Rattle.oe_sources.specs.CatalogueRows.{rows_of}
+use Rattle.oe_sources.specs.CatalogueRows.{rows_of, seal_of}
+use Rattle.oe_sources.specs.Permits.{PermitOf, permit_for_none, permit_raised}
 use Rattle.oe_steps.proofs.PlaneLemmas.{ok_answer}
 use Rattle.oe_steps.proofs.ScheduleLemmas.{few, few_positions, step_of_windows}
 use Rattle.oe_steps.proofs.ReadLemmas.{AreRead-trans, has_more, has_most, has_same}
@@ -14,15 +15,23 @@ pub size-cells-requires : goal.size-cells-requires
 size-cells-requires g c =
     few_positions c.args.checked.now c.args.schedule.now c.requires.schedule c.args.windows.now c.requires.windows c.args.step c.requires.step
 
+pub ask-requires-clause-own : goal.ask-requires-clause-own
+ask-requires-clause-own g c = ap (λ (p : PermitOf). p.seal) c.permit-permit.ensures
+
 pub ask-requires-clause-few : goal.ask-requires-clause-few
-ask-requires-clause-few g c = omega (arith, c.none-permit.ensures)
+ask-requires-clause-few g c = omega (arith, ap (λ (p : PermitOf). p.left) c.permit-permit.ensures)
 
 pub look_slot-looked-requires-clause-mounted : goal.look_slot-looked-requires-clause-mounted
 look_slot-looked-requires-clause-mounted g c = has_same _ _ c.ask.ensures.asked.read.same c.args.checked.now c.requires.mounted
 
 pub look_slot-looked-requires-clause-asked : goal.look_slot-looked-requires-clause-asked
 look_slot-looked-requires-clause-asked g c =
-    omega (arith, c.none-permit.ensures, c.size-cells.ensures.value, c.ask.ensures.permit, c.new-looker.ensures)
+    let whole : c.new-looker.result ≡ permit_raised c.size-cells.result (permit_for_none (seal_of c.args.catalogue.now)) =
+    c.new-looker.ensures ∙ (c.ask.ensures.permit ∙ ap (permit_raised c.size-cells.result) c.permit-permit.ensures) in
+    record {
+      enough = omega (arith, c.size-cells.ensures.value, ap (λ (p : PermitOf). p.left) whole);
+      own = ap (λ (p : PermitOf). p.seal) whole ∙ sym c.ask.ensures.seal;
+    }
 
 pub settle-requires-clause-mounted : goal.settle-requires-clause-mounted
 settle-requires-clause-mounted g c = has_same _ _ c.ask.ensures.asked.read.same c.args.checked.now c.requires.mounted

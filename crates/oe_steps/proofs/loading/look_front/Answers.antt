@@ -23,7 +23,7 @@ returns-clause-loaded g c =
     (sym (take_front into (drop count cells) width long)) c.look_plane.ensures.loaded
 
 pub look_plane-requires-clause-asked : goal.look_plane-requires-clause-asked
-look_plane-requires-clause-asked g c = omega (arith, c.requires.asked, c.requires.count)
+look_plane-requires-clause-asked g c = record { enough = omega (arith, c.requires.asked.enough, c.requires.count); own = c.requires.asked.own }
 
 pub returns-clause-spent : goal.returns-clause-spent
-returns-clause-spent g c = omega (arith, c.look_plane.ensures.spent, c.requires.count)
+returns-clause-spent g c = record { left = omega (arith, c.look_plane.ensures.spent.left, c.requires.count); seal = c.look_plane.ensures.spent.seal }

@@ -1,4 +1,4 @@
-use Rattle.std.proofs.Common.{◌≡◌, replicate, sym, ap, subst, ◌∙◌, arith}
+use Rattle.std.proofs.Common.{◌≡◌, replicate, refl, sym, ap, subst, ◌∙◌, arith}
 use Rattle.std.proofs.lemmas.Bool.{true≢false}
 use Rattle.oe_cell.specs.declared.cell.Cell.TheVariants.{Empty}
 use Rattle.oe_plan.specs.Figures.{shape_of_node}
@@ -6,7 +6,6 @@ use Rattle.oe_plan.specs.Schedules.{node_at}
 use Rattle.oe_sources.specs.CatalogueRows.{rows_of}
 use Rattle.oe_window.specs.Windows.{Holds, IsEmpty, whole_window}
 use Rattle.oe_steps.proofs.PlaneLemmas.{at, box_count, box_inside, box_loaded, box_refused, gives_at, nulls_loaded}
-use Rattle.oe_sources.specs.Source.{answer_of}
 use Rattle.oe_steps.proofs.loading.look_plane.Goals as goal
 
 pub shape_of-requires : goal.shape_of-requires
@@ -85,7 +84,8 @@ look-requires-clause-asked g c =
     ∙ ap (λ n. shape_of_node graph n) c.node-node.ensures in
     let gives = gives_at _ _ _ _ c.args.plane.now _ c.source_window-source.result c.shape_of.ensures.value shape_is c.requires.one c.source_window-source.ensures.plane in
     let some : ¬ IsEmpty c.source_window-source.result = λ e. true≢false (sym (c.is_empty.ensures.1 e) ∙ c.if-is_empty.false) in
-    omega (arith, c.requires.asked, box_count graph schedule is rows c.args.step c.requires.step c.requires.load c.args.place c.requires.mounted c.args.plane.now c.source_window-source.result gives c.requires.within some)
+    let count = box_count graph schedule is rows c.args.step c.requires.step c.requires.load c.args.place c.requires.mounted c.args.plane.now c.source_window-source.result gives c.requires.within some in
+    record { enough = omega (arith, c.requires.asked.enough, count); own = c.requires.asked.own }
 
 pub returns-clause-loaded : goal.returns-clause-loaded
 returns-clause-loaded g c =
@@ -112,7 +112,7 @@ returns-clause-refused g c =
     ∙ ap (λ n. shape_of_node graph n) c.node-node.ensures in
     let gives = gives_at _ _ _ _ c.args.plane.now _ c.source_window-source.result c.shape_of.ensures.value shape_is c.requires.one c.source_window-source.ensures.plane in
     box_refused graph schedule is rows c.args.step c.requires.step c.requires.load c.args.place c.requires.mounted c.args.plane.now c.source_window-source.result gives c.requires.within
-    c.look.new.into (answer_of c.look.result) c.look.ensures.looks c.look.ensures.boxed
+    c.look.new.into c.look.result c.look.ensures.looks c.look.ensures.met
 
 pub returns-clause-spent : goal.returns-clause-spent
 returns-clause-spent g c =
@@ -125,4 +125,8 @@ returns-clause-spent g c =
     ∙ ap (λ n. shape_of_node graph n) c.node-node.ensures in
     let gives = gives_at _ _ _ _ c.args.plane.now _ c.source_window-source.result c.shape_of.ensures.value shape_is c.requires.one c.source_window-source.ensures.plane in
     let some : ¬ IsEmpty c.source_window-source.result = λ e. true≢false (sym (c.is_empty.ensures.1 e) ∙ c.if-is_empty.false) in
-    omega (arith, c.look.ensures.spent, box_count graph schedule is rows c.args.step c.requires.step c.requires.load c.args.place c.requires.mounted c.args.plane.now c.source_window-source.result gives c.requires.within some)
+    let count = box_count graph schedule is rows c.args.step c.requires.step c.requires.load c.args.place c.requires.mounted c.args.plane.now c.source_window-source.result gives c.requires.within some in
+    record { left = omega (arith, c.look.ensures.spent.left, count); seal = c.look.ensures.spent.seal }
+
+pub returns-then-is_empty-clause-spent : goal.returns-then-is_empty-clause-spent
+returns-then-is_empty-clause-spent g c = record { left = omega arith; seal = refl }

@@ -1,4 +1,4 @@
-use Rattle.std.proofs.Common.{◌≡◌, ◌≤◌, ◌+◌, ◌-◌, ◌*◌, ◌++◌, ℕ, length, take, drop, sym, ap, ◌∙◌, subst, arith}
+use Rattle.std.proofs.Common.{◌≡◌, ◌≤◌, ◌+◌, ◌-◌, ◌*◌, ◌++◌, ℕ, length, take, drop, refl, sym, ap, ◌∙◌, subst, arith}
 use Rattle.std.proofs.lemmas.List.{length-take, length-drop}
 use Rattle.oe_plan.specs.Schedules.{node_at}
 use Rattle.oe_sources.specs.CatalogueRows.{rows_of}
@@ -18,7 +18,7 @@ loop-number-init g c =
       done_is = omega arith;
       within = omega arith;
       room = c.requires.room;
-      spent = omega arith;
+      spent = record { left = omega arith; seal = refl };
       loaded = loaded_none c.args.checked.now rows (node_at c.args.schedule.now c.args.step) c.args.window.now c.args.buffer.now;
     }
 
@@ -85,7 +85,8 @@ look_plane-requires-clause-asked g c =
     let n = c.loop-number.number in
     let fits = ends_within w c.plane-plane.result n c.planes-number-end.result c.plane-plane.ensures.value c.planes-number-end.ensures.value c.loop-number-test.true in
     let done = c.loop-number.invariant.done_is in
-    omega (arith, done, fits.counted, fits.within, c.requires.asked, c.loop-number.invariant.spent)
+    let spent = c.loop-number.invariant.spent in
+    record { enough = omega (arith, done, fits.counted, fits.within, c.requires.asked.enough, spent.left); own = spent.seal ∙ c.requires.asked.own }
 
 pub returns-in_err-look_plane-clause-refused : goal.returns-in_err-look_plane-clause-refused
 returns-in_err-look_plane-clause-refused g c =
@@ -119,7 +120,10 @@ loop-number-preserved g c =
       done_is = omega (arith, size, done, fits.counted, fits.next);
       within = omega (arith, inside, c.look_plane.auto.into);
       room = omega (arith, room, c.look_plane.auto.into);
-      spent = omega (arith, size, c.loop-number.invariant.spent, c.look_plane.ensures.spent);
+      spent = record {
+        left = omega (arith, size, c.loop-number.invariant.spent.left, c.look_plane.ensures.spent.left);
+        seal = c.look_plane.ensures.spent.seal ∙ c.loop-number.invariant.spent.seal;
+      };
       loaded = subst (λ (i : ℕ). HasLoadedTo graph rows node w (k + i) (take k buffer ++ (piece ++ rest))) (sym size)
           (loaded_more graph rows node w k plane buffer (take k buffer ++ (piece ++ rest)) piece part
           (subst (λ (i : ℕ). take (k + i) (take k buffer ++ (piece ++ rest)) ≡ take k buffer ++ piece) size written)
@@ -144,4 +148,4 @@ returns-clause-spent g c =
     let end : c.loop-number.number ≡ c.planes-number-end.result = omega (arith, c.loop-number-test.false, c.loop-number.auto.number-end) in
     let all : c.loop-number.done ≡ position_count w =
     c.loop-number.invariant.done_is ∙ (ap (λ (m : ℕ). m * plane_size w) end ∙ c.planes-number-end.ensures.all) in
-    omega (arith, all, c.loop-number.invariant.spent)
+    record { left = omega (arith, all, c.loop-number.invariant.spent.left); seal = c.loop-number.invariant.spent.seal }
