@@ -1,4 +1,5 @@
 -- Benches go to other threads with their plans and seats, and threads share a table.
+use denote.Builtin.{u64}
 use denote.Param.Object.{Ghosts, table_of}
 use denote.Param.Send.{IsSend, IsSync, sendable}
 use denote.Param.SendFields.{as_row_sync, declared_sync, variants_sync}
@@ -65,7 +66,10 @@ kept_sync B box = variants_sync (kept.enum B) ((as_row_sync (row_field B) box, t
 mounted_sync : (B : RattleType) → IsSync B → IsSync (mounted.the_row B)
 mounted_sync B box = declared_sync (mounted.the_type B) (text_sync, (kept_sync B box, tt))
 
+seal_sync : IsSync u64
+seal_sync = search sendable
+
 -- a catalogue whose boxes may be shared
 pub catalogue_sync : (D : RattleType) (g : Ghosts D.Denot) → Syncs (table_of D.Denot g) → IsSync D → IsSync (catalogue.the_row D g)
 catalogue_sync D g boxes table =
-    declared_sync (catalogue.the_type D g) (Vec-sync _ (mounted_sync _ (dyn_box_sync D g boxes table)), tt)
+    declared_sync (catalogue.the_type D g) (Vec-sync _ (mounted_sync _ (dyn_box_sync D g boxes table)), (seal_sync, tt))

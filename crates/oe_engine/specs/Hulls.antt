@@ -14,7 +14,7 @@ use Rattle.oe_engine.specs.Benches.{AreOfChunk, BenchOf, EachLive, HasRoomFor, I
 use Rattle.oe_engine.specs.Chunks.{EachBench}
 use Rattle.oe_steps.specs.Strips as strips
 use Rattle.oe_steps.specs.Strips.{IsStripOf}
-use Rattle.oe_sources.specs.Source.{answer_of}
+use Rattle.oe_sources.specs.Permits.{MayLook, PermitOf}
 use Rattle.oe_sources.specs.declared.source.LookFail.{LookFail}
 use Rattle.oe_steps.specs.Loads.{TellsWhy}
 use Rattle.oe_engine.specs.Evaluations.{most_asked}
@@ -77,7 +77,7 @@ pub record LoadsStep (p : PlanOf) (step : ℕ) (rows : List Row) (old new : List
   pub begun : All (IsBegun p) new
   pub loaded : (first : ℕ) → EachBench first (HasLoadedSteps p rows step) old
       → OnOk result (EachBench first (HasLoadedSteps p rows (step + 1)) new)
-  pub refused : TellsWhy p.graph rows (node_at p step) (answer_of result)
+  pub refused : TellsWhy p.graph rows (node_at p step) result
 
 -- ---- all steps
 
@@ -85,7 +85,7 @@ pub record LoadsStep (p : PlanOf) (step : ℕ) (rows : List Row) (old new : List
 pub record IsNote (p : PlanOf) (rows : List Row) (note : Note) : Type 0 where
   pub within : note.step < length p.order.steps
   pub load : is_load_at p note.step ≡ true
-  pub why : TellsWhy p.graph rows (node_at p note.step) (answer_of (Err note.fail))
+  pub why : TellsWhy p.graph rows (node_at p note.step) (Err note.fail)
 
 -- Each of these benches is loaded for its chunk, counted from a first one on; a refusal says why.
 pub record LoadsChunks (p : PlanOf) (rows : List Row) (first : ℕ) (old new : List BenchOf)
@@ -97,17 +97,18 @@ pub record LoadsChunks (p : PlanOf) (rows : List Row) (first : ℕ) (old new : L
 
 -- ---- a function that loads chunks
 
-module _ {F : Type 0} (g : Shared F (ℕ × (ℕ × (MutBor (List BenchOf) × Unit {0})))
+module _ {F : Type 0} (g : Shared F (ℕ × (PermitOf × (MutBor (List BenchOf) × Unit {0})))
     (Result (Unit {0}) Note × (MutBor (List BenchOf) × Unit {0}))) (f : F) (p : PlanOf) where
-  -- it may be called with the number of a first chunk, a bench for each chunk from there on, and a permit for their cells
-  abbrev pub MayLoad : Type 0
-  MayLoad = (first permit : ℕ) (benches : MutBor (List BenchOf)) → All (IsBenchFor p) benches.now
-      → first + length benches.now ≤ chunk_total p → length benches.now * most_asked p ≤ permit
+  -- it may be called with the number of a first chunk, a bench for each chunk from there on, and a permit for their cells,
+  -- which has this seal
+  abbrev pub MayLoad : ℕ → Type 0
+  MayLoad seal = (first : ℕ) (permit : PermitOf) (benches : MutBor (List BenchOf)) → All (IsBenchFor p) benches.now
+      → first + length benches.now ≤ chunk_total p → MayLook seal (length benches.now * most_asked p) permit
       → g.pre f (first, (permit, (benches, tt)))
 
   -- each of its calls loads them
   abbrev pub AlwaysLoads : List Row → Type 0
-  AlwaysLoads rows = (first permit : ℕ) (old new : MutBor (List BenchOf)) (result : Result (Unit {0}) Note)
+  AlwaysLoads rows = (first : ℕ) (permit : PermitOf) (old new : MutBor (List BenchOf)) (result : Result (Unit {0}) Note)
       → g.post f (first, (permit, (old, tt))) (result, (new, tt)) → LoadsChunks p rows first old.now new.now result
 
   -- over whatever collections each of its calls loads them, these benches are loaded for the chunks from a first one on

@@ -4,7 +4,8 @@ ghost use Rattle.oe_engine.specs.Evaluations.{most_asked};
 ghost use Rattle.oe_engine.specs.Hulls.{IsNote};
 ghost use Rattle.oe_plan.specs.Figures.{largest_window};
 ghost use Rattle.oe_plan.specs.Plans.{IsPlan};
-ghost use Rattle.oe_sources.specs.CatalogueRows.{rows_of};
+ghost use Rattle.oe_sources.specs.CatalogueRows.{rows_of, seal_of};
+ghost use Rattle.oe_sources.specs.Permits.{MayLook};
 ghost use Rattle.oe_steps.specs.Collections.{HasCollections};
 ghost use Rattle.oe_steps.specs.Loads.{HasRead};
 
@@ -14,16 +15,16 @@ use oe_plan::Plan;
 use oe_sources::{Catalogue, Permit};
 use oe_steps::RunFail;
 
-/// Asks for the cells of so many chunks, which then may be looked at with the permit.
+/// Asks for the cells of so many chunks, which then may be looked at with the permit, in this catalogue.
 pub(crate) fn ask_for_chunks(plan: &Plan, catalogue: &mut Catalogue, count: usize) -> Permit
     requires few { count ≤ 2 * plan.now.workers }
     requires mounted { HasCollections plan.now.graph (rows_of seen catalogue.old) }
     ensures asked { HasRead plan.now.graph (count * most_asked plan.now)
         (rows_of seen catalogue.old) (rows_of seen catalogue.new) (Ok tt) }
-    ensures permit { result ≡ count * most_asked plan.now }
+    ensures permit { MayLook (seal_of catalogue.new) (count * most_asked plan.now) result }
 {
     let cells = cells_at_step(plan, count);
-    let mut permit = Permit::none();
+    let mut permit = catalogue.permit();
     for step in 0..loads(plan) {
         ask(plan, catalogue, step, cells, &mut permit);
     }

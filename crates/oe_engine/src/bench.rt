@@ -14,9 +14,9 @@ ghost use Rattle.oe_plan.specs.Figures.{largest_window, shape_of_node};
 ghost use Rattle.oe_render.specs.Rendered.{AppendsCube, AppendsCubePrefix, CountsCube, CountsCubePrefix, IsRefusalWithin};
 ghost use Rattle.oe_render.specs.Stored.{HasCells};
 ghost use Rattle.oe_render.specs.declared.rendering.RenderFail.{RenderFail};
-ghost use Rattle.oe_sources.specs.CatalogueRows.{rows_of};
+ghost use Rattle.oe_sources.specs.CatalogueRows.{rows_of, seal_of};
+ghost use Rattle.oe_sources.specs.Permits.{MayLook, SpendsAtMost};
 ghost use Rattle.oe_steps.specs.Collections.{HasCollections, IsMountedAt};
-ghost use Rattle.oe_sources.specs.Source.{answer_of};
 ghost use Rattle.oe_steps.specs.Loads.{AreLoaded, TellsWhy};
 ghost use Rattle.oe_engine.specs.Loads.{LoadsBench};
 ghost use Rattle.oe_engine.specs.Runs.{chunk_total, result_shape};
@@ -155,15 +155,16 @@ impl Bench {
         requires load { is_load_at plan.now step ≡ true }
         requires mounted { HasCollections plan.now.graph (rows_of seen catalogue.now) }
         requires begun { IsBegun plan.now self.old }
-        requires asked { largest_window plan.now.graph plan.now.size ≤ looker.old }
+        requires asked { MayLook (seal_of catalogue.now)
+            (largest_window plan.now.graph plan.now.size) looker.old }
         ensures begun { IsBegun plan.now self.new }
         ensures loaded { (k : ℕ)
             → HasLoadedSteps plan.now (rows_of seen catalogue.now) step k self.old → OnOk result
             (HasLoadedSteps plan.now (rows_of seen catalogue.now) (step + 1) k self.new) }
-        ensures spent { OnOk result
-            (looker.old ≤ looker.new + largest_window plan.now.graph plan.now.size) }
+        ensures spent { OnOk result (SpendsAtMost (largest_window plan.now.graph plan.now.size)
+            looker.old looker.new) }
         ensures refused { TellsWhy plan.now.graph (rows_of seen catalogue.now)
-            (node_at plan.now step) (answer_of result) }
+            (node_at plan.now step) result }
     {
         look_slot(
             plan,
@@ -197,14 +198,14 @@ impl Bench {
         requires one { row.now ≡ plane_window row.now row.now.t.from row.now.bands.from }
         requires count { position_count row.now ≡ span_length row.now.x }
         requires room { span_length row.now.x ≤ length self.old.scratch }
-        requires asked { span_length row.now.x ≤ looker.old }
+        requires asked { MayLook (seal_of catalogue.now) (span_length row.now.x) looker.old }
         ensures loaded { OnOk result (AreLoaded plan.now.graph (rows_of seen catalogue.now)
             (node_at plan.now step) row.now (take (span_length row.now.x) self.new.scratch)) }
         ensures others { (record self.new { scratch = self.old.scratch }) ≡ self.old }
         ensures scratch { length self.new.scratch ≡ length self.old.scratch }
-        ensures spent { looker.old ≤ looker.new + span_length row.now.x }
+        ensures spent { SpendsAtMost (span_length row.now.x) looker.old looker.new }
         ensures refused { TellsWhy plan.now.graph (rows_of seen catalogue.now)
-            (node_at plan.now step) (answer_of result) }
+            (node_at plan.now step) result }
     {
         look_front(plan, catalogue, step, place, row, looker, &mut self.scratch)
     }

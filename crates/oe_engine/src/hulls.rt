@@ -7,7 +7,6 @@ ghost use Rattle.oe_engine.specs.Chunks.{EachBench};
 ghost use Rattle.oe_engine.specs.Evaluations.{most_asked};
 ghost use Rattle.oe_steps.specs.Collections.{HasCollections, IsMountedAt};
 ghost use Rattle.oe_engine.specs.Hulls.{HasLoadedRows, HasLoadedSteps, IsBegun, IsReadable, IsStripped, LoadsChunks, LoadsFirst, LoadsStep};
-ghost use Rattle.oe_sources.specs.Source.{answer_of};
 ghost use Rattle.oe_steps.specs.Loads.{AreLoaded, TellsWhy};
 ghost use Rattle.oe_engine.specs.Loads.{LoadsBench};
 ghost use Rattle.oe_engine.specs.Runs.{chunk_total};
@@ -15,7 +14,8 @@ ghost use Rattle.oe_plan.specs.Figures.{largest_window};
 ghost use Rattle.oe_plan.specs.Plans.{IsPlan, PlanOf};
 ghost use Rattle.oe_check.specs.Checked.{collection_of_node};
 ghost use Rattle.oe_sources.specs.Catalogue.{Row};
-ghost use Rattle.oe_sources.specs.CatalogueRows.{rows_of};
+ghost use Rattle.oe_sources.specs.CatalogueRows.{rows_of, seal_of};
+ghost use Rattle.oe_sources.specs.Permits.{MayLook, SpendsAtMost};
 ghost use Rattle.oe_window.specs.Parts.{row_count, row_of};
 ghost use Rattle.oe_window.specs.Windows.{span_length};
 
@@ -47,7 +47,8 @@ pub(crate) fn load_chunks(
     requires benches { All (IsBenchFor plan.now) benches.old }
     requires chunks { first + length benches.old ≤ chunk_total plan.now }
     requires mounted { HasCollections plan.now.graph (rows_of seen catalogue.now) }
-    requires asked { length benches.old * most_asked plan.now ≤ looker.old }
+    requires asked { MayLook (seal_of catalogue.now) (length benches.old * most_asked plan.now)
+        looker.old }
     ensures { LoadsChunks plan.now (rows_of seen catalogue.now) first benches.old benches.new
         result }
 {
@@ -106,12 +107,12 @@ fn load_step_of_all(
     requires load { is_load_at plan.now step ≡ true }
     requires mounted { HasCollections plan.now.graph (rows_of seen catalogue.now) }
     requires begun { All (IsBegun plan.now) benches.old }
-    requires asked { length benches.old * largest_window plan.now.graph plan.now.size
-        ≤ looker.old }
+    requires asked { MayLook (seal_of catalogue.now)
+        (length benches.old * largest_window plan.now.graph plan.now.size) looker.old }
     ensures loads { LoadsStep plan.now step (rows_of seen catalogue.now) benches.old benches.new
         result }
-    ensures spent { OnOk result (looker.old ≤ looker.new
-        + length benches.old * largest_window plan.now.graph plan.now.size) }
+    ensures spent { OnOk result (SpendsAtMost
+        (length benches.old * largest_window plan.now.graph plan.now.size) looker.old looker.new) }
 {
     let mut first = 0;
     while first < benches.len() {
@@ -158,12 +159,12 @@ fn load_neighbours(
     requires load { is_load_at plan.now step ≡ true }
     requires mounted { HasCollections plan.now.graph (rows_of seen catalogue.now) }
     requires begun { All (IsBegun plan.now) benches.old }
-    requires asked { length benches.old * largest_window plan.now.graph plan.now.size
-        ≤ looker.old }
+    requires asked { MayLook (seal_of catalogue.now)
+        (length benches.old * largest_window plan.now.graph plan.now.size) looker.old }
     ensures loads { LoadsStep plan.now step (rows_of seen catalogue.now) benches.old benches.new
         result }
-    ensures spent { OnOk result (looker.old ≤ looker.new
-        + length benches.old * largest_window plan.now.graph plan.now.size) }
+    ensures spent { OnOk result (SpendsAtMost
+        (length benches.old * largest_window plan.now.graph plan.now.size) looker.old looker.new) }
 {
     if benches.len() < 2 {
         return load_each(plan, benches, catalogue, step, looker);
@@ -219,12 +220,12 @@ fn load_each(
     requires load { is_load_at plan.now step ≡ true }
     requires mounted { HasCollections plan.now.graph (rows_of seen catalogue.now) }
     requires begun { All (IsBegun plan.now) benches.old }
-    requires asked { length benches.old * largest_window plan.now.graph plan.now.size
-        ≤ looker.old }
+    requires asked { MayLook (seal_of catalogue.now)
+        (length benches.old * largest_window plan.now.graph plan.now.size) looker.old }
     ensures loads { LoadsStep plan.now step (rows_of seen catalogue.now) benches.old benches.new
         result }
-    ensures spent { OnOk result (looker.old ≤ looker.new
-        + length benches.old * largest_window plan.now.graph plan.now.size) }
+    ensures spent { OnOk result (SpendsAtMost
+        (length benches.old * largest_window plan.now.graph plan.now.size) looker.old looker.new) }
 {
     for index in 0..benches.len() {
         benches[index].load_step(plan, catalogue, step, looker)?;
@@ -247,12 +248,12 @@ fn load_rows(
     requires some { 0 < length benches.old }
     requires stripped { All (IsStripped plan.now hull.now step) benches.old }
     requires readable { IsReadable plan.now step (length benches.old) hull.now }
-    requires asked { length benches.old * largest_window plan.now.graph plan.now.size
-        ≤ looker.old }
+    requires asked { MayLook (seal_of catalogue.now)
+        (length benches.old * largest_window plan.now.graph plan.now.size) looker.old }
     ensures loads { LoadsStep plan.now step (rows_of seen catalogue.now) benches.old benches.new
         result }
-    ensures spent { OnOk result (looker.old ≤ looker.new
-        + length benches.old * largest_window plan.now.graph plan.now.size) }
+    ensures spent { OnOk result (SpendsAtMost
+        (length benches.old * largest_window plan.now.graph plan.now.size) looker.old looker.new) }
 {
     // What a plan gives shows that it is valid: its slots keep the steps that are live apart.
     let _slot = plan.slot(step);
@@ -283,16 +284,16 @@ fn load_row(
     requires stripped { All (IsStripped plan.now hull.now step) benches.old }
     requires readable { IsReadable plan.now step (length benches.old) hull.now }
     requires number { number < row_count hull.now }
-    requires asked { span_length hull.now.x ≤ looker.old }
+    requires asked { MayLook (seal_of catalogue.now) (span_length hull.now.x) looker.old }
     ensures count { length benches.new ≡ length benches.old }
     ensures stripped { All (IsStripped plan.now hull.now step) benches.new }
     ensures loaded { (first : ℕ) → EachBench first
         (HasLoadedRows plan.now (rows_of seen catalogue.now) step number) benches.old
         → OnOk result (EachBench first
         (HasLoadedRows plan.now (rows_of seen catalogue.now) step (number + 1)) benches.new) }
-    ensures spent { looker.old ≤ looker.new + span_length hull.now.x }
+    ensures spent { SpendsAtMost (span_length hull.now.x) looker.old looker.new }
     ensures refused { TellsWhy plan.now.graph (rows_of seen catalogue.now)
-        (node_at plan.now step) (answer_of result) }
+        (node_at plan.now step) result }
 {
     let row = hull.row(number);
     let (one, others) = benches.split_at_mut(1);

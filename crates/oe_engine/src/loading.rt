@@ -6,7 +6,8 @@ ghost use Rattle.oe_engine.specs.Benches.{IsBenchFor};
 ghost use Rattle.oe_engine.specs.Evaluations.{most_asked};
 ghost use Rattle.oe_engine.specs.Hulls.{LoadsBy, LoadsChunks, MayLoad};
 ghost use Rattle.oe_engine.specs.Runs.{chunk_total};
-ghost use Rattle.oe_sources.specs.CatalogueRows.{rows_of};
+ghost use Rattle.oe_sources.specs.CatalogueRows.{rows_of, seal_of};
+ghost use Rattle.oe_sources.specs.Permits.{MayLook, SpendsAtMost};
 ghost use Rattle.oe_steps.specs.Collections.{HasCollections};
 
 use crate::bench::Bench;
@@ -33,14 +34,15 @@ pub(crate) fn load_in_threads<R: Threads + Sync>(
     requires benches { All (IsBenchFor plan.now) benches.old }
     requires chunks { first + length benches.old ≤ chunk_total plan.now }
     requires mounted { HasCollections plan.now.graph (rows_of seen catalogue.now) }
-    requires asked { length benches.old * most_asked plan.now ≤ permit.old }
+    requires asked { MayLook (seal_of catalogue.now) (length benches.old * most_asked plan.now)
+        permit.old }
     ensures { LoadsChunks plan.now (rows_of seen catalogue.now) first benches.old benches.new
         result }
 {
     let load = |from: u64, own: Permit, piece: &mut [Bench]| -> Result<(), Note>
         requires { All (IsBenchFor plan.now) piece.old
             × (from + length piece.old ≤ chunk_total plan.now)
-            × (length piece.old * most_asked plan.now ≤ own)
+            × MayLook (seal_of catalogue.now) (length piece.old * most_asked plan.now) own
             × HasCollections plan.now.graph (rows_of seen catalogue.now) }
         ensures { LoadsChunks plan.entry.now (rows_of seen catalogue.entry.now) from
             piece.old piece.new result }
@@ -61,7 +63,8 @@ fn load_here(
     requires benches { All (IsBenchFor plan.now) benches.old }
     requires chunks { first + length benches.old ≤ chunk_total plan.now }
     requires mounted { HasCollections plan.now.graph (rows_of seen catalogue.now) }
-    requires asked { length benches.old * most_asked plan.now ≤ permit }
+    requires asked { MayLook (seal_of catalogue.now) (length benches.old * most_asked plan.now)
+        permit }
     ensures { LoadsChunks plan.now (rows_of seen catalogue.now) first benches.old benches.new
         result }
 {
@@ -84,10 +87,10 @@ fn load_pieces<R: Threads + Sync, F: Fn(u64, Permit, &mut [Bench]) -> Result<(),
     benches: &mut [Bench],
     permit: &mut Permit,
 ) -> Result<(), Note>
-    requires load { MayLoad F.Fn load.now plan.now }
+    requires load { MayLoad F.Fn load.now plan.now permit.old.seal }
     requires benches { All (IsBenchFor plan.now) benches.old }
     requires chunks { first + length benches.old ≤ chunk_total plan.now }
-    requires asked { length benches.old * most_asked plan.now ≤ permit.old }
+    requires asked { length benches.old * most_asked plan.now ≤ permit.old.left }
     ensures { LoadsBy F.Fn load.now plan.now first benches.old benches.new result }
 {
     if pieces < 2 {
@@ -110,9 +113,9 @@ fn share_of(benches: usize, pieces: usize) -> usize
 
 /// Takes the cells of so many chunks out of a permit.
 fn cells_for(plan: &Plan, count: usize, permit: &mut Permit) -> Permit
-    requires { count * most_asked plan.now ≤ permit.old }
-    ensures taken { result ≡ count * most_asked plan.now }
-    ensures rest { permit.new + count * most_asked plan.now ≡ permit.old }
+    requires { count * most_asked plan.now ≤ permit.old.left }
+    ensures taken { MayLook permit.old.seal (count * most_asked plan.now) result }
+    ensures rest { SpendsAtMost (count * most_asked plan.now) permit.old permit.new }
 {
     let each = u64::from(loads(plan)) * plan.largest();
     let cells = (count as u64).saturating_mul(each).min(permit.left());
@@ -132,13 +135,13 @@ fn load_both<R: Threads + Sync, F: Fn(u64, Permit, &mut [Bench]) -> Result<(), N
     pieces: usize,
     permit: &mut Permit,
 ) -> (Result<(), Note>, Result<(), Note>)
-    requires load { MayLoad F.Fn load.now plan.now }
+    requires load { MayLoad F.Fn load.now plan.now permit.old.seal }
     requires one { All (IsBenchFor plan.now) one.old }
     requires others { All (IsBenchFor plan.now) others.old }
     requires chunks { first + length one.old + length others.old ≤ chunk_total plan.now }
     requires some { 1 < pieces }
     requires asked { length one.old * most_asked plan.now + length others.old * most_asked plan.now
-        ≤ permit.old }
+        ≤ permit.old.left }
     ensures one { LoadsBy F.Fn load.now plan.now first one.old one.new result.0 }
     ensures others { LoadsBy F.Fn load.now plan.now (first + length one.old) others.old others.new
         result.1 }
@@ -151,18 +154,18 @@ fn load_both<R: Threads + Sync, F: Fn(u64, Permit, &mut [Bench]) -> Result<(), N
     let low = pieces / 2;
     let high = pieces - low;
     let mut front = || -> Result<(), Note>
-        requires { IsSync R.row × IsSync F.row × MayLoad F.Fn load.now plan.now
+        requires { IsSync R.row × IsSync F.row × MayLoad F.Fn load.now plan.now own.now.seal
             × All (IsBenchFor plan.now) one.now
             × (first + length one.now ≤ chunk_total plan.now)
-            × (length one.now * most_asked plan.now ≤ own.now) }
+            × (length one.now * most_asked plan.now ≤ own.now.left) }
         ensures { LoadsBy F.Fn load.entry.now plan.entry.now first one.entry.now one.exit.now
             result }
     { load_pieces(rt, plan, load, first, low, one, own) };
     let mut back = || -> Result<(), Note>
-        requires { IsSync R.row × IsSync F.row × MayLoad F.Fn load.now plan.now
+        requires { IsSync R.row × IsSync F.row × MayLoad F.Fn load.now plan.now permit.now.seal
             × All (IsBenchFor plan.now) others.now
             × (second + length others.now ≤ chunk_total plan.now)
-            × (length others.now * most_asked plan.now ≤ permit.now) }
+            × (length others.now * most_asked plan.now ≤ permit.now.left) }
         ensures { LoadsBy F.Fn load.entry.now plan.entry.now second others.entry.now
             others.exit.now result }
     { load_pieces(rt, plan, load, second, high, others, permit) };

@@ -11,7 +11,8 @@ ghost use Rattle.oe_check.specs.Checked.{collection_of_node};
 ghost use Rattle.oe_meanings.specs.Graphs.{Collections};
 ghost use Rattle.oe_check.specs.Laws.{AreCollectionsOf};
 ghost use Rattle.oe_sources.specs.Catalogue.{Row};
-ghost use Rattle.oe_sources.specs.CatalogueRows.{rows_of};
+ghost use Rattle.oe_sources.specs.CatalogueRows.{rows_of, seal_of};
+ghost use Rattle.oe_sources.specs.Permits.{MayLook, SpendsAtMost, permit_raised};
 ghost use Rattle.oe_sources.specs.Source.{answer_of};
 ghost use Rattle.oe_steps.specs.Buffers.{lists_of};
 ghost use Rattle.oe_steps.specs.Collections.{HasCollections, IsMountedAt};
@@ -98,16 +99,17 @@ pub(crate) fn look_slot(
     requires mounted { HasCollections plan.now.graph (rows_of seen catalogue.now) }
     requires windows { AreOfChunk plan.now windows.now }
     requires room { HaveRoomFor plan.now (lists_of buffers.old) }
-    requires asked { largest_window plan.now.graph plan.now.size ≤ looker.old }
+    requires asked { MayLook (seal_of catalogue.now) (largest_window plan.now.graph plan.now.size)
+        looker.old }
     ensures room { HaveRoomFor plan.now (lists_of buffers.new) }
     ensures loaded { EachLive plan.now step (IsLoadedAt plan.now (rows_of seen catalogue.now)
         windows.now (lists_of buffers.old))
         → OnOk result (EachLive plan.now (step + 1) (IsLoadedAt plan.now
         (rows_of seen catalogue.now) windows.now (lists_of buffers.new))) }
-    ensures spent { OnOk result
-        (looker.old ≤ looker.new + largest_window plan.now.graph plan.now.size) }
+    ensures spent { OnOk result (SpendsAtMost (largest_window plan.now.graph plan.now.size)
+        looker.old looker.new) }
     ensures refused { TellsWhy plan.now.graph (rows_of seen catalogue.now)
-        (node_at plan.now step) (answer_of result) }
+        (node_at plan.now step) result }
 {
     oe_steps::look_slot(
         plan.checked(),
@@ -131,10 +133,12 @@ pub(crate) fn ask(
     requires step { step < length plan.now.order.steps }
     requires load { is_load_at plan.now step ≡ true }
     requires mounted { HasCollections plan.now.graph (rows_of seen catalogue.old) }
-    requires few { permit.old + cells < 2 ^ 64 }
+    requires own { permit.old.seal ≡ seal_of catalogue.old }
+    requires few { permit.old.left + cells < 2 ^ 64 }
     ensures asked { HasRead plan.now.graph cells (rows_of seen catalogue.old)
         (rows_of seen catalogue.new) (Ok tt) }
-    ensures permit { permit.new ≡ permit.old + cells }
+    ensures permit { permit.new ≡ permit_raised cells permit.old }
+    ensures seal { seal_of catalogue.new ≡ seal_of catalogue.old }
 {
     oe_steps::ask(
         plan.checked(),
@@ -159,7 +163,7 @@ pub(crate) fn settle(
     requires load { is_load_at plan.now step ≡ true }
     requires mounted { HasCollections plan.now.graph (rows_of seen catalogue.old) }
     requires refused { TellsWhy plan.now.graph (rows_of seen catalogue.old)
-        (node_at plan.now step) (answer_of looked) }
+        (node_at plan.now step) looked }
     ensures answer { result ≡ refusal_for (node_at plan.now step) (answer_of looked) }
     ensures read { HasRead plan.now.graph 0 (rows_of seen catalogue.old)
         (rows_of seen catalogue.new) result }
@@ -198,12 +202,12 @@ pub(crate) fn look_front(
     requires one { row.now ≡ plane_window row.now row.now.t.from row.now.bands.from }
     requires count { position_count row.now ≡ span_length row.now.x }
     requires room { span_length row.now.x ≤ length cells.old }
-    requires asked { span_length row.now.x ≤ looker.old }
+    requires asked { MayLook (seal_of catalogue.now) (span_length row.now.x) looker.old }
     ensures loaded { OnOk result (AreLoaded plan.now.graph (rows_of seen catalogue.now)
         (node_at plan.now step) row.now (take (span_length row.now.x) cells.new)) }
-    ensures spent { looker.old ≤ looker.new + span_length row.now.x }
+    ensures spent { SpendsAtMost (span_length row.now.x) looker.old looker.new }
     ensures refused { TellsWhy plan.now.graph (rows_of seen catalogue.now)
-        (node_at plan.now step) (answer_of result) }
+        (node_at plan.now step) result }
 {
     oe_steps::look_front(
         plan.checked(),

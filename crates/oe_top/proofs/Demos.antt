@@ -186,16 +186,16 @@ pub has_row : (rows rows_after : List Row) → IsDemonstration rows → AreRead 
 has_row rows rows_after demo read =
     some_row demo.seed demo.side rows_after (read.same ∙ ap (map without_counts) demo.rows_are)
 
-abbrev first_boxed : List Row → Bool
-first_boxed [] = true
-first_boxed (row ∷ rest) = row.boxed
+abbrev first_seal : List Row → Option ℕ
+first_seal [] = Some 0
+first_seal (row ∷ rest) = row.seal
 
 none_rose : (seed side index before : ℕ) (after : List Row) → index < 1
     → map without_counts after ≡ map without_counts (demonstration seed side) → NeverFailed after 0
     → Rose before (source_at after index).faults → ⊥
 none_rose seed side zero before [] within same never rose = cc
 none_rose seed side zero before (row ∷ rest) within same never rose =
-    let none : row.source.faults ≡ 0 = never (ap first_boxed same) in
+    let none : row.source.faults ≡ 0 = never (ap first_seal same) in
     elim rose [
       | inl less ↦ omega (arith, less, none)
       | inr last ↦ omega (arith, last, none)

@@ -2,6 +2,7 @@ use Rattle.std.proofs.Common.{◌≡◌, ◌<◌, ◌≤◌, ◌*◌, ◌∙◌,
 use Rattle.std.proofs.Math.Nat.{mul-le-mul_right}
 use Rattle.oe_plan.specs.Figures.{largest_window}
 use Rattle.oe_sources.specs.CatalogueRows.{rows_of}
+use Rattle.oe_sources.specs.Permits.{PermitOf}
 use Rattle.oe_engine.specs.Runs.{load_count}
 use Rattle.oe_engine.proofs.HullLemmas.{steps_turned}
 use Rattle.oe_engine.proofs.StepLoadLemmas.{loads_are}
@@ -16,7 +17,8 @@ loop-step-init g c =
     let rows = rows_of (λ z. (goal.SharedSource-dyn g z).CubeSource.seen z.1) c.args.catalogue.now in
     record {
       read = has_most p.graph 0 (0 * c.cells_at_step-cells.result) rows rows (Ok tt) (omega arith) (has_none p.graph rows);
-      permit = omega (arith, c.none-permit.ensures);
+      left = omega (arith, ap (λ (q : PermitOf). q.left) c.permit-permit.ensures);
+      own = ap (λ (q : PermitOf). q.seal) c.permit-permit.ensures;
     }
 
 pub ask-requires-clause-step : goal.ask-requires-clause-step
@@ -33,7 +35,10 @@ ask-requires-clause-few g c =
     let cells = c.cells_at_step-cells.result in
     let small : c.loop-step.step < 4294967296 = omega arith in
     let most : c.loop-step.step * cells ≤ 4294967296 * cells = mul-le-mul_right cells (omega (arith, small)) in
-    omega (arith, most, c.cells_at_step-cells.ensures.few, c.loop-step.invariant.permit)
+    omega (arith, most, c.cells_at_step-cells.ensures.few, c.loop-step.invariant.left)
+
+pub ask-requires-clause-own : goal.ask-requires-clause-own
+ask-requires-clause-own g c = c.loop-step.invariant.own
 
 pub loop-step-preserved : goal.loop-step-preserved
 loop-step-preserved g c =
@@ -47,7 +52,8 @@ loop-step-preserved g c =
     record {
       read = subst (λ (n : ℕ). HasRead p.graph n before after (Ok tt)) (sym one)
           (has_more p.graph (step * cells) cells before now after (Ok tt) c.loop-step.invariant.read c.ask.ensures.asked);
-      permit = omega (arith, one, c.loop-step.invariant.permit, c.ask.ensures.permit);
+      left = omega (arith, one, c.loop-step.invariant.left, ap (λ (q : PermitOf). q.left) c.ask.ensures.permit);
+      own = ap (λ (q : PermitOf). q.seal) c.ask.ensures.permit ∙ (c.loop-step.invariant.own ∙ sym c.ask.ensures.seal);
     }
 
 -- how many steps there are, each of which was asked for all chunks
@@ -71,6 +77,6 @@ returns-clause-permit g c =
     let p = c.args.plan.now in
     let loads = c.loads-step-end in
     let end : c.loop-step.step ≡ loads.result = omega (arith, c.loop-step-test.false, c.loop-step.auto.step-end) in
-    c.loop-step.invariant.permit
-    ∙ asked_all (load_count p) c.loop-step.step c.args.count c.cells_at_step-cells.result (largest_window p.graph p.size)
-    (end ∙ loads_are p loads.result loads.ensures.most loads.ensures.load loads.ensures.work) c.cells_at_step-cells.ensures.value
+    let all = asked_all (load_count p) c.loop-step.step c.args.count c.cells_at_step-cells.result (largest_window p.graph p.size)
+    (end ∙ loads_are p loads.result loads.ensures.most loads.ensures.load loads.ensures.work) c.cells_at_step-cells.ensures.value in
+    record { enough = omega (arith, all, c.loop-step.invariant.left); own = c.loop-step.invariant.own }

@@ -1,4 +1,4 @@
-use Rattle.std.proofs.Common.{◌≡◌, ◌*◌, ◌∙◌, ℕ, length, ap, subst, arith}
+use Rattle.std.proofs.Common.{◌≡◌, ◌*◌, ◌∙◌, ℕ, length, refl, ap, subst, arith}
 use Rattle.std.proofs.lemmas.List.Elements.{All-weaker}
 use Rattle.oe_plan.specs.Figures.{largest_window}
 use Rattle.oe_sources.specs.CatalogueRows.{rows_of}
@@ -14,7 +14,7 @@ use Rattle.oe_engine.proofs.hulls.load_chunks.Goals as goal
 pub loop-step-init : goal.loop-step-init
 loop-step-init g c = record {
   many = c.begin_chunks.ensures.count;
-  spent = omega arith;
+  spent = record { left = omega arith; seal = refl };
   begun = c.begin_chunks.ensures.begun;
   loaded = λ i b at. record { chunk = c.begin_chunks.ensures.chunks i b at; loaded = λ step before live. absurd (omega arith) };
 }
@@ -28,7 +28,8 @@ load_step_of_all-requires-clause-asked g c =
     let counted = loads_counted p loads.result loads.ensures.most loads.ensures.load in
     let asked = step_asked c.loop-step.step (load_count p) many largest (omega (arith, c.loop-step-test.true, counted)) in
     let all : length c.loop-step.benches * largest ≡ many * largest = ap (λ (n : ℕ). n * largest) c.loop-step.invariant.many in
-    omega (arith, all, asked.1, c.requires.asked, c.loop-step.invariant.spent)
+    let spent = c.loop-step.invariant.spent in
+    record { enough = omega (arith, all, asked.1, c.requires.asked.enough, spent.left); own = spent.seal ∙ c.requires.asked.own }
 
 pub returns-in-Err : goal.returns-in-Err
 returns-in-Err g c =
@@ -58,7 +59,10 @@ loop-step-preserved g c =
     let all : length c.loop-step.benches * largest ≡ many * largest = ap (λ (n : ℕ). n * largest) c.loop-step.invariant.many in
     record {
       many = c.load_step_of_all.ensures.loads.many ∙ inv.many;
-      spent = omega (arith, inv.spent, c.in-Ok.ensures.spent, all, asked.0);
+      spent = record {
+        left = omega (arith, inv.spent.left, c.in-Ok.ensures.spent.left, all, asked.0);
+        seal = c.in-Ok.ensures.spent.seal ∙ inv.spent.seal;
+      };
       begun = c.load_step_of_all.ensures.loads.begun;
       loaded = c.in-Ok.ensures.loads.loaded c.args.first inv.loaded;
     }

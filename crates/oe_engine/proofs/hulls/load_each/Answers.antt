@@ -17,7 +17,7 @@ loop-index-init g c =
     let rows = rows_of (λ z. (goal.SharedSource-dyn g z).CubeSource.seen z.1) c.args.catalogue.now in
     record {
       many = refl;
-      spent = omega arith;
+      spent = record { left = omega arith; seal = refl };
       begun = c.requires.begun;
       loaded = λ first each. (each_none first (HasLoadedSteps p rows (c.args.step + 1)) c.args.benches.now, λ i b from at. each i b at);
     }
@@ -34,7 +34,7 @@ load_step-requires-clause-asked g c =
     let n = c.loop-index.index in
     let inv = c.loop-index.invariant in
     let more = asked_one_more n (length c.args.benches.now) (largest_window p.graph p.size) (omega (arith, inv.many, c.loop-index-test.true)) in
-    omega (arith, more.1, c.requires.asked, inv.spent)
+    record { enough = omega (arith, more.1, c.requires.asked.enough, inv.spent.left); own = inv.spent.seal ∙ c.requires.asked.own }
 
 pub returns-in_err-load_step-clause-loads : goal.returns-in_err-load_step-clause-loads
 returns-in_err-load_step-clause-loads g c =
@@ -64,7 +64,10 @@ loop-index-preserved g c =
     let more = asked_one_more n (length c.args.benches.now) (largest_window p.graph p.size) (omega (arith, inv.many, within)) in
     record {
       many = length-set benches n new ∙ inv.many;
-      spent = omega (arith, inv.spent, c.in_ok-load_step.ensures.spent, more.0);
+      spent = record {
+        left = omega (arith, inv.spent.left, c.in_ok-load_step.ensures.spent.left, more.0);
+        seal = c.in_ok-load_step.ensures.spent.seal ∙ inv.spent.seal;
+      };
       begun = All-set (IsBegun p) benches n new c.load_step.ensures.begun inv.begun;
       loaded = λ first each.
           let was = inv.loaded first each in (
@@ -98,4 +101,4 @@ returns-clause-spent g c =
     let n = c.loop-index.index in
     let inv = c.loop-index.invariant in
     let end : n ≡ length c.args.benches.now = omega (arith, inv.many, c.loop-index-test.false, c.loop-index.auto.index-end) in
-    omega (arith, inv.spent, ap (λ (m : ℕ). m * largest) end)
+    record { left = omega (arith, inv.spent.left, ap (λ (m : ℕ). m * largest) end); seal = inv.spent.seal }

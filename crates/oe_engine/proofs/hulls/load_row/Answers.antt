@@ -34,12 +34,12 @@ look_row-requires-clause-room g c =
 pub look_row-requires-clause-asked : goal.look_row-requires-clause-asked
 look_row-requires-clause-asked g c =
     let wide : span_length c.row-row.result.x ≡ span_length c.args.hull.now.x = ap (λ (w : Window). span_length w.x) c.row-row.ensures.value in
-    omega (arith, wide, c.requires.asked)
+    record { enough = omega (arith, wide, c.requires.asked.enough); own = c.requires.asked.own }
 
 pub returns-in_err-look_row-clause-spent : goal.returns-in_err-look_row-clause-spent
 returns-in_err-look_row-clause-spent g c =
     let wide : span_length c.row-row.result.x ≡ span_length c.args.hull.now.x = ap (λ (w : Window). span_length w.x) c.row-row.ensures.value in
-    omega (arith, wide, c.look_row.ensures.spent)
+    record { left = omega (arith, wide, c.look_row.ensures.spent.left); seal = c.look_row.ensures.spent.seal }
 
 pub returns-in_err-look_row-clause-stripped : goal.returns-in_err-look_row-clause-stripped
 returns-in_err-look_row-clause-stripped g c =
@@ -158,4 +158,4 @@ returns-clause-loaded g c = λ first each.
 pub returns-clause-spent : goal.returns-clause-spent
 returns-clause-spent g c =
     let wide : span_length c.row-row.result.x ≡ span_length c.args.hull.now.x = ap (λ (w : Window). span_length w.x) c.row-row.ensures.value in
-    omega (arith, wide, c.look_row.ensures.spent)
+    record { left = omega (arith, wide, c.look_row.ensures.spent.left); seal = c.look_row.ensures.spent.seal }

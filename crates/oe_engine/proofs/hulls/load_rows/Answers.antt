@@ -18,7 +18,7 @@ loop-number-init g c =
     let rows = rows_of (λ z. (goal.SharedSource-dyn g z).CubeSource.seen z.1) c.args.catalogue.now in
     record {
       many = refl;
-      spent = omega arith;
+      spent = record { left = omega arith; seal = refl };
       stripped = c.requires.stripped;
       loaded = λ first each. no_row_of_each p c.slot-slot.ensures.valid rows first c.args.step c.requires.step c.args.benches.now each;
     }
@@ -33,7 +33,11 @@ pub load_row-requires-clause-asked : goal.load_row-requires-clause-asked
 load_row-requires-clause-asked g c =
     let n = c.loop-number.number in
     let asked = asked_one_more n c.rows-number-end.result (span_length c.args.hull.now.x) c.loop-number-test.true in
-    omega (arith, asked.1, c.rows-number-end.ensures.all, c.requires.readable.few, c.requires.asked, c.loop-number.invariant.spent)
+    let spent = c.loop-number.invariant.spent in
+    record {
+      enough = omega (arith, asked.1, c.rows-number-end.ensures.all, c.requires.readable.few, c.requires.asked.enough, spent.left);
+      own = spent.seal ∙ c.requires.asked.own;
+    }
 
 pub returns-in_err-load_row-clause-loads : goal.returns-in_err-load_row-clause-loads
 returns-in_err-load_row-clause-loads g c =
@@ -54,7 +58,10 @@ loop-number-preserved g c =
     let asked = asked_one_more n c.rows-number-end.result (span_length c.args.hull.now.x) c.loop-number-test.true in
     record {
       many = c.load_row.ensures.count ∙ inv.many;
-      spent = omega (arith, inv.spent, c.load_row.ensures.spent, asked.0);
+      spent = record {
+        left = omega (arith, inv.spent.left, c.load_row.ensures.spent.left, asked.0);
+        seal = c.load_row.ensures.spent.seal ∙ inv.spent.seal;
+      };
       stripped = c.load_row.ensures.stripped;
       loaded = λ first each. c.in_ok-load_row.ensures.loaded first (inv.loaded first each);
     }
@@ -81,4 +88,5 @@ returns-clause-spent g c =
     let width = span_length c.args.hull.now.x in
     let end : n ≡ c.rows-number-end.result = omega (arith, c.loop-number-test.false, c.loop-number.auto.number-end) in
     let all : n * width ≡ position_count c.args.hull.now = ap (λ (m : ℕ). m * width) end ∙ c.rows-number-end.ensures.all in
-    omega (arith, all, c.requires.readable.few, c.loop-number.invariant.spent)
+    let spent = c.loop-number.invariant.spent in
+    record { left = omega (arith, all, c.requires.readable.few, spent.left); seal = spent.seal }

@@ -1,4 +1,4 @@
-use Rattle.std.proofs.Common.{◌≡◌, ◌-◌, ◌*◌, ℕ, length, ap, arith}
+use Rattle.std.proofs.Common.{◌≡◌, ◌-◌, ◌*◌, ◌∙◌, ℕ, length, refl, ap, arith}
 use borrow.Rule.Slice.PartMut.{mid_len, mid_of}
 use Rattle.std.proofs.lemmas.List.Elements.{All-drop, All-take}
 use Rattle.oe_plan.specs.Figures.{largest_window}
@@ -11,7 +11,7 @@ use Rattle.oe_engine.proofs.hulls.load_step_of_all.Goals as goal
 pub loop-first-init : goal.loop-first-init
 loop-first-init g c =
     let rows = rows_of (λ z. (goal.SharedSource-dyn g z).CubeSource.seen z.1) c.args.catalogue.now in
-    record { spent = omega arith; first = first_none c.args.plan.now c.args.step rows c.args.benches.now }
+    record { spent = record { left = omega arith; seal = refl }; first = first_none c.args.plan.now c.args.step rows c.args.benches.now }
 
 pub end_of_neighbours-end-requires-clause-step : goal.end_of_neighbours-end-requires-clause-step
 end_of_neighbours-end-requires-clause-step g c = λ k d h.
@@ -38,7 +38,8 @@ load_neighbours-requires-clause-asked g c =
     let piece = piece_asked from neighbours.result (length c.args.benches.now) largest (omega (arith, neighbours.ensures.some)) (omega (arith, neighbours.ensures.most, many)) in
     let long : length (mid_of from (neighbours.result - from) benches) * largest ≡ (neighbours.result - from) * largest =
     ap (λ (n : ℕ). n * largest) (mid_len from neighbours.result benches neighbours.ensures.most) in
-    omega (arith, piece.0, piece.1, long, c.requires.asked, c.loop-first.invariant.spent)
+    let spent = c.loop-first.invariant.spent in
+    record { enough = omega (arith, piece.0, piece.1, long, c.requires.asked.enough, spent.left); own = spent.seal ∙ c.requires.asked.own }
 
 pub returns-in_err-load_neighbours-clause-loads : goal.returns-in_err-load_neighbours-clause-loads
 returns-in_err-load_neighbours-clause-loads g c =
@@ -62,7 +63,10 @@ loop-first-preserved g c =
     let long : length (mid_of from (neighbours.result - from) benches) * largest ≡ (neighbours.result - from) * largest =
     ap (λ (n : ℕ). n * largest) (mid_len from neighbours.result benches neighbours.ensures.most) in
     record {
-      spent = omega (arith, piece.0, long, c.loop-first.invariant.spent, c.in_ok-load_neighbours.ensures.spent);
+      spent = record {
+        left = omega (arith, piece.0, long, c.loop-first.invariant.spent.left, c.in_ok-load_neighbours.ensures.spent.left);
+        seal = c.in_ok-load_neighbours.ensures.spent.seal ∙ c.loop-first.invariant.spent.seal;
+      };
       first = first_more c.args.plan.now c.args.step c.loop-first.first rows c.args.benches.now c.loop-first.benches
           c.loop-first.invariant.first neighbours.result (omega (arith, neighbours.ensures.some)) neighbours.ensures.most
           c.load_neighbours.new.benches c.in_ok-load_neighbours.ensures.loads;
@@ -80,4 +84,5 @@ returns-clause-spent g c =
     let largest = largest_window p.graph p.size in
     let first = c.loop-first.invariant.first in
     let end : c.loop-first.first ≡ length c.args.benches.now = omega (arith, first.many, first.within, c.loop-first-test.false) in
-    omega (arith, c.loop-first.invariant.spent, ap (λ (n : ℕ). n * largest) end)
+    let spent = c.loop-first.invariant.spent in
+    record { left = omega (arith, spent.left, ap (λ (n : ℕ). n * largest) end); seal = spent.seal }

@@ -16,7 +16,7 @@ use Rattle.oe_engine.proofs.loading.+halves.Goals as goal
 
 pub load_pieces-load-requires : goal.load_pieces-load-requires
 load_pieces-load-requires g t c =
-    c.requires.load c.args.first c.cells_for-own.result _ c.requires.benches c.requires.chunks (omega (arith, c.cells_for-own.ensures.taken))
+    c.requires.load c.args.first c.cells_for-own.result _ c.requires.benches c.requires.chunks c.cells_for-own.ensures.taken
 
 pub load_pieces-returns-then-pieces-lt2 : goal.load_pieces-returns-then-pieces-lt2
 load_pieces-returns-then-pieces-lt2 g t c = record { loads = λ rows always. always c.args.first _ _ _ c.load.result c.load.ensures }

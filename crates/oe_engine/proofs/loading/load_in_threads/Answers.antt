@@ -1,3 +1,4 @@
+use Rattle.std.proofs.Common.{◌∙◌}
 use denote.Param.Object.{Vt, ghosts_of}
 use denote.Param.Send.{IsSync, sendable, shr_sync}
 use mir.Syntax.{named}
@@ -19,7 +20,11 @@ load_pieces-requires-sync-F g c κs within =
     record { shared = λ x b o κ. ((of_plan.shared x.0 b o κ, (of_catalogue.shared x.1 b o κ, tt)), λ q. tt) }
 
 pub load_pieces-requires-clause-load : goal.load_pieces-requires-clause-load
-load_pieces-requires-clause-load g c κs within = λ first own benches are most asked. (are, most, asked, c.requires.mounted)
+load_pieces-requires-clause-load g c κs within = λ first own benches are most asked.
+    (are, most, record { enough = asked.enough; own = asked.own ∙ c.requires.asked.own }, c.requires.mounted)
+
+pub load_pieces-requires-clause-asked : goal.load_pieces-requires-clause-asked
+load_pieces-requires-clause-asked g c κs within = c.requires.asked.enough
 
 pub returns : goal.returns
 returns g c =

@@ -4,7 +4,6 @@ use Rattle.oe_plan.proofs.ScheduleLemmas.{plan_schedule}
 use Rattle.oe_plan.specs.Figures.{shape_of_node}
 use Rattle.oe_check.specs.Checked.{collection_of_node}
 use Rattle.oe_sources.specs.CatalogueRows.{rows_of}
-use Rattle.oe_sources.specs.Source.{answer_of}
 use Rattle.oe_steps.specs.Collections.{IsMountedAt}
 use Rattle.oe_steps.specs.Loads.{AreLoaded, TellsWhy}
 use Rattle.oe_steps.specs.Steps.{loads_at}
@@ -76,4 +75,4 @@ returns-clause-refused g c =
     let same = c.checked.ensures.value in
     let is = c.schedule.ensures.value in
     let rows = rows_of (λ z. (goal.SharedSource-dyn g z).CubeSource.seen z.1) c.args.catalogue.now in
-    of_plan (λ g s. TellsWhy g rows (node_at s c.args.step) (answer_of c.look_front.result)) p graph schedule same is c.look_front.ensures.refused
+    of_plan (λ g s. TellsWhy g rows (node_at s c.args.step) c.look_front.result) p graph schedule same is c.look_front.ensures.refused

@@ -2,9 +2,12 @@ use Rattle.std.proofs.Common.{◌≡◌, ◌<◌, ◌+◌, true, OnOk, length, a
 use Rattle.oe_plan.specs.Plans.{schedule_of}
 use Rattle.oe_plan.specs.Schedules.{AreWindowsFor, IsSchedule, node_at}
 use Rattle.oe_plan.proofs.ScheduleLemmas.{plan_schedule, plan_windows}
+use Rattle.oe_plan.specs.Figures.{largest_window}
+use Rattle.oe_plan.specs.Windows.{window_at}
 use Rattle.oe_sources.specs.CatalogueRows.{rows_of}
+use Rattle.oe_sources.specs.Permits.{SpendsAtMost}
+use Rattle.oe_window.specs.Windows.{position_count}
 use Rattle.oe_steps.specs.Buffers.{lists_of}
-use Rattle.oe_sources.specs.Source.{answer_of}
 use Rattle.oe_steps.proofs.Outcomes.{on_ok}
 use Rattle.oe_steps.proofs.ReadLemmas.{AreRead-refl}
 use Rattle.oe_steps.proofs.ScheduleLemmas.{few}
@@ -98,7 +101,7 @@ returns-clause-refused g c =
     let same = c.checked.ensures.value in
     let is = c.schedule.ensures.value in
     let rows = rows_of (λ z. (goal.SharedSource-dyn g z).CubeSource.seen z.1) c.args.catalogue.now in
-    of_plan (λ g s. TellsWhy g rows (node_at s c.args.step) (answer_of c.look_slot.result)) p graph schedule same is c.look_slot.ensures.refused
+    of_plan (λ g s. TellsWhy g rows (node_at s c.args.step) c.look_slot.result) p graph schedule same is c.look_slot.ensures.refused
 
 pub look_slot-requires-clause-asked : goal.look_slot-requires-clause-asked
 look_slot-requires-clause-asked g c =
@@ -106,7 +109,7 @@ look_slot-requires-clause-asked g c =
     let are = c.requires.windows in
     let windows = c.args.windows.now in
     let some = few p.graph (schedule_of p) (plan_schedule p c.schedule.ensures.valid) windows (plan_windows p c.schedule.ensures.valid are.0 windows are.1) c.args.step c.requires.step in
-    omega (arith, some, c.requires.asked)
+    record { enough = omega (arith, some, c.requires.asked.enough); own = c.requires.asked.own }
 
 pub returns-clause-spent : goal.returns-clause-spent
 returns-clause-spent g c =
@@ -114,4 +117,6 @@ returns-clause-spent g c =
     let are = c.requires.windows in
     let windows = c.args.windows.now in
     let some = few p.graph (schedule_of p) (plan_schedule p c.schedule.ensures.valid) windows (plan_windows p c.schedule.ensures.valid are.0 windows are.1) c.args.step c.requires.step in
-    on_ok _ _ c.look_slot.result (λ spent. omega (arith, some, spent)) c.look_slot.ensures.spent
+    on_ok (SpendsAtMost (position_count (window_at windows c.args.step)) c.args.looker.now c.look_slot.new.looker)
+    (SpendsAtMost (largest_window p.graph p.size) c.args.looker.now c.look_slot.new.looker) c.look_slot.result
+    (λ spent. record { left = omega (arith, some, spent.left); seal = spent.seal }) c.look_slot.ensures.spent

@@ -54,7 +54,7 @@ settle-requires-clause-refused g c =
     let same = c.checked.ensures.value in
     let is = c.schedule.ensures.value in
     let rows = rows_of (λ z. (goal.SharedSource-dyn g z).CubeSource.seen z.1) c.args.catalogue.now in
-    as_read (λ g s. TellsWhy g rows (node_at s c.args.step) (answer_of c.args.looked)) p graph schedule same is c.requires.refused
+    as_read (λ g s. TellsWhy g rows (node_at s c.args.step) c.args.looked) p graph schedule same is c.requires.refused
 
 pub returns-clause-answer : goal.returns-clause-answer
 returns-clause-answer g c =

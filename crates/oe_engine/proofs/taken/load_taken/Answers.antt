@@ -22,8 +22,10 @@ load_in_threads-loaded-requires-clause-mounted g c κs within =
     has_same _ _ c.ask_for_chunks-permit.ensures.asked.read.same c.args.plan.now.graph c.requires.mounted
 
 pub load_in_threads-loaded-requires-clause-asked : goal.load_in_threads-loaded-requires-clause-asked
-load_in_threads-loaded-requires-clause-asked g c =
-    omega (arith, ap (λ (n : ℕ). n * most_asked c.args.plan.now) (length-take-le c.args.count c.args.benches.now c.requires.count), c.ask_for_chunks-permit.ensures.permit)
+load_in_threads-loaded-requires-clause-asked g c κs within =
+    let asked = c.ask_for_chunks-permit.ensures.permit in
+    let many = ap (λ (n : ℕ). n * most_asked c.args.plan.now) (length-take-le c.args.count c.args.benches.now c.requires.count) in
+    record { enough = omega (arith, many, asked.enough); own = asked.own }
 
 pub settle_chunks-requires-clause-mounted : goal.settle_chunks-requires-clause-mounted
 settle_chunks-requires-clause-mounted g c =
