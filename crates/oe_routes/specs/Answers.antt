@@ -40,7 +40,7 @@ use Rattle.oe_routes.specs.Paths.{id_in, name_in}
 use Rattle.oe_routes.specs.Queries.{coded, logs_asked}
 use Rattle.oe_routes.specs.Rejections.{Rejected, reject, plainly, ◌>>=◌}
 use Rattle.oe_routes.specs.Scenes.{PlainScene}
-use Rattle.oe_routes.specs.Sent.{changes_sent, graph_sent, job_sent, process_sent, validated}
+use Rattle.oe_routes.specs.Sent.{changes_sent, graph_sent, job_sent, process_sent, validated_bytes}
 use Rattle.oe_routes.specs.Table.{endpoint_of, routes}
 use Rattle.oe_routes.specs.Users.{user_of}
 use Rattle.oe_routes.specs.declared.action.EstimateGraph.{EstimateGraph}
@@ -178,8 +178,7 @@ perform s f user r ops.ShowCollection =
     Ok (shown (collection_data row))
 perform s f user r ops.ListProcesses = listed s r processes_data
 perform s f user r ops.Validate =
-    validated (f.in_bytes r.body) (f.judged (stored_of user s.book) (graph_in (unwrap_or (f.json r.body) null)))
-    >>= λ fault. Ok (shown (validation_data fault))
+    validated_bytes f (stored_of user s.book) r.body >>= λ fault. Ok (shown (validation_data fault))
 perform s f user r ops.RunNow =
     graph_sent f r.body >>= λ g.
     sound s f user g >>= λ is_sound.

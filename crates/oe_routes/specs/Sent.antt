@@ -1,6 +1,6 @@
 -- What the bodies of requests bring as a graph: to be stored, to be run at once, to be validated. A step that refuses
 -- decides before the next one is looked at.
-use Rattle.std.specs.Prelude.{ℕ, nat_lt, if◌then◌else◌, Bool, List, length, bytes_eq, codes, Option, Some, None, Result, Ok, Err, ⊤}
+use Rattle.std.specs.Prelude.{ℕ, nat_lt, if◌then◌else◌, Bool, List, length, bytes_eq, codes, Option, Some, None, unwrap_or, Result, Ok, Err, ⊤}
 use Rattle.serde_json.specs.Data.{Data, null, boolean, number, string, array, object, put}
 use Rattle.serde_json.specs.Find.{get}
 use Rattle.serde_json.specs.Written.{compact_text, has_float}
@@ -49,6 +49,11 @@ is_unreadable fault = bytes_eq (name_of fault.code) (codes "GraphUnreadable")
 abbrev pub validated : Option Fault → Option Fault → Result (Option Fault) Rejected
 validated None later = Ok later
 validated (Some fault) later = if is_unreadable fault then Err (of_fault fault) else Ok (Some fault)
+
+-- the one of bytes, whose graph may call these stored processes
+abbrev pub validated_bytes : Found → List PlainStored → List ℕ → Result (Option Fault) Rejected
+validated_bytes f stored bytes =
+    validated (f.in_bytes bytes) (f.judged stored (graph_in (unwrap_or (f.json bytes) null)))
 
 -- ---- to be stored: the body, under the id of the path
 

@@ -2,17 +2,16 @@
 ghost use Rattle.std.specs.Prelude.{◌≡◌, IfOk};
 ghost use Rattle.std.specs.Option.{option_map};
 ghost use Rattle.oe_dims.specs.Instant.{IsInstant};
-ghost use Rattle.oe_dims.specs.Plain.{plain_rows};
 ghost use Rattle.oe_http.specs.Plain.{plain_request};
 ghost use Rattle.oe_http.specs.Replies.{plain_response};
 ghost use Rattle.oe_jobs.specs.Plain.{plain_book};
 ghost use Rattle.oe_jobs.specs.Valid.{IsBook};
 ghost use Rattle.oe_replies.specs.Answers.{refused_reply as refused_reply_of};
-ghost use Rattle.oe_routes.specs.Actions.{HasPhrase, MayBeDone, plain_action};
+ghost use Rattle.oe_routes.specs.Actions.{HasPhrase, MayBeDone};
 ghost use Rattle.oe_routes.specs.Answers as spec;
 ghost use Rattle.oe_routes.specs.Asks.{asks_for_rows};
-ghost use Rattle.oe_routes.specs.Found.{Found, IsFoundFor};
-ghost use Rattle.oe_routes.specs.Rejections.{Settles, of_fault};
+ghost use Rattle.oe_routes.specs.Performs.{IsAnswerTo, IsDoneFor};
+ghost use Rattle.oe_routes.specs.Rejections.{of_fault};
 ghost use Rattle.oe_routes.specs.Scenes.{plain_scene, scene_of};
 
 use crate::asks::asked_method;
@@ -77,10 +76,8 @@ pub fn route(
     requires moment { IsInstant now }
 
     // Whatever is found in its body and, where it asks for the rows, in its graphs, the answer is the definition's.
-    ensures answer { IfOk result (λ action. (f : Found)
-        → IsFoundFor (plain_rows dims.now) (asks_for_rows (plain_request request.now)) f
-        → plain_action (plain_book book.now) action ≡ spec.answer_of
-        (scene_of site.now dims.now book.now now) f (plain_request request.now)) }
+    ensures answer { IfOk result
+        (IsAnswerTo (scene_of site.now dims.now book.now now) (plain_request request.now)) }
 
     // A reply can be written, a change is that of a command, a valid book stays valid, a graph to be run was checked
     // over these rows, for a request that asks for them, and an asset to be sent is there.
@@ -102,10 +99,8 @@ pub fn route(
 fn answer_of(alloc: Global, request: &Request, scene: Scene) -> Result<Action, OutOfMemory>
     requires book { IsBook (plain_book scene.book.now) }
     requires moment { IsInstant scene.moment }
-    ensures answer { IfOk result (λ action. (f : Found)
-        → IsFoundFor (plain_rows scene.entry.dims.now) (asks_for_rows (plain_request request.now)) f
-        → plain_action (plain_book scene.entry.book.now) action
-        ≡ spec.answer_of (plain_scene scene.entry) f (plain_request request.now)) }
+    ensures answer { IfOk result
+        (IsAnswerTo (plain_scene scene.entry) (plain_request request.now)) }
     ensures valid { IfOk result
         (MayBeDone (plain_scene scene.entry) (asks_for_rows (plain_request request.now))) }
 {
@@ -137,10 +132,7 @@ fn refused(alloc: Global, code: ReplyCode, detail: &str) -> Result<Response, Out
 fn done(alloc: Global, request: &Request, scene: Scene) -> Result<Action, Rejection>
     requires book { IsBook (plain_book scene.book.now) }
     requires moment { IsInstant scene.moment }
-    ensures answer { (f : Found)
-        → IsFoundFor (plain_rows scene.entry.dims.now) (asks_for_rows (plain_request request.now)) f
-        → Settles (plain_action (plain_book scene.entry.book.now)) result
-        (spec.done (plain_scene scene.entry) f (plain_request request.now)) }
+    ensures answer { IsDoneFor (plain_scene scene.entry) (plain_request request.now) result }
     ensures valid { IfOk result
         (MayBeDone (plain_scene scene.entry) (asks_for_rows (plain_request request.now))) }
 {

@@ -1,6 +1,5 @@
 // Graphs that are judged with the stored processes of a user.
-ghost use Rattle.std.specs.Prelude.{◌≡◌, IfOk, OnOk, Option, Some, true, unwrap_or};
-ghost use Rattle.serde_json.specs.Data.{null};
+ghost use Rattle.std.specs.Prelude.{◌≡◌, IfOk, OnOk, Option, Some, true};
 ghost use Rattle.oe_dims.specs.Instant.{IsInstant};
 ghost use Rattle.oe_dims.specs.Plain.{plain_rows};
 ghost use Rattle.oe_graph.specs.Plain.{plain_graph};
@@ -13,7 +12,6 @@ ghost use Rattle.oe_jobs.specs.Verdicts.{stored_of};
 ghost use Rattle.oe_judge.specs.Judged.{StandsWithCollections, checked_over};
 ghost use Rattle.oe_routes.specs.Actions.{HasPhrase, MayBeDone, answer};
 ghost use Rattle.oe_routes.specs.Answers as spec;
-ghost use Rattle.oe_routes.specs.Forms.{graph_in};
 ghost use Rattle.oe_routes.specs.Found.{Found, IsFound, IsJudged, IsLeastOf};
 ghost use Rattle.oe_routes.specs.Performs.{IsSound, Performs};
 ghost use Rattle.oe_routes.specs.Rejections.{Settles};
@@ -93,9 +91,8 @@ pub(crate) fn validation_reply(
 ) -> Result<Response, Rejection>
     requires { IsBook (plain_book scene.book.now) }
     ensures reply { (f : Found) → IsFound (plain_rows scene.entry.dims.now) f
-        → Settles (λ r. answer (plain_response r)) result
-        (spec.perform (plain_scene scene.entry) f user.now (plain_request request.now)
-        ops.Validate) }
+        → Settles (λ r. answer (plain_response r)) result (spec.perform
+        (plain_scene scene.entry) f user.now (plain_request request.now) ops.Validate) }
     ensures phrase { IfOk result HasPhrase }
 {
     let fault = sent_fault(alloc, &request.body, user, scene)?;
@@ -114,9 +111,7 @@ fn sent_fault(
 ) -> Result<Option<Fault>, Rejection>
     requires { IsBook (plain_book scene.book.now) }
     ensures { (f : Found) → IsFound (plain_rows scene.entry.dims.now) f → Settles (λ x. x) result
-        (sent.validated (f.in_bytes body.now)
-        (f.judged (stored_of user.now (plain_book scene.entry.book.now))
-        (graph_in (unwrap_or (f.json body.now) null)))) }
+        (sent.validated_bytes f (stored_of user.now (plain_book scene.entry.book.now)) body.now) }
 {
     stored_is_valid();
     match read_graph(alloc, body) {
