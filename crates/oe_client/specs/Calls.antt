@@ -60,6 +60,11 @@ ends left link_faults out out_faults = record {
   out_faults = out_faults;
 }
 
+-- those of a link of type L and an output of type O, by what is seen of them
+abbrev pub ends_of : {L O : Type 0} → (L → Option (List ℕ)) → (L → ℕ) → (O → Option (List ℕ)) → (O → ℕ) → L → O → Ends
+ends_of left link_faults written out_faults link out =
+    ends (left link) (link_faults link) (written out) (out_faults out)
+
 module _ (before after : Ends) where
   -- the response that stands at the front of the peer's bytes, where they are visible
   abbrev pub IsFromPeer : PlainResponse → Type 0

@@ -1,7 +1,7 @@
 // One request and its response.
 ghost use Rattle.std.specs.Prelude.{◌≡◌, ◌+◌, IsErrOf};
 ghost use Rattle.oe_client.specs.Calls as spec;
-ghost use Rattle.oe_client.specs.Calls.{Calls, ends};
+ghost use Rattle.oe_client.specs.Calls.{Calls, ends_of};
 ghost use Rattle.oe_client.specs.Commands.{plain_command};
 ghost use Rattle.oe_http.specs.Front.{most_head};
 ghost use Rattle.oe_http.specs.Replies.{plain_response};
@@ -52,10 +52,8 @@ pub fn client_call<L: Link, O: Sink>(
     ensures prefix { IsErrOf result ClientFail.LinkFailed → AppendsPrefix (L.written link.old)
         (request_bytes (plain_command command.now).request command.now.host)
         (L.written link.new) }
-    ensures calls { Calls
-        (ends (L.left link.old) (L.faults link.old) (O.written out.old) (O.faults out.old))
-        (ends (L.left link.new) (L.faults link.new) (O.written out.new) (O.faults out.new))
-        result }
+    ensures calls { let of = ends_of L.left L.faults O.written O.faults in
+        Calls (of link.old out.old) (of link.new out.new) result }
     ensures taken { TakesAtMost (L.left link.old) (most_head + most_response_body)
         (L.left link.new) }
 {
@@ -73,10 +71,8 @@ fn take_response<L: Link, O: Sink>(
     out: &mut O,
 ) -> Result<(), ClientFail>
     ensures same { L.written link.new ≡ L.written link.old }
-    ensures calls { Calls
-        (ends (L.left link.old) (L.faults link.old) (O.written out.old) (O.faults out.old))
-        (ends (L.left link.new) (L.faults link.new) (O.written out.new) (O.faults out.new))
-        result }
+    ensures calls { let of = ends_of L.left L.faults O.written O.faults in
+        Calls (of link.old out.old) (of link.new out.new) result }
     ensures taken { TakesAtMost (L.left link.old) (most_head + most_response_body)
         (L.left link.new) }
 {
