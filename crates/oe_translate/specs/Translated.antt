@@ -1,6 +1,6 @@
 -- A graph in which no calendar periods and no running sums are left: each node of them is written by processes that
 -- take intervals and merge cubes. All other nodes stay as they are.
-use Rattle.std.specs.Prelude.{ℤ, Bool, false, ◌||◌, List, [], ◌∷◌, codes, if◌then◌else◌}
+use Rattle.std.specs.Prelude.{ℕ, ℤ, Bool, false, ◌||◌, List, [], ◌∷◌, drop, codes, if◌then◌else◌}
 use Rattle.std.specs.List.{list_any}
 use Rattle.std.specs.Option.{option_map_or}
 use Rattle.oe_dims.specs.Dimensions.{number_labels}
@@ -62,6 +62,10 @@ module _ (rows : List DimsRow) (nodes : Nodes) where
   abbrev pub translations : List PlainNode → Nodes
   translations [] = no_nodes
   translations (n ∷ rest) = put_translated n (translations rest)
+
+  -- all that the nodes from an index on become
+  abbrev pub translations_from : ℕ → Nodes
+  translations_from index = translations (drop index (each_node nodes))
 
   abbrev pub translated_nodes : Nodes
   translated_nodes = translations (each_node nodes)

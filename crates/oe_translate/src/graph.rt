@@ -1,5 +1,5 @@
 // A graph whose calendar periods and running sums are written by other processes.
-ghost use Rattle.std.specs.Prelude.{◌≡◌, ◌<◌, ◌+◌, false, drop, IfErr, IfOk, OnOk};
+ghost use Rattle.std.specs.Prelude.{◌≡◌, ◌<◌, ◌+◌, false, IfErr, IfOk, OnOk};
 ghost use Rattle.std.specs.List.{list_any};
 ghost use Rattle.oe_dims.specs.Dimensions.{IsShape};
 ghost use Rattle.oe_dims.specs.Plain.{plain_rows};
@@ -95,11 +95,9 @@ fn put_at(
     requires faultless { AreFaultless checked.now }
     requires same { checked.now.nodes ≡ plain_nodes nodes.now.items }
     requires below { index < node_count checked.now.nodes }
-    ensures { OnOk result (plain_nodes found.old.items
-        ≡ spec.translations checked.now.rows checked.now.nodes
-        (drop (index + 1) (each_node checked.now.nodes))
-        → plain_nodes found.new.items ≡ spec.translations checked.now.rows checked.now.nodes
-        (drop index (each_node checked.now.nodes))) }
+    ensures { let from = spec.translations_from checked.now.rows checked.now.nodes in
+        OnOk result (plain_nodes found.old.items ≡ from (index + 1)
+        → plain_nodes found.new.items ≡ from index) }
 {
     put_translated(alloc, checked, index, &nodes[index as usize], found)?;
     Ok(())
