@@ -83,6 +83,12 @@ pub record HasTexts (d : Data) (user : List ℕ) (title description : Option (Li
   pub has_description : get (codes "description") d ≡ Some (text_data description)
   pub has_process : get (codes "process") d ≡ Some (string process)
 
+-- the value has none such
+abbrev pub HasNoTexts : Data → Type 0
+HasNoTexts d =
+    (user : List ℕ) (title description : Option (List ℕ)) (process : List ℕ)
+    → ¬ HasTexts d user title description process
+
 -- where the job stands
 pub record HasState (d : Data) (status : Status) (level : Level) (created updated : ℤ) (turn : ℕ) : Type 0 where
   pub has_status : get (codes "status") d ≡ Some (string (status_text status))
@@ -90,6 +96,11 @@ pub record HasState (d : Data) (status : Status) (level : Level) (created update
   pub has_created : HasInstant (codes "created") d created
   pub has_updated : HasInstant (codes "updated") d updated
   pub has_turn : HasTurn d turn
+
+-- the value says none
+abbrev pub HasNoState : Data → Type 0
+HasNoState d =
+    (status : Status) (level : Level) (created updated : ℤ) (turn : ℕ) → ¬ HasState d status level created updated turn
 
 -- ---- the entry
 

@@ -1,5 +1,5 @@
 // Reading the entry of a job.
-ghost use Rattle.std.specs.Prelude.{◌≡◌, ℕ, ℤ, IfOk, List, MatchOption, Option, Some, [], codes, map};
+ghost use Rattle.std.specs.Prelude.{◌≡◌, IfOk, MatchOption, Some, [], codes, map};
 ghost use Rattle.std.specs.Option.{option_map};
 ghost use Rattle.serde_json.specs.Data.{string};
 ghost use Rattle.serde_json.specs.Find.{get};
@@ -9,10 +9,8 @@ ghost use Rattle.oe_graph.specs.Plain.{plain_stored};
 ghost use Rattle.oe_graph.specs.Read.{ReadsStored};
 ghost use Rattle.oe_jobs.specs.Plain.{PlainJob, plain_job, plain_ran};
 ghost use Rattle.oe_jobs.specs.Texts.{Finds};
-ghost use Rattle.oe_jobs.specs.declared.level.Level.{Level as AnyLevel};
-ghost use Rattle.oe_jobs.specs.declared.status.Status.{Status as AnyStatus};
 ghost use Rattle.oe_keeper.specs.Reading as spec;
-ghost use Rattle.oe_keeper.specs.Reading.{Each, HasInstant, HasList, HasRan, HasState, HasTurn, HasTexts, IsEntry, IsLevel, IsLog, IsRanEntry, IsRanOrNull, IsStoredEntry, ReadsJob};
+ghost use Rattle.oe_keeper.specs.Reading.{Each, HasInstant, HasList, HasNoState, HasNoTexts, HasRan, HasState, HasTurn, HasTexts, IsEntry, IsLevel, IsLog, IsRanEntry, IsRanOrNull, IsStoredEntry, ReadsJob};
 
 use crate::members::{
     instant_in, level_at, level_in, list_in, status_in, str_in, text_in, turn_in, words_in,
@@ -147,9 +145,7 @@ fn job_of(
 }
 
 fn texts_in(alloc: Global, value: &Value) -> Result<Option<Texts>, OutOfMemory>
-    ensures { IfOk result (λ read. MatchOption read
-        ((user : List ℕ) (title description : Option (List ℕ)) (process : List ℕ)
-        → ¬ HasTexts (view value.now) user title description process)
+    ensures { IfOk result (λ read. MatchOption read (HasNoTexts (view value.now))
         (λ t. HasTexts (view value.now) t.user t.title t.description t.process)) }
 {
     let Some(user) = text_in(alloc, value, "user")? else {
@@ -173,9 +169,7 @@ fn texts_in(alloc: Global, value: &Value) -> Result<Option<Texts>, OutOfMemory>
 }
 
 fn state_in(value: &Value) -> Option<State>
-    ensures { MatchOption result
-        ((status : AnyStatus) (level : AnyLevel) (created updated : ℤ) (turn : ℕ)
-        → ¬ HasState (view value.now) status level created updated turn)
+    ensures { MatchOption result (HasNoState (view value.now))
         (λ s. HasState (view value.now) s.status s.level s.created s.updated s.turn) }
 {
     let Some(status) = status_in(value) else {
