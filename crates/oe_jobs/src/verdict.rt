@@ -133,10 +133,9 @@ fn create(
     level: Level,
     now: i64,
 ) -> Result<Verdict, OutOfMemory>
-    ensures { IfOk result (λ v. plain_verdict v
-        ≡ spec.create_verdict (plain_book book.now) user.now
-        (spec.created (plain_book book.now) user.now title.now description.now process.now
-        level now)) }
+    ensures { IfOk result (λ v. plain_verdict v ≡ spec.create_verdict (plain_book book.now)
+        user.now (spec.created (plain_book book.now) user.now title.now description.now
+        process.now level now)) }
 {
     if count_jobs(book, user) >= MOST_JOBS || has_no_number(book) {
         return Ok(refusal(JobFault::JobLimit));
@@ -314,8 +313,7 @@ fn withdraw_job(job: &Job, now: i64) -> Result<Job, OutOfMemory>
 
 /// The job after its run was stopped: with assets it is canceled, without any it is created again.
 fn stop_job(alloc: Global, job: &Job, now: i64) -> Result<Job, OutOfMemory>
-    ensures { IfOk result (λ j. plain_job j
-        ≡ machine.with_status
+    ensures { IfOk result (λ j. plain_job j ≡ machine.with_status
         (if machine.has_assets (plain_job job.now) then Status.Canceled else Status.Created)
         (machine.stops now (plain_job job.now))) }
 {
