@@ -124,9 +124,8 @@ fn push_graph(alloc: Global, bytes: &mut Vec<u8>, graph: &str) -> Result<(), Out
 /// The members `chunk`, `range` and `chunks`.
 fn push_range(bytes: &mut Vec<u8>, head: &PartHead) -> Result<(), OutOfMemory>
     requires { AreSides head.now.sides }
-    ensures { OnOk result (bytes.new.items ≡ bytes.old.items ++ codes ",\"chunk\":"
-        ++ sides_text head.now.sides ++ codes ",\"range\":"
-        ++ numbers_text (head.now.first ∷ head.now.end ∷ [])
+    ensures { OnOk result (bytes.new.items ≡ bytes.old.items ++ codes ",\"chunk\":" ++ sides_text
+        head.now.sides ++ codes ",\"range\":" ++ numbers_text (head.now.first ∷ head.now.end ∷ [])
         ++ codes ",\"chunks\":" ++ decimal (chunk_total head.now)) }
 {
     bytes.extend_from_slice(b",\"chunk\":")?;
