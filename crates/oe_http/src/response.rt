@@ -1,6 +1,6 @@
 // Replies.
 ghost use Rattle.std.specs.Prelude.{◌≡◌, ◌&&◌, ◌++◌, IsSome, None, true, OnOk, OnErr};
-ghost use Rattle.std.specs.Option.{option_map};
+ghost use Rattle.std.specs.Option.{option_copied};
 ghost use Rattle.http.specs.StatusCode.{reason_phrase};
 ghost use Rattle.oe_outside.specs.Faults.{HasCause};
 ghost use Rattle.oe_outside.specs.Visible.{Appends, AppendsPrefix};
@@ -84,14 +84,12 @@ fn write_parts<L: Link>(
     length: u64,
     body: &[u8],
 ) -> Result<(), Failed>
-    ensures appended { OnOk result (Appends (L.written link.old)
-        (reply_head status (option_map (λ t. t.now) location.entry)
-        (option_map (λ t. t.now) identifier.entry) json length ++ body.now)
+    ensures appended { OnOk result (Appends (L.written link.old) (reply_head status
+        (option_copied location.entry) (option_copied identifier.entry) json length ++ body.now)
         (L.written link.new)) }
-    ensures prefix { OnErr result (AppendsPrefix (L.written link.old)
-        (reply_head status (option_map (λ t. t.now) location.entry)
-        (option_map (λ t. t.now) identifier.entry) json length ++ body.now)
-        (L.written link.new)) }
+    ensures prefix { OnErr result (AppendsPrefix (L.written link.old) (reply_head
+        status (option_copied location.entry) (option_copied identifier.entry) json length
+        ++ body.now) (L.written link.new)) }
     ensures same { L.left link.new ≡ L.left link.old }
     ensures cause { HasCause (L.faults link.old) (L.faults link.new) result }
 {
@@ -113,9 +111,8 @@ fn send_reply<L: Link>(
     length: u64,
     body: &[u8],
 ) -> Result<(), Failed>
-    ensures sent { HasSent L.written L.faults link.old held.old
-        (reply_head status (option_map (λ t. t.now) location.entry)
-        (option_map (λ t. t.now) identifier.entry) json length ++ body.now)
+    ensures sent { HasSent L.written L.faults link.old held.old (reply_head status
+        (option_copied location.entry) (option_copied identifier.entry) json length ++ body.now)
         link.new held.new result }
     ensures same { L.left link.new ≡ L.left link.old }
 {
@@ -134,9 +131,8 @@ fn send_head<L: Link>(
     length: u64,
 ) -> Result<(), Failed>
     ensures sent { HasSent L.written L.faults link.old held.old
-        (reply_head status (option_map (λ t. t.now) location.entry)
-        (option_map (λ t. t.now) identifier.entry) json length)
-        link.new held.new result }
+        (reply_head status (option_copied location.entry) (option_copied identifier.entry) json
+        length) link.new held.new result }
     ensures same { L.left link.new ≡ L.left link.old }
 {
     send_status(link, held, status)?;
@@ -180,9 +176,8 @@ fn send_fields<L: Link>(
     length: u64,
 ) -> Result<(), Failed>
     ensures sent { HasSent L.written L.faults link.old held.old
-        (field_lines status (option_map (λ t. t.now) location.entry)
-        (option_map (λ t. t.now) identifier.entry) json length)
-        link.new held.new result }
+        (field_lines status (option_copied location.entry) (option_copied identifier.entry) json
+        length) link.new held.new result }
     ensures same { L.left link.new ≡ L.left link.old }
 {
     send_type(link, held, status, json)?;
@@ -199,9 +194,8 @@ fn send_further<L: Link>(
     length: u64,
 ) -> Result<(), Failed>
     ensures sent { HasSent L.written L.faults link.old held.old
-        (further_lines status (option_map (λ t. t.now) location.entry)
-        (option_map (λ t. t.now) identifier.entry) length)
-        link.new held.new result }
+        (further_lines status (option_copied location.entry) (option_copied identifier.entry)
+        length) link.new held.new result }
     ensures same { L.left link.new ≡ L.left link.old }
 {
     send_names(link, held, location, identifier)?;
@@ -216,8 +210,7 @@ fn send_names<L: Link>(
     identifier: Option<&str>,
 ) -> Result<(), Failed>
     ensures sent { HasSent L.written L.faults link.old held.old
-        (name_lines (option_map (λ t. t.now) location.entry)
-        (option_map (λ t. t.now) identifier.entry))
+        (name_lines (option_copied location.entry) (option_copied identifier.entry))
         link.new held.new result }
     ensures same { L.left link.new ≡ L.left link.old }
 {
