@@ -206,9 +206,8 @@ fn refused_or_labels(
     parameters: &'static [ParameterEntry],
     arguments: &Vec<(Text, Arg)>,
 ) -> Result<Option<&'static ParameterEntry>, OutOfMemory>
-    ensures { IfOk result (λ r. option_map (λ e. parameter_of e.now) r
-        ≡ spec.or_labels (map parameter_of parameters.now)
-        (find (spec.is_refused (plain_named arguments.now.items))
+    ensures { IfOk result (λ r. option_map (λ e. parameter_of e.now) r ≡ spec.or_labels
+        (map parameter_of parameters.now) (find (spec.is_refused (plain_named arguments.now.items))
         (map parameter_of parameters.now))) }
 {
     match first_refused(alloc, parameters, arguments)? {
