@@ -46,10 +46,9 @@ fn more_counts(
 ) -> Result<Vec<u32>, OutOfMemory>
     requires each { length counts.now ≡ length stored.now }
     ensures len { IfOk result (λ v. length v.items ≡ length stored.now) }
-    ensures sizes { IfOk result (λ v. (size : PlainStored → ℕ)
-        → counts.now ≡ map size (map plain_stored stored.now)
-        → v.items ≡ map (λ s. spec.total (map plain_stored stored.now) size s.graph.nodes)
-        (map plain_stored stored.now)) }
+    ensures sizes { let all = map plain_stored stored.now in
+        IfOk result (λ v. (size : PlainStored → ℕ) → counts.now ≡ map size all
+        → v.items ≡ map (λ s. spec.total all size s.graph.nodes) all) }
 {
     let mut more = Vec::with_capacity(alloc, stored.len())?;
     for process in stored {

@@ -76,8 +76,7 @@ fn expand_node(
     node: &Node,
     arguments: Vec<(Text, Arg)>,
 ) -> Result<Vec<Node>, OutOfMemory>
-    ensures { IfOk result (λ v. plain_nodes v.items
-        ≡ spec.opened (map plain_stored stored.now)
+    ensures { IfOk result (λ v. plain_nodes v.items ≡ spec.opened (map plain_stored stored.now)
         record (plain_node node.now) { arguments = plain_named arguments.items }
         (callee (map plain_stored stored.now) node.now.namespace node.now.process_id)) }
 {
@@ -104,8 +103,7 @@ fn inline_call(
     arguments: &Vec<(Text, Arg)>,
     process: &StoredProcess,
 ) -> Result<Vec<Node>, OutOfMemory>
-    ensures { IfOk result (λ v. plain_nodes v.items
-        ≡ spec.opened (map plain_stored stored.now)
+    ensures { IfOk result (λ v. plain_nodes v.items ≡ spec.opened (map plain_stored stored.now)
         record (plain_node node.now) { arguments = plain_named arguments.now.items }
         (Some (plain_stored process.now))) }
 {
@@ -222,8 +220,7 @@ fn round_named(
     requires rise { NotesRise beside.now }
     ensures { IfOk result (λ v. plain_named v.items
         ≡ spec.round_named (map plain_stored stored.now) waits
-        (plain_nodes beside.now.nodes.now.items)
-        (plain_named members.now.items)) }
+        (plain_nodes beside.now.nodes.now.items) (plain_named members.now.items)) }
 {
     let mut copy = Vec::with_capacity(alloc, members.len())?;
     for member in members {
@@ -244,8 +241,7 @@ fn round_args(
     requires rise { NotesRise beside.now }
     ensures { IfOk result (λ v. plain_args v.items
         ≡ spec.round_each (map plain_stored stored.now) waits
-        (plain_nodes beside.now.nodes.now.items)
-        (plain_args items.now.items)) }
+        (plain_nodes beside.now.nodes.now.items) (plain_args items.now.items)) }
 {
     let mut copy = Vec::with_capacity(alloc, items.len())?;
     for item in items {
@@ -265,8 +261,7 @@ fn round_arg(
     requires rise { NotesRise beside.now }
     ensures { IfOk result (λ a. plain_arg a
         ≡ spec.round_argument (map plain_stored stored.now) waits
-        (plain_nodes beside.now.nodes.now.items)
-        (plain_arg arg.now)) }
+        (plain_nodes beside.now.nodes.now.items) (plain_arg arg.now)) }
 {
     match arg {
         Arg::List(items) => Ok(Arg::List(round_args(alloc, items, stored, waits, beside)?)),

@@ -5,12 +5,12 @@ ghost use Rattle.std.specs.Prelude.{◌≡◌, ◌+◌, false, if◌then◌else�
 ghost use Rattle.std.specs.List.{list_any};
 ghost use Rattle.oe_dims.specs.Names.{same_name};
 ghost use Rattle.oe_graph.specs.Plain.{plain_arg, plain_args, plain_graph, plain_named, plain_node, plain_nodes, plain_parameter, plain_stored};
-ghost use Rattle.oe_graph.specs.Tree.{Named, Nodes, from_parameter};
+ghost use Rattle.oe_graph.specs.Tree.{Nodes, from_parameter};
 ghost use Rattle.oe_calls.specs.Calls.{callee};
 ghost use Rattle.oe_calls.specs.Renamed.{renamed_nodes};
 ghost use Rattle.oe_calls.specs.Substituted as substituted;
 ghost use Rattle.oe_calls.specs.Rounds as rounds;
-ghost use Rattle.oe_calls.specs.PlainValues.{names_behind, plain_sizes};
+ghost use Rattle.oe_calls.specs.PlainValues.{IsLeftOf, names_behind, plain_sizes};
 ghost use Rattle.oe_calls.specs.Sizes as spec;
 
 use crate::calls::{callback_parameters, callee};
@@ -452,12 +452,9 @@ fn opened_nodes_left(
     hidden: &[&'static str],
     budget: u64,
 ) -> Result<u64, OutOfMemory>
-    ensures { IfOk result (λ left. (values : Named)
-        → spec.HasSizes sizes.now.measure (plain_sizes sizes.now.each.items)
-        (names_behind hidden.now) values
-        → budget ≡ left + spec.size_nodes sizes.now.measure
-        (substituted.substituted_nodes (map plain_stored stored.now) values
-        (plain_nodes nodes.now.items))) }
+    ensures { IfOk result (IsLeftOf budget sizes.now hidden.now (λ values. spec.size_nodes
+        sizes.now.measure (substituted.substituted_nodes (map plain_stored stored.now) values
+        (plain_nodes nodes.now.items)))) }
 {
     let mut left = budget;
     for node in nodes {
@@ -475,12 +472,9 @@ fn opened_node_left(
     hidden: &[&'static str],
     budget: u64,
 ) -> Result<u64, OutOfMemory>
-    ensures { IfOk result (λ left. (values : Named)
-        → spec.HasSizes sizes.now.measure (plain_sizes sizes.now.each.items)
-        (names_behind hidden.now) values
-        → budget ≡ left + spec.size_named sizes.now.measure
-        (substituted.substituted_node (map plain_stored stored.now) values
-        (plain_node node.now)).arguments) }
+    ensures { IfOk result (IsLeftOf budget sizes.now hidden.now (λ values. spec.size_named
+        sizes.now.measure (substituted.substituted_node (map plain_stored stored.now) values
+        (plain_node node.now)).arguments)) }
 {
     let own = callback_parameters(stored, node);
     opened_named_left(alloc, &node.arguments, stored, own, sizes, hidden, budget)
@@ -496,12 +490,9 @@ fn opened_named_left(
     hidden: &[&'static str],
     budget: u64,
 ) -> Result<u64, OutOfMemory>
-    ensures { IfOk result (λ left. (values : Named)
-        → spec.HasSizes sizes.now.measure (plain_sizes sizes.now.each.items)
-        (names_behind hidden.now) values
-        → budget ≡ left + spec.size_named sizes.now.measure
-        (substituted.substituted_named (map plain_stored stored.now) (names_behind own.now) values
-        (plain_named members.now.items))) }
+    ensures { IfOk result (IsLeftOf budget sizes.now hidden.now (λ values. spec.size_named
+        sizes.now.measure (substituted.substituted_named (map plain_stored stored.now)
+        (names_behind own.now) values (plain_named members.now.items)))) }
 {
     let mut left = budget;
     for member in members {
@@ -521,12 +512,9 @@ fn opened_args_left(
     hidden: &[&'static str],
     budget: u64,
 ) -> Result<u64, OutOfMemory>
-    ensures { IfOk result (λ left. (values : Named)
-        → spec.HasSizes sizes.now.measure (plain_sizes sizes.now.each.items)
-        (names_behind hidden.now) values
-        → budget ≡ left + spec.size_each sizes.now.measure
-        (substituted.substituted_each (map plain_stored stored.now) (names_behind own.now) values
-        (plain_args items.now.items))) }
+    ensures { IfOk result (IsLeftOf budget sizes.now hidden.now (λ values. spec.size_each
+        sizes.now.measure (substituted.substituted_each (map plain_stored stored.now)
+        (names_behind own.now) values (plain_args items.now.items)))) }
 {
     let mut left = budget;
     for item in items {
@@ -546,12 +534,9 @@ fn opened_arg_left(
     hidden: &[&'static str],
     budget: u64,
 ) -> Result<u64, OutOfMemory>
-    ensures { IfOk result (λ left. (values : Named)
-        → spec.HasSizes sizes.now.measure (plain_sizes sizes.now.each.items)
-        (names_behind hidden.now) values
-        → budget ≡ left + spec.size_in sizes.now.measure
-        (substituted.substituted (map plain_stored stored.now) (names_behind own.now) values
-        (plain_arg arg.now))) }
+    ensures { IfOk result (IsLeftOf budget sizes.now hidden.now (λ values. spec.size_in
+        sizes.now.measure (substituted.substituted (map plain_stored stored.now)
+        (names_behind own.now) values (plain_arg arg.now)))) }
 {
     let size = value_size(sizes.measure);
     match arg {

@@ -6,7 +6,7 @@ ghost use Rattle.oe_graph.specs.References.{argument_named};
 ghost use Rattle.oe_graph.specs.Tree.{from_parameter};
 ghost use Rattle.oe_calls.specs.Renamed.{dangling, renamed, renamed_each, renamed_named};
 ghost use Rattle.oe_calls.specs.Substituted as spec;
-ghost use Rattle.oe_calls.specs.PlainValues.{names_behind, seen};
+ghost use Rattle.oe_calls.specs.PlainValues.{names_behind, seen, seen_inside};
 
 use crate::names::{is_among, join_names};
 use oe_dims::Text;
@@ -124,10 +124,7 @@ pub fn value_named(alloc: Global, values: &Values, name: &Text) -> Result<Arg, O
 /// The value of a parameter in a callback.
 fn value_in_callback(alloc: Global, values: &Values, name: &Text) -> Result<Arg, OutOfMemory>
     ensures { IfOk result (λ a. plain_arg a
-        ≡ unwrap_or (argument_named name.now
-        (spec.inside (names_behind values.now.hidden.items)
-        (plain_named values.now.given.now.items)))
-        (from_parameter name.now)) }
+        ≡ unwrap_or (argument_named name.now (seen_inside values.now)) (from_parameter name.now)) }
 {
     if is_among(values.hidden.as_slice(), name.as_str()) {
         return Ok(Arg::FromParameter(name.copy()?));
