@@ -10,12 +10,12 @@ use Rattle.oe_graph.specs.Read.{IsFault}
 use Rattle.oe_graph.specs.declared.code.Code.{Code}
 use Rattle.oe_graph.specs.declared.fault.Refusal.{Refusal}
 use Rattle.oe_kernel.specs.Kernels.{IsKernel}
-use Rattle.oe_expr.specs.Callback.{Callback, StandsInCallbackAt, IsFaultlessCallback}
+use Rattle.oe_expr.specs.Callback.{Callback, StandsInCallbackAt}
 use Rattle.oe_requests.specs.Extents.{is_empty_extent}
 use Rattle.oe_requests.specs.Operations.{Outline, operation_of}
 use Rattle.oe_requests.specs.PlainRequests.{plain_operation}
-use Rattle.oe_requests.specs.RunningSums.{AreSums, IsWellFormed, StandsInSums}
-use Rattle.oe_meanings.specs.Stands.{callback_on, sums_of}
+use Rattle.oe_requests.specs.RunningSums.{IsWellFormed, StandsInSums}
+use Rattle.oe_meanings.specs.Stands.{HasFaultlessCallbackOn, callback_on, sums_of}
 use Rattle.oe_requests.specs.Requests.{Called, CubeRequest, load_collection, filter_bbox, filter_temporal, filter_bands, apply, apply_kernel, reduce_dimension, aggregate_temporal, aggregate_temporal_period, apply_dimension, merge_cubes, mask, save_result}
 use Rattle.oe_requests.specs.declared.extent.Interval.{Interval}
 use Rattle.oe_requests.specs.declared.operation.Operation.{Operation}
@@ -61,6 +61,5 @@ pub record IsBuilt (id : List ℕ) (r : CubeRequest) (one : Outline) (result : R
     : Type 0 where
   pub built : IfOk result (λ operation. (others : List Outline)
       → option_map plain_operation operation ≡ operation_of r (one ∷ others))
-  pub faultless : OnOk result ((others : List Outline)
-      → IfSome (callback_on r (one ∷ others)) (λ c. IsFaultlessCallback c.1) × IfSome (sums_of r) AreSums)
+  pub faultless : OnOk result ((others : List Outline) → HasFaultlessCallbackOn r (one ∷ others))
   pub refused : IfErr result (IsFault (StandsInCallback id r one))

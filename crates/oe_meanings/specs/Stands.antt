@@ -52,6 +52,11 @@ abbrev pub sums_of : CubeRequest → Option PlainGraph
 sums_of (apply_dimension data_id g) = Some g
 sums_of _ = None
 
+-- no fault stands in the callback of a request on these cubes, nor in its running sums, where it has such
+abbrev pub HasFaultlessCallbackOn : CubeRequest → List Outline → Type 0
+HasFaultlessCallbackOn r cubes =
+    IfSome (callback_on r cubes) (λ c. IsFaultlessCallback c.1) × IfSome (sums_of r) AreSums
+
 -- ---- one node, where `at` has the outlines of the nodes that it refers to
 
 module _ (rows : List DimsRow) (at : List ℕ → Outline) where
@@ -66,8 +71,7 @@ module _ (rows : List DimsRow) (at : List ℕ → Outline) where
 
   -- no fault stands in the callback, where there is one
   abbrev pub HasFaultlessCallback : CubeRequest → Type 0
-  HasFaultlessCallback r =
-      IfSome (callback_on r (cubes_of r)) (λ c. IsFaultlessCallback c.1) × IfSome (sums_of r) AreSums
+  HasFaultlessCallback r = HasFaultlessCallbackOn r (cubes_of r)
 
   -- A fault stands at a node or in its callback. At the node it is the first row that holds; of kinds a row holds only
   -- where the callback has no fault, while the size of the cube does not wait for the callback.

@@ -13,8 +13,8 @@ ghost use Rattle.oe_requests.specs.Operations as spec;
 ghost use Rattle.oe_requests.specs.Operations.{Outline};
 ghost use Rattle.oe_requests.specs.PlainRequests.{plain_called, plain_kernel, plain_operation, plain_cube_request, plain_restriction};
 ghost use Rattle.oe_requests.specs.Requests as request;
-ghost use Rattle.oe_requests.specs.RunningSums.{AreSums, IsWellFormed};
-ghost use Rattle.oe_meanings.specs.Stands.{callback_on, sums_of};
+ghost use Rattle.oe_requests.specs.RunningSums.{IsWellFormed};
+ghost use Rattle.oe_meanings.specs.Stands.{HasFaultlessCallbackOn};
 
 use crate::operation_scope::{interval_scope, reduction_scope};
 use crate::shape_periods::period_intervals;
@@ -69,10 +69,9 @@ pub fn operation_for(
         ≡ spec.operation_of (plain_cube_request request.now)
         (record { shape = shape.now; kind = kind } ∷ others)) }
     // no fault stands in its callback
-    ensures faultless { IfOk result (λ r. (others : List Outline) → IfSome
-        (callback_on (plain_cube_request request.now)
-        (record { shape = shape.now; kind = kind } ∷ others)) (λ c. IsFaultlessCallback c.1)
-        × IfSome (sums_of (plain_cube_request request.now)) AreSums) }
+    ensures faultless { IfOk result (λ r. (others : List Outline) → HasFaultlessCallbackOn
+        (plain_cube_request request.now)
+        (record { shape = shape.now; kind = kind } ∷ others)) }
     // or the least of those that stand there
     ensures refused { IfErr result (IsFault (StandsInCallback id.now
         (plain_cube_request request.now)
