@@ -5,5 +5,6 @@ pub mod Links
 pub mod Walked
 pub mod Early
 pub mod Inputs
+pub mod Judged
 pub mod Held
 pub mod Tables

@@ -51,10 +51,13 @@ pub record IsKnown (nodes : Nodes) (states : List State) (at : List ℕ → Outl
   pub state_is : state_at states index ≡ Sound kept
   pub outline_is : at name ≡ outline_kept kept
 
+-- the nodes of these names are known so
+abbrev pub AreNamesKnown : Nodes → List State → (List ℕ → Outline) → List (List ℕ) → Type 0
+AreNamesKnown nodes states at names = (name : List ℕ) → Contains names name → IsKnown nodes states at name
+
 -- all nodes that a node refers to are known so
 abbrev pub AreKnown : Nodes → List State → (List ℕ → Outline) → PlainNode → Type 0
-AreKnown nodes states at n =
-    (name : List ℕ) → Contains (references_named n.arguments) name → IsKnown nodes states at name
+AreKnown nodes states at n = AreNamesKnown nodes states at (references_named n.arguments)
 
 module _ (rows : List DimsRow) (at : List ℕ → Outline) (n : PlainNode) where
   -- no fault stands at the node, and this is its operation, with the collection that it loads and the outline of its

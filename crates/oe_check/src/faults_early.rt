@@ -1,6 +1,6 @@
 // The first fault of a node that the faults of its callback wait for.
 ghost use Rattle.std.specs.Prelude.{◌≡◌, ◌&&◌, ◌||◌, not, false, ℕ, List, Option, map, is_some, IfOk};
-ghost use Rattle.std.specs.Option.{option_map, option_map_or};
+ghost use Rattle.std.specs.Option.{option_copied, option_map, option_map_or};
 ghost use Rattle.oe_cell.specs.Fraction.{Fraction};
 ghost use Rattle.oe_cell.specs.declared.cell.Cell.{Cell};
 ghost use Rattle.oe_dims.specs.Dimensions.{Dimensions};
@@ -89,10 +89,9 @@ fn load_fault(
     bands: &Option<Vec<&Text>>,
     shape: &Shape,
 ) -> Result<Option<Code>, OutOfMemory>
-    ensures { (id : List ℕ) (two : Dimensions)
-        → IfOk result (IsEarlyFault (request.load_collection id area time
-        (option_map (λ names. map (λ name. name.now) names.items) bands.now))
-        shape.now two) }
+    ensures { (id : List ℕ) (two : Dimensions) → IfOk result (IsEarlyFault
+        (request.load_collection id area time
+        (option_map (λ names. map (λ name. name.now) names.items) bands.now)) shape.now two) }
 {
     let lacks_band = lacks_given_band(alloc, bands, shape)?;
     Ok(if is_box_in_another(area, shape) {
@@ -129,10 +128,8 @@ fn filter_temporal_fault(
     dimension: Option<&str>,
     shape: &Shape,
 ) -> Option<Code>
-    ensures { (id : List ℕ) (two : Dimensions)
-        → IsEarlyFault (request.filter_temporal id time
-        (option_map (λ bytes. bytes.now) dimension.entry))
-        shape.now two result }
+    ensures { (id : List ℕ) (two : Dimensions) → IsEarlyFault
+        (request.filter_temporal id time (option_copied dimension.entry)) shape.now two result }
 {
     if lacks(Kind::Time, shape) || names_other(dimension) {
         Some(Code::DimensionNotAvailable)
@@ -205,8 +202,7 @@ fn aggregate_fault(
 ) -> Result<Option<Code>, OutOfMemory>
     ensures { (id : List ℕ) (c : request.Called) (two : Dimensions)
         → IfOk result (IsEarlyFault (request.aggregate_temporal id intervals.now
-        (option_map (λ bytes. bytes.now) dimension.entry) c)
-        shape.now two) }
+        (option_copied dimension.entry) c) shape.now two) }
 {
     let differ = have_distinct_labels(alloc, intervals)?;
     Ok(if lacks(Kind::Time, shape) || names_other(dimension) {
@@ -224,8 +220,7 @@ fn aggregate_fault(
 fn period_fault(dimension: Option<&str>, shape: &Shape) -> Option<Code>
     ensures { (id : List ℕ) (period : Period) (c : request.Called) (two : Dimensions)
         → IsEarlyFault (request.aggregate_temporal_period id period
-        (option_map (λ bytes. bytes.now) dimension.entry) c)
-        shape.now two result }
+        (option_copied dimension.entry) c) shape.now two result }
 {
     if lacks(Kind::Time, shape) || names_other(dimension) {
         Some(Code::DimensionNotAvailable)
@@ -271,8 +266,7 @@ fn merge_fault(
 ) -> Result<Option<Code>, OutOfMemory>
     ensures { (id other : List ℕ) (resolver : Option request.Called)
         → has_resolver ≡ is_some resolver
-        → IfOk result (IsEarlyFault (request.merge_cubes id other resolver)
-        one.now two.now) }
+        → IfOk result (IsEarlyFault (request.merge_cubes id other resolver) one.now two.now) }
 {
     let differ = differ_in_dimensions(alloc, one, two)?;
     let lacks = lacks_resolver(alloc, has_resolver, one, two)?;

@@ -1,25 +1,21 @@
 // The fault of one node, or what it is without one.
-ghost use Rattle.std.specs.Prelude.{◌≡◌, List, ◌∷◌, ℕ, Option, Some, IfOk, IfSome, ◌&&◌};
+ghost use Rattle.std.specs.Prelude.{◌≡◌, List, ℕ, Option, IfOk, ◌&&◌};
 ghost use Rattle.std.specs.Prelude.{IsTrue, ◌↔◌, is_none, length};
 ghost use Rattle.std.specs.Arc.{arc_value};
 ghost use Rattle.std.specs.Option.{option_map};
 ghost use Rattle.oe_dims.specs.Dimensions.{Dimensions};
 ghost use Rattle.oe_dims.specs.Plain.{plain_rows};
-ghost use Rattle.oe_dims.specs.declared.dims.DimsRow.{DimsRow};
-ghost use Rattle.oe_expr.specs.Callback.{IsFaultlessCallback};
 ghost use Rattle.oe_graph.specs.Faults.{IsLeast};
 ghost use Rattle.oe_graph.specs.Plain.{plain_node, plain_nodes};
 ghost use Rattle.oe_meanings.specs.Callbacks.{IsBuildable, StandsInCallback};
-ghost use Rattle.oe_check.specs.Inputs.{HasFewIntervals, WorksOn, outline_in};
+ghost use Rattle.oe_check.specs.Inputs.{HasFewIntervals, outline_in};
+ghost use Rattle.oe_check.specs.Judged.{IsBuiltFor, IsVerdictOn};
 ghost use Rattle.oe_check.specs.Links.{loaded_by};
-ghost use Rattle.oe_requests.specs.Operations as operations;
 ghost use Rattle.oe_requests.specs.Operations.{Outline};
 ghost use Rattle.oe_requests.specs.PlainRequests.{plain_operation, plain_cube_request};
-ghost use Rattle.oe_requests.specs.Requests as spec;
+ghost use Rattle.oe_requests.specs.Requests.{CubeRequest};
 ghost use Rattle.oe_meanings.specs.Results as results;
 ghost use Rattle.oe_meanings.specs.Results.{HasValidLabels, IsResultShape};
-ghost use Rattle.oe_requests.specs.RunningSums.{AreSums};
-ghost use Rattle.oe_meanings.specs.Stands.{Passes, callback_on, sums_of};
 ghost use Rattle.oe_check.specs.Walked.{AreKnown, IsVerdict, AreResolved, IsNodeOf};
 ghost use Rattle.oe_check.specs.declared.walk.Verdict.TheVariants as verdicts;
 
@@ -99,11 +95,8 @@ fn judge_request(
 ) -> Result<Verdict, OutOfMemory>
     requires buildable { IsBuildable (plain_cube_request request.now) }
     requires labels { HasValidLabels (plain_cube_request request.now) }
-    ensures { IfOk result (λ verdict. (rows : List DimsRow) (at : List ℕ → Outline)
-        → Passes rows at (plain_node node.now) (plain_cube_request request.now)
-        → WorksOn rows at (plain_cube_request request.now) (outline_in one.entry)
-        (outline_in two.entry)
-        → IsVerdict rows at (plain_node node.now) verdict) }
+    ensures { IfOk result (IsVerdictOn (plain_node node.now) (plain_cube_request request.now)
+        (outline_in one.entry) (outline_in two.entry)) }
 {
     let shape = shape_shared(alloc, states, request, one, two)?;
     // so many periods are not made: their fault comes before every one of the callback
@@ -139,12 +132,10 @@ fn is_by_period(request: &Request<'_>) -> bool
 
 /// The least of a callback's fault and that of a cube that is too large, which does not wait for the callback.
 fn least_with_size(node: &Node, is_too_large: bool, fault: Fault) -> Result<Verdict, OutOfMemory>
-    ensures { (request : spec.CubeRequest) (found : Option Dimensions) (one two : Outline)
-        → IsLeast (StandsInCallback (plain_node node.now).id request one) fault
-        → IsResultShape request one.shape two.shape found → is_too_large ≡ is_none found
-        → IfOk result (λ verdict. (rows : List DimsRow) (at : List ℕ → Outline)
-        → Passes rows at (plain_node node.now) request → WorksOn rows at request one two
-        → IsVerdict rows at (plain_node node.now) verdict) }
+    ensures { (request : CubeRequest) (found : Option Dimensions) (one two : Outline)
+        → IsLeast (StandsInCallback (plain_node node.now).id request one) fault → IsResultShape
+        request one.shape two.shape found → is_too_large ≡ is_none found
+        → IfOk result (IsVerdictOn (plain_node node.now) request one two) }
 {
     if !is_too_large {
         return Ok(Verdict::Stands(fault));
@@ -170,21 +161,10 @@ fn judge_operation(
     one: Input<'_>,
     two: Input<'_>,
 ) -> Result<Verdict, OutOfMemory>
-    requires buildable { IsBuildable (plain_cube_request request.now) }
-    requires labels { HasValidLabels (plain_cube_request request.now) }
-    requires shape { IsResultShape (plain_cube_request request.now)
-        one.shape.now two.shape.now (option_map arc_value shape) }
-    requires operation { (others : List Outline) → Some (plain_operation operation)
-        ≡ operations.operation_of (plain_cube_request request.now) (outline_in one ∷ others) }
-    requires faultless { (others : List Outline) → IfSome
-        (callback_on (plain_cube_request request.now) (outline_in one ∷ others))
-        (λ c. IsFaultlessCallback c.1)
-        × IfSome (sums_of (plain_cube_request request.now)) AreSums }
-    ensures { IfOk result (λ verdict. (rows : List DimsRow) (at : List ℕ → Outline)
-        → Passes rows at (plain_node node.now) (plain_cube_request request.now)
-        → WorksOn rows at (plain_cube_request request.now) (outline_in one.entry)
-        (outline_in two.entry)
-        → IsVerdict rows at (plain_node node.now) verdict) }
+    requires { IsBuiltFor (plain_cube_request request.now) (outline_in one) (outline_in two)
+        (option_map arc_value shape) (plain_operation operation) }
+    ensures { IfOk result (IsVerdictOn (plain_node node.now) (plain_cube_request request.now)
+        (outline_in one.entry) (outline_in two.entry)) }
 {
     if takes_other_kinds(&operation, one.kind, two.kind) {
         return stands(Code::CellKindInvalid, node);

@@ -12,7 +12,7 @@ ghost use Rattle.oe_check.specs.Links.{index_referred};
 ghost use Rattle.oe_requests.specs.Operations.{Outline};
 ghost use Rattle.oe_requests.specs.PlainRequests.{plain_cube_request};
 ghost use Rattle.oe_requests.specs.Requests.{cube_ids};
-ghost use Rattle.oe_check.specs.Walked.{AreResolved, IsKnown};
+ghost use Rattle.oe_check.specs.Walked.{AreNamesKnown, AreResolved};
 ghost use Rattle.oe_expr.specs.Requests.{with_both};
 
 use crate::checked::State;
@@ -33,11 +33,9 @@ pub(crate) fn inputs_of<'a>(
     requires resolved { AreResolved (plain_nodes nodes.now) }
     requires states { length states.now ≡ length nodes.now }
     requires named { AreNamed (plain_nodes nodes.now) (cube_ids (plain_cube_request request.now)) }
-    ensures { (at : List ℕ → Outline)
-        → ((name : List ℕ) → Contains (cube_ids (plain_cube_request request.now)) name
-        → IsKnown (plain_nodes nodes.now) states.now at name)
-        → AreInputs (plain_rows dims.now) at (plain_cube_request request.now)
-        (option_map both_outlines result) }
+    ensures { (at : List ℕ → Outline) → AreNamesKnown (plain_nodes nodes.now) states.now at
+        (cube_ids (plain_cube_request request.now)) → AreInputs (plain_rows dims.now) at
+        (plain_cube_request request.now) (option_map both_outlines result) }
 {
     match request {
         Request::LoadCollection { id, .. } => once(collection_named(dims, id)),

@@ -20,7 +20,7 @@ returns-then-takes_other_kinds c =
     let two = outline_in c.args.two in
     IfOk-weaker c.stands.result _ _ (λ (verdict : Verdict) is. λ (rows : List DimsRow) (at : List ℕ → Outline) (p : Passes rows at n r) (works : WorksOn rows at r one two).
     subst (IsVerdict rows at n) (sym is)
-    (other_kinds rows at n r p one two works (plain_operation c.args.operation) c.requires.operation c.requires.faultless
+    (other_kinds rows at n r p one two works (plain_operation c.args.operation) c.requires.operation_is c.requires.faultless
     (sym c.takes_other_kinds.ensures ∙ c.if-takes_other_kinds.true)))
     c.stands.ensures
 
@@ -32,14 +32,14 @@ returns-in_default c =
     let two = outline_in c.args.two in
     IfOk-weaker c.stands-in_default.result _ _ (λ (verdict : Verdict) is. λ (rows : List DimsRow) (at : List ℕ → Outline) (p : Passes rows at n r) (works : WorksOn rows at r one two).
     subst (IsVerdict rows at n) (sym is)
-    (too_many rows at n r p one two works (plain_operation c.args.operation) c.requires.operation c.requires.faultless
-    (sym c.takes_other_kinds.ensures ∙ c.if-takes_other_kinds.false) (option_map arc_value c.args.shape) c.requires.shape
+    (too_many rows at n r p one two works (plain_operation c.args.operation) c.requires.operation_is c.requires.faultless
+    (sym c.takes_other_kinds.ensures ∙ c.if-takes_other_kinds.false) (option_map arc_value c.args.shape) c.requires.shape_is
     (ap (option_map arc_value) c.in_default.is)))
     c.stands-in_default.ensures
 
 pub returns : goal.returns
 returns c = λ rows at p works.
     judged_sound rows at (plain_node c.args.node.now) (plain_cube_request c.args.request.now) p (outline_in c.args.one) (outline_in c.args.two) works
-    (plain_operation c.args.operation) c.requires.operation c.requires.faultless
-    (sym c.takes_other_kinds.ensures ∙ c.if-takes_other_kinds.false) (option_map arc_value c.args.shape) c.requires.shape c.requires.buildable c.requires.labels
+    (plain_operation c.args.operation) c.requires.operation_is c.requires.faultless
+    (sym c.takes_other_kinds.ensures ∙ c.if-takes_other_kinds.false) (option_map arc_value c.args.shape) c.requires.shape_is c.requires.buildable c.requires.labels
     c.recall_rules.ensures _ (ap (option_map arc_value) c.in-Some.is) refl c.kind_given-kind.ensures c.in_ok-collection_of.ensures
