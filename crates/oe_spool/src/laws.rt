@@ -1,12 +1,12 @@
 // What holds of records that are written window by window.
-ghost use Rattle.std.specs.Prelude.{◌≡◌, ℕ, ◌<◌, ◌++◌, [], ◌∷◌, List, Option, None};
+ghost use Rattle.std.specs.Prelude.{◌≡◌, ℕ, ◌++◌, [], ◌∷◌, List, Option, None};
 ghost use Rattle.oe_cell.specs.declared.cell.Cell.{Cell};
 ghost use Rattle.oe_dims.specs.Cube.{Cube, IsCube};
 ghost use Rattle.oe_dims.specs.Dimensions.{Dimensions};
-ghost use Rattle.oe_dims.specs.Positions.{Position, IsPosition};
+ghost use Rattle.oe_spool.specs.Laws.{AreAllOfShape, AreLeastOfChunks, AreOfShape, HoldsChunks, KeepsRecords};
 ghost use Rattle.oe_spool.specs.Least.{IsLeastOver, least_of_first, least_over_of, lesser_of};
-ghost use Rattle.oe_spool.specs.Spooled.{AreDisjoint, ChangesOnly, HoldsCube, HoldsRecords, HoldsWindow, IsInSome};
-ghost use Rattle.oe_window.specs.Chunks.{IsTiling, chunk_count, chunk_window, tiling_of};
+ghost use Rattle.oe_spool.specs.Spooled.{ChangesOnly, HoldsCube, HoldsRecords, IsInSome};
+ghost use Rattle.oe_window.specs.Chunks.{IsTiling, chunk_count, tiling_of};
 ghost use Rattle.oe_window.specs.Windows.{IsIn};
 ghost use Rattle.oe_window.specs.declared.grid.ChunkSize.{ChunkSize};
 ghost use Rattle.oe_window.specs.declared.window.Window.{Window};
@@ -19,9 +19,8 @@ pub fn changes_add_up()
     ensures one { (base : ℕ) (shape : Dimensions) (window : Window) (a b : Option (List ℕ)) →
         ChangesOnly base shape (IsIn window) a b →
         ChangesOnly base shape (IsInSome (window ∷ [])) a b }
-    ensures both { (base : ℕ) (shape : Dimensions) (xs ys : List Window)
-        (a b c : Option (List ℕ)) → ChangesOnly base shape (IsInSome xs) a b →
-        ChangesOnly base shape (IsInSome ys) b c →
+    ensures both { (base : ℕ) (shape : Dimensions) (xs ys : List Window) (a b c : Option (List ℕ)) →
+        ChangesOnly base shape (IsInSome xs) a b → ChangesOnly base shape (IsInSome ys) b c →
         ChangesOnly base shape (IsInSome (xs ++ ys)) a c }
 {}
 
@@ -29,29 +28,19 @@ pub fn changes_add_up()
 /// are written.
 pub fn records_stay()
     ensures window { (old new : Option (List ℕ)) (base : ℕ) (cube : Cube Cell) (a b : Window) →
-        ((p : Position) → IsIn a p → IsPosition cube.shape p) →
-        ((p : Position) → IsIn b p → IsPosition cube.shape p) → AreDisjoint (IsIn a) (IsIn b) →
-        ChangesOnly base cube.shape (IsIn b) old new → HoldsWindow old base cube a →
-        HoldsWindow new base cube a }
+        KeepsRecords old new base cube (IsIn a) (IsIn b) }
     ensures windows { (old new : Option (List ℕ)) (base : ℕ) (cube : Cube Cell)
-        (xs ys : List Window) → ((p : Position) → IsInSome xs p → IsPosition cube.shape p) →
-        ((p : Position) → IsInSome ys p → IsPosition cube.shape p) →
-        AreDisjoint (IsInSome xs) (IsInSome ys) →
-        ChangesOnly base cube.shape (IsInSome ys) old new →
-        HoldsRecords old base cube (IsInSome xs) → HoldsRecords new base cube (IsInSome xs) }
+        (xs ys : List Window) → KeepsRecords old new base cube (IsInSome xs) (IsInSome ys) }
 {}
 
 /// Does nothing. Its contract says that the records of all cells of a cube stand in a store where those of windows
 /// do that have each position between them, as those of all chunks of a grid.
 pub fn windows_make_cubes()
     ensures windows { (store : Option (List ℕ)) (base : ℕ) (cube : Cube Cell)
-        (windows : List Window) → IsCube cube →
-        ((p : Position) → IsPosition cube.shape p → IsInSome windows p) →
+        (windows : List Window) → IsCube cube → AreAllOfShape cube.shape (IsInSome windows) →
         HoldsRecords store base cube (IsInSome windows) → HoldsCube store base cube }
     ensures chunks { (store : Option (List ℕ)) (base : ℕ) (cube : Cube Cell) (size : ChunkSize) →
-        IsCube cube → IsTiling (tiling_of cube.shape size) →
-        ((k : ℕ) → k < chunk_count (tiling_of cube.shape size) →
-        HoldsWindow store base cube (chunk_window (tiling_of cube.shape size) k)) →
+        IsCube cube → IsTiling (tiling_of cube.shape size) → HoldsChunks store base cube size →
         HoldsCube store base cube }
 {}
 
@@ -66,13 +55,9 @@ pub fn least_of_parts()
         IsLeastOver cube (IsInSome xs) m → IsLeastOver cube (IsInSome ys) n →
         IsLeastOver cube (IsInSome (xs ++ ys)) (lesser_of m n) }
     ensures windows { (cube : Cube Cell) (windows : List Window) (m : Option ℕ) → IsCube cube →
-        ((p : Position) → IsInSome windows p → IsPosition cube.shape p) →
-        ((p : Position) → IsPosition cube.shape p → IsInSome windows p) →
+        AreOfShape cube.shape (IsInSome windows) → AreAllOfShape cube.shape (IsInSome windows) →
         IsLeastOver cube (IsInSome windows) m → m ≡ least_over_of cube.cells }
     ensures chunks { (cube : Cube Cell) (size : ChunkSize) (found : ℕ → Option ℕ) → IsCube cube →
-        IsTiling (tiling_of cube.shape size) →
-        ((k : ℕ) → k < chunk_count (tiling_of cube.shape size) →
-        IsLeastOver cube (IsIn (chunk_window (tiling_of cube.shape size) k)) (found k)) →
-        least_of_first found (chunk_count (tiling_of cube.shape size))
-        ≡ least_over_of cube.cells }
+        IsTiling (tiling_of cube.shape size) → AreLeastOfChunks cube size found → least_of_first
+        found (chunk_count (tiling_of cube.shape size)) ≡ least_over_of cube.cells }
 {}
