@@ -1,5 +1,5 @@
 -- Running sums along `t` (openEO Processes, `cumsum`; what Over and nulls give are rules of this profile).
-use Rattle.std.specs.Prelude.{◌≡◌, ◌⊎◌, Bool, true, false, not, ◌&&◌, ◌||◌, List, [], ◌∷◌, ◌++◌, filter, if◌then◌else◌}
+use Rattle.std.specs.Prelude.{◌≡◌, ◌⊎◌, ℕ, Bool, true, false, not, ◌&&◌, ◌||◌, List, [], ◌∷◌, ◌++◌, filter, slice_index_or, if◌then◌else◌}
 use Rattle.std.specs.List.{list_all, list_any, fold}
 use Rattle.oe_cell.specs.Kinds.{is_empty, is_over}
 use Rattle.oe_cell.specs.Operations.{add_of}
@@ -50,3 +50,8 @@ HasSummed ignore cells sum Over = list_any is_over cells ≡ true
 HasSummed ignore cells sum (Flag b) = StaysNull ignore cells
 HasSummed ignore cells sum Empty = IsSumOf ignore cells sum
 HasSummed ignore cells sum (Number q) = ⊥
+
+-- the same of the pixel at an index of a row of sums and marks
+abbrev pub HasSummedAt : Bool → List Cell → List Cell → List Cell → ℕ → Type 0
+HasSummedAt ignore cells sums marks k =
+    HasSummed ignore cells (slice_index_or sums k Empty) (slice_index_or marks k Empty)

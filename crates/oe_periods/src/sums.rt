@@ -3,7 +3,7 @@ ghost use Rattle.std.specs.Prelude.{◌≡◌, ◌<◌, ◌++◌, ◌∷◌, [],
 ghost use Rattle.oe_cell.specs.declared.cell.Cell.{Cell};
 ghost use Rattle.oe_cell.specs.Kinds.{is_empty};
 ghost use Rattle.oe_cell.specs.declared.cell.Cell.TheVariants.{Empty, Flag};
-ghost use Rattle.oe_periods.specs.Sums.{HasSummed, IsSumOf, running_sum};
+ghost use Rattle.oe_periods.specs.Sums.{HasSummed, HasSummedAt, IsSumOf, running_sum};
 
 use oe_cell::{Cell, add};
 
@@ -14,8 +14,8 @@ use oe_cell::{Cell, add};
 /// Before the first cell of each pixel.
 pub fn begin_sums(sums: &mut [Cell], marks: &mut [Cell])
     requires { length marks.old ≡ length sums.old }
-    ensures { (k : ℕ) → k < length sums.new → (ignore : Bool) → HasSummed ignore []
-        (slice_index_or sums.new k Empty) (slice_index_or marks.new k Empty) }
+    ensures { (k : ℕ) → k < length sums.new → (ignore : Bool)
+        → HasSummedAt ignore [] sums.new marks.new k }
 {
     sums.fill(Cell::Empty);
     marks.fill(Cell::Empty);
@@ -26,9 +26,8 @@ pub fn add_cells(ignore: bool, cells: &[Cell], sums: &mut [Cell], marks: &mut [C
     requires sums { length sums.old ≡ length cells.now }
     requires marks { length marks.old ≡ length cells.now }
     ensures { (k : ℕ) → k < length cells.now → (before : List Cell)
-        → HasSummed ignore before (slice_index_or sums.old k Empty) (slice_index_or marks.old k Empty)
-        → HasSummed ignore (before ++ slice_index_or cells.now k Empty ∷ [])
-        (slice_index_or sums.new k Empty) (slice_index_or marks.new k Empty) }
+        → HasSummedAt ignore before sums.old marks.old k → HasSummedAt ignore
+        (before ++ slice_index_or cells.now k Empty ∷ []) sums.new marks.new k }
 {
     for index in 0..cells.len() {
         let (sum, mark) = next(ignore, cells[index], sums[index], marks[index]);
@@ -94,8 +93,7 @@ pub fn write_sums(cells: &[Cell], sums: &[Cell], marks: &[Cell], out: &mut [Cell
     requires marks { length marks.now ≡ length cells.now }
     requires out { length out.old ≡ length cells.now }
     ensures { (k : ℕ) → k < length cells.now → (ignore : Bool) (before : List Cell)
-        → HasSummed ignore (before ++ slice_index_or cells.now k Empty ∷ [])
-        (slice_index_or sums.now k Empty) (slice_index_or marks.now k Empty)
+        → HasSummedAt ignore (before ++ slice_index_or cells.now k Empty ∷ []) sums.now marks.now k
         → slice_index_or out.new k Empty
         ≡ running_sum ignore before (slice_index_or cells.now k Empty) }
 {

@@ -128,8 +128,7 @@ fn put_default(
     parameter: &ParameterRow,
     arguments: &mut Vec<(Text, Arg)>,
 ) -> Result<(), OutOfMemory>
-    ensures { OnOk result (plain_named arguments.new.items
-        ≡ spec.put_default parameter.now.name
+    ensures { OnOk result (plain_named arguments.new.items ≡ spec.put_default parameter.now.name
         (named.argument_named parameter.now.name (plain_named arguments.old.items))
         (default_of (plain_parameter parameter.now)) (plain_named arguments.old.items)) }
 {
