@@ -4,6 +4,7 @@ use Rattle.std.specs.Prelude.{◌≡◌, ◌↔◌, ℕ, Bool, true, false, not,
 use Rattle.std.specs.List.{list_any}
 use Rattle.std.specs.Option.{option_map_or}
 use Rattle.oe_dims.specs.Names.{same_name, names_rise}
+use Rattle.oe_graph.specs.Faults.{IsLeastFault}
 use Rattle.oe_graph.specs.Form.{node_name, callback_name}
 use Rattle.oe_graph.specs.Printed.{ids_of, names_of}
 use Rattle.oe_graph.specs.References.{each_node, argument_named, references_named, parameters_named, callbacks_in, callbacks_named, Leads}
@@ -181,3 +182,19 @@ pub record AreMarks (last : Bool) (nodes : Nodes) (marks : List Bool) : Type 0 w
   pub each : length marks ≡ length (each_node nodes)
   pub exact : (index : ℕ) (n : PlainNode) → slice_get (each_node nodes) index ≡ Some n
       → IsMark last nodes n (slice_index_or marks index false)
+
+-- ---- the least
+
+-- where the ids in the callbacks of an argument rise, this is the least of its faults
+abbrev pub IsLeastOfArgument : List PlainStored → Bool → List ℕ → List ℕ → List (List ℕ) → Argument → Option Fault
+    → Type 0
+IsLeastOfArgument stored last node name scope a least =
+    IdsRiseIn (callbacks_in a) → IsLeastFault (OfArgument stored last node name scope a) least
+
+-- The same of a node, whatever the nodes beside it are, where its two marks say whether they are all that it refers to,
+-- and whether references lead back to it.
+abbrev pub IsLeastOfNode : List PlainStored → Bool → List ℕ → List (List ℕ) → PlainNode → Bool → Bool → Option Fault
+    → Type 0
+IsLeastOfNode stored last name scope n is_known is_cyclic least =
+    (nodes : Nodes) → IdsRiseIn (callbacks_named n.arguments) → is_known ≡ know_named (ids_of nodes) n.arguments
+    → IsMark last nodes n is_cyclic → IsLeastFault (OfNode stored last name scope nodes n) least

@@ -14,7 +14,7 @@ ghost use Rattle.oe_order.specs.Graph.{graph_of};
 ghost use Rattle.oe_calls.specs.Calls.{parameters_of, row_meant};
 ghost use Rattle.oe_calls.specs.Faults.{names_among};
 ghost use Rattle.oe_resolve.specs.NameFaults as spec;
-ghost use Rattle.oe_resolve.specs.NameFaults.{AreMarks, IsMark, IdsRise, IdsRiseIn, OfArgument, OfArguments, OfNode, OfObject};
+ghost use Rattle.oe_resolve.specs.NameFaults.{AreMarks, IdsRise, IdsRiseIn, IsLeastOfArgument, IsLeastOfNode, OfArguments, OfObject};
 ghost use Rattle.oe_calls.specs.PlainValues.{names_behind};
 
 use crate::cycle::cyclic_marks;
@@ -111,12 +111,8 @@ fn node_faults(
     is_known: bool,
     is_cyclic: bool,
 ) -> Result<Option<Fault>, OutOfMemory>
-    ensures { IfOk result (λ o. (nodes : tree.Nodes)
-        → IdsRiseIn (callbacks_named (plain_node node.now).arguments)
-        → is_known ≡ spec.know_named (ids_of nodes) (plain_node node.now).arguments
-        → IsMark judge.now.last nodes (plain_node node.now) is_cyclic
-        → IsLeastFault (OfNode (map plain_stored judge.now.stored.now) judge.now.last name.now
-        (names_behind scope.now) nodes (plain_node node.now)) o) }
+    ensures { IfOk result (IsLeastOfNode (map plain_stored judge.now.stored.now) judge.now.last
+        name.now (names_behind scope.now) (plain_node node.now) is_known is_cyclic) }
 {
     let name = node_name(alloc, name, node.id.as_str())?;
     let own = node_fault(
@@ -180,9 +176,8 @@ fn argument_fault(
     scope: &[&'static str],
     arg: &Arg,
 ) -> Result<Option<Fault>, OutOfMemory>
-    ensures { IfOk result (λ o. IdsRiseIn (callbacks_in (plain_arg arg.now))
-        → IsLeastFault (OfArgument (map plain_stored judge.now.stored.now) judge.now.last
-        node_name.now argument.now (names_behind scope.now) (plain_arg arg.now)) o) }
+    ensures { IfOk result (IsLeastOfArgument (map plain_stored judge.now.stored.now)
+        judge.now.last node_name.now argument.now (names_behind scope.now) (plain_arg arg.now)) }
 {
     match arg {
         Arg::List(items) => items_fault(alloc, judge, node_name, argument, scope, items),
@@ -216,10 +211,9 @@ fn items_fault(
     scope: &[&'static str],
     items: &Vec<Arg>,
 ) -> Result<Option<Fault>, OutOfMemory>
-    ensures { IfOk result (λ o. IdsRiseIn (callbacks_in (tree.list (plain_args items.now.items)))
-        → IsLeastFault (OfArgument (map plain_stored judge.now.stored.now) judge.now.last
-        node_name.now argument.now (names_behind scope.now)
-        (tree.list (plain_args items.now.items))) o) }
+    ensures { IfOk result (IsLeastOfArgument (map plain_stored judge.now.stored.now)
+        judge.now.last node_name.now argument.now (names_behind scope.now)
+        (tree.list (plain_args items.now.items))) }
 {
     let mut fault = None;
     for item in items {
@@ -240,11 +234,9 @@ fn members_fault(
     scope: &[&'static str],
     members: &Vec<(Text, Arg)>,
 ) -> Result<Option<Fault>, OutOfMemory>
-    ensures { IfOk result (λ o. IdsRiseIn
-        (callbacks_in (tree.object (plain_named members.now.items)))
-        → IsLeastFault (OfArgument (map plain_stored judge.now.stored.now) judge.now.last
-        node_name.now argument.now (names_behind scope.now)
-        (tree.object (plain_named members.now.items))) o) }
+    ensures { IfOk result (IsLeastOfArgument (map plain_stored judge.now.stored.now)
+        judge.now.last node_name.now argument.now (names_behind scope.now)
+        (tree.object (plain_named members.now.items))) }
 {
     let mut fault = None;
     for member in members {
