@@ -75,8 +75,9 @@ pub record IsStrip (k : KernelValues) (border : Border) (p : Plane) (x y count s
   pub most : count ≤ STRIP
   pub end : start + count ≤ length out
 
--- a band is some pixels of some rows, whose windows the box has, and there is room for their cells from an index on
-pub record IsBand (k : KernelValues) (border : Border) (p : Plane) (x y rows columns start : ℕ) (out : List Cell)
+-- a piece of a block is some pixels of some rows, whose windows the box has, and there is room for their cells from an
+-- index on
+pub record IsPiece (k : KernelValues) (border : Border) (p : Plane) (x y rows columns start : ℕ) (out : List Cell)
     : Type 0 where
   pub windows : HasBlockOfWindows k border p x y rows columns
   pub some_rows : 0 < rows

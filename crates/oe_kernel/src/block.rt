@@ -1,7 +1,7 @@
 // Cells of several rows at once: each pixel is unpacked once for all rows of the kernel.
 ghost use Rattle.std.specs.Prelude.{◌≡◌, ◌<◌, ◌≤◌, ◌+◌, ◌*◌, ℕ, length, IsTrue, IfSome};
 ghost use Rattle.oe_cell.specs.Exact.{cell_of_lowest};
-ghost use Rattle.oe_kernel.specs.Blocks.{cell_at, cells_from, HasBlockOfWindows, IsBand, IsConvolvedBlock, KeepsBefore};
+ghost use Rattle.oe_kernel.specs.Blocks.{cell_at, cells_from, HasBlockOfWindows, IsConvolvedBlock, IsPiece, KeepsBefore};
 ghost use Rattle.oe_kernel.specs.Convolution.{IsAmount};
 ghost use Rattle.oe_kernel.specs.declared.block.TheConstants.{BLOCK_PIXELS};
 ghost use Rattle.oe_kernel.specs.declared.strip.TheConstants.{STRIP};
@@ -143,7 +143,7 @@ fn fast_band(
     start: usize,
     out: &mut [Cell],
 ) -> bool
-    requires band { IsBand kernel.now border.now plane.now x y rows columns start out.old }
+    requires piece { IsPiece kernel.now border.now plane.now x y rows columns start out.old }
     requires room { pixels_under kernel.now rows columns ≤ BLOCK_PIXELS }
     requires bound { IsBoundFor kernel.now.values bound }
     ensures value { IsTrue result → IsConvolvedBlock kernel.now factor border.now replace plane.now
@@ -226,7 +226,7 @@ fn convolve_band(
     start: usize,
     out: &mut [Cell],
 )
-    requires band { IsBand kernel.now border.now plane.now x y rows columns start out.old }
+    requires piece { IsPiece kernel.now border.now plane.now x y rows columns start out.old }
     requires bound { IfSome bound (IsBoundFor kernel.now.values) }
     ensures value { IsConvolvedBlock kernel.now factor border.now replace plane.now
         x y rows columns (cells_from out.new start) }

@@ -6,8 +6,8 @@ use Rattle.oe_kernel.proofs.ProgressLemmas.{rows_more, row_before, rows_end}
 use Rattle.oe_kernel.proofs.block.convolve_block.Goals as goal
 use Rattle.oe_kernel.proofs.block.convolve_block.Goals.{then-left-most, else-left-most}
 
-pub convolve_band-requires-clause-band : goal.convolve_band-requires-clause-band
-convolve_band-requires-clause-band c =
+pub convolve_band-requires-clause-piece : goal.convolve_band-requires-clause-piece
+convolve_band-requires-clause-piece c =
     let n : ℕ = c.loop-row.row in
     let some : ℕ = c.if-left-most.band in
     let any : 0 < some = elim c.if-left-most.branch [ then-left-most w ↦ omega arith | else-left-most w ↦ omega arith ] in

@@ -31,13 +31,13 @@ pub unpack_rows-requires-clause-pixels : goal.unpack_rows-requires-clause-pixels
 unpack_rows-requires-clause-pixels c =
     let kernel = c.args.kernel.now in
     let plane = c.args.plane.now in
-    let windows = c.requires.band.windows in
+    let windows = c.requires.piece.windows in
     let high : ℕ = c.args.rows + kernel.height - 1 in
     let wide : ℕ = c.args.columns + kernel.width - 1 in
     let rows_most : high ≤ BLOCK_PIXELS = first_most high wide BLOCK_PIXELS c.requires.room (omega arith) in
     let columns_most : wide ≤ BLOCK_PIXELS = second_most high wide BLOCK_PIXELS c.requires.room (omega arith) in
-    let rows = CoversPixels-windows c.args.border.now c.args.y c.args.rows kernel.height (c.args.rows + c.height.result - 1) plane.side_y plane.from_y plane.to_y windows.rows_covered (omega arith) c.requires.band.some_rows (omega arith) in
-    let columns = CoversPixels-windows c.args.border.now c.args.x c.args.columns kernel.width (c.args.columns + c.width.result - 1) plane.side_x plane.from_x plane.to_x windows.columns_covered (omega arith) c.requires.band.some_columns (omega arith) in
+    let rows = CoversPixels-windows c.args.border.now c.args.y c.args.rows kernel.height (c.args.rows + c.height.result - 1) plane.side_y plane.from_y plane.to_y windows.rows_covered (omega arith) c.requires.piece.some_rows (omega arith) in
+    let columns = CoversPixels-windows c.args.border.now c.args.x c.args.columns kernel.width (c.args.columns + c.width.result - 1) plane.side_x plane.from_x plane.to_x windows.columns_covered (omega arith) c.requires.piece.some_columns (omega arith) in
     λ row h. record {
       plane = windows.plane;
       x_in = omega arith;
@@ -59,7 +59,7 @@ returns-clause-value c = λ yes whole part row k row_in k_in.
     let pixels = take (under * stride) c.unpack_rows.new.pixels in
     let wide : columns + kernel.width - 1 ≡ stride = ap (λ (n : ℕ). columns + n - 1) (sym c.width.ensures.value) in
     let written = c.write_rows.ensures.value row k row_in k_in ∙ ap (λ (s : ℕ). multiply_of (rows_added (unpacked kernel pixels s (row * s + k)) kernel.width kernel.height) (Number c.args.factor)) wide in
-    strip_convolved kernel c.args.factor c.args.border.now c.args.replace plane whole (c.args.y + row) (c.args.x + k) (get_or c.write_rows.new.out (c.args.start + (row * columns + k)) Empty) (rows_added (unpacked kernel pixels stride (row * stride + k)) kernel.width kernel.height) part (c.requires.band.windows.rows_covered row row_in) (c.requires.band.windows.columns_covered k k_in)
+    strip_convolved kernel c.args.factor c.args.border.now c.args.replace plane whole (c.args.y + row) (c.args.x + k) (get_or c.write_rows.new.out (c.args.start + (row * columns + k)) Empty) (rows_added (unpacked kernel pixels stride (row * stride + k)) kernel.width kernel.height) part (c.requires.piece.windows.rows_covered row row_in) (c.requires.piece.windows.columns_covered k k_in)
     (rows_added-same _ (weighted kernel c.args.border.now c.args.replace (whole_plane_of plane) (c.args.y + row) (c.args.x + k)) kernel.width kernel.height (λ i j i_in j_in.
     let place : (row + i) * stride + (k + j) < under * stride = row_before (row + i) (k + j) under stride (omega arith) (omega arith) in
     block_cell kernel c.args.border.now c.args.replace plane c.args.y c.args.x row k i j stride (row * stride + k) pixels refl
