@@ -41,7 +41,7 @@ pub record HasRoomOn (shape : Dimensions) (window : Window) (out : List Cell) : 
   pub counted : length out ≡ position_count window
 
 -- an operation makes a cube of this shape, which is valid, of two inputs, whose cells its callback takes
-pub record WorksOn (o : Operation) (shape : Dimensions) (one two : Input) : Type 0 where
+pub record IsOperationOn (o : Operation) (shape : Dimensions) (one two : Input) : Type 0 where
   pub shape_valid : IsShape shape
   pub shape_is : shape ≡ shape_of o (one.shape.now ∷ two.shape.now ∷ [])
   pub takes : TakesInputs o one.shape.now one.slice.cells.now two.slice.cells.now

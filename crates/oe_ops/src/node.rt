@@ -11,7 +11,7 @@ ghost use Rattle.oe_requests.specs.Operations.{operation_kind, shape_of};
 ghost use Rattle.oe_requests.specs.PlainRequests.{plain_operation};
 ghost use Rattle.oe_window.specs.Cells.{cells_on};
 ghost use Rattle.oe_window.specs.Windows.{Holds, whole_window};
-ghost use Rattle.oe_ops.specs.Calls.{AreInputsFor, ForEachTwoInputs, HasRoomOn, WorksOn};
+ghost use Rattle.oe_ops.specs.Calls.{AreInputsFor, ForEachTwoInputs, HasRoomOn, IsOperationOn};
 ghost use Rattle.oe_ops.specs.Needs.{IsNeed, Needs, argument_shape};
 ghost use Rattle.oe_ops.specs.Nodes.{FitsFirstKind, HasScratch, IsConvolution};
 
@@ -65,7 +65,7 @@ pub fn eval_node(
     out: &mut [Cell],
     scratch: &mut [Cell],
 )
-    requires works { WorksOn (plain_operation operation.now) shape.now one two }
+    requires works { IsOperationOn (plain_operation operation.now) shape.now one two }
     requires inputs { AreInputsFor (plain_operation operation.now) window.now one two }
     requires inside { Holds (whole_window one.shape.now) one.slice.window }
     requires out { HasRoomOn shape.now window.now out.old }
