@@ -5,7 +5,7 @@ ghost use Rattle.oe_cell.specs.Cells.{IsCell};
 ghost use Rattle.oe_cell.specs.Kinds.{IsNumeric, IsLogical};
 ghost use Rattle.oe_cell.specs.declared.cell.Cell.{Cell};
 ghost use Rattle.oe_cell.specs.declared.cell.Cell.TheVariants.{Empty};
-ghost use Rattle.oe_fold.specs.Columns.{column};
+ghost use Rattle.oe_fold.specs.Columns.{AreReduced, HasColumns, KeepsKind, column};
 ghost use Rattle.oe_fold.specs.Value.{reduction_of};
 ghost use Rattle.oe_fold.specs.Progress.{skips_nulls, step_of, no_cells, IsTallyOf};
 ghost use Rattle.oe_fold.specs.Reduction.{is_count};
@@ -32,20 +32,15 @@ pub fn fold_columns(
     out: &mut [Cell],
     scratch: &mut [Cell],
 )
-    requires stride { 0 < stride }
-    requires rows { 0 < count → count * stride + length out.old ≤ length cells.now + stride }
+    requires columns { HasColumns cells.now stride count (length out.old) }
     requires room { reducer ≡ Reducer.Median → 2 * count ≤ length scratch.old }
     // the reduction of each column
-    ensures reduced { (k : ℕ) → k < length out.old → slice_index_or out.new k Empty
-        ≡ reduction_of reducer ignore (column cells.now stride count k) }
+    ensures reduced { AreReduced reducer ignore cells.now stride count (length out.old) out.new }
     // its kind: that of the column, if it has one, and for the two counts a number
     ensures cell { (k : ℕ) → k < length out.old → IsCell (slice_index_or out.new k Empty) }
-    ensures numeric { (k : ℕ) → k < length out.old
-        → All IsNumeric (column cells.now stride count k)
-        → IsNumeric (slice_index_or out.new k Empty) }
-    ensures logical { is_count reducer ≡ false → (k : ℕ) → k < length out.old
-        → All IsLogical (column cells.now stride count k)
-        → IsLogical (slice_index_or out.new k Empty) }
+    ensures numeric { KeepsKind IsNumeric cells.now stride count (length out.old) out.new }
+    ensures logical { is_count reducer ≡ false
+        → KeepsKind IsLogical cells.now stride count (length out.old) out.new }
     ensures counts { is_count reducer ≡ true → (k : ℕ) → k < length out.old
         → IsNumeric (slice_index_or out.new k Empty) }
 {
@@ -62,11 +57,9 @@ fn reduce_columns(
     out: &mut [Cell],
     scratch: &mut [Cell],
 )
-    requires stride { 0 < stride }
-    requires rows { 0 < count → count * stride + length out.old ≤ length cells.now + stride }
+    requires columns { HasColumns cells.now stride count (length out.old) }
     requires room { reducer ≡ Reducer.Median → 2 * count ≤ length scratch.old }
-    ensures reduced { (k : ℕ) → k < length out.old → slice_index_or out.new k Empty
-        ≡ reduction_of reducer ignore (column cells.now stride count k) }
+    ensures reduced { AreReduced reducer ignore cells.now stride count (length out.old) out.new }
     ensures cell { (k : ℕ) → k < length out.old → IsCell (slice_index_or out.new k Empty) }
 {
     match reducer {
@@ -97,8 +90,7 @@ fn fold_each(
 )
     requires rows { 0 < count → count * stride + length out.old ≤ length cells.now + stride }
     requires room { 2 * count ≤ length scratch.old }
-    ensures reduced { (k : ℕ) → k < length out.old → slice_index_or out.new k Empty
-        ≡ reduction_of reducer ignore (column cells.now stride count k) }
+    ensures reduced { AreReduced reducer ignore cells.now stride count (length out.old) out.new }
     ensures cell { (k : ℕ) → k < length out.old → IsCell (slice_index_or out.new k Empty) }
 {
     let (list, rest) = scratch.split_at_mut(count);
@@ -118,10 +110,8 @@ fn fold_blocks(
     out: &mut [Cell],
 )
     requires other { reducer ≢ Reducer.Median }
-    requires stride { 0 < stride }
-    requires rows { 0 < count → count * stride + length out.old ≤ length cells.now + stride }
-    ensures reduced { (k : ℕ) → k < length out.old → slice_index_or out.new k Empty
-        ≡ reduction_of reducer ignore (column cells.now stride count k) }
+    requires columns { HasColumns cells.now stride count (length out.old) }
+    ensures reduced { AreReduced reducer ignore cells.now stride count (length out.old) out.new }
     ensures cell { (k : ℕ) → k < length out.old → IsCell (slice_index_or out.new k Empty) }
 {
     let mut from = 0;
@@ -146,8 +136,7 @@ fn fold_block(
     requires other { reducer ≢ Reducer.Median }
     requires few { n ≤ 64 }
     requires within { from + n ≤ length out.old }
-    requires stride { 0 < stride }
-    requires rows { 0 < count → count * stride + (from + n) ≤ length cells.now + stride }
+    requires columns { HasColumns cells.now stride count (from + n) }
     ensures reduced { (k : ℕ) → k < n → slice_index_or out.new (from + k) Empty
         ≡ reduction_of reducer ignore (column cells.now stride count (from + k)) }
     ensures cell { (k : ℕ) → k < n → IsCell (slice_index_or out.new (from + k) Empty) }
@@ -172,8 +161,7 @@ fn scan_rows(
 )
     requires within { n ≤ length tallies.old }
     requires none { (k : ℕ) → k < n → slice_index_or tallies.old k no_cells ≡ no_cells }
-    requires stride { 0 < stride }
-    requires rows { 0 < count → count * stride + (from + n) ≤ length cells.now + stride }
+    requires columns { HasColumns cells.now stride count (from + n) }
     ensures tally { (k : ℕ) → k < n
         → IsTallyOf reducer (skips_nulls reducer ignore) (column cells.now stride count (from + k))
         (slice_index_or tallies.new k no_cells) }
