@@ -131,6 +131,11 @@ pub record IsStarted (scope : PlainScope) (p : Program) : Type 0 where
   pub steps : AreSteps scope p.elements.items p.steps.items
   pub starts : p.starts.items ≡ starts_in scope
 
+-- what the request of a node adds to a program, behind its steps and its elements
+abbrev pub addition_to : PlainScope → Cell → List Node → List Operand → Program → CellRequest → Addition
+addition_to scope context nodes places p request =
+    addition_of scope context nodes places (length p.steps.items) (length p.elements.items) request
+
 -- the program after this one, by so many steps and elements
 pub record Follows (old new : Program) (a : Addition) : Type 0 where
   pub steps : new.steps.items ≡ old.steps.items ++ a.steps

@@ -1,5 +1,5 @@
 -- How far the walk over the nodes of a callback has come.
-use Rattle.std.specs.Prelude.{◌≡◌, ◌≢◌, ℕ, true, List, Option, Some, None, Contains, AllPairs, slice_get}
+use Rattle.std.specs.Prelude.{◌≡◌, ◌≢◌, ◌<◌, ℕ, true, List, length, Option, Some, None, Contains, AllPairs, slice_get}
 use Rattle.oe_cell.specs.declared.cell.Cell.{Cell}
 use Rattle.oe_dims.specs.declared.kind.CellKind.{CellKind}
 use Rattle.oe_graph.specs.Faults.{IsLeast}
@@ -8,7 +8,7 @@ use Rattle.oe_graph.specs.Plain.{plain_nodes}
 use Rattle.oe_graph.specs.References.{references_named}
 use Rattle.oe_graph.specs.Resolved.{IsResolvedObject}
 use Rattle.oe_graph.specs.States as graph
-use Rattle.oe_graph.specs.States.{state_at}
+use Rattle.oe_graph.specs.States.{AreSeenBelow, state_at}
 use Rattle.oe_graph.specs.Tree.{Nodes, PlainNode}
 use Rattle.oe_graph.specs.declared.fault.Fault.{Fault}
 use Rattle.oe_graph.specs.declared.node_state.NodeState.TheVariants.{Unseen, Sound}
@@ -59,6 +59,14 @@ pub record ArePartOrder (nodes : Nodes) (states : List State) (order : List Judg
       (k : ℕ) (entry : Judged) (n : PlainNode) (name : List ℕ)
       → slice_get order k ≡ Some entry → IsEntryOf nodes n entry → Contains (references_named n.arguments) name
       → StandsBefore nodes order k name
+
+-- the walk comes to the node at an index: there is a state for each node, it has none yet, and those that it refers to
+-- have theirs
+pub record IsNext (nodes : List Node) (states : List State) (index : ℕ) : Type 0 where
+  pub within : index < length nodes
+  pub as_many : length states ≡ length nodes
+  pub unseen : state_at states index ≡ Unseen
+  pub below : AreSeenBelow (plain_nodes nodes) states index
 
 module _ (scope : PlainScope) (context : Cell) (nodes : List Node) where
   -- the node of a name has no fault at or below it, and is of this kind

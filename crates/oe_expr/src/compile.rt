@@ -7,8 +7,7 @@ ghost use Rattle.oe_expr.specs.Compiled.{IsProgramOf};
 ghost use Rattle.oe_expr.specs.Orders.{IsWalkOrder};
 ghost use Rattle.oe_expr.specs.PlainRequests.{plain_items, plain_label, plain_cell_request, plain_scalar, plain_scalars};
 ghost use Rattle.oe_expr.specs.Places as spec;
-ghost use Rattle.oe_expr.specs.Placed.{AreMarked, IsCompiling, IsNeeded};
-ghost use Rattle.oe_expr.specs.Places.{IsStarted};
+ghost use Rattle.oe_expr.specs.Placed.{AreCompiled, AreMarked, AreNeededMarks, IsNeeded, IsUncompiled};
 ghost use Rattle.oe_expr.specs.Walked.{AreResolved};
 ghost use Rattle.oe_expr.specs.Requests as requests;
 ghost use Rattle.oe_expr.specs.Scope.{IsScope, PlainScope, scope_parameters, plain_scope};
@@ -225,15 +224,11 @@ fn compile_nodes(
     requires resolved { AreResolved (plain_scope scope.now) nodes.now.items }
     requires scope { IsScope (plain_scope scope.now) }
     requires order { IsWalkOrder (plain_nodes nodes.now.items) order.now.items }
-    requires needed { length needed.now.items ≡ length nodes.now.items }
-    requires marked { AreMarked nodes.now.items order.now.items needed.now.items 0 }
-    requires places { length places.old.items ≡ length nodes.now.items }
-    requires started { IsStarted (plain_scope scope.now) program.old }
-    requires none { program.old.steps.items ≡ [] }
-    ensures { OnOk result ((index : ℕ) → IsCompiling
-        (callback_of (record { nodes = plain_nodes nodes.now.items; result = index })
-        (plain_scope scope.now) context.now) nodes.now.items order.now.items needed.now.items
-        places.new.items program.new (length order.now.items)) }
+    requires needed { AreNeededMarks nodes.now.items order.now.items needed.now.items }
+    requires none { IsUncompiled (plain_scope scope.now) nodes.now.items places.old.items
+        program.old }
+    ensures { OnOk result (AreCompiled (plain_scope scope.now) context.now nodes.now.items
+        order.now.items needed.now.items places.new.items program.new) }
 {
     for k in 0..order.len() {
         let judged = &order[k];
@@ -283,13 +278,12 @@ fn place_of(
 ) -> Result<Operand, OutOfMemory>
     requires few { length program.old.steps.items < 64 }
     requires scope { IsScope (plain_scope scope.now) }
-    ensures place { IfOk result (λ place. place ≡ (spec.addition_of (plain_scope scope.now)
-        context.now nodes.now.items places.now.items (length program.old.steps.items)
-        (length program.old.elements.items) (plain_cell_request request.now)).place) }
-    ensures follows { OnOk result (spec.Follows program.old program.new
-        (spec.addition_of (plain_scope scope.now) context.now
-        nodes.now.items places.now.items (length program.old.steps.items)
-        (length program.old.elements.items) (plain_cell_request request.now))) }
+    ensures place { IfOk result (λ place. place ≡ (spec.addition_to (plain_scope scope.now)
+        context.now nodes.now.items places.now.items program.old
+        (plain_cell_request request.now)).place) }
+    ensures follows { OnOk result (spec.Follows program.old program.new (spec.addition_to
+        (plain_scope scope.now) context.now nodes.now.items places.now.items program.old
+        (plain_cell_request request.now))) }
 {
     match request {
         Request::Unary(f, x) => {
@@ -330,10 +324,9 @@ fn reduction_place(
     ensures place { IfOk result (λ place. place ≡ (spec.reduction_addition context.now
         nodes.now.items places.now.items (length program.old.steps.items)
         (length program.old.elements.items) reducer ignore (plain_items items.now)).place) }
-    ensures follows { OnOk result (spec.Follows program.old program.new
-        (spec.reduction_addition context.now nodes.now.items
-        places.now.items (length program.old.steps.items) (length program.old.elements.items)
-        reducer ignore (plain_items items.now))) }
+    ensures follows { OnOk result (spec.Follows program.old program.new (spec.reduction_addition
+        context.now nodes.now.items places.now.items (length program.old.steps.items)
+        (length program.old.elements.items) reducer ignore (plain_items items.now))) }
 {
     match items {
         Items::Data => push_step(program, Step::Reduction(reducer, ignore)),

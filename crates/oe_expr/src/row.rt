@@ -349,8 +349,7 @@ fn written_row(
         elements.now }
     requires lists { 128 ≤ length lists.old }
     ensures { (j : ℕ) → j < length out.old → slice_index_or out.new j Empty
-        ≡ reduction_of reducer ignore
-        (map (operand_value (row_inputs row.now start (from + j))
+        ≡ reduction_of reducer ignore (map (operand_value (row_inputs row.now start (from + j))
         (register_at registers.now (length out.old) j)) elements.now) }
 {
     let n = out.len();

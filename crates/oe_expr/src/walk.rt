@@ -1,12 +1,12 @@
 // The walk over the nodes of a callback: those that a node refers to before the node itself.
-ghost use Rattle.std.specs.Prelude.{◌≡◌, ◌<◌, ℕ, [], length, IfOk, OnOk, None};
+ghost use Rattle.std.specs.Prelude.{◌≡◌, ℕ, [], length, IfOk, OnOk, None};
 ghost use Rattle.oe_graph.specs.Indices.{reference_graph};
 ghost use Rattle.oe_graph.specs.Plain.{plain_node, plain_nodes};
-ghost use Rattle.oe_graph.specs.States.{AreSeenBelow, IsStep, state_at};
+ghost use Rattle.oe_graph.specs.States.{IsStep, state_at};
 ghost use Rattle.oe_graph.specs.declared.node_state.NodeState.TheVariants.{Unseen};
 ghost use Rattle.oe_order.specs.Graph.{graph_of};
 ghost use Rattle.oe_expr.specs.Scope.{IsScope, plain_scope};
-ghost use Rattle.oe_expr.specs.Walked.{AreResolved, IsChecked, IsVerdict, IsWalked};
+ghost use Rattle.oe_expr.specs.Walked.{AreResolved, IsChecked, IsNext, IsVerdict, IsWalked};
 
 use crate::judge::judge;
 use crate::request::{Request, request_at};
@@ -106,16 +106,12 @@ fn visit<'a>(
     requires resolved { AreResolved (plain_scope scope.now) nodes.now.items }
     requires scope { IsScope (plain_scope scope.now) }
     requires links { graph_of links.now.items ≡ reference_graph (plain_nodes nodes.now.items) }
-    requires within { index < length nodes.now.items }
-    requires states { length walk.old.states.items ≡ length nodes.now.items }
-    requires unseen { state_at walk.old.states.items index ≡ Unseen }
-    requires below { AreSeenBelow (plain_nodes nodes.now.items) walk.old.states.items index }
+    requires next { IsNext nodes.now.items walk.old.states.items index }
     requires walked { IsWalked (plain_scope scope.now) context.now nodes.now.items path.now
         walk.old.states.items walk.old.order.items walk.old.found }
     ensures states { OnOk result (length walk.new.states.items ≡ length nodes.now.items) }
-    ensures walked { OnOk result (IsWalked (plain_scope scope.now) context.now
-        nodes.now.items path.now
-        walk.new.states.items walk.new.order.items walk.new.found) }
+    ensures walked { OnOk result (IsWalked (plain_scope scope.now) context.now nodes.now.items
+        path.now walk.new.states.items walk.new.order.items walk.new.found) }
     ensures step { OnOk result (IsStep index walk.old.states.items walk.new.states.items) }
 {
     if !are_sound(&links[index].arguments, &walk.states) {

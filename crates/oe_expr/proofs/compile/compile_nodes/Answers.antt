@@ -15,7 +15,7 @@ use Rattle.oe_expr.proofs.compile.compile_nodes.Goals as goal
 pub loop-k-init : goal.loop-k-init
 loop-k-init c = λ index.
     first_step (plain_scope c.args.scope.now) c.args.context.now c.args.nodes.now.items c.requires.resolved c.args.order.now.items c.requires.order c.requires.scope index
-    c.args.needed.now.items c.args.places.now.items c.args.program.now c.requires.started c.requires.none c.requires.places
+    c.args.needed.now.items c.args.places.now.items c.args.program.now c.requires.none.started c.requires.none.none c.requires.none.counted
 
 pub index-requires : goal.index-requires
 index-requires c =
@@ -25,7 +25,7 @@ index-requires c =
     let below : k < length order = omega arith in
     let at : slice_get order k ≡ Some entry = slice_get_read order (length order) k entry (omega arith) below c.index-judged.ensures in
     let there : entry.node < length c.args.nodes.now.items = entry_within (plain_scope c.args.scope.now) c.args.nodes.now.items c.requires.resolved order c.requires.order k entry at in
-    let long = c.requires.needed in
+    let long = c.requires.needed.counted in
     omega arith
 
 pub place_of-requires : goal.place_of-requires
@@ -58,18 +58,18 @@ loop-k-preserved c =
     let below : k < length order = omega arith in
     let at : slice_get order k ≡ Some entry = slice_get_read order (length order) k entry (omega arith) below c.index-judged.ensures in
     let there : entry.node < length nodes = entry_within scope nodes c.requires.resolved order c.requires.order k entry at in
-    let long = c.requires.needed in
+    let long = c.requires.needed.counted in
     let read : c.index.result.now ≡ get_or needed entry.node false = get_or_read needed entry.node c.index.result.now (omega arith) c.index.ensures false in
     elim c.if-index.branch [
       | then-index+in_ok-place w ↦ λ index.
           let is_needed : IsNeeded needed entry.node = sym read ∙ w.if-index.true in
-          let next = compile_step scope c.args.context.now nodes c.requires.resolved order c.requires.order c.requires.scope index needed long c.requires.marked c.loop-k.places.items c.loop-k.program k entry at
+          let next = compile_step scope c.args.context.now nodes c.requires.resolved order c.requires.order c.requires.scope index needed long c.requires.needed.marked c.loop-k.places.items c.loop-k.program k entry at
           (c.loop-k.invariant index) is_needed w.place_of.new.program w.in_ok-place.ensures.follows w.in_ok-place.place w.in_ok-place.ensures.place in
           subst (λ (v : Vec Operand Global). IsCompiling (callback_of (record { nodes = plain_nodes nodes; result = index }) scope c.args.context.now) nodes order needed v.items c.if-index.program (k + 1)) (sym w.places-is)
           (subst (λ (q : Program). IsCompiling (callback_of (record { nodes = plain_nodes nodes; result = index }) scope c.args.context.now) nodes order needed (slice_set c.loop-k.places.items entry.node w.in_ok-place.place) q (k + 1)) (sym w.program-is) next)
       | else-index w ↦ λ index.
           let not : ¬ IsNeeded needed entry.node = λ is. true≢false (sym is ∙ sym read ∙ w.if-index.false) in
-          let next = skip_step scope c.args.context.now nodes c.requires.resolved order c.requires.order c.requires.scope index needed long c.requires.marked c.loop-k.places.items c.loop-k.program k entry at
+          let next = skip_step scope c.args.context.now nodes c.requires.resolved order c.requires.order c.requires.scope index needed long c.requires.needed.marked c.loop-k.places.items c.loop-k.program k entry at
           (c.loop-k.invariant index) not in
           subst (λ (v : Vec Operand Global). IsCompiling (callback_of (record { nodes = plain_nodes nodes; result = index }) scope c.args.context.now) nodes order needed v.items c.if-index.program (k + 1)) (sym w.places-is)
           (subst (λ (q : Program). IsCompiling (callback_of (record { nodes = plain_nodes nodes; result = index }) scope c.args.context.now) nodes order needed c.loop-k.places.items q (k + 1)) (sym w.program-is) next)

@@ -24,26 +24,20 @@ loop-index-init c =
           (walked_none scope c.args.context.now nodes c.args.path.now c.requires.resolved walk.states.items c.in_ok-walk.ensures.unseen)),
     )
 
-pub visit-requires-clause-within : goal.visit-requires-clause-within
-visit-requires-clause-within c =
+pub visit-requires-clause-next : goal.visit-requires-clause-next
+visit-requires-clause-next c =
     let nodes = c.args.nodes.now.items in
-    subst (λ count. slice_index c.as_slice-indices.result.now c.loop-index.index-index < count) (count_plain nodes)
-    (step_within (plain_nodes nodes) c.as_slice-indices.result.now
-    (subst (AreNodesSorted (plain_nodes nodes)) (sym c.as_slice-indices.ensures.value) c.in_ok-sorted.ensures.sorted)
-    c.loop-index.index-index c.loop-index.walk.states.items c.loop-index.invariant.0 c.loop-index-test.true)
-
-pub visit-requires-clause-states : goal.visit-requires-clause-states
-visit-requires-clause-states c = c.loop-index.invariant.0.as_many ∙ count_plain c.args.nodes.now.items
-
-pub visit-requires-clause-unseen : goal.visit-requires-clause-unseen
-visit-requires-clause-unseen c = c.loop-index.invariant.0.unseen c.loop-index.index-index (omega arith) c.loop-index-test.true
-
-pub visit-requires-clause-below : goal.visit-requires-clause-below
-visit-requires-clause-below c =
-    let nodes = plain_nodes c.args.nodes.now.items in
-    step_below nodes c.as_slice-indices.result.now
-    (subst (AreNodesSorted nodes) (sym c.as_slice-indices.ensures.value) c.in_ok-sorted.ensures.sorted)
-    c.loop-index.index-index c.loop-index.walk.states.items c.loop-index.invariant.0 c.loop-index-test.true
+    record {
+      within = subst (λ count. slice_index c.as_slice-indices.result.now c.loop-index.index-index < count) (count_plain nodes)
+          (step_within (plain_nodes nodes) c.as_slice-indices.result.now
+          (subst (AreNodesSorted (plain_nodes nodes)) (sym c.as_slice-indices.ensures.value) c.in_ok-sorted.ensures.sorted)
+          c.loop-index.index-index c.loop-index.walk.states.items c.loop-index.invariant.0 c.loop-index-test.true);
+      as_many = c.loop-index.invariant.0.as_many ∙ count_plain nodes;
+      unseen = c.loop-index.invariant.0.unseen c.loop-index.index-index (omega arith) c.loop-index-test.true;
+      below = step_below (plain_nodes nodes) c.as_slice-indices.result.now
+          (subst (AreNodesSorted (plain_nodes nodes)) (sym c.as_slice-indices.ensures.value) c.in_ok-sorted.ensures.sorted)
+          c.loop-index.index-index c.loop-index.walk.states.items c.loop-index.invariant.0 c.loop-index-test.true;
+    }
 
 pub visit-requires-clause-walked : goal.visit-requires-clause-walked
 visit-requires-clause-walked c = c.loop-index.invariant.1
