@@ -17,9 +17,9 @@ use Rattle.oe_expr.specs.Scope.{count_labels, labels_in, no_labels, reduce}
 use Rattle.oe_expr.specs.declared.scope.ListPart.{ListPart}
 use Rattle.oe_requests.specs.Operations.{interval_scope, reduction_scope}
 use Rattle.oe_requests.specs.declared.extent.Interval.{Interval}
-use Rattle.oe_window.specs.Windows.{span_length}
+use Rattle.oe_window.specs.Windows.{IsIn, span_length}
 use Rattle.oe_window.specs.declared.window.Window.{Window}
-use Rattle.oe_ops.specs.Slices.{cell_of}
+use Rattle.oe_ops.specs.Slices.{IsCounted, along_x, cell_of}
 use Rattle.oe_ops.specs.declared.slice.Slice.{Slice}
 
 -- the position with another index along a dimension
@@ -63,6 +63,17 @@ pub record TakesList (c : Callback) (list count : ℕ) (cells : List Cell) : Typ
   pub list_is : list < length lists
   pub as_many : count_labels (slice_index_or (map (labels_in labels) lists) list no_labels) ≡ count
   pub of_kind : All (IsOfKind kind) cells
+
+-- a slice holds its cells, of which so many, one at least, are the list of a number that the callback takes
+pub record IsFullList (slice : Slice) (c : Callback) (list count : ℕ) : Type 0 where
+  pub full : 0 < count
+  pub counted : IsCounted slice
+  pub takes : TakesList c list count slice.cells.now
+
+-- the window of a slice has the list of each of so many positions along x, from one on
+abbrev pub HasListsInside : Slice → Kind → ℕ → ℕ → Position → ℕ → Type 0
+HasListsInside slice along from count p positions =
+    (k i : ℕ) → k < positions → i < count → IsIn slice.window (with_index along (along_x p k) (from + i))
 
 -- the callback is one on the lists of cells of a kind along a dimension of a cube, and all of these are of the kind
 pub record TakesLists (c : Callback) (along : Kind) (d : Dimensions) (cells : List Cell) : Type 0 where

@@ -3,7 +3,7 @@ ghost use Rattle.std.specs.Prelude.{◌≡◌, [], ℕ, ◌+◌, ◌*◌, ◌^�
 ghost use Rattle.oe_cell.specs.declared.cell.Cell.TheVariants.{Empty};
 ghost use Rattle.oe_dims.specs.declared.kind.Kind.{Kind};
 ghost use Rattle.oe_window.specs.Windows.{IsIn, number_in, position_count};
-ghost use Rattle.oe_ops.specs.Lists.{TakesList, list_from, stride_along, value_of_list, with_index};
+ghost use Rattle.oe_ops.specs.Lists.{HasListsInside, IsFullList, TakesList, list_from, stride_along, value_of_list, with_index};
 ghost use Rattle.oe_ops.specs.Slices.{IsCounted, along_x, at_indices};
 
 use crate::rows::Rows;
@@ -86,19 +86,14 @@ fn full_lists(
     scratch: &mut [Cell],
 )
     requires some { 0 < length out.old }
-    requires full { 0 < rows.now.count }
-    requires counted { IsCounted rows.now.slice }
-    requires takes { TakesList rows.now.expr.now rows.now.list rows.now.count
-        rows.now.slice.cells.now }
+    requires list { IsFullList rows.now.slice rows.now.expr.now rows.now.list rows.now.count }
     requires single { rows.now.along ≡ Kind.X → length out.old ≡ 1 }
-    requires inside { (k i : ℕ) → k < length out.old → i < rows.now.count
-        → IsIn rows.now.slice.window
-        (with_index rows.now.along (along_x (at_indices t band y x) k) (rows.now.from + i)) }
+    requires inside { HasListsInside rows.now.slice rows.now.along rows.now.from rows.now.count
+        (at_indices t band y x) (length out.old) }
     requires room { 192 + 2 * rows.now.count ≤ length scratch.old }
     ensures { (k : ℕ) → k < length out.old → slice_index_or out.new k Empty
-        ≡ value_of_list rows.now.expr.now rows.now.list
-        (list_from rows.now.slice rows.now.along rows.now.from rows.now.count
-        (along_x (at_indices t band y x) k)) }
+        ≡ value_of_list rows.now.expr.now rows.now.list (list_from rows.now.slice
+        rows.now.along rows.now.from rows.now.count (along_x (at_indices t band y x) k)) }
 {
     let first = number_with(&rows.slice, rows.along, rows.from, t, band, y, x);
     let stride = stride_along(&rows.slice.window, rows.along);

@@ -37,9 +37,8 @@ pub fn need(operation: &Operation, shape: &Shape, argument: &Shape, window: &Win
     requires within { Holds (whole_window shape.now) window.now }
     requires argument_within { IsConvolution (plain_operation operation.now)
         → Holds (whole_window argument.now) window.now }
-    ensures { (shapes : List Dimensions) (number : ℕ)
-        → shape.now ≡ shape_of (plain_operation operation.now) shapes
-        → argument.now ≡ argument_shape shapes number
+    ensures { (shapes : List Dimensions) (number : ℕ) → shape.now ≡ shape_of
+        (plain_operation operation.now) shapes → argument.now ≡ argument_shape shapes number
         → IsNeed (Needs (plain_operation operation.now) shapes number) window.now result }
 {
     match operation {
