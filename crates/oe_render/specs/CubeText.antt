@@ -97,6 +97,10 @@ Along kind Spells (Some d) (Some labels) = IsDimension kind Spells d labels
 Along kind Spells None (Some labels) = ⊥
 Along kind Spells (Some d) None = ⊥
 
+-- a dimension that may be there has no labels that are spelled so
+abbrev pub HasNoneAlong : {A : Type 0} → Kind → (Data → A → Type 0) → Option Data → Type 0
+HasNoneAlong {A} kind Spells found = (labels : Option (List A)) → ¬ Along kind Spells found labels
+
 -- the first value, where it has the name of the kind, and the values behind it
 abbrev pub first_of : Kind → Items → Option Data
 first_of kind no_items = None
@@ -191,6 +195,10 @@ pub record IsCubeValue (value : Data) (shape : Dimensions) (kind : CellKind) (ce
   pub cells_are : Each SpellsCell values cells
   pub whole_cube : IsCube (record { shape = shape; cells = cells })
   pub kind_is : kind_of cells ≡ Some kind
+
+-- the value says no cube
+abbrev pub IsNoCubeValue : Data → Type 0
+IsNoCubeValue value = (shape : Dimensions) (kind : CellKind) (cells : List Cell) → ¬ IsCubeValue value shape kind cells
 
 -- the bytes are the JSON text of this value, and not too many
 pub record IsValueText (bytes : List ℕ) (value : Data) : Type 0 where

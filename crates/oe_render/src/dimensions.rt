@@ -1,11 +1,11 @@
 // The dimensions of a cube text.
-ghost use Rattle.std.specs.Prelude.{◌≡◌, ◌≢◌, ℤ, ℕ, IfOk, List, MatchOption, Option, option_map, Some};
+ghost use Rattle.std.specs.Prelude.{◌≡◌, ◌≢◌, ℤ, ℕ, IfOk, List, MatchOption, option_map, Some};
 ghost use Rattle.serde_json.specs.Data.{no_items};
 ghost use Rattle.serde_json.specs.View.{view, items_view};
 ghost use Rattle.oe_dims.specs.Dimensions.{Dimensions, IsShape};
 ghost use Rattle.oe_dims.specs.Lists.{items_of};
 ghost use Rattle.oe_dims.specs.declared.kind.Kind.TheVariants.{Time, Bands, X};
-ghost use Rattle.oe_render.specs.CubeText.{after_y, Along, AreDimensions, Each, SpellsCoordinate, SpellsName, SpellsTime};
+ghost use Rattle.oe_render.specs.CubeText.{after_y, Along, AreDimensions, Each, HasNoneAlong, SpellsCoordinate, SpellsName, SpellsTime};
 ghost use Rattle.oe_render.specs.Seen.{HasValues, found_data};
 ghost use Rattle.oe_render.specs.CubeText as spec;
 
@@ -164,10 +164,8 @@ fn system_in(value: &Value) -> Option<u32>
 /// The instants of `t`, none where the value is no such dimension.
 fn read_time(alloc: Global, value: Option<&Value>) -> Result<Option<Option<Vec<i64>>>, OutOfMemory>
     ensures { IfOk result (λ read. MatchOption read
-        ((labels : Option (List ℤ)) →
-        ¬ Along Time SpellsTime (found_data value.entry) labels)
-        (λ labels. Along Time SpellsTime (found_data value.entry)
-        (option_map items_of labels))) }
+        (HasNoneAlong Time SpellsTime (found_data value.entry))
+        (λ labels. Along Time SpellsTime (found_data value.entry) (option_map items_of labels))) }
 {
     let Some(value) = value else {
         return Ok(Some(None));
@@ -187,10 +185,8 @@ fn read_bands(
     value: Option<&Value>,
 ) -> Result<Option<Option<Vec<Text>>>, OutOfMemory>
     ensures { IfOk result (λ read. MatchOption read
-        ((labels : Option (List (List ℕ))) →
-        ¬ Along Bands SpellsName (found_data value.entry) labels)
-        (λ labels. Along Bands SpellsName (found_data value.entry)
-        (option_map items_of labels))) }
+        (HasNoneAlong Bands SpellsName (found_data value.entry))
+        (λ labels. Along Bands SpellsName (found_data value.entry) (option_map items_of labels))) }
 {
     let Some(value) = value else {
         return Ok(Some(None));
@@ -211,8 +207,7 @@ fn read_axis(
     value: Option<&Value>,
 ) -> Result<Option<Option<Vec<i64>>>, OutOfMemory>
     ensures { IfOk result (λ read. MatchOption read
-        ((labels : Option (List ℤ)) →
-        ¬ Along kind SpellsCoordinate (found_data value.entry) labels)
+        (HasNoneAlong kind SpellsCoordinate (found_data value.entry))
         (λ labels. Along kind SpellsCoordinate (found_data value.entry)
         (option_map items_of labels))) }
 {

@@ -6,7 +6,7 @@ ghost use Rattle.oe_cell.specs.declared.cell.Cell.{Cell};
 ghost use Rattle.oe_dims.specs.Cube.{Cube};
 ghost use Rattle.oe_dims.specs.Dimensions.{Dimensions};
 ghost use Rattle.oe_dims.specs.declared.kind.CellKind.{CellKind};
-ghost use Rattle.oe_render.specs.CubeText.{IsCubeText, IsCubeValue, IsReadable, IsValueText, most_text};
+ghost use Rattle.oe_render.specs.CubeText.{IsCubeText, IsCubeValue, IsNoCubeValue, IsReadable, IsValueText, most_text};
 ghost use Rattle.oe_render.specs.Text.{cube_text};
 
 use crate::cells::{kind_of, read_cells};
@@ -90,9 +90,7 @@ fn read_json(alloc: Global, bytes: &[u8]) -> Result<Option<Value>, OutOfMemory>
 
 /// The cube that a value says, none where it says none.
 fn read_value(alloc: Global, value: &Value) -> Result<Option<CubeText>, OutOfMemory>
-    ensures { IfOk result (λ read. MatchOption read
-        ((shape : Dimensions) (kind : CellKind) (cells : List Cell)
-        → ¬ IsCubeValue (view value.now) shape kind cells)
+    ensures { IfOk result (λ read. MatchOption read (IsNoCubeValue (view value.now))
         (λ c. IsCubeValue (view value.now) c.shape c.kind c.cells.items)) }
 {
     if !has_text(value, "type", "FractionCube") {
