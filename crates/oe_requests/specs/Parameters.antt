@@ -185,6 +185,12 @@ abbrev pub box_members : List (List ℕ)
 box_members =
     codes "west" ∷ codes "south" ∷ codes "east" ∷ codes "north" ∷ codes "crs" ∷ codes "base" ∷ codes "height" ∷ []
 
+-- it has neither a base nor a height, or null in its place
+abbrev pub lacks_height : Named → Bool
+lacks_height members =
+    option_map_or is_null (argument_named (codes "base") members) true
+    && option_map_or is_null (argument_named (codes "height") members) true
+
 -- it has no other members and none twice, and where it has a base or a height it is null
 abbrev pub is_flat_box : Named → Bool
 is_flat_box members =

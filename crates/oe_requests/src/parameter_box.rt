@@ -1,5 +1,5 @@
 // Bounding boxes, as arguments give them.
-ghost use Rattle.std.specs.Prelude.{◌≡◌, ◌&&◌, true, codes, map};
+ghost use Rattle.std.specs.Prelude.{◌≡◌, ◌&&◌, true, map};
 ghost use Rattle.std.specs.List.{list_any, list_all};
 ghost use Rattle.std.specs.Option.{option_map, option_map_or, option_and_then};
 ghost use Rattle.oe_dims.specs.Names.{is_byte_in, same_name};
@@ -186,10 +186,7 @@ fn is_null_or_missing(members: &Vec<(Text, Arg)>, name: &str) -> bool
 
 /// The box has neither a base nor a height.
 fn lacks_height(members: &Vec<(Text, Arg)>) -> bool
-    ensures { result ≡ (option_map_or is_null
-        (argument_named (codes "base") (plain_named members.now.items)) true
-        && option_map_or is_null
-        (argument_named (codes "height") (plain_named members.now.items)) true) }
+    ensures { result ≡ spec.lacks_height (plain_named members.now.items) }
 {
     is_null_or_missing(members, "base") && is_null_or_missing(members, "height")
 }
