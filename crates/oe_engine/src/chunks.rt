@@ -11,7 +11,7 @@ use crate::bench::Bench;
 use oe_outside::Store;
 use oe_plan::Plan;
 use oe_spool::{least_over, lesser, write_window};
-use oe_steps::{RunFail, look_at_cells};
+use oe_steps::{RunFail, recall_numbers};
 
 /// Writes the records of the chunks from a first one on, of benches that are done.
 ///
@@ -41,7 +41,7 @@ pub(crate) fn write_chunks<P: Store>(
     for index in 0..benches.len() {
         let window = plan.chunk(first + index as u64);
         let cells = benches[index].result_cells(plan);
-        look_at_cells(cells);
+        recall_numbers(cells);
         if write_window(spool, base, plan.shape(), &window, cells).is_err() {
             return Err(RunFail::SpoolFailed);
         }

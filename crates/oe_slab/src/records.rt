@@ -10,7 +10,7 @@ use oe_cell::Cell;
 use oe_dims::Shape;
 use oe_outside::Store;
 use oe_spool::{least_over, write_window};
-use oe_steps::{RunFail, look_at_cells};
+use oe_steps::{RunFail, recall_numbers};
 use oe_window::Window;
 
 /// Writes the records of the cells of a chunk of a shape. Answers the least number of a cell that is `Over`.
@@ -34,7 +34,7 @@ pub(crate) fn write_chunk<P: Store>(
         result }
     ensures only { IfErr result (λ refusal. refusal ≡ RunFail.SpoolFailed) }
 {
-    look_at_cells(cells);
+    recall_numbers(cells);
     if write_window(spool, base, shape, chunk, cells).is_err() {
         return Err(RunFail::SpoolFailed);
     }

@@ -5,7 +5,7 @@ ghost use Rattle.oe_cell.specs.Cells.{IsCell};
 use oe_cell::Cell;
 
 /// Looks at each cell. Its contract says that every number among them is one, as the type of numbers keeps it.
-pub fn look_at_cells(cells: &[Cell])
+pub fn recall_numbers(cells: &[Cell])
     ensures { All IsCell cells.now }
 {
     for cell in cells {

@@ -20,7 +20,7 @@ mod step;
 mod strips;
 
 pub use buffers::{buffers_of, empty_window};
-pub use cells::look_at_cells;
+pub use cells::recall_numbers;
 pub use fail::RunFail;
 pub use laws::loads_are_mounted;
 pub use loading::{ask, load_slot, look_front, look_slot, place_of, settle};

@@ -92,7 +92,7 @@ loop-index-preserved g c =
           (records_before p is first n base old new benches kept c.loop-index.invariant.written)
           (records_here p is first n b cells are base new writes);
       valid = each_more first (HasValidCells p) benches n b here c.loop-index.invariant.valid
-          (valid_here p is first n b cells are c.look_at_cells.ensures);
+          (valid_here p is first n b cells are c.recall_numbers.ensures);
       changes = changes_more p base first n start old new c.loop-index.invariant.changes kept;
       faults = NeverFalls-trans c.loop-index.invariant.faults c.write_window.ensures.cause.count;
     }

@@ -10,7 +10,7 @@ returns-then-is_err-clause-cause g c = record {
 
 pub returns-clause-written : goal.returns-clause-written
 returns-clause-written g c = record {
-  valid = c.look_at_cells.ensures;
+  valid = c.recall_numbers.ensures;
   records = ok_holds _ c.write_window.result (sym c.is_err.ensures.value ∙ c.if-is_err.false) c.write_window.ensures.written;
   least_is = c.least_over.ensures;
 }
