@@ -8,7 +8,7 @@ use Rattle.oe_plan.specs.Plans.{IsPlan, PlanOf}
 use Rattle.oe_sources.specs.Catalogue.{Row}
 use Rattle.oe_sources.specs.CatalogueDims.{dims_of}
 use Rattle.oe_spool.specs.Least.{least_over_of}
-use Rattle.oe_engine.specs.Evaluations.{Goes}
+use Rattle.oe_engine.specs.Evaluations.{LeavesRun}
 use Rattle.oe_engine.specs.Laws.{GivesCollections, LoadsVisible, collections_of}
 use Rattle.oe_engine.specs.Results.{IsVisible, IsWithoutOver, OfMeaning, result_of}
 use Rattle.oe_engine.specs.Runs.{HasDone, OfRun, RunOf, ShowsDone, chunk_total, result_cube}
@@ -20,7 +20,7 @@ shows_done r None cube visible has = absurd visible
 shows_done r (Some bytes) cube visible has = has
 
 module _ (r after : RunOf) (rows rows_after : List Row) (store store_after : Option (List ℕ)) (given : GivesCollections rows)
-    (rows_are : r.plan.graph.rows ≡ dims_of rows) (is : IsPlan r.plan) (goes : Goes r after rows rows_after store store_after) where
+    (rows_are : r.plan.graph.rows ≡ dims_of rows) (is : IsPlan r.plan) (goes : LeavesRun r after rows rows_after store store_after) where
   abbrev p : PlanOf
   p = r.plan
 

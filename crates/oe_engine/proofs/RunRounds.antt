@@ -20,7 +20,7 @@ use Rattle.oe_engine.specs.declared.rounds.Progress.{Progress}
 use Rattle.oe_engine.specs.declared.rounds.Progress.TheVariants.{Complete, More}
 use Rattle.oe_steps.specs.declared.fail.RunFail.{RunFail}
 use Rattle.oe_steps.specs.declared.fail.RunFail.TheVariants as run
-use Rattle.oe_engine.specs.Evaluations.{Evaluates, Goes, GoesThrough, IsFirst, ReadsForPlan, most_asked}
+use Rattle.oe_engine.specs.Evaluations.{Evaluates, GoesThrough, IsFirst, LeavesRun, ReadsForPlan, most_asked}
 use Rattle.oe_engine.specs.Results.{IsVisible}
 
 -- bytes that are visible stay so where only some of them change
@@ -32,7 +32,7 @@ still_visible touched (Some bytes) (Some more) kept visible = tt
 -- a run after some turns of rounds, each of which made at least one chunk more
 pub record Stands (before now : RunOf) (rows rows_now : List Row) (store store_now : Option (List ℕ))
     (faults faults_now turns : ℕ) : Type 0 where
-  pub goes : Goes before now rows rows_now store store_now
+  pub goes : LeavesRun before now rows rows_now store store_now
   pub asked : cells_asked rows_now ≤ cells_asked rows + now.done * most_asked before.plan
   pub count : NeverFalls faults faults_now
   pub turned : turns ≤ now.done
@@ -93,7 +93,7 @@ module _ (before now after : RunOf) (rows rows_now rows_after : List Row) (store
         (subst (λ (p : PlanOf). ChangesOnly now.base (result_shape p) (IsPosition (result_shape p)) store_now store_after) s.goes.plan own)
 
     -- what goes on, whatever the round answered
-    goes_on : after.done ≤ total → Goes before after rows rows_after store store_after
+    goes_on : after.done ≤ total → LeavesRun before after rows rows_after store store_after
     goes_on within = record {
       plan = advances.plan ∙ s.goes.plan;
       base = advances.base ∙ s.goes.base;

@@ -57,7 +57,7 @@ pub record ReadsForPlan (p : PlanOf) (before after : List Row) : Type 0 where
 -- ---- rounds
 
 -- what rounds leave of a run, whatever the last of them answered
-pub record Goes (before after : RunOf) (rows rows_after : List Row) (store store_after : Option (List ℕ)) : Type 0 where
+pub record LeavesRun (before after : RunOf) (rows rows_after : List Row) (store store_after : Option (List ℕ)) : Type 0 where
   pub plan : after.plan ≡ before.plan
   pub base : after.base ≡ before.base
   pub within : after.done ≤ chunk_total before.plan
@@ -72,7 +72,7 @@ pub record Goes (before after : RunOf) (rows rows_after : List Row) (store store
 -- all rounds of a run: all chunks are done, or the cause why not
 pub record GoesThrough (before after : RunOf) (rows rows_after : List Row) (store store_after : Option (List ℕ))
     (faults faults_after : ℕ) (result : Result (Unit {0}) RunFail) : Type 0 where
-  pub goes : Goes before after rows rows_after store store_after
+  pub goes : LeavesRun before after rows rows_after store store_after
   pub reads : ReadsForPlan before.plan rows rows_after
   pub done : OnOk result (after.done ≡ chunk_total before.plan)
   pub read_cause : IsErrOf result run.SourceFailed → LoadRose before.plan.graph rows rows_after

@@ -16,7 +16,7 @@ use Rattle.oe_plan.specs.Plans.{PlanOf}
 use Rattle.oe_replies.specs.Answers.{refused_reply}
 use Rattle.oe_replies.specs.declared.code.ReplyCode.TheVariants as code
 use Rattle.oe_routes.specs.Actions.{run_now}
-use Rattle.oe_service.specs.Calls.{CommitsOne, Goes, IsKept}
+use Rattle.oe_service.specs.Calls.{CommitsOne, GoesByEvent, IsKept}
 use Rattle.oe_service.specs.Causes.{Outside, outside}
 use Rattle.oe_service.specs.GoesOn.{GoesOn, IsService, records_end_of, state_of}
 use Rattle.oe_service.specs.States.{Event, Setting, State, no_command}
@@ -44,9 +44,9 @@ none_begun None made = refl
 none_begun (Some k) made = inl refl
 
 -- no command leaves a state as it is
-pub stays : (setting : Setting) (e : Event) (comes : Bool) (s : State) (kept : Option Kept) → e ≡ no_command → Goes setting e comes s s kept kept
+pub stays : (setting : Setting) (e : Event) (comes : Bool) (s : State) (kept : Option Kept) → e ≡ no_command → GoesByEvent setting e comes s s kept kept
 stays setting e comes s kept is =
-    subst (λ (x : Event). Goes setting x comes s s kept kept) (sym is)
+    subst (λ (x : Event). GoesByEvent setting x comes s s kept kept) (sym is)
     (record { state = by comes; commits = none_begun kept s.book })
   where
     by : (b : Bool) → s ≡ (if b then s else s)

@@ -16,7 +16,7 @@ use Rattle.oe_replies.specs.Answers.{refused_reply}
 use Rattle.oe_replies.specs.declared.code.ReplyCode.TheVariants as code
 use Rattle.oe_routes.specs.Actions.{PlainAction, commit, estimate, send_asset}
 use Rattle.oe_routes.specs.declared.action.EstimateGraph.{EstimateGraph}
-use Rattle.oe_service.specs.Calls.{CommitsOne, Goes, IsKept, Obeys, is_done}
+use Rattle.oe_service.specs.Calls.{CommitsOne, GoesByEvent, IsKept, Obeys, is_done}
 use Rattle.oe_service.specs.Causes.{Outside, outside}
 use Rattle.oe_service.specs.GoesOn.{GoesOn, HasSizesOf, IsService, state_of}
 use Rattle.oe_service.specs.States.{Event, Setting, command, no_command}
@@ -112,7 +112,7 @@ module _ (s : Service) (rows : List Row) (store : Option (List ℕ)) (faults : �
       (is_kept : IsKept kept_after (plain_book s_after.book))
       (goes : (setting : Setting) (user : List ℕ) (asked : PlainCommand) (at : ℤ)
       → changed (plain_book s.book) made ≡ verdicts.next (plain_book s.book) user asked at
-      → Goes setting (command user asked at) (is_done r) (state_of s) (state_of s_after) kept kept_after)
+      → GoesByEvent setting (command user asked at) (is_done r) (state_of s) (state_of s_after) kept kept_after)
       (obeys : Obeys (changed (plain_book s.book) made) (state_of s) (state_of s_after) kept kept_after keeper_faults
       keeper_faults_after has_failed r)
       (run : IfSome s_after.run (λ (_ : RunOf). s_after.run ≡ s.run)) (going : GoesOn s.run rows store) where
@@ -135,10 +135,10 @@ module _ (s : Service) (rows : List Row) (store : Option (List ℕ)) (faults : �
     -- the event is the command whose change it is
     goes_as : (comes : Bool) → is_done r ≡ comes → (setting : Setting) (at : ℤ) (e : Event)
         → IsEventOf (plain_book s.book) at (store_fault made) e
-        → Goes setting e comes (state_of s) (state_of s_after) kept kept_after
+        → GoesByEvent setting e comes (state_of s) (state_of s_after) kept kept_after
     goes_as comes done setting at e (m, is) =
-        subst (λ (b : Bool). Goes setting e b (state_of s) (state_of s_after) kept kept_after) done
-        (subst (λ (x : Event). Goes setting x (is_done r) (state_of s) (state_of s_after) kept kept_after) (sym is)
+        subst (λ (b : Bool). GoesByEvent setting e b (state_of s) (state_of s_after) kept kept_after) done
+        (subst (λ (x : Event). GoesByEvent setting x (is_done r) (state_of s) (state_of s_after) kept kept_after) (sym is)
         (goes setting m.user m.asked at m.made_is))
 
     pub acts_done : r ≡ Ok tt → SendsReply response.status (reply_bytes response) link link_after served
@@ -165,15 +165,15 @@ module _ (s : Service) (rows : List Row) (store : Option (List ℕ)) (faults : �
     }
 
     unmade : r ≡ Err fail.OutOfMemory → (setting : Setting) (e : Event) → e ≡ no_command
-        → Goes setting e false (state_of s) (state_of s_after) kept kept_after
+        → GoesByEvent setting e false (state_of s) (state_of s_after) kept kept_after
     unmade err setting e is =
-        let none : Goes setting no_command false (state_of s) (state_of s_after) kept kept_after =
+        let none : GoesByEvent setting no_command false (state_of s) (state_of s_after) kept kept_after =
         record {
           state = rw err at obeys.state;
           commits = subst (λ (k : Option Kept). CommitsOne kept (plain_book s.book) k) (sym (obeys.unbegun err))
               (none_begun kept (plain_book s.book));
         } in
-        subst (λ (x : Event). Goes setting x false (state_of s) (state_of s_after) kept kept_after) (sym is) none
+        subst (λ (x : Event). GoesByEvent setting x false (state_of s) (state_of s_after) kept kept_after) (sym is) none
 
     pub acts_unmade : r ≡ Err fail.OutOfMemory
         → SendsReply 503 (reply_bytes (refused_reply code.OutOfMemory [])) link link_after served

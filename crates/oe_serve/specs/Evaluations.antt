@@ -2,7 +2,7 @@
 use Rattle.std.specs.Prelude.{◌≡◌, ◌⊎◌, ⊤, ℕ, ◌+◌, ◌<◌, List, ◌++◌, length, take, Option, None, Result, OnOk, IfOk, IfErr}
 use Rattle.oe_engine.specs.Runs.{OfRun, RunOf, chunk_total}
 use Rattle.oe_engine.specs.Results.{IsVisible, OfMeaning}
-use Rattle.oe_engine.specs.Evaluations.{Goes, IsFirst, IsPlanOf, ReadsForRun}
+use Rattle.oe_engine.specs.Evaluations.{IsFirst, IsPlanOf, LeavesRun, ReadsForRun}
 use Rattle.oe_graph.specs.Printed.{node_count}
 use Rattle.oe_outside.specs.Faults.{NeverFalls, Rose}
 use Rattle.oe_outside.specs.Visible.{Appends, AppendsPrefix}
@@ -46,7 +46,7 @@ pub record IsComplete (before after : RunOf) : Type 0 where
 -- All rounds of a run and the number of bytes of its text, or why there is none.
 pub record Completes (before after : RunOf) (rows rows_after : List Row) (store store_after : Option (List ℕ))
     (faults faults_after : ℕ) (result : Result ℕ ResultRefusal) : Type 0 where
-  pub goes : Goes before after rows rows_after store store_after
+  pub goes : LeavesRun before after rows rows_after store store_after
   pub reads : ReadsForRun before.plan.graph before.plan.size rows rows_after
   pub complete : OnOk result (IsComplete before after)
   pub counted : IfOk result (λ count. IsVisible store

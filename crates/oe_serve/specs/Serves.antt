@@ -18,7 +18,7 @@ use Rattle.oe_routes.specs.declared.action.Action.TheVariants as actions
 use Rattle.oe_routes.specs.Scenes.{PlainScene}
 use Rattle.oe_routes.specs.Tokens.{Entry}
 use Rattle.oe_routes.specs.declared.site.Site.{Site}
-use Rattle.oe_service.specs.Calls.{Goes, IsDecided, IsKept}
+use Rattle.oe_service.specs.Calls.{GoesByEvent, IsDecided, IsKept}
 use Rattle.oe_service.specs.Causes.{Outside}
 use Rattle.oe_service.specs.GoesOn.{GoesOn, HasSizesOf, IsService, state_of}
 use Rattle.oe_service.specs.States.{Event, Setting, State, no_command, setting_of}
@@ -106,7 +106,7 @@ module _ (server : ServerOf) (now : ℤ) (s s_after : State) (before after : Out
     pub came : Came
     pub came_is : IsCame link.left came
     pub ends : Ends came e comes result
-    pub goes : Goes (setting_of (dims_of before.rows) server.size server.workers) e comes s s_after before.kept
+    pub goes : GoesByEvent (setting_of (dims_of before.rows) server.size server.workers) e comes s s_after before.kept
         after.kept
     pub kept : IsKept after.kept s_after.book
     -- where no change was to be made no commit is begun
@@ -154,7 +154,7 @@ pub record Acts (action : PlainAction) (s s_after : Service) (before after : Out
   pub is_answer : IsAnswerTo s.size s.workers (plain_book s.book) before after has_failed action answer
   pub sends : SendsAnswer before after answer link link_after result
   pub goes : (now : ℤ) (e : Event) → IsEventOf (plain_book s.book) now answer e
-      → Goes (setting_of (dims_of before.rows) s.size s.workers) e (is_event answer) (state_of s) (state_of s_after)
+      → GoesByEvent (setting_of (dims_of before.rows) s.size s.workers) e (is_event answer) (state_of s) (state_of s_after)
       before.kept after.kept
   pub idle : ChangesNothing answer → after.kept ≡ before.kept
   pub keeps : KeepsService s s_after before after

@@ -14,7 +14,7 @@ use Rattle.oe_jobs.specs.declared.keeper.KeeperFail.{KeeperFail}
 use Rattle.oe_plan.specs.Ranges.{IsWithinRanges}
 use Rattle.oe_sources.specs.Catalogue.{Row}
 use Rattle.oe_window.specs.declared.grid.ChunkSize.{ChunkSize}
-use Rattle.oe_service.specs.Calls.{CommitsOne, Goes, Installs, IsDecided, Obeys, is_done}
+use Rattle.oe_service.specs.Calls.{CommitsOne, GoesByEvent, Installs, IsDecided, Obeys, is_done}
 use Rattle.oe_service.specs.GoesOn.{FitsJob, GoesOn, IsService, StaysWithin, ids_for, state, state_of}
 use Rattle.oe_service.specs.States.{Setting, State, at_book, command, commanded}
 use Rattle.oe_service.specs.declared.service.Service.{Service}
@@ -116,7 +116,7 @@ module _ (book made book_after : PlainBook) (done : Option ℕ) (kept kept_after
 
   pub goes_by : (s_after : State) → s_after ≡ (if is_done r then commanded made done else before) → (setting : Setting)
       (user : List ℕ) (asked : PlainCommand) (now : ℤ) → made ≡ verdicts.next book user asked now
-      → Goes setting (command user asked now) (is_done r) before s_after kept kept_after
+      → GoesByEvent setting (command user asked now) (is_done r) before s_after kept kept_after
   goes_by s_after is setting user asked now made_is = record {
     state = is ∙ ap (λ m. if is_done r then commanded m done else before) made_is;
     commits = subst (λ m. CommitsOne kept m kept_after) made_is i.commits;

@@ -44,7 +44,7 @@ MayLeave before after left = (left ≡ before.book) ⊎ ((left ≡ after.book) �
 
 -- It is its event, or none. At most one commit was begun, and it makes the book of the event, also where the call was
 -- none: so a crash in it leaves the book from before it, or that one.
-pub record Goes (setting : Setting) (e : Event) (is_event : Bool) (before after : State)
+pub record GoesByEvent (setting : Setting) (e : Event) (is_event : Bool) (before after : State)
     (kept kept_after : Option Kept) : Type 0 where
   pub state : after ≡ (if is_event then next setting e before else before)
   pub commits : CommitsOne kept (next setting e before).book kept_after
@@ -54,7 +54,7 @@ abbrev pub GoesByCommands : PlainBook → Bool → State → State → Option Ke
 GoesByCommands made done before after kept kept_after =
     (setting : Setting) (user : List ℕ) (asked : PlainCommand) (now : ℤ)
     → made ≡ verdicts.next before.book user asked now
-    → Goes setting (command user asked now) done before after kept kept_after
+    → GoesByEvent setting (command user asked now) done before after kept kept_after
 
 -- ---- a change that is committed and installed
 

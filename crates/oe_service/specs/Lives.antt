@@ -5,7 +5,7 @@ use Rattle.oe_jobs.specs.Kept.{Kept}
 use Rattle.oe_jobs.specs.Plain.{PlainBook, PlainJob}
 use Rattle.oe_jobs.specs.Valid.{IsBook}
 use Rattle.oe_jobs.specs.declared.status.Status.TheVariants.{Queued}
-use Rattle.oe_service.specs.Calls.{CommitsOne, Goes, IsKept, MayLeave}
+use Rattle.oe_service.specs.Calls.{CommitsOne, GoesByEvent, IsKept, MayLeave}
 use Rattle.oe_service.specs.States.{Event, reopen, Setting, State, after, at_book, next, reopened}
 
 -- ---- calls one after the other
@@ -25,7 +25,7 @@ GoOn setting first kept [] last kept_last = (last ≡ first) × (kept_last ≡ k
 GoOn setting first kept (call ∷ calls) last kept_last =
     (call.before ≡ first)
     × (call.kept ≡ kept)
-    × Goes setting call.event call.is_event call.before call.after call.kept call.kept_after
+    × GoesByEvent setting call.event call.is_event call.before call.after call.kept call.kept_after
     × IsKept call.kept_after call.after.book
     × GoOn setting call.after call.kept_after calls last kept_last
 

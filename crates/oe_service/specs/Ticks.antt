@@ -8,7 +8,7 @@ use Rattle.oe_jobs.specs.declared.keeper.KeeperFail.TheVariants as fail
 use Rattle.oe_outside.specs.Faults.{NeverFalls}
 use Rattle.oe_sources.specs.CatalogueDims.{dims_of}
 use Rattle.oe_window.specs.declared.grid.ChunkSize.{ChunkSize}
-use Rattle.oe_service.specs.Calls.{CommitsOne, Failed, Goes}
+use Rattle.oe_service.specs.Calls.{CommitsOne, Failed, GoesByEvent}
 use Rattle.oe_service.specs.Causes.{ChangesBook, IsOfTick, Outside}
 use Rattle.oe_service.specs.States.{Event, Setting, State, at_book, due, next, setting_of}
 use Rattle.oe_service.specs.declared.answer.Ticked.{Ticked}
@@ -46,7 +46,7 @@ module _ (size : ChunkSize) (workers : ℕ) (before after : Outside) where
   pub record Ticks (now : ℤ) (s s_after : State) (has_failed : Bool) (result : Ticked) : Type 0 where
     pub event : Event
     pub of_tick : IsOfTick size workers before after (due setting s) now event
-    pub goes : Goes setting event (is_event result) s s_after before.kept after.kept
+    pub goes : GoesByEvent setting event (is_event result) s s_after before.kept after.kept
     pub ends : TickEnds s.book (next setting event s).book before after has_failed result
     pub changes : is_event result ≡ false → ChangesBook (due setting s) event
     pub spool_count : NeverFalls before.spool_faults after.spool_faults

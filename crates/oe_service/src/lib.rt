@@ -4,7 +4,7 @@
 //! one of its assets, does a round of its chunks, stores its text, or finishes the job. Each change of the book is
 //! committed by the keeper before it is made in memory, and one call begins at most one commit. So a crash in a call, or
 //! between two, leaves the book from before that call or the one that its event makes, and the service goes on from it.
-//! What a tick and a command promise is one record, `Goes`, over a machine of states and events. The calls of `laws.rt` do
+//! What a tick and a command promise is one record, `GoesByEvent`, over a machine of states and events. The calls of `laws.rt` do
 //! nothing: their contracts are laws of all lives of a service, as [`nothing_is_lost`] and [`jobs_finish_in_time`].
 #![tactic(auto)]
 
