@@ -1,2 +1,1 @@
-pub mod Mounted
 pub mod Setup

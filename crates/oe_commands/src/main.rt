@@ -6,8 +6,8 @@
 #![tactic(auto)]
 
 use oe_adapters::{
-    Fault, ProgressGate, Reader, Writer, collection_files, hold_standard, mount_outcome,
-    open_collection, open_parts, open_spool, words_of,
+    CubeOrMosaic, Fault, ProgressGate, Reader, Writer, collection_files, hold_standard,
+    mount_outcome, open_collection, open_parts, open_spool, words_of,
 };
 use oe_dims::Text;
 use oe_outside::Sink;
@@ -29,9 +29,15 @@ fn main(rt: HostRuntime) -> ExitCode {
     for index in 0..start.names.len() {
         let name = start.names[index].as_slice();
         let outcome = match open_collection(alloc, &rt, name, &catalogue) {
-            Ok((id, source)) => match Box::new(alloc, source) {
-                Ok(cube) => mount_outcome(alloc, name, catalogue.mount(id.as_str(), cube)),
-                Err(_) => Err(Fault::OutOfMemory),
+            Ok((id, source)) => match source {
+                CubeOrMosaic::Cube(cube) => match Box::new(alloc, cube) {
+                    Ok(cube) => mount_outcome(alloc, name, catalogue.mount(id.as_str(), cube)),
+                    Err(_) => Err(Fault::OutOfMemory),
+                },
+                CubeOrMosaic::Mosaic(mosaic) => match Box::new(alloc, mosaic) {
+                    Ok(mosaic) => mount_outcome(alloc, name, catalogue.mount(id.as_str(), mosaic)),
+                    Err(_) => Err(Fault::OutOfMemory),
+                },
             },
             Err(fault) => Err(fault),
         };
