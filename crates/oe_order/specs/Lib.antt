@@ -6,6 +6,7 @@ pub mod Turns
 pub mod Sorted
 pub mod Live
 pub mod Waiting
+pub mod Queue
 pub mod Pool
 pub mod Evaluation
 pub mod Worked

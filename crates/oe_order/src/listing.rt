@@ -1,10 +1,10 @@
 // The order of a run's nodes: a heap of the nodes that are ready, and for each other node a chain to wait in.
-ghost use Rattle.std.specs.Prelude.{◌≡◌, ◌≢◌, ◌<◌, ◌≤◌, ◌^◌, ◌-◌, ◌&&◌, ◌||◌, ◌==◌, ◌↔◌, ◌∷◌, ◌++◌, [], ℕ, Bool, List, Some, None, true, false, not, Contains, IfOk, IsTrue, OnOk, length, slice_index, slice_index_or, slice_set, slice_get, filter};
-ghost use Rattle.std.specs.BinaryHeap.{heap_items};
-ghost use Rattle.oe_order.specs.Graph.{Node, graph_of, arguments, is_load, RefersWithin, IsAcyclic};
-ghost use Rattle.oe_order.specs.Order.{contains, order_of, extend_order, next_of, IsListing};
+ghost use Rattle.std.specs.Prelude.{◌≡◌, ◌<◌, ◌≤◌, ◌^◌, ◌↔◌, ◌∷◌, ◌++◌, [], ℕ, Some, None, true, false, Contains, IfOk, IsTrue, OnOk, length, slice_index, slice_index_or, slice_set, slice_get, filter};
+ghost use Rattle.oe_order.specs.Graph.{graph_of, is_load, RefersWithin, IsAcyclic};
+ghost use Rattle.oe_order.specs.Order.{contains, order_of, next_of, IsListing};
+ghost use Rattle.oe_order.specs.Queue.{ComesNext, IsBetweenSteps, IsNewQueue, IsQueueOf, IsReleasing, KeepsOneMore, KeepsOtherChains, order_behind, run_in};
 ghost use Rattle.oe_order.specs.Sorted.{AreNoLoads, AreAllSorted};
-ghost use Rattle.oe_order.specs.Waiting.{AllReleased, IsKept, IsPartial, IsQueue, is_wanted, marked_nodes};
+ghost use Rattle.oe_order.specs.Waiting.{IsPartial};
 
 use crate::{Links, run};
 use oe_memory::OutOfMemory;
@@ -31,10 +31,7 @@ impl Queue {
     fn new(alloc: Global, members: Vec<bool>) -> Result<Queue, OutOfMemory>
         ensures members { IfOk result (λ q. q.members.items ≡ members.items) }
         ensures none { IfOk result (λ q. q.steps.items ≡ []) }
-        ensures queue { IfOk result
-            (λ q. (nodes : List Node) → length nodes ≡ length members.items →
-            IsQueue nodes (λ _. false) members.items q.standing.items q.steps.items
-            q.first.items q.next.items q.passed.items (heap_items q.ready)) }
+        ensures queue { IfOk result IsNewQueue }
     {
         let count = members.len();
         Ok(Queue {
@@ -54,18 +51,8 @@ impl Queue {
         requires nexts { node < length self.old.next.items }
         requires within { (n : ℕ) → IsTrue (contains named.now n) →
             n < length self.old.first.items }
-        ensures kept { OnOk result
-            ((nodes : List Node) (kept : ℕ → Bool) → arguments nodes node ≡ named.now →
-            node < length nodes → kept node ≡ false →
-            IsKept nodes kept self.old.first.items self.old.next.items self.old.passed.items
-            (heap_items self.old.ready) →
-            IsKept nodes (λ n. kept n || n == node)
-            self.new.first.items self.new.next.items self.new.passed.items
-            (heap_items self.new.ready)) }
-        ensures others { OnOk result ((a : ℕ) →
-            slice_get named.now (slice_index self.old.passed.items node) ≢ Some a →
-            slice_index_or self.new.first.items a None
-            ≡ slice_index_or self.old.first.items a None) }
+        ensures kept { OnOk result (KeepsOneMore self.old self.new node named.now) }
+        ensures others { OnOk result (KeepsOtherChains self.old self.new node named.now) }
         ensures members { OnOk result (self.new.members.items ≡ self.old.members.items) }
         ensures steps { OnOk result (self.new.steps.items ≡ self.old.steps.items) }
         ensures standing { OnOk result (self.new.standing.items ≡ self.old.standing.items) }
@@ -85,21 +72,8 @@ impl Queue {
     fn release(&mut self, nodes: &[Links], node: u32) -> Result<(), OutOfMemory>
         requires few { length nodes.now < 2 ^ 32 }
         requires named { RefersWithin (graph_of nodes.now) }
-        requires stands { slice_index_or self.old.standing.items node false ≡ true }
-        requires queue { IsQueue (graph_of nodes.now)
-            (is_wanted (graph_of nodes.now) self.old.members.items self.old.standing.items)
-            self.old.members.items self.old.standing.items self.old.steps.items
-            self.old.first.items self.old.next.items self.old.passed.items
-            (heap_items self.old.ready) }
-        requires released { (a : ℕ) → a ≢ node →
-            slice_index_or self.old.standing.items a false ≡ true →
-            slice_index_or self.old.first.items a None ≡ None }
-        ensures queue { OnOk result (IsQueue (graph_of nodes.now)
-            (is_wanted (graph_of nodes.now) self.new.members.items self.new.standing.items)
-            self.new.members.items self.new.standing.items self.new.steps.items
-            self.new.first.items self.new.next.items self.new.passed.items
-            (heap_items self.new.ready)) }
-        ensures released { OnOk result (AllReleased self.new.standing.items self.new.first.items) }
+        requires releasing { IsReleasing (graph_of nodes.now) node self.old }
+        ensures between { OnOk result (IsBetweenSteps (graph_of nodes.now) self.new) }
         ensures members { OnOk result (self.new.members.items ≡ self.old.members.items) }
         ensures steps { OnOk result (self.new.steps.items ≡ self.old.steps.items) }
         ensures standing { OnOk result (self.new.standing.items ≡ self.old.standing.items) }
@@ -122,24 +96,8 @@ impl Queue {
     fn append(&mut self, nodes: &[Links], node: u32) -> Result<(), OutOfMemory>
         requires few { length nodes.now < 2 ^ 32 }
         requires named { RefersWithin (graph_of nodes.now) }
-        requires member { slice_index_or self.old.members.items node false ≡ true }
-        requires comes { slice_index_or self.old.standing.items node false ≡ false }
-        requires arguments { is_load (graph_of nodes.now) node ≡ false →
-            (a : ℕ) → contains (arguments (graph_of nodes.now) node) a ≡ true →
-            contains self.old.steps.items a ≡ true }
-        requires queue { IsQueue (graph_of nodes.now)
-            (λ n. is_wanted (graph_of nodes.now) self.old.members.items self.old.standing.items n
-            && not (n == node))
-            self.old.members.items self.old.standing.items self.old.steps.items
-            self.old.first.items self.old.next.items self.old.passed.items
-            (heap_items self.old.ready) }
-        requires released { AllReleased self.old.standing.items self.old.first.items }
-        ensures queue { OnOk result (IsQueue (graph_of nodes.now)
-            (is_wanted (graph_of nodes.now) self.new.members.items self.new.standing.items)
-            self.new.members.items self.new.standing.items self.new.steps.items
-            self.new.first.items self.new.next.items self.new.passed.items
-            (heap_items self.new.ready)) }
-        ensures released { OnOk result (AllReleased self.new.standing.items self.new.first.items) }
+        requires next { ComesNext (graph_of nodes.now) node self.old }
+        ensures between { OnOk result (IsBetweenSteps (graph_of nodes.now) self.new) }
         ensures members { OnOk result (self.new.members.items ≡ self.old.members.items) }
         ensures steps { OnOk result (self.new.steps.items ≡ self.old.steps.items ++ node ∷ []) }
         ensures standing { OnOk result
@@ -155,16 +113,8 @@ impl Queue {
         requires few { length nodes.now < 2 ^ 32 }
         requires named { RefersWithin (graph_of nodes.now) }
         requires none { self.old.steps.items ≡ [] }
-        requires queue { IsQueue (graph_of nodes.now) (λ _. false)
-            self.old.members.items self.old.standing.items self.old.steps.items
-            self.old.first.items self.old.next.items self.old.passed.items
-            (heap_items self.old.ready) }
-        ensures queue { OnOk result (IsQueue (graph_of nodes.now)
-            (is_wanted (graph_of nodes.now) self.new.members.items self.new.standing.items)
-            self.new.members.items self.new.standing.items self.new.steps.items
-            self.new.first.items self.new.next.items self.new.passed.items
-            (heap_items self.new.ready)) }
-        ensures released { OnOk result (AllReleased self.new.standing.items self.new.first.items) }
+        requires queue { IsQueueOf (graph_of nodes.now) (λ _. false) self.old }
+        ensures between { OnOk result (IsBetweenSteps (graph_of nodes.now) self.new) }
         ensures members { OnOk result (self.new.members.items ≡ self.old.members.items) }
         ensures none { OnOk result (self.new.steps.items ≡ []) }
     {
@@ -181,22 +131,11 @@ impl Queue {
         requires few { length nodes.now < 2 ^ 32 }
         requires named { RefersWithin (graph_of nodes.now) }
         requires none { self.old.steps.items ≡ [] }
-        requires queue { IsQueue (graph_of nodes.now)
-            (is_wanted (graph_of nodes.now) self.old.members.items self.old.standing.items)
-            self.old.members.items self.old.standing.items self.old.steps.items
-            self.old.first.items self.old.next.items self.old.passed.items
-            (heap_items self.old.ready) }
-        requires released { AllReleased self.old.standing.items self.old.first.items }
-        ensures queue { OnOk result (IsQueue (graph_of nodes.now)
-            (is_wanted (graph_of nodes.now) self.new.members.items self.new.standing.items)
-            self.new.members.items self.new.standing.items self.new.steps.items
-            self.new.first.items self.new.next.items self.new.passed.items
-            (heap_items self.new.ready)) }
-        ensures released { OnOk result (AllReleased self.new.standing.items self.new.first.items) }
+        requires between { IsBetweenSteps (graph_of nodes.now) self.old }
+        ensures between { OnOk result (IsBetweenSteps (graph_of nodes.now) self.new) }
         ensures members { OnOk result (self.new.members.items ≡ self.old.members.items) }
         ensures loads { OnOk result (self.new.steps.items
-            ≡ filter (is_load (graph_of nodes.now))
-            (marked_nodes self.old.members.items (length nodes.now))) }
+            ≡ filter (is_load (graph_of nodes.now)) (run_in (graph_of nodes.now) self.old)) }
     {
         for node in 0..nodes.len() {
             if self.members[node] && nodes[node].load {
@@ -210,24 +149,16 @@ impl Queue {
     fn append_ready(&mut self, nodes: &[Links]) -> Result<(), OutOfMemory>
         requires few { length nodes.now < 2 ^ 32 }
         requires named { RefersWithin (graph_of nodes.now) }
-        requires queue { IsQueue (graph_of nodes.now)
-            (is_wanted (graph_of nodes.now) self.old.members.items self.old.standing.items)
-            self.old.members.items self.old.standing.items self.old.steps.items
-            self.old.first.items self.old.next.items self.old.passed.items
-            (heap_items self.old.ready) }
-        requires released { AllReleased self.old.standing.items self.old.first.items }
+        requires between { IsBetweenSteps (graph_of nodes.now) self.old }
         requires loads { (n : ℕ) → slice_index_or self.old.members.items n false ≡ true →
             is_load (graph_of nodes.now) n ≡ true → contains self.old.steps.items n ≡ true }
-        ensures queue { OnOk result
+        ensures partial { OnOk result
             (IsPartial (graph_of nodes.now) self.old.members.items self.new.steps.items) }
         ensures room { OnOk result (length self.new.steps.items ≤ length nodes.now) }
-        ensures extended { OnOk result (self.new.steps.items
-            ≡ extend_order (graph_of nodes.now)
-            (marked_nodes self.old.members.items (length nodes.now))
-            (length nodes.now - length self.old.steps.items) self.old.steps.items) }
-        ensures none { OnOk result
-            (next_of (graph_of nodes.now)
-            (marked_nodes self.old.members.items (length nodes.now)) self.new.steps.items ≡ None) }
+        ensures extended { OnOk result
+            (self.new.steps.items ≡ order_behind (graph_of nodes.now) self.old) }
+        ensures none { OnOk result (next_of (graph_of nodes.now)
+            (run_in (graph_of nodes.now) self.old) self.new.steps.items ≡ None) }
     {
         while let Some(least) = self.ready.pop() {
             self.append(nodes, least.0)?;

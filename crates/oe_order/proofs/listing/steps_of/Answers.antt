@@ -1,10 +1,9 @@
-use Rattle.std.proofs.Common.{◌≡◌, ℕ, ◌-◌, ◌<◌, ◌&&◌, Bool, true, false, List, None, length, get_or, sym, ap, ◌∙◌, subst, arith}
+use Rattle.std.proofs.Common.{◌≡◌, ℕ, ◌-◌, ◌<◌, ◌&&◌, Bool, true, false, List, length, get_or, sym, ap, ◌∙◌, subst, arith}
 use Rattle.std.specs.List.{filter, range_with_len}
-use Rattle.std.specs.BinaryHeap.{heap_items}
 use Rattle.std.proofs.lemmas.List.Elements.{filter_agree}
 use Rattle.oe_order.specs.Graph.{Node, graph_of, is_load, in_run, run_of}
-use Rattle.oe_order.specs.Order.{contains, extend_order, next_of, loads_of, order_of}
-use Rattle.oe_order.specs.Waiting.{IsQueue, marked_nodes}
+use Rattle.oe_order.specs.Order.{contains, extend_order, loads_of, order_of}
+use Rattle.oe_order.specs.Waiting.{marked_nodes}
 use Rattle.oe_order.proofs.Graphs.{length-graph_of}
 use Rattle.oe_order.proofs.Pools.{marked_within}
 use Rattle.oe_order.proofs.Reach.{in_run-sound, in_run-complete}
@@ -37,10 +36,8 @@ load_stands nodes members steps n long is m l =
 
 pub park_all-requires-clause-queue : goal.park_all-requires-clause-queue
 park_all-requires-clause-queue c =
-    let nodes = graph_of c.args.nodes.now in
-    let q = c.in_ok-queue.queue in
-    subst (λ ms. IsQueue nodes (λ x. false) ms q.standing.items q.steps.items q.first.items q.next.items q.passed.items (heap_items q.ready)) (sym c.in_ok-queue.ensures.members)
-    (c.in_ok-queue.ensures.queue nodes (omega (arith, length-graph_of c.args.nodes.now, c.in_ok-members.ensures.len)))
+    c.in_ok-queue.ensures.queue (graph_of c.args.nodes.now)
+    (omega (arith, length-graph_of c.args.nodes.now, ap length c.in_ok-queue.ensures.members, c.in_ok-members.ensures.len))
 
 pub append_ready-requires-clause-loads : goal.append_ready-requires-clause-loads
 append_ready-requires-clause-loads c = λ n m e.
@@ -51,7 +48,7 @@ append_ready-requires-clause-loads c = λ n m e.
     let l0 : c.park_all.new.self.members.items ≡ c.in_ok-members.members.items = c.in_ok-park_all.ensures.members ∙ c.in_ok-queue.ensures.members in
     let same : ms ≡ c.in_ok-members.members.items = l.members ∙ l0 in
     let loads : c.append_loads.new.self.steps.items ≡ filter (is_load nodes) (marked_nodes ms (length nodes)) =
-    l.loads ∙ ap (λ xs. filter (is_load nodes) (marked_nodes xs (length c.args.nodes.now))) (sym l.members) ∙ ap (λ k. filter (is_load nodes) (marked_nodes ms k)) (sym size) in
+    l.loads ∙ ap (λ xs. filter (is_load nodes) (marked_nodes xs (length nodes))) (sym l.members) in
     load_stands nodes ms c.append_loads.new.self.steps.items n (omega (arith, ap length same, c.in_ok-members.ensures.len, size)) loads m e
 
 pub returns-clause-steps : goal.returns-clause-steps
@@ -63,11 +60,11 @@ returns-clause-steps c =
     let l0 : c.park_all.new.self.members.items ≡ c.in_ok-members.members.items = c.in_ok-park_all.ensures.members ∙ c.in_ok-queue.ensures.members in
     let same : ms ≡ c.in_ok-members.members.items = l.members ∙ l0 in
     let loads : c.append_loads.new.self.steps.items ≡ filter (is_load nodes) (marked_nodes ms (length nodes)) =
-    l.loads ∙ ap (λ xs. filter (is_load nodes) (marked_nodes xs (length c.args.nodes.now))) (sym l.members) ∙ ap (λ k. filter (is_load nodes) (marked_nodes ms k)) (sym size) in
+    l.loads ∙ ap (λ xs. filter (is_load nodes) (marked_nodes xs (length nodes))) (sym l.members) in
     let p = c.in_ok-append_ready.ensures in
     let marks : (n : ℕ) → get_or ms n false ≡ in_run nodes c.args.last n = λ n. ap (λ xs. get_or xs n false) same ∙ c.in_ok-members.ensures.marks n in
     order_of-marks nodes c.args.last ms c.append_loads.new.self.steps.items _ marks loads
-    (p.extended ∙ ap (λ k. extend_order nodes (marked_nodes ms k) (k - length c.append_loads.new.self.steps.items) c.append_loads.new.self.steps.items) (sym size))
+    p.extended
 
 pub returns-clause-listing : goal.returns-clause-listing
 returns-clause-listing c =
@@ -83,4 +80,4 @@ returns-clause-listing c =
     IsListing-from nodes c.args.last ms _ c.requires.acyclic c.requires.named named
     (λ n e. in_run-sound nodes c.args.last n (sym (marks n) ∙ e))
     (λ n r. marks n ∙ in_run-complete nodes c.args.last n c.requires.acyclic c.requires.named named r)
-    p.queue (subst (λ k. next_of nodes (marked_nodes ms k) c.append_ready.new.self.steps.items ≡ None) (sym size) p.none)
+    p.partial p.none

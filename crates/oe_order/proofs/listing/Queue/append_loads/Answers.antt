@@ -1,5 +1,6 @@
 use Rattle.std.proofs.Common.{◌≡◌, ℕ, ◌+◌, ◌<◌, ◌&&◌, ◌++◌, ◌∷◌, not, eqb, Bool, true, false, List, [], Option, length, get_or, sym, ap, ◌∙◌, inl, inr, ◌⊎◌, arith}
 use Rattle.std.specs.declared.cmp.Reverse.{Reverse}
+use Rattle.std.specs.List.{filter}
 use Rattle.std.proofs.lemmas.Bool.{false≢true, false_from_ne_true, and_parts}
 use Rattle.std.proofs.lemmas.List.{get_or_read}
 use Rattle.oe_order.specs.Graph.{Node, graph_of, is_load}
@@ -47,20 +48,21 @@ module _ (nodes : List Node) (i : ℕ) (members0 members standing : List Bool) (
 pub index-requires : goal.index-requires
 index-requires c = omega (arith, c.loop-node.invariant.queue.members_len, length-graph_of c.args.nodes.now, c.loop-node.self.members.ok.0)
 
-pub append-requires-clause-member : goal.append-requires-clause-member
-append-requires-clause-member c =
-    sym (get_or_read c.loop-node.self.members.items c.loop-node.node c.index.result.now (omega (arith, c.loop-node.invariant.queue.members_len, length-graph_of c.args.nodes.now)) c.index.ensures false) ∙ c.if-index.true
-
-pub append-requires-clause-comes : goal.append-requires-clause-comes
-append-requires-clause-comes c = comes (graph_of c.args.nodes.now) c.loop-node.node c.args.self.now.members.items _ _ _ _ _ _ _ c.loop-node.invariant
-
-pub append-requires-clause-arguments : goal.append-requires-clause-arguments
-append-requires-clause-arguments c = λ free. absurd (false≢true (sym free ∙ is_load-graph_of c.args.nodes.now c.loop-node.node c.index-nodes-node.result (omega arith) c.index-nodes-node.is ∙ ap (λ (z : Links). z.load) c.index-nodes-node.is ∙ c.if-nodes-node.true))
-
-pub append-requires-clause-queue : goal.append-requires-clause-queue
-append-requires-clause-queue c =
-    placing (graph_of c.args.nodes.now) c.loop-node.node c.args.self.now.members.items _ _ _ _ _ _ _ c.loop-node.invariant
-    (is_load-graph_of c.args.nodes.now c.loop-node.node c.index-nodes-node.result (omega arith) c.index-nodes-node.is ∙ ap (λ (z : Links). z.load) c.index-nodes-node.is ∙ c.if-nodes-node.true)
+pub append-requires-clause-next : goal.append-requires-clause-next
+append-requires-clause-next c =
+    let nodes = graph_of c.args.nodes.now in
+    let i = c.loop-node.node in
+    let p = c.loop-node.invariant in
+    let members = c.loop-node.self.members.items in
+    let load : is_load nodes i ≡ true =
+    is_load-graph_of c.args.nodes.now i c.index-nodes-node.result (omega arith) c.index-nodes-node.is ∙ ap (λ (z : Links). z.load) c.index-nodes-node.is ∙ c.if-nodes-node.true in
+    record {
+      member = sym (get_or_read members i c.index.result.now (omega (arith, p.queue.members_len, length-graph_of c.args.nodes.now)) c.index.ensures false) ∙ c.if-index.true;
+      comes = comes nodes i c.args.self.now.members.items _ _ _ _ _ _ _ p;
+      arguments_stand = λ free. absurd (false≢true (sym free ∙ load));
+      others = placing nodes i c.args.self.now.members.items _ _ _ _ _ _ _ p load;
+      released = p.released;
+    }
 
 pub loop-node-preserved : goal.loop-node-preserved
 loop-node-preserved c =
@@ -74,10 +76,19 @@ loop-node-preserved c =
           (let p = w.in_ok-append.ensures in
           rw w.self-is (Loads-append nodes i c.args.self.now.members.items _ _ _ _ _ _ _ c.loop-node.invariant _ _ _ _ _ _ _ (mark ∙ w.if-index.true)
           (is_load-graph_of c.args.nodes.now i w.index-nodes-node.result (omega arith) w.index-nodes-node.is ∙ ap (λ (z : Links). z.load) w.index-nodes-node.is ∙ w.if-nodes-node.true)
-          p.queue p.released p.members p.steps))
+          p.between.wanted p.between.released p.members p.steps))
       | else-index w ↦ elim w.else-index.branch [
         | else-index-via-then-index+else-nodes-node v ↦ rw w.self-is (Loads-skip nodes i c.args.self.now.members.items _ _ _ _ _ _ _ c.loop-node.invariant
             (inr (is_load-graph_of c.args.nodes.now i v.index-nodes-node.result (omega arith) v.index-nodes-node.is ∙ ap (λ (z : Links). z.load) v.index-nodes-node.is ∙ v.if-nodes-node.false)))
         | else-index-via-else-index v ↦ rw w.self-is (Loads-skip nodes i c.args.self.now.members.items _ _ _ _ _ _ _ c.loop-node.invariant (inl (mark ∙ v.if-index.false)))
       ]
     ]
+
+pub returns-clause-between : goal.returns-clause-between
+returns-clause-between c = record { wanted = c.loop-node.invariant.queue; released = c.loop-node.invariant.released }
+
+pub returns-clause-loads : goal.returns-clause-loads
+returns-clause-loads c =
+    let nodes = graph_of c.args.nodes.now in
+    let all : c.loop-node.node ≡ length nodes = omega (arith, length-graph_of c.args.nodes.now) in
+    c.loop-node.invariant.loads ∙ ap (λ k. filter (is_load nodes) (marked_nodes c.args.self.now.members.items k)) all

@@ -43,37 +43,19 @@ module _ (nodes : List Node) (members0 members standing : List Bool) (steps0 ste
   Appended-is empty = subst (λ ms. steps ≡ extend_order nodes (marked_nodes ms (length nodes)) (length nodes - length steps0) steps0) p.same_members
       (sym (extend_order-done nodes (marked_nodes members (length nodes)) steps (length nodes - length steps) (none_next nodes members standing steps first next passed ready p.queue p.released p.loads empty)) ∙ p.extended)
 
-pub append-requires-clause-member : goal.append-requires-clause-member
-append-requires-clause-member c =
+pub append-requires-clause-next : goal.append-requires-clause-next
+append-requires-clause-next c =
     let i = c.loop-least.invariant in
     let e = c.in-Some.ensures in
     let h = e.heap_order i.queue.keeping.least_first in
     let n = next-pop (graph_of c.args.nodes.now) _ _ _ _ _ _ _ i.queue i.released i.loads c.in-Some.least _ e.permutation h.0 h.1 in
-    n.member
-
-pub append-requires-clause-comes : goal.append-requires-clause-comes
-append-requires-clause-comes c =
-    let i = c.loop-least.invariant in
-    let e = c.in-Some.ensures in
-    let h = e.heap_order i.queue.keeping.least_first in
-    let n = next-pop (graph_of c.args.nodes.now) _ _ _ _ _ _ _ i.queue i.released i.loads c.in-Some.least _ e.permutation h.0 h.1 in
-    n.comes
-
-pub append-requires-clause-arguments : goal.append-requires-clause-arguments
-append-requires-clause-arguments c =
-    let i = c.loop-least.invariant in
-    let e = c.in-Some.ensures in
-    let h = e.heap_order i.queue.keeping.least_first in
-    let n = next-pop (graph_of c.args.nodes.now) _ _ _ _ _ _ _ i.queue i.released i.loads c.in-Some.least _ e.permutation h.0 h.1 in
-    λ free a has. n.arguments_stand a has
-
-pub append-requires-clause-queue : goal.append-requires-clause-queue
-append-requires-clause-queue c =
-    let i = c.loop-least.invariant in
-    let e = c.in-Some.ensures in
-    let h = e.heap_order i.queue.keeping.least_first in
-    let n = next-pop (graph_of c.args.nodes.now) _ _ _ _ _ _ _ i.queue i.released i.loads c.in-Some.least _ e.permutation h.0 h.1 in
-    IsQueue-with (graph_of c.args.nodes.now) _ _ _ _ _ _ _ _ _ _ _ _ i.queue n.kept
+    record {
+      member = n.member;
+      comes = n.comes;
+      arguments_stand = λ free a has. n.arguments_stand a has;
+      others = IsQueue-with (graph_of c.args.nodes.now) _ _ _ _ _ _ _ _ _ _ _ _ i.queue n.kept;
+      released = i.released;
+    }
 
 pub loop-least-smaller : goal.loop-least-smaller
 loop-least-smaller c =
@@ -90,7 +72,7 @@ loop-least-preserved c =
     let h = e.heap_order i.queue.keeping.least_first in
     let n = next-pop (graph_of c.args.nodes.now) _ _ _ _ _ _ _ i.queue i.released i.loads c.in-Some.least _ e.permutation h.0 h.1 in
     let p = c.in_ok-append.ensures in
-    Appended-more (graph_of c.args.nodes.now) _ _ _ _ _ _ _ _ _ i c.in-Some.least _ _ _ _ _ _ _ _ n p.queue p.released p.members p.steps
+    Appended-more (graph_of c.args.nodes.now) _ _ _ _ _ _ _ _ _ i c.in-Some.least _ _ _ _ _ _ _ _ n p.between.wanted p.between.released p.members p.steps
 
 pub returns-clause-room : goal.returns-clause-room
 returns-clause-room c =
@@ -99,16 +81,12 @@ returns-clause-room c =
 
 pub returns-clause-none : goal.returns-clause-none
 returns-clause-none c =
-    let nodes = graph_of c.args.nodes.now in
     let ready = heap_items c.loop-least.self.ready in
     let none : ready ≡ [] = nil_from_length ready (omega (arith, c.in_default.ensures.none, c.loop-least.self.ready.data.ok.0)) in
-    subst (λ n. next_of nodes (marked_nodes c.args.self.now.members.items n) c.loop-least.self.steps.items ≡ None) (length-graph_of c.args.nodes.now)
-    (Appended-done nodes _ _ _ _ _ _ _ _ _ c.loop-least.invariant (λ n. ap (λ rs. ready_times rs n) none))
+    Appended-done (graph_of c.args.nodes.now) _ _ _ _ _ _ _ _ _ c.loop-least.invariant (λ n. ap (λ rs. ready_times rs n) none)
 
 pub returns-clause-extended : goal.returns-clause-extended
 returns-clause-extended c =
-    let nodes = graph_of c.args.nodes.now in
     let ready = heap_items c.loop-least.self.ready in
     let none : ready ≡ [] = nil_from_length ready (omega (arith, c.in_default.ensures.none, c.loop-least.self.ready.data.ok.0)) in
-    subst (λ n. c.loop-least.self.steps.items ≡ extend_order nodes (marked_nodes c.args.self.now.members.items n) (n - length c.args.self.now.steps.items) c.args.self.now.steps.items) (length-graph_of c.args.nodes.now)
-    (Appended-is nodes _ _ _ _ _ _ _ _ _ c.loop-least.invariant (λ n. ap (λ rs. ready_times rs n) none))
+    Appended-is (graph_of c.args.nodes.now) _ _ _ _ _ _ _ _ _ c.loop-least.invariant (λ n. ap (λ rs. ready_times rs n) none)

@@ -1,6 +1,6 @@
 use Rattle.std.proofs.Common.{◌≡◌, ℕ, ◌+◌, ◌<◌, ◌≤◌, ◌&&◌, ◌||◌, eqb, ltb, Bool, true, false, List, Option, length, get_or, refl, sym, ap, ◌∙◌, subst, arith}
 use Rattle.std.specs.declared.cmp.Reverse.{Reverse}
-use Rattle.std.proofs.lemmas.Bool.{le-ltb, lt-ltb}
+use Rattle.std.proofs.lemmas.Bool.{false≢true, le-ltb, lt-ltb}
 use Rattle.std.proofs.lemmas.List.{get_or_read}
 use Rattle.oe_order.specs.Graph.{Node, graph_of, arguments, is_load}
 use Rattle.oe_order.specs.Order.{contains}
@@ -103,6 +103,13 @@ loop-node-preserved c =
       ]
     ]
 
-pub returns-clause-queue : goal.returns-clause-queue
-returns-clause-queue c =
-    Parks-all (graph_of c.args.nodes.now) c.loop-node.node c.args.self.now.members.items _ _ _ _ _ _ _ c.loop-node.invariant (omega (arith, length-graph_of c.args.nodes.now))
+pub returns-clause-between : goal.returns-clause-between
+returns-clause-between c =
+    let nodes = graph_of c.args.nodes.now in
+    let i = c.loop-node.node in
+    let given = c.args.self.now.members.items in
+    let p = c.loop-node.invariant in
+    record {
+      wanted = Parks-all nodes i given _ _ _ _ _ _ _ p (omega (arith, length-graph_of c.args.nodes.now));
+      released = λ a e. absurd (false≢true (sym (none_stands nodes i given _ _ _ _ _ _ _ p a) ∙ e));
+    }
