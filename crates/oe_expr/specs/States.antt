@@ -1,17 +1,20 @@
 -- What the check keeps of the nodes: the node of a name, its state, and its kind.
-use Rattle.std.specs.Prelude.{ℕ, List, Option, Some, None, Result, Ok, Err, Bool, if◌then◌else◌}
+use Rattle.std.specs.Prelude.{ℕ, List, ◌∷◌, Option, Some, None, Result, Ok, Err, Bool, if◌then◌else◌}
 use Rattle.std.specs.Option.{option_map_or}
 use Rattle.oe_cell.specs.declared.cell.Cell.{Cell}
 use Rattle.oe_dims.specs.Indices.{index_where}
 use Rattle.oe_dims.specs.Names.{same_name}
 use Rattle.oe_dims.specs.declared.kind.CellKind.{CellKind}
+use Rattle.oe_fold.specs.declared.reducer.Reducer.{Reducer}
 use Rattle.oe_graph.specs.declared.code.Code.{Code}
 use Rattle.oe_graph.specs.declared.code.Code.TheVariants.{CellKindInvalid}
 use Rattle.oe_graph.specs.States.{state_at}
 use Rattle.oe_graph.specs.declared.node_state.NodeState.{NodeState}
 use Rattle.oe_graph.specs.declared.node_state.NodeState.TheVariants.{Unseen, Faulty, Sound}
 use Rattle.oe_graph.specs.declared.tree.Node.{Node}
+use Rattle.oe_expr.specs.Kinds.{are_mixed, kind_among}
 use Rattle.oe_expr.specs.NodeKinds.{request_kind}
+use Rattle.oe_expr.specs.Operations.{reducer_gives, reducer_takes}
 use Rattle.oe_expr.specs.Requests.{CellRequest}
 use Rattle.oe_expr.specs.Rows.{request_fault}
 use Rattle.oe_expr.specs.Scope.{PlainScope}
@@ -46,3 +49,8 @@ judged_request scope context at request =
 -- the kind, unless cells that are to be of one kind are of both
 abbrev pub kind_unless : Bool → Option CellKind → Result (Option CellKind) Code
 kind_unless mixed kind = if mixed then Err CellKindInvalid else Ok kind
+
+-- of a reduction of items of these kinds: the kind that it gives, unless they are not of the one kind that it takes
+abbrev pub judged_reduction : Reducer → List (Option CellKind) → Result (Option CellKind) Code
+judged_reduction reducer kinds =
+    kind_unless (are_mixed (reducer_takes reducer ∷ kinds)) (kind_among (reducer_gives reducer ∷ kinds))

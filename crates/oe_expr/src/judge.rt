@@ -8,7 +8,7 @@ ghost use Rattle.oe_expr.specs.NodeKinds as spec;
 ghost use Rattle.oe_expr.specs.Operations as spec_of;
 ghost use Rattle.oe_expr.specs.PlainRequests.{literal_cell, plain_scalar, plain_items, plain_label, plain_cell_request};
 ghost use Rattle.oe_expr.specs.Scope.{IsScope, plain_scope};
-ghost use Rattle.oe_expr.specs.States.{kind_named, judged_request, kind_unless};
+ghost use Rattle.oe_expr.specs.States.{kind_named, judged_reduction, judged_request, kind_unless};
 
 use crate::kinds::{Kinds, literal_kind};
 use crate::labels::lacks_element;
@@ -215,10 +215,8 @@ fn judge_reduction(
     items: &Items<'_>,
 ) -> Result<Option<CellKind>, Code>
     requires { length states.now ≡ length nodes.now }
-    ensures { let kinds = spec.items_kinds (plain_scope scope.now) context.now
-        (kind_named nodes.now states.now) (plain_items items.now) in
-        result ≡ kind_unless (are_mixed (spec_of.reducer_takes reducer ∷ kinds))
-        (kind_among (spec_of.reducer_gives reducer ∷ kinds)) }
+    ensures { result ≡ judged_reduction reducer (spec.items_kinds (plain_scope scope.now)
+        context.now (kind_named nodes.now states.now) (plain_items items.now)) }
 {
     let taken = Kinds::of(reducer_takes(reducer));
     let taken = with_items(scope, context, nodes, states, taken, items);
