@@ -99,8 +99,8 @@ pub record LoadsChunks (p : PlanOf) (rows : List Row) (first : ℕ) (old new : L
 
 module _ {F : Type 0} (g : Shared F (ℕ × (PermitOf × (MutBor (List BenchOf) × Unit {0})))
     (Result (Unit {0}) Note × (MutBor (List BenchOf) × Unit {0}))) (f : F) (p : PlanOf) where
-  -- it may be called with the number of a first chunk, a bench for each chunk from there on, and a permit for their cells,
-  -- which has this seal
+  -- it may be called with the number of a first chunk, a bench for each chunk from there on, and a permit for their
+  -- cells, which has this seal
   abbrev pub MayLoad : ℕ → Type 0
   MayLoad seal = (first : ℕ) (permit : PermitOf) (benches : MutBor (List BenchOf)) → All (IsBenchFor p) benches.now
       → first + length benches.now ≤ chunk_total p → MayLook seal (length benches.now * most_asked p) permit

@@ -18,8 +18,8 @@ use oe_sources::{Catalogue, Looker, Permit};
 use std::thread;
 use std::thread::Threads;
 
-/// Loads the chunks from a first one on, each into a bench, in so many threads at most. Where a thread cannot be had, this
-/// one does its work. Their cells were asked for, with this permit.
+/// Loads the chunks from a first one on, each into a bench, in so many threads at most. Where a thread cannot be had,
+/// this one does its work. Their cells were asked for, with this permit.
 ///
 /// Refuses: where a look at a collection is refused.
 pub(crate) fn load_in_threads<R: Threads + Sync>(
@@ -72,9 +72,9 @@ fn load_here(
     load_chunks(plan, benches, catalogue, first, &mut looker)
 }
 
-/// Has the chunks from a first one on loaded, each into a bench, by a call for each of so many pieces of the benches, or by
-/// one call where that is none. Each call has a thread of its own where one can be had, and the cells of its chunks from
-/// the permit.
+/// Has the chunks from a first one on loaded, each into a bench, by a call for each of so many pieces of the benches,
+/// or by one call where that is none. Each call has a thread of its own where one can be had, and the cells of its
+/// chunks from the permit.
 ///
 /// Refuses: as a call does; of several refusals that of the first piece.
 #[cycle(halves)]
@@ -122,8 +122,8 @@ fn cells_for(plan: &Plan, count: usize, permit: &mut Permit) -> Permit
     permit.split(cells)
 }
 
-/// Has the chunks from a first one on loaded into some benches, and the next ones into others, at once, each by half of so
-/// many pieces. Answers for both.
+/// Has the chunks from a first one on loaded into some benches, and the next ones into others, at once, each by half of
+/// so many pieces. Answers for both.
 #[cycle(halves)]
 fn load_both<R: Threads + Sync, F: Fn(u64, Permit, &mut [Bench]) -> Result<(), Note> + Sync>(
     rt: &R,

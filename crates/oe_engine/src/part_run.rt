@@ -98,8 +98,8 @@ impl PartRun {
     }
 
     /// Takes the next chunks, two for each worker or those that are left: has the workers load them, and then evaluate
-    /// each once behind the gate, both at once in threads of their own, and writes their records. Where a thread cannot be
-    /// had, the caller's does its work.
+    /// each once behind the gate, both at once in threads of their own, and writes their records. Where a thread cannot
+    /// be had, the caller's does its work.
     ///
     /// Refuses: `SourceFailed` and `SpoolFailed` only where the fault counter of a collection that is loaded, or of the
     /// spool, rose; `SourceDamaged` only with a damaged position that a load keeps. Then it stands at the same chunks.

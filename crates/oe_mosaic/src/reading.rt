@@ -35,8 +35,8 @@ pub enum Found {
 pub enum Tried {
     /// This is the answer.
     Done(Result<(), LookFail>),
-    /// It is to be looked at in two halves, cut behind so many indices of the outermost dimension with several, or in the
-    /// middle.
+    /// It is to be looked at in two halves, cut behind so many indices of the outermost dimension with several, or in
+    /// the middle.
     Cut(usize),
 }
 
@@ -140,8 +140,8 @@ fn try_window<S: CubeSource>(
     }
 }
 
-/// Gives the cells of a window, in row-major order, and looks at each part only for what it decides. Where a position is
-/// damaged, the halves are looked at until it is found.
+/// Gives the cells of a window, in row-major order, and looks at each part only for what it decides. Where a position
+/// is damaged, the halves are looked at until it is found.
 fn look_window<S: CubeSource>(
     items: &[S],
     shape: &Shape,

@@ -1,10 +1,11 @@
 //! The outside of the program: where bytes come from and go to, and how often that failed.
 //!
 //! Each object of the outside, as a [`Source`] or a [`Sink`], has a fault counter that never falls, and a call answers
-//! [`Failed`] only where the counter rose in that call. What an object has left or holds may be visible to contracts or
-//! hidden: all bytes of an object in memory are visible, those of a real file or terminal are hidden, and the same
-//! clauses serve both. The layers above use these clauses alone, so what they prove over visible objects is what their
-//! bodies do over real ones. [`Pending`] gathers what goes to a sink, and [`read_up_to`] takes what a source has.
+//! [`Failed`] only where the counter rose in that call; but a look at a [`SharedStore`], which counts nothing, has its
+//! fault counted afterwards. What an object has left or holds may be visible to contracts or hidden: all bytes of an
+//! object in memory are visible, those of a real file or terminal are hidden, and the same clauses serve both. The
+//! layers above use these clauses alone, so what they prove over visible objects is what their bodies do over real ones.
+//! [`Pending`] gathers what goes to a sink, and [`read_up_to`] takes what a source has.
 #![tactic(auto)]
 
 mod bounded;

@@ -155,8 +155,9 @@ impl Store for MemoryStore {
 }
 
 impl SharedStore for MemoryStore {
-    /// It fails exactly where the script says so of the next call, which [`SharedStore::count_fault`] counts, and then leaves the
-    /// whole buffer as it was. It leaves the buffer behind what it gives as it was. One that succeeds has no number.
+    /// It fails exactly where the script says so of the next call, which [`SharedStore::count_fault`] counts, and then
+    /// leaves the whole buffer as it was. It leaves the buffer behind what it gives as it was. One that succeeds has no
+    /// number.
     fn look_at(&self, at: u64, into: &mut [u8]) -> Result<usize, Failed>
         ensures fails { IsErr result ↔ IsTrue (fails_next self.now.script) }
         ensures count { IfOk result (λ n. n ≡ count_at self.now.bytes at (length into.old)) }

@@ -19,8 +19,8 @@ use Rattle.oe_window.specs.declared.window.Window.{Window}
 
 -- ---- rows
 
--- a collection under its id. A box that a caller made has the seal of its catalogue; a generated cube, which no caller can
--- take out, has none.
+-- a collection under its id. A box that a caller made has the seal of its catalogue; a generated cube, which no caller
+-- can take out, has none.
 pub record Row : Type 0 where
   pub id : List ℕ
   pub source : Source
@@ -117,8 +117,8 @@ pub record CountsRow (before : List Row) (index cells : ℕ) (failed : Bool) (af
   pub count : CountsRead (source_at before index) cells failed (source_at after index)
   pub others : after ≡ rows_at before index (source_at after index)
 
--- A look at the row of an index met this fault: it knows the index, and has the seal of the box that stands there. So no
--- box was taken out of the catalogue since.
+-- A look at the row of an index met this fault: it knows the index, and has the seal of the box that stands there. So
+-- no box was taken out of the catalogue since.
 pub record IsFaultAt (rows : List Row) (index : ℕ) (fault : ReadFault) : Type 0 where
   pub place : fault.place ≡ index
   pub seal : IfSome (slice_get rows index) (λ (row : Row). row.seal ≡ Some fault.seal)

@@ -9,8 +9,8 @@ use Rattle.oe_sources.specs.declared.catalogue.Catalogue.{Catalogue}
 use Rattle.oe_sources.specs.declared.catalogue.MountFail.{MountFail}
 use Rattle.oe_sources.specs.declared.catalogue.MountFail.TheVariants.{IdInvalid, IdTaken, Full, OutOfMemory}
 
--- The seal of a catalogue: permits and faults are of the catalogue whose seal they have. No contract tells its value, nor
--- that two catalogues have the same; mounting and reading keep it, and what takes a box out leaves another.
+-- The seal of a catalogue: permits and faults are of the catalogue whose seal they have. No contract tells its value,
+-- nor that two catalogues have the same; mounting and reading keep it, and what takes a box out leaves another.
 abbrev pub seal_of : {X : Type 0} {F : X → Type 0} → Catalogue X F → ℕ
 seal_of catalogue = catalogue.seal
 

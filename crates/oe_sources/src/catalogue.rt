@@ -205,9 +205,9 @@ fn push_box(rows: &mut Vec<Mounted<Boxed>>, id: &str, cube: Boxed) -> Result<(),
     Ok(())
 }
 
-/// The collections by their ids, 64 at most. Contracts see the rows in the order in which they were mounted, and a seal,
-/// whose value they do not tell: what was asked of one catalogue gives no look at another, nor at a box that was taken out
-/// meanwhile.
+/// The collections by their ids, 64 at most. Contracts see the rows in the order in which they were mounted, and a
+/// seal, whose value they do not tell: what was asked of one catalogue gives no look at another, nor at a box that was
+/// taken out meanwhile.
 #[derive(Drop)]
 pub struct Catalogue {
     rows: Vec<Mounted<Boxed>>,
@@ -284,8 +284,8 @@ impl Catalogue {
         }
     }
 
-    /// Takes the collection of an id out, and answers its box; all other rows stay, under another seal, so that permits and
-    /// faults of before are of no use any more. It is `None` exactly where no box is mounted under the id; then the
+    /// Takes the collection of an id out, and answers its box; all other rows stay, under another seal, so that permits
+    /// and faults of before are of no use any more. It is `None` exactly where no box is mounted under the id; then the
     /// catalogue is as it was. It takes no memory.
     pub fn detach(&mut self, id: &str) -> Option<Box<dyn SharedSource>>
         ensures handed { IfSome result (λ cube.
@@ -306,8 +306,8 @@ impl Catalogue {
         }
     }
 
-    /// Puts another collection in the place of the one under this id, and answers the old box; all other rows stay, under
-    /// another seal, as [`Catalogue::detach`] leaves them. It takes no memory.
+    /// Puts another collection in the place of the one under this id, and answers the old box; all other rows stay,
+    /// under another seal, as [`Catalogue::detach`] leaves them. It takes no memory.
     ///
     /// Refuses: exactly where no box is mounted under the id, with the given one; then the catalogue is as it was.
     pub fn replace(
@@ -392,9 +392,9 @@ impl Catalogue {
         Permit::none(self.seal)
     }
 
-    /// Asks for so many cells of the collection of a row: the number of cells asked of it rises by that many, and stays at
-    /// 2^64 − 1, and so many more may be looked at with the permit, which is one of this catalogue. All else in the catalogue
-    /// stays.
+    /// Asks for so many cells of the collection of a row: the number of cells asked of it rises by that many, and stays
+    /// at 2^64 − 1, and so many more may be looked at with the permit, which is one of this catalogue. All else in the
+    /// catalogue stays.
     pub fn ask(&mut self, place: u32, cells: u64, permit: &mut Permit)
         requires mounted { place < length (rows_in seen self.old) }
         requires own { permit.old.seal ≡ seal_of self.old }

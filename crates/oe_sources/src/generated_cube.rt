@@ -26,8 +26,8 @@ const PIXEL: u32 = 10;
 
 /// A collection that is not kept: each cell is made from its indices when it is read. Four days from 2024-01-01, bands
 /// B1 and B2, and as many pixels along `y` as along `x`. The cell at the indices t, b, y and x is
-/// (SEED + 7x + 13y + 17t + 19b) mod 101, and null where that is 100. Its reads and looks always succeed, so that it has no
-/// fault to count.
+/// (SEED + 7x + 13y + 17t + 19b) mod 101, and null where that is 100. Its reads and looks always succeed, so that it
+/// has no fault to count.
 #[derive(Drop)]
 pub struct GeneratedCube {
     seed: u32,

@@ -47,8 +47,8 @@ impl Model for MemoryCube {
 }
 
 impl MemoryCube {
-    /// A collection of these cells, in row-major order. `failing` has the numbers of the reads and looks that fail, which
-    /// are counted together from 0, in the order in which they begin. It takes no memory.
+    /// A collection of these cells, in row-major order. `failing` has the numbers of the reads and looks that fail,
+    /// which are counted together from 0, in the order in which they begin. It takes no memory.
     pub fn new(shape: Shape, kind: CellKind, cells: Vec<Cell>, failing: Vec<u64>) -> MemoryCube
         requires counted { length cells.items ≡ cell_count shape }
         requires of_kind { list_all (is_null_or_of kind) cells.items ≡ true }

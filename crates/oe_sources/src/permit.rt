@@ -5,8 +5,9 @@ ghost use Rattle.oe_sources.specs.Permits.{Spends, permit_for_none, permit_raise
 use crate::packing::ROOM;
 use std::marker::Model;
 
-/// So many cells that were asked of a catalogue, and that are not looked at yet. Only [`crate::Catalogue::ask`] raises it,
-/// so that in all no more is looked at than was asked. It has the seal of the catalogue, and is of no use with another.
+/// So many cells that were asked of a catalogue, and that are not looked at yet. Only [`crate::Catalogue::ask`] raises
+/// it, so that in all no more is looked at than was asked. It has the seal of the catalogue, and is of no use with
+/// another.
 #[derive(Drop)]
 pub struct Permit {
     left: u64,

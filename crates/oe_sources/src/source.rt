@@ -30,9 +30,9 @@ pub enum LookFail {
     Damaged(u64),
 }
 
-/// A fault that a look met, and that is not counted yet. Only a source makes one, so that whoever says that a read failed
-/// was told so by a look. A catalogue seals those of its collections: such a fault knows of which row of which catalogue it
-/// is, and is counted for no other.
+/// A fault that a look met, and that is not counted yet. Only a source makes one, so that whoever says that a read
+/// failed was told so by a look. A catalogue seals those of its collections: such a fault knows of which row of which
+/// catalogue it is, and is counted for no other.
 #[derive(Drop)]
 pub struct ReadFault {
     part: u32,
@@ -91,9 +91,9 @@ pub trait CubeSource: Drop {
     fn kind(&self) -> CellKind
         ensures { result ≡ (seen self.now).kind };
 
-    /// Looks at the cells of a window: gives them as [`CubeSource::read`] does, and counts nothing, so that several threads
-    /// may look at once. `looking` shows that the cells were asked for; a source of several hands it on to its parts.
-    /// `bytes` is room to work with.
+    /// Looks at the cells of a window: gives them as [`CubeSource::read`] does, and counts nothing, so that several
+    /// threads may look at once. `looking` shows that the cells were asked for; a source of several hands it on to its
+    /// parts. `bytes` is room to work with.
     ///
     /// Refuses: `Failed` at any time; `Damaged` as `read` does.
     fn look(
@@ -108,8 +108,8 @@ pub trait CubeSource: Drop {
         requires bytes { length bytes.old ≡ 65536 }
         ensures { Looks (seen self.now) window.now into.new (answer_of result) };
 
-    /// Counts so many cells as asked for, and the fault that a look met: the number of cells asked rises by that many and
-    /// stays at 2^64 − 1, and the fault counter rises where there is a fault.
+    /// Counts so many cells as asked for, and the fault that a look met: the number of cells asked rises by that many
+    /// and stays at 2^64 − 1, and the fault counter rises where there is a fault.
     fn count(&mut self, cells: u64, fault: Option<ReadFault>)
         ensures { CountsRead (seen self.old) cells (is_some fault) (seen self.new) };
 

@@ -3,11 +3,10 @@
 //!
 //! A caller has a buffer for each slot of a schedule and a window for each of its steps. [`load_slot`] reads the cells
 //! of one step that loads a collection; [`look_slot`] does so by looks, so that several threads may load at once: their
-//! cells are asked for before by [`ask`], and [`settle`] counts a fault that they met afterwards. The cells of a node whose
-//! cube is given are put into its slot by the caller.
-//! [`evaluate_steps`] evaluates all others, in order, and takes no memory. The layers above use that after it the
-//! buffers hold the cells of the last node's cube on its window, where before it they held those of each node that is
-//! loaded or given.
+//! cells are asked for before by [`ask`], and [`settle`] counts a fault that they met afterwards. The cells of a node
+//! whose cube is given are put into its slot by the caller. [`evaluate_steps`] evaluates all others, in order, and
+//! takes no memory. The layers above use that after it the buffers hold the cells of the last node's cube on its
+//! window, where before it they held those of each node that is loaded or given.
 #![tactic(auto)]
 
 mod buffers;

@@ -72,8 +72,8 @@ pub fn load_slot(
     settle(checked, schedule, catalogue, step, looked)
 }
 
-/// Puts the cells of a step that loads a collection, on its window, into the buffer of its slot, by looks, for which they
-/// were asked. The buffers of the other slots stay as they are.
+/// Puts the cells of a step that loads a collection, on its window, into the buffer of its slot, by looks, for which
+/// they were asked. The buffers of the other slots stay as they are.
 ///
 /// Refuses: where a look at a collection is refused.
 pub fn look_slot(
@@ -283,8 +283,8 @@ fn look_plane(
     catalogue.look(place, looker, &source, into)
 }
 
-/// Puts the cells of the node of a step on one row of a window into the front of some cells, by a look, for which they were
-/// asked.
+/// Puts the cells of the node of a step on one row of a window into the front of some cells, by a look, for which they
+/// were asked.
 ///
 /// Refuses: where the look at the collection is refused.
 pub fn look_front(
