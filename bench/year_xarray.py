@@ -3,9 +3,11 @@
 
 `year_xarray.py [THREADS [SIDE]]` writes the cells of the collection YEAR as floats, nulls as NaN, into a folder of its own
 (384 MB for 1000 pixels a side), reads them again in chunks of 250 x 250 pixels, takes the kernel, the ratio and the greatest
-of all dates with so many threads (1 where no number is given), and prints seconds and peak memory of the reading and the work
-alone. The result stays in memory: no text is written. It needs numpy, scipy, dask and xarray.
+of all dates with so many threads (1 where no number is given), and writes these as a list in JSON. It prints seconds by the
+clock from the start of that program to its text, as year.py does, and of its parts: the start of Python with its packages,
+the reading and the work, the text; and peak memory. It needs numpy, scipy, dask and xarray.
 """
+import json
 import os
 import resource
 import subprocess
@@ -29,7 +31,12 @@ def write_year(path, side):
     cells.flush()
 
 
-def work(path, threads):
+def text(cells):
+    """The cells one after the other as a list in JSON, NaN as null."""
+    return json.dumps([None if cell != cell else cell for cell in cells.ravel().tolist()])
+
+
+def work(path, threads, started):
     import dask
     import dask.array
     import numpy
@@ -50,14 +57,19 @@ def work(path, threads):
     greatest = ((near - red) / (near + red)).max("t")
     with dask.config.set(scheduler="threads", num_workers=threads):
         greatest = greatest.compute()
-    seconds = time.monotonic() - begun
+    worked = time.monotonic()
+    with open(f"{path}.json", "w") as file:
+        file.write(text(greatest.values))
+    ended = time.monotonic()
     peak = resource.getrusage(resource.RUSAGE_SELF).ru_maxrss / 1024
-    print(f"xarray with {threads} threads: {seconds:.2f} s, {peak:.0f} MB at most, {int(greatest.count())} cells")
+    parts = f"start {begun - started:.2f}, reading and work {worked - begun:.2f}, text {ended - worked:.2f}"
+    count = int(greatest.count())
+    print(f"xarray with {threads} threads: {ended - started:.2f} s ({parts}), {peak:.0f} MB at most, {count} cells")
 
 
 def main():
     if sys.argv[1:2] == ["work"]:
-        return work(sys.argv[2], int(sys.argv[3]))
+        return work(sys.argv[2], int(sys.argv[3]), float(sys.argv[4]))
     threads = sys.argv[1] if len(sys.argv) > 1 else "1"
     side = int(sys.argv[2]) if len(sys.argv) > 2 else 1000
     try:
@@ -69,7 +81,8 @@ def main():
     with tempfile.TemporaryDirectory(prefix="openeo-year-") as folder:
         path = os.path.join(folder, "year.npy")
         write_year(path, side)
-        subprocess.run([sys.executable, os.path.abspath(__file__), "work", path, threads], check=True)
+        words = [sys.executable, os.path.abspath(__file__), "work", path, threads]
+        subprocess.run([*words, str(time.monotonic())], check=True)
 
 
 if __name__ == "__main__":
