@@ -45,7 +45,7 @@ examples:
 # Proves the crates that the program stands on, side by side, over what earlier checks kept, and then proves and builds it.
 program:
 	@[ -z '$(STANDING)' ] || exit 0; mkdir -p crates/openeo/out; \
-	echo 'proves and builds the program, half an hour and more the first time; $(LOG) has what rt prints' >&2; \
+	echo 'proves and builds the program, an hour and more the first time on a slow machine; $(LOG) has what rt prints' >&2; \
 	{ tools/prove openeo $(JOBS) && cd crates/openeo && rt run --jobs $(JOBS) -- --version; } > $(LOG) 2>&1 \
 	  || { echo 'the program was not built' >&2; exit 1; }
 
