@@ -1,5 +1,5 @@
 -- What judging the request of a node goes by, and what it answers.
-use Rattle.std.specs.Prelude.{◌≡◌, ℕ, List, ◌∷◌, Option, Some}
+use Rattle.std.specs.Prelude.{◌≡◌, ℕ, Bool, List, ◌∷◌, Option, Some, is_none}
 use Rattle.oe_dims.specs.Dimensions.{Dimensions}
 use Rattle.oe_dims.specs.declared.dims.DimsRow.{DimsRow}
 use Rattle.oe_graph.specs.Tree.{PlainNode}
@@ -21,6 +21,11 @@ pub record IsBuiltFor (r : CubeRequest) (one two : Outline) (shape : Option Dime
   pub shape_is : IsResultShape r one.shape two.shape shape
   pub operation_is : (others : List Outline) → Some operation ≡ operation_of r (one ∷ others)
   pub faultless : (others : List Outline) → HasFaultlessCallbackOn r (one ∷ others)
+
+-- this says whether the result of a request on two cubes of these outlines is too large: then it has no shape
+abbrev pub TellsIfTooLarge : CubeRequest → Outline → Outline → Bool → Type 0
+TellsIfTooLarge r one two is_too_large =
+    (found : Option Dimensions) × IsResultShape r one.shape two.shape found × (is_too_large ≡ is_none found)
 
 -- This is the verdict on a node whose request works on two cubes of these outlines, whatever the collections and the
 -- nodes are that give them, where no fault stands that those of its callback wait for.

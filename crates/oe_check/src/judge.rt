@@ -1,21 +1,20 @@
 // The fault of one node, or what it is without one.
-ghost use Rattle.std.specs.Prelude.{◌≡◌, List, ℕ, Option, IfOk, ◌&&◌};
+ghost use Rattle.std.specs.Prelude.{◌≡◌, List, ℕ, IfOk, ◌&&◌};
 ghost use Rattle.std.specs.Prelude.{IsTrue, ◌↔◌, is_none, length};
 ghost use Rattle.std.specs.Arc.{arc_value};
 ghost use Rattle.std.specs.Option.{option_map};
-ghost use Rattle.oe_dims.specs.Dimensions.{Dimensions};
 ghost use Rattle.oe_dims.specs.Plain.{plain_rows};
 ghost use Rattle.oe_graph.specs.Faults.{IsLeast};
 ghost use Rattle.oe_graph.specs.Plain.{plain_node, plain_nodes};
 ghost use Rattle.oe_meanings.specs.Callbacks.{IsBuildable, StandsInCallback};
 ghost use Rattle.oe_check.specs.Inputs.{HasFewIntervals, outline_in};
-ghost use Rattle.oe_check.specs.Judged.{IsBuiltFor, IsVerdictOn};
+ghost use Rattle.oe_check.specs.Judged.{IsBuiltFor, IsVerdictOn, TellsIfTooLarge};
 ghost use Rattle.oe_check.specs.Links.{loaded_by};
 ghost use Rattle.oe_requests.specs.Operations.{Outline};
 ghost use Rattle.oe_requests.specs.PlainRequests.{plain_operation, plain_cube_request};
 ghost use Rattle.oe_requests.specs.Requests.{CubeRequest};
 ghost use Rattle.oe_meanings.specs.Results as results;
-ghost use Rattle.oe_meanings.specs.Results.{HasValidLabels, IsResultShape};
+ghost use Rattle.oe_meanings.specs.Results.{HasValidLabels};
 ghost use Rattle.oe_check.specs.Walked.{AreKnown, IsVerdict, AreResolved, IsNodeOf};
 ghost use Rattle.oe_check.specs.declared.walk.Verdict.TheVariants as verdicts;
 
@@ -132,9 +131,8 @@ fn is_by_period(request: &Request<'_>) -> bool
 
 /// The least of a callback's fault and that of a cube that is too large, which does not wait for the callback.
 fn least_with_size(node: &Node, is_too_large: bool, fault: Fault) -> Result<Verdict, OutOfMemory>
-    ensures { (request : CubeRequest) (found : Option Dimensions) (one two : Outline)
-        → IsLeast (StandsInCallback (plain_node node.now).id request one) fault → IsResultShape
-        request one.shape two.shape found → is_too_large ≡ is_none found
+    ensures { (request : CubeRequest) (one two : Outline) → TellsIfTooLarge request one two
+        is_too_large → IsLeast (StandsInCallback (plain_node node.now).id request one) fault
         → IfOk result (IsVerdictOn (plain_node node.now) request one two) }
 {
     if !is_too_large {

@@ -62,6 +62,9 @@ returns-in-Err-Fault c =
     let least : IsLeast (StandsInCallback n.id r one) c.in-Err-Fault.fault =
     subst (λ (name : List ℕ). IsLeast (StandsInCallback name r one) c.in-Err-Fault.fault) id
     (subst (IsFault (StandsInCallback c.as_str.result.now r one)) c.in-Err-Fault.field-0-is c.in-Err-Fault.ensures.refused) in
-    c.least_with_size.ensures r (option_map arc_value c.in_ok-shape.shape) one two
-    (subst (IsLeast (StandsInCallback n.id r one)) (sym c.in-Err-Fault.fault-is) least) c.in_ok-shape.ensures
-    (sym (ap not c.is_none.ensures ∙ not_twice c.is_none.result) ∙ none_either arc_value c.in_ok-shape.shape)
+    c.least_with_size.ensures r one two (
+      option_map arc_value c.in_ok-shape.shape,
+      c.in_ok-shape.ensures,
+      sym (ap not c.is_none.ensures ∙ not_twice c.is_none.result) ∙ none_either arc_value c.in_ok-shape.shape,
+    )
+    (subst (IsLeast (StandsInCallback n.id r one)) (sym c.in-Err-Fault.fault-is) least)
