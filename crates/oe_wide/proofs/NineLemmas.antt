@@ -9,6 +9,7 @@ use Rattle.std.proofs.lemmas.Int.{to_z-of_z, of_z-to_z, ints}
 use Rattle.std.proofs.lemmas.Option.{same_Some}
 use Rattle.oe_cell.specs.Cells.{IsCell}
 use Rattle.oe_cell.specs.Fraction.{Fraction, IsNumber}
+use Rattle.oe_cell.specs.Kinds.{IsNumeric}
 use Rattle.oe_cell.proofs.RecordLemmas.{cast_below, from_bytes_below, take_below}
 use Rattle.oe_cell.specs.declared.cell.Cell.{Cell}
 use Rattle.oe_cell.specs.declared.cell.Cell.TheVariants.{Empty, Flag, Number, Over}
@@ -113,6 +114,20 @@ nine_from_one t Over h = absurd (let e : None ≡ Some (t ∷ []) = h.bytes_are 
 -- the cell of a tag is one alone
 pub one_tag : (s t : ℕ) (c : Cell) → Some (s ∷ []) ≡ Some (t ∷ []) → s ≡ t
 one_tag s t c e = ap (λ (bs : List ℕ). get_or bs 0 0) (same_Some (s ∷ []) (t ∷ []) e)
+
+-- the record of null by its parts
+pub null_from_parts : (t : ℕ) (n : ℤ) → t ≡ 0 → n ≡ pos 0 → IsRecordIn Nine (nine_bytes t n) Empty
+null_from_parts t n tag_is num_is = record {
+  valid = tt;
+  bytes_are = ap (λ (k : ℕ). Some (nine_bytes k (pos 0))) (sym tag_is) ∙ ap (λ (z : ℤ). Some (nine_bytes t z)) (sym num_is);
+}
+
+-- of nulls and numbers only null has a record of 1 byte, which is 0
+pub numeric_in_one : (t : ℕ) (c : Cell) → IsRecordIn One (t ∷ []) c → IsNumeric c → (c ≡ Empty) × (t ≡ 0)
+numeric_in_one t Empty h numeric = (refl, sym (one_tag 0 t Empty h.bytes_are))
+numeric_in_one t (Flag b) h numeric = absurd numeric
+numeric_in_one t (Number q) h numeric = absurd (let e : None ≡ Some (t ∷ []) = h.bytes_are in cc)
+numeric_in_one t Over h numeric = absurd (let e : None ≡ Some (t ∷ []) = h.bytes_are in cc)
 
 -- any 9 bytes are those of their two parts
 pub nine_bytes-parts : (bs : List ℕ) → length bs ≡ 9 → ((k : ℕ) → get_or bs k 0 < 256) → nine_bytes (get_or bs 0 0) (cast_signed w64 (from_be_bytes w64 (take 8 (drop 1 bs)))) ≡ bs

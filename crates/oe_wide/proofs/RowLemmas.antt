@@ -4,12 +4,13 @@ use Rattle.std.specs.Prelude.{if◌then◌else◌, ◌==◌, slice_get}
 use Rattle.std.specs.List.{All, flat_map}
 use Rattle.std.proofs.lemmas.Bool.{cases_lt}
 use Rattle.std.proofs.lemmas.List.{append-nil, length-append, length-take, length-take-le, length-drop, take_more, take_more_set, take_all, take-take, drop-take}
-use Rattle.std.proofs.lemmas.List.Elements.{All-get_or}
+use Rattle.std.proofs.lemmas.List.Elements.{All-get_or, All-push}
 use Rattle.std.proofs.lemmas.Option.{slice_get_within, get_or_from_slice_get}
 use Rattle.std.proofs.lemmas.Grind.{flat_map-append}
 use Rattle.std.proofs.Math.Nat.{mul-suc, mul-add}
 use Rattle.std.proofs.Math.Seq.{take-append_seam, drop-append-add}
 use Rattle.oe_cell.specs.Cells.{IsCell}
+use Rattle.oe_cell.specs.Kinds.{IsNumeric}
 use Rattle.oe_cell.specs.Record.{records_of}
 use Rattle.oe_cell.proofs.RecordLemmas.{length-record_of}
 use Rattle.oe_cell.specs.declared.cell.Cell.{Cell}
@@ -140,6 +141,14 @@ written_all w into cells k long past same =
 -- records were read up to an index, or past it
 pub have_up_to : (w : Width) (bytes : List ℕ) (into : List Cell) (k n : ℕ) → n ≡ k → HaveRecords w bytes (take k into) → HaveRecords w bytes (take n into)
 have_up_to w bytes into k n e h = subst (λ (m : ℕ). HaveRecords w bytes (take m into)) (sym e) h
+
+-- one null or number more was read, and they were read up to an index or past it
+pub numeric_more : (into : List Cell) (k : ℕ) (c : Cell) → k < length into → All IsNumeric (take k into) → IsNumeric c → All IsNumeric (take (k + 1) (set into k c))
+numeric_more into k c within all numeric =
+    subst (λ (cs : List Cell). All IsNumeric cs) (sym (take_more_set into k c within)) (All-push IsNumeric (take k into) c all numeric)
+
+pub numeric_up_to : (into : List Cell) (k n : ℕ) → n ≡ k → All IsNumeric (take k into) → All IsNumeric (take n into)
+numeric_up_to into k n e h = subst (λ (m : ℕ). All IsNumeric (take m into)) (sym e) h
 
 some_bytes : (w : Width) → 0 < byte_count w
 some_bytes One = omega arith

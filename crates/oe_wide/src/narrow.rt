@@ -1,5 +1,6 @@
 // Records of 1 and of 9 bytes.
 ghost use Rattle.std.specs.Prelude.{◌≡◌, ◌+◌, ◌≤◌, [], ◌∷◌, length, take, drop, IfSome};
+ghost use Rattle.oe_cell.specs.Kinds.{IsNumeric};
 ghost use Rattle.oe_cell.specs.declared.cell.Cell.{Cell};
 ghost use Rattle.oe_wide.specs.Wide.{FitsIn, IsRecordIn, nine_bytes, record_in};
 
@@ -70,6 +71,18 @@ pub(crate) fn nine_at(bytes: &[u8], at: usize) -> Option<Cell>
     unpack(bytes[at], i64::from_be_bytes(eight(bytes, at + 1)))
 }
 
+/// The null or the whole number whose record of 9 bytes stands at an offset.
+#[inline(always)]
+pub(crate) fn number_at(bytes: &[u8], at: usize) -> Option<Cell>
+    requires { at + 9 ≤ length bytes.now }
+    ensures found { IfSome result (IsRecordIn Width.Nine (take 9 (drop at bytes.now))) }
+    ensures numeric { IfSome result IsNumeric }
+    ensures complete { (c : Cell) → IsRecordIn Width.Nine (take 9 (drop at bytes.now)) c
+        → IsNumeric c → result ≡ Some c }
+{
+    unpack_number(bytes[at], i64::from_be_bytes(eight(bytes, at + 1)))
+}
+
 #[inline(always)]
 fn eight(bytes: &[u8], at: usize) -> [u8; 8]
     requires { at + 8 ≤ length bytes.now }
@@ -92,10 +105,28 @@ fn unpack(tag: u8, num: i64) -> Option<Cell>
     if num != 0 { None } else { of_tag(tag) }
 }
 
+/// The same without flags, so that a loop over numbers mostly tests one tag a record.
+#[inline(always)]
+fn unpack_number(tag: u8, num: i64) -> Option<Cell>
+    ensures found { IfSome result (IsRecordIn Width.Nine (nine_bytes tag num)) }
+    ensures numeric { IfSome result IsNumeric }
+    ensures complete { (c : Cell) → IsRecordIn Width.Nine (nine_bytes tag num) c → IsNumeric c
+        → result ≡ Some c }
+{
+    if tag == 5 {
+        return whole(num);
+    }
+    if num != 0 {
+        return None;
+    }
+    if tag == 0 { Some(Cell::Empty) } else { None }
+}
+
 /// A whole number as a cell, none where it is −2^63.
 #[inline(always)]
 fn whole(num: i64) -> Option<Cell>
     ensures found { IfSome result (IsRecordIn Width.Nine (nine_bytes 5 num)) }
+    ensures numeric { IfSome result IsNumeric }
     ensures complete { (c : Cell) → IsRecordIn Width.Nine (nine_bytes 5 num) c
         → result ≡ Some c }
 {

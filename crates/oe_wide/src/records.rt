@@ -2,11 +2,12 @@
 ghost use Rattle.std.specs.Prelude.{◌≡◌, ◌+◌, ◌*◌, ◌<◌, ◌≤◌, ◌++◌, length, take, drop, Some, IfSome, IfNone};
 ghost use Rattle.std.specs.List.{All};
 ghost use Rattle.oe_cell.specs.Cells.{IsCell};
+ghost use Rattle.oe_cell.specs.Kinds.{IsNumeric};
 ghost use Rattle.oe_cell.specs.declared.cell.Cell.{Cell};
 ghost use Rattle.oe_wide.specs.Wide.{AllFitIn, FitsIn, HaveRecords, IsRecordIn, byte_count, part_at, record_bytes, record_in, records_in};
 
 use crate::Width;
-use crate::narrow::{nine_at, nine_record, of_tag, tag_of};
+use crate::narrow::{nine_at, nine_record, number_at, of_tag, tag_of};
 use oe_cell::{Cell, read_record, read_records, write_record, write_records};
 
 /// Writes the record of a cell in a width: in 1 byte the tag 0 of null, 1 of `false` or 2 of `true`; in 9 bytes the
@@ -114,6 +115,28 @@ pub fn read_row(bytes: &[u8], width: Width, into: &mut [Cell]) -> usize
         Width::Nine => read_nines(bytes, into),
         Width::Seventeen => read_records(bytes, into),
     }
+}
+
+/// Reads records of 9 bytes that hold null or a whole number into cells, from the front on, and answers how many: fewer
+/// than there are cells exactly where the next bytes are no such record, as those of a flag are none, or fewer are left
+/// than a record has. The other cells stay as they were.
+pub fn read_numbers(bytes: &[u8], into: &mut [Cell]) -> usize
+    ensures room { result ≤ length into.old }
+    ensures within { 9 * result ≤ length bytes.now }
+    ensures read { HaveRecords Width.Nine bytes.now (take result into.new) }
+    ensures numeric { All IsNumeric (take result into.new) }
+    ensures others { drop result into.new ≡ drop result into.old }
+    ensures stop { result < length into.old → (c : Cell)
+        → IsRecordIn Width.Nine (part_at Width.Nine bytes.now result) c → ¬ IsNumeric c }
+{
+    let count = (bytes.len() / 9).min(into.len());
+    for k in 0..count {
+        match number_at(bytes, 9 * k) {
+            Some(cell) => into[k] = cell,
+            None => return k,
+        }
+    }
+    count
 }
 
 fn read_ones(bytes: &[u8], into: &mut [Cell]) -> usize

@@ -1,5 +1,6 @@
 use Rattle.std.proofs.Common.{◌≡◌, ◌<◌, ◌^◌, w64, ℤ, unsigned_abs, Some, to_z, of_z, ap, sym, ◌∙◌, subst, arith}
 use Rattle.std.proofs.lemmas.Int.{to_z-of_z}
+use Rattle.oe_cell.specs.Kinds.{IsNumeric}
 use Rattle.oe_cell.specs.declared.cell.Cell.{Cell}
 use Rattle.oe_cell.specs.declared.cell.Cell.TheVariants.{Number}
 use Rattle.oe_wide.proofs.NineLemmas.{IsWholeCell, whole_from_nine, number_is, least_is_far}
@@ -17,3 +18,7 @@ returns-else-num-eqminus9223372036854775808-clause-complete c cell h =
     let w : IsWholeCell c.args.num cell = whole_from_nine c.args.num cell c.ranges.num h in
     ap Some (c.whole_cell.ensures
     ∙ sym (w.cell_is ∙ number_is w.value (to_z w64 (of_z w64 c.args.num)) 1 (w.num_is ∙ sym (to_z-of_z w64 c.args.num c.ranges.num)) w.den_is))
+
+pub returns-else-num-eqminus9223372036854775808-clause-numeric :
+    goal.returns-else-num-eqminus9223372036854775808-clause-numeric
+returns-else-num-eqminus9223372036854775808-clause-numeric c = subst IsNumeric (sym c.whole_cell.ensures) tt
