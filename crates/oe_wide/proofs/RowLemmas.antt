@@ -142,6 +142,9 @@ written_all w into cells k long past same =
 pub have_up_to : (w : Width) (bytes : List ℕ) (into : List Cell) (k n : ℕ) → n ≡ k → HaveRecords w bytes (take k into) → HaveRecords w bytes (take n into)
 have_up_to w bytes into k n e h = subst (λ (m : ℕ). HaveRecords w bytes (take m into)) (sym e) h
 
+pub others_up_to : (into old : List Cell) (k n : ℕ) → n ≡ k → drop k into ≡ drop k old → drop n into ≡ drop n old
+others_up_to into old k n e h = subst (λ (m : ℕ). drop m into ≡ drop m old) (sym e) h
+
 -- one null or number more was read, and they were read up to an index or past it
 pub numeric_more : (into : List Cell) (k : ℕ) (c : Cell) → k < length into → All IsNumeric (take k into) → IsNumeric c → All IsNumeric (take (k + 1) (set into k c))
 numeric_more into k c within all numeric =

@@ -166,7 +166,8 @@ fn read_nines(bytes: &[u8], into: &mut [Cell]) -> usize
         → (c : Cell) → ¬ IsRecordIn Width.Nine (part_at Width.Nine bytes.now result) c }
 {
     let count = (bytes.len() / 9).min(into.len());
-    for k in 0..count {
+    let first = read_numbers(bytes, into);
+    for k in first..count {
         match nine_at(bytes, 9 * k) {
             Some(cell) => into[k] = cell,
             None => return k,
