@@ -1,8 +1,9 @@
 -- The computed cell of a record is the one that the record is of.
 use Rattle.std.proofs.Common.{◌≡◌, ◌≢◌, ◌==◌, ◌&&◌, true, false, Bool, ℕ, ◌<◌, ◌≤◌, ◌^◌, w64, List, [], ◌∷◌, length, get_or, take, inl, inr, Option, Some, None, refl, sym, ap, ◌∙◌, subst, arith, ℤ, pos, FitsSigned, unsigned_abs, lt-ltb, eq-eqb, eqb-true}
 use Rattle.std.specs.Prelude.{nat_lt, nat_le, slice_get}
-use Rattle.std.specs.List.{list_all}
-use Rattle.std.proofs.lemmas.List.{get_or-take, length-take-le}
+use Rattle.std.specs.List.{All, list_all}
+use Rattle.std.proofs.lemmas.List.{get_or-take, length-take-le, take-take}
+use Rattle.std.proofs.lemmas.List.Sums.{list_all-from_AllPass}
 use Rattle.std.proofs.lemmas.Option.{same_Some, slice_get-get_or}
 use Rattle.std.specs.Int.{cast_unsigned, cast_signed}
 use Rattle.std.specs.Option.{option_map_or}
@@ -12,6 +13,7 @@ use Rattle.std.proofs.lemmas.Int.{to_z-of_z}
 use Rattle.oe_cell.specs.Cells.{IsCell}
 use Rattle.oe_cell.specs.Exact.{gcd_of}
 use Rattle.oe_cell.specs.Fraction.{Fraction, IsNumber}
+use Rattle.oe_cell.specs.Kinds.{IsNumeric}
 use Rattle.oe_cell.specs.Record.{bytes_of, record_of}
 use Rattle.oe_cell.proofs.Coprime.{IsCoprime-from_gcd, IsGcd-gcd_of, one_from_IsCoprime}
 use Rattle.oe_cell.proofs.RecordLemmas.{cast_below, same_from_record}
@@ -218,3 +220,53 @@ row_stop kind w bytes into count n room within have first stop below =
           let e : n ≡ count = omega (arith, outer, within) in
           none_stored kind w (part_at w bytes n) (λ c h. stop (omega (arith, e, below)) c (subst (λ (m : ℕ). IsRecordIn w (part_at w bytes m) c) e h)))
     ]
+
+-- ---- rows of nulls and numbers in records of 9 bytes
+
+-- they are what a collection of numbers may hold
+number_fits : (bytes : List ℕ) (c : Cell) → IsRecordIn Nine bytes c → IsNumeric c → is_null_or_of Numbers c ≡ true
+number_fits bytes Empty h numeric = refl
+number_fits bytes (Flag b) h numeric = absurd numeric
+number_fits bytes (Number q) h numeric = refl
+number_fits bytes Over h numeric = absurd (let e : None ≡ Some bytes = h.bytes_are in cc)
+
+pub numbers_of_kind : (kind : CellKind) (bytes : List ℕ) (cells : List Cell) → kind ≡ Numbers → HaveRecords Nine bytes cells → All IsNumeric cells → list_all (is_null_or_of kind) cells ≡ true
+numbers_of_kind kind bytes cells e have numeric =
+    ap (λ (d : CellKind). list_all (is_null_or_of d) cells) e ∙ list_all-from_AllPass (is_null_or_of Numbers) cells each
+  where
+    each : (k : ℕ) (d : Cell) → k < length cells → is_null_or_of Numbers (get_or cells k d) ≡ true
+    each k d below =
+        number_fits (part_at Nine bytes k) (get_or cells k d) (have k (get_or cells k d) (slice_get-get_or cells k d below)) (numeric k d below)
+
+-- the cells that were read are the stored ones
+pub numbers_stored : (kind : CellKind) (bytes : List ℕ) (into : List Cell) (n : ℕ) → kind ≡ Numbers → n ≤ length into → HaveRecords Nine bytes (take n into) → All IsNumeric (take n into) → (k : ℕ) → k < n → stored_cell kind Nine (part_at Nine bytes k) ≡ slice_get into k
+numbers_stored kind bytes into n e room have numeric =
+    let same : n ≤ n = omega arith in
+    row_stored kind Nine bytes into n n room same have
+    (ap (λ (cs : List Cell). list_all (is_null_or_of kind) cs) (take-take n n into same) ∙ numbers_of_kind kind bytes (take n into) e have numeric)
+
+-- where no null and no number has the record no cell of a collection of numbers is stored
+pub number_stop : (kind : CellKind) (bytes : List ℕ) → kind ≡ Numbers → ((c : Cell) → IsRecordIn Nine bytes c → ¬ IsNumeric c) → stored_cell kind Nine bytes ≡ None
+number_stop kind bytes e none =
+    none_or (stored_cell kind Nine bytes) (λ c is. not_stored c (from_stored kind Nine bytes c is))
+  where
+    none_or : (o : Option Cell) → ((c : Cell) → ¬ (o ≡ Some c)) → o ≡ None
+    none_or None k = refl
+    none_or (Some c) k = absurd (k c refl)
+
+    numeric_of : (c : Cell) → is_null_or_of Numbers c ≡ true → IsNumeric c
+    numeric_of Empty h = tt
+    numeric_of (Flag b) h = absurd (let wrong : false ≡ true = h in cc)
+    numeric_of (Number q) h = tt
+    numeric_of Over h = tt
+
+    not_stored : (c : Cell) → ¬ (IsStoredAs kind Nine bytes c)
+    not_stored c s = none c s.is_record (numeric_of c (ap (λ (d : CellKind). is_null_or_of d c) (sym e) ∙ s.of_kind))
+
+-- what holds of the width that was chosen
+pub stored_in : (w v : Width) (kind : CellKind) (bytes : List ℕ) (into : List Cell) (n : ℕ) → w ≡ v → ((k : ℕ) → k < n → stored_cell kind v (part_at v bytes k) ≡ slice_get into k) → (k : ℕ) → k < n → stored_cell kind w (part_at w bytes k) ≡ slice_get into k
+stored_in w v kind bytes into n e h k below =
+    ap (λ (u : Width). stored_cell kind u (part_at u bytes k)) e ∙ h k below
+
+pub stopped_in : (w v : Width) (kind : CellKind) (bytes : List ℕ) (n : ℕ) → w ≡ v → stored_cell kind v (part_at v bytes n) ≡ None → stored_cell kind w (part_at w bytes n) ≡ None
+stopped_in w v kind bytes n e h = ap (λ (u : Width). stored_cell kind u (part_at u bytes n)) e ∙ h

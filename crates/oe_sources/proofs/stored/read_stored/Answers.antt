@@ -1,20 +1,17 @@
-use Rattle.std.proofs.Common.{◌≤◌, length, arith}
-use Rattle.std.proofs.lemmas.List.{length-take-le}
-use Rattle.oe_sources.proofs.StoredLemmas.{row_stored, row_stop}
+use Rattle.oe_sources.proofs.StoredLemmas.{stored_in, stopped_in}
+use Rattle.oe_wide.specs.declared.width.Width.TheVariants.{Nine}
 use Rattle.oe_sources.proofs.stored.read_stored.Goals as goal
 
-room : (c : goal.After-count_of_kind) → c.read_row-count.result ≤ length c.read_row-count.new.into
-room c = omega (arith, c.read_row-count.ensures.room, c.read_row-count.auto.into)
+pub returns-in-Nine-clause-read : goal.returns-in-Nine-clause-read
+returns-in-Nine-clause-read c =
+    stored_in c.args.width Nine c.args.kind c.args.bytes.now c.read_nines.new.into c.read_nines.result c.in-Nine.is c.read_nines.ensures.read
 
-within : (c : goal.After-count_of_kind) → c.count_of_kind.result ≤ c.read_row-count.result
-within c =
-    omega (arith, c.count_of_kind.ensures.within, length-take-le c.read_row-count.result c.read_row-count.new.into (room c))
+pub returns-in-Nine-clause-stop : goal.returns-in-Nine-clause-stop
+returns-in-Nine-clause-stop c below =
+    stopped_in c.args.width Nine c.args.kind c.args.bytes.now c.read_nines.result c.in-Nine.is (c.read_nines.ensures.stop below)
 
-pub returns-clause-read : goal.returns-clause-read
-returns-clause-read c =
-    row_stored c.args.kind c.args.width c.args.bytes.now c.read_row-count.new.into c.read_row-count.result c.count_of_kind.result (room c) (within c) c.read_row-count.ensures.read c.count_of_kind.ensures.before
+pub returns-in_default-clause-read : goal.returns-in_default-clause-read
+returns-in_default-clause-read c = c.read_of_kind.ensures.read
 
-pub returns-clause-stop : goal.returns-clause-stop
-returns-clause-stop c below =
-    row_stop c.args.kind c.args.width c.args.bytes.now c.read_row-count.new.into c.read_row-count.result c.count_of_kind.result (room c) (within c) c.read_row-count.ensures.read c.count_of_kind.ensures.first
-    (λ h. c.read_row-count.ensures.stop (omega (arith, h, c.read_row-count.auto.into))) (omega (arith, below, c.read_row-count.auto.into))
+pub returns-in_default-clause-stop : goal.returns-in_default-clause-stop
+returns-in_default-clause-stop c = c.read_of_kind.ensures.stop
