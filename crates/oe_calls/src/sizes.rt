@@ -1,7 +1,7 @@
 // How much the arguments of a graph hold, as it is and after a round, counted before the round is built: a parameter
 // that is used twice at each of a few calls would make them grow without bound where the nodes do not. In each cycle the
 // tree that is walked stands first, or behind the allocator: by its depth they end.
-ghost use Rattle.std.specs.Prelude.{◌≡◌, ◌+◌, false, if◌then◌else◌, IfOk, is_some, map, option_map};
+ghost use Rattle.std.specs.Prelude.{◌≡◌, ◌+◌, false, if◌then◌else◌, IfOk, map, option_map};
 ghost use Rattle.std.specs.List.{list_any};
 ghost use Rattle.oe_dims.specs.Names.{same_name};
 ghost use Rattle.oe_graph.specs.Plain.{plain_arg, plain_args, plain_graph, plain_named, plain_node, plain_nodes, plain_parameter, plain_stored};
@@ -317,14 +317,8 @@ fn round_node_left(
     measure: Measure,
     budget: u64,
 ) -> Result<u64, OutOfMemory>
-    ensures { IfOk result (λ left. (all : Nodes) → budget
-        ≡ left + spec.size_nodes measure (rounds.opened (map plain_stored stored.now)
-        record (plain_node node.now) {
-          arguments = rounds.round_named (map plain_stored stored.now)
-              (is_some
-              (callee (map plain_stored stored.now) node.now.namespace node.now.process_id))
-              all (plain_node node.now).arguments;
-        }
+    ensures { IfOk result (λ left. (all : Nodes) → budget ≡ left + spec.size_nodes measure
+        (rounds.round_node (map plain_stored stored.now) all (plain_node node.now)
         (callee (map plain_stored stored.now) node.now.namespace node.now.process_id))) }
 {
     let Some(process) = callee(stored, node) else {
