@@ -73,6 +73,14 @@ pub record AreIndicesAt (shape argument : Dimensions) (plane : PlaneIndices) (p 
   pub y : IsOnRun Y shape argument plane.y p.y
   pub x : IsOnRun X shape argument plane.x p.x
 
+-- this is the row in the argument of the labels of a row of the result, at whatever indices of t and bands the plane is
+-- for which these were found
+abbrev pub IsRowOfPlane : Dimensions → Dimensions → PlaneIndices → ℕ → Option RowIndices → Type 0
+IsRowOfPlane shape argument plane y row =
+    (t band : ℕ) → plane.t ≡ index_in_argument Time shape argument t
+    → plane.band ≡ index_in_argument Bands shape argument band
+    → row ≡ row_in shape argument (at_indices t band y 0)
+
 -- what is found for a plane is right at a position of the result, and the slice has what the argument has there
 pub record IsFindable (shape argument : Dimensions) (slice : Slice) (plane : PlaneIndices) (p : Position) : Type 0 where
   pub inside : IsPosition shape p

@@ -14,7 +14,7 @@ ghost use Rattle.oe_window.specs.Cells.{cells_on};
 ghost use Rattle.oe_window.specs.Windows.{extent_along, span_length};
 ghost use Rattle.oe_ops.specs.Calls.{ForEachTwoInputs, HasRoomOn, IsInputFor, IsResolverOf};
 ghost use Rattle.oe_ops.specs.Indices.{HasRowOnRun, cell_on_row, index_in_argument};
-ghost use Rattle.oe_ops.specs.Joins.{AreBothFound, where_found_at};
+ghost use Rattle.oe_ops.specs.Joins.{AreBothFound, AreWhereFound, where_found_at};
 ghost use Rattle.oe_ops.specs.Needs.{HasLabelsOf};
 ghost use Rattle.oe_ops.specs.Slices.{TakesPairs};
 
@@ -122,10 +122,8 @@ fn mend_row(
     requires all { IsTrue all → (k : ℕ) → k < length out.old → AreBothFound
         (index_in_argument Kind.X one.now.shape.now one.now.argument.now (x + k))
         (index_in_argument Kind.X one.now.shape.now two.now.argument.now (x + k)) }
-    ensures { (k : ℕ) → k < length out.old → slice_index_or out.new k Empty
-        ≡ where_found_at one.now.shape.now one.now.argument.now two.now.argument.now (x + k)
-        (slice_index_or ones.now k Empty) (slice_index_or twos.now k Empty)
-        (slice_index_or out.old k Empty) }
+    ensures { AreWhereFound one.now.shape.now one.now.argument.now two.now.argument.now x
+        ones.now twos.now out.old out.new }
 {
     if all {
         return;

@@ -6,8 +6,8 @@ ghost use Rattle.oe_dims.specs.declared.kind.Kind.{Kind};
 ghost use Rattle.oe_dims.specs.Dimensions.{IsShape};
 ghost use Rattle.oe_dims.specs.Positions.{IsPosition, Position};
 ghost use Rattle.oe_window.specs.Windows.{IsIn, extent_along, position_count};
-ghost use Rattle.oe_ops.specs.Indices.{AreIndicesAt, HasRow, HasRowOnRun, IsFindable, IsOnRun};
-ghost use Rattle.oe_ops.specs.Indices.{cell_on_row, found_in, index_in_argument, position_on, row_in};
+ghost use Rattle.oe_ops.specs.Indices.{AreIndicesAt, HasRow, HasRowOnRun, IsFindable, IsOnRun, IsRowOfPlane};
+ghost use Rattle.oe_ops.specs.Indices.{cell_on_row, found_in, index_in_argument, position_on};
 ghost use Rattle.oe_ops.specs.Needs.{plane_window};
 ghost use Rattle.oe_ops.specs.Slices.{IsCounted, along_x, at_indices};
 
@@ -85,11 +85,7 @@ pub(crate) fn row_in(source: &Source, plane: &PlaneIndices, y: u32) -> Option<Ro
     requires valid { IsShape source.now.argument.now }
     requires inside { y < extent_along source.now.shape.now Kind.Y }
     requires on_run { IsOnRun Kind.Y source.now.shape.now source.now.argument.now plane.now.y y }
-    ensures { (t band : ℕ)
-        → plane.now.t ≡ index_in_argument Kind.Time source.now.shape.now source.now.argument.now t
-        → plane.now.band
-        ≡ index_in_argument Kind.Bands source.now.shape.now source.now.argument.now band
-        → result ≡ row_in source.now.shape.now source.now.argument.now (at_indices t band y 0) }
+    ensures { IsRowOfPlane source.now.shape.now source.now.argument.now plane.now y result }
 {
     let t = plane.t?;
     let band = plane.band?;
