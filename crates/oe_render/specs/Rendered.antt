@@ -36,6 +36,37 @@ CountsCubePrefix store at shape size size_after =
     (cells : List Cell) × AreStored store at (cell_count shape) cells
     × AddsSome size (length (cube_text (record { shape = shape; cells = cells }))) size_after
 
+-- Cells that are stored at an offset of a store of type P are rendered to a sink of type O: where that succeeds, their
+-- text follows what was written; where it fails, a prefix of it does.
+abbrev pub WritesCube : {O P T : Type 0} → (O → Option (List ℕ)) → O → O → (P → Option (List ℕ)) → P → ℕ → Dimensions
+    → Result T RenderFail → Type 0
+WritesCube written before after bytes store at shape result =
+    OnOk result (AppendsCube (bytes store) at shape (written before) (written after))
+
+abbrev pub BeginsCube : {O P T : Type 0} → (O → Option (List ℕ)) → O → O → (P → Option (List ℕ)) → P → ℕ → Dimensions
+    → Result T RenderFail → Type 0
+BeginsCube written before after bytes store at shape result =
+    OnErr result (AppendsCubePrefix (bytes store) at shape (written before) (written after))
+
+-- the same of the number of bytes that are counted
+abbrev pub CountsText : {O P T : Type 0} → (O → Option ℕ) → O → O → (P → Option (List ℕ)) → P → ℕ → Dimensions
+    → Result T RenderFail → Type 0
+CountsText size before after bytes store at shape result =
+    OnOk result (CountsCube (bytes store) at shape (size before) (size after))
+
+abbrev pub CountsPrefix : {O P T : Type 0} → (O → Option ℕ) → O → O → (P → Option (List ℕ)) → P → ℕ → Dimensions
+    → Result T RenderFail → Type 0
+CountsPrefix size before after bytes store at shape result =
+    OnErr result (CountsCubePrefix (bytes store) at shape (size before) (size after))
+
+-- `SpoolFailed` only where the fault counter of a store of type P rose
+abbrev pub HasSpoolCause : {P T : Type 0} → (P → ℕ) → P → P → Result T RenderFail → Type 0
+HasSpoolCause faults before after result = HasCauseOf SpoolFailed (faults before) (faults after) result
+
+-- `SinkFailed` only where that of a sink of type O rose
+abbrev pub HasSinkCause : {O T : Type 0} → (O → ℕ) → O → O → Result T RenderFail → Type 0
+HasSinkCause faults before after result = HasCauseOf SinkFailed (faults before) (faults after) result
+
 -- what may be refused at the cells from an index to before an end: damage only in a store whose bytes are hidden
 abbrev pub IsRefusalWithin : Option (List ℕ) → ℕ → ℕ → RenderFail → Type 0
 IsRefusalWithin store from end SpoolFailed = ⊤
@@ -52,7 +83,7 @@ pub record HasRendered {O T : Type 0} (written : O → Option (List ℕ)) (size 
     (before : O) (held text : List ℕ) (after : O) (left : List ℕ) (result : Result T RenderFail) : Type 0 where
   pub sent : OnOk result (Sends (written before) (size before) held text (written after) (size after) left)
   pub stopped : OnErr result (Stops (written before) (size before) held text (written after) (size after))
-  pub cause : HasCauseOf SinkFailed (faults before) (faults after) result
+  pub cause : HasSinkCause faults before after result
 
 -- The same of cells that are stored at an offset, after so many others were sent.
 abbrev pub HasSentStored : {O T : Type 0} → Option (List ℕ) → ℕ → ℕ → ℕ → (O → Option (List ℕ))

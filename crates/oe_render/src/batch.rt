@@ -2,8 +2,8 @@
 ghost use Rattle.std.specs.Prelude.{◌≡◌, ◌≢◌, ◌+◌, ◌*◌, ◌<◌, ◌≤◌, ◌^◌, ⊤, length, take, IfOk, IfErr, IfSome, OnOk, slice_get, Some};
 ghost use Rattle.std.specs.List.{All};
 ghost use Rattle.oe_cell.specs.declared.cell.Cell.TheVariants.{Over};
-ghost use Rattle.oe_outside.specs.Faults.{HasCause, HasCauseOf};
-ghost use Rattle.oe_render.specs.Rendered.{IsRefusalWithin};
+ghost use Rattle.oe_outside.specs.Faults.{HasCause};
+ghost use Rattle.oe_render.specs.Rendered.{HasSpoolCause, IsRefusalWithin};
 ghost use Rattle.oe_render.specs.Stored.{AreReadFrom, AreStored, HasCells};
 
 use crate::RenderFail;
@@ -25,8 +25,7 @@ pub(crate) fn read_batch<P: Store>(
     requires stored { HasCells (P.bytes spool.old) at (length cells.old) }
     ensures read { OnOk result
         (AreStored (P.bytes spool.old) at (length cells.old) cells.new) }
-    ensures cause { HasCauseOf RenderFail.SpoolFailed (P.faults spool.old)
-        (P.faults spool.new) result }
+    ensures cause { HasSpoolCause P.faults spool.old spool.new result }
     ensures damage { IfErr result (IsRefusalWithin (P.bytes spool.old) index
         (index + length cells.old)) }
     ensures only { IfErr result (λ e. e ≢ RenderFail.SinkFailed) }

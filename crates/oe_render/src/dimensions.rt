@@ -3,10 +3,9 @@ ghost use Rattle.std.specs.Prelude.{◌≡◌, ◌≢◌, ℤ, ℕ, IfOk, List, 
 ghost use Rattle.serde_json.specs.Data.{no_items};
 ghost use Rattle.serde_json.specs.View.{view, items_view};
 ghost use Rattle.oe_dims.specs.Dimensions.{Dimensions, IsShape};
-ghost use Rattle.oe_dims.specs.Lists.{items_of};
 ghost use Rattle.oe_dims.specs.declared.kind.Kind.TheVariants.{Time, Bands, X};
-ghost use Rattle.oe_render.specs.CubeText.{after_y, Along, AreDimensions, Each, HasNoneAlong, SpellsCoordinate, SpellsName, SpellsTime};
-ghost use Rattle.oe_render.specs.Seen.{HasValues, found_data};
+ghost use Rattle.oe_render.specs.CubeText.{after_y, AreDimensions, Each, SpellsCoordinate, SpellsName, SpellsTime};
+ghost use Rattle.oe_render.specs.Seen.{HasValues, ReadsAlong, found_data};
 ghost use Rattle.oe_render.specs.CubeText as spec;
 
 use crate::members::{has_text, list_in};
@@ -163,9 +162,7 @@ fn system_in(value: &Value) -> Option<u32>
 
 /// The instants of `t`, none where the value is no such dimension.
 fn read_time(alloc: Global, value: Option<&Value>) -> Result<Option<Option<Vec<i64>>>, OutOfMemory>
-    ensures { IfOk result (λ read. MatchOption read
-        (HasNoneAlong Time SpellsTime (found_data value.entry))
-        (λ labels. Along Time SpellsTime (found_data value.entry) (option_map items_of labels))) }
+    ensures { IfOk result (ReadsAlong Time SpellsTime (found_data value.entry)) }
 {
     let Some(value) = value else {
         return Ok(Some(None));
@@ -184,9 +181,7 @@ fn read_bands(
     alloc: Global,
     value: Option<&Value>,
 ) -> Result<Option<Option<Vec<Text>>>, OutOfMemory>
-    ensures { IfOk result (λ read. MatchOption read
-        (HasNoneAlong Bands SpellsName (found_data value.entry))
-        (λ labels. Along Bands SpellsName (found_data value.entry) (option_map items_of labels))) }
+    ensures { IfOk result (ReadsAlong Bands SpellsName (found_data value.entry)) }
 {
     let Some(value) = value else {
         return Ok(Some(None));
@@ -206,10 +201,7 @@ fn read_axis(
     kind: Kind,
     value: Option<&Value>,
 ) -> Result<Option<Option<Vec<i64>>>, OutOfMemory>
-    ensures { IfOk result (λ read. MatchOption read
-        (HasNoneAlong kind SpellsCoordinate (found_data value.entry))
-        (λ labels. Along kind SpellsCoordinate (found_data value.entry)
-        (option_map items_of labels))) }
+    ensures { IfOk result (ReadsAlong kind SpellsCoordinate (found_data value.entry)) }
 {
     let Some(value) = value else {
         return Ok(Some(None));

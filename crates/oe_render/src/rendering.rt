@@ -1,11 +1,8 @@
 // Rendering: the result text of the cube whose records stand in a store.
-ghost use Rattle.std.specs.Prelude.{◌≡◌, ◌+◌, ◌*◌, ◌≤◌, ◌<◌, ◌^◌, ⊤, [], length, IfErr, OnOk, OnErr};
+ghost use Rattle.std.specs.Prelude.{◌≡◌, ◌+◌, ◌*◌, ◌≤◌, ◌<◌, ◌^◌, [], length, IfErr};
 ghost use Rattle.oe_dims.specs.Dimensions.{cell_count};
-ghost use Rattle.oe_outside.specs.Faults.{HasCauseOf};
-ghost use Rattle.oe_outside.specs.Stream.{HasSent};
-ghost use Rattle.oe_render.specs.Rendered.{AppendsCube, AppendsCubePrefix, CountsCube, CountsCubePrefix, HasRendered, HasSentStored, IsRefusalWithin, sink_answer};
+ghost use Rattle.oe_render.specs.Rendered.{BeginsCube, CountsPrefix, CountsText, HasSentStored, HasSinkCause, HasSpoolCause, IsRefusalWithin, WritesCube, sink_answer};
 ghost use Rattle.oe_render.specs.Stored.{HasCells};
-ghost use Rattle.oe_render.specs.Text.{head_text};
 
 use crate::batch::read_batch;
 use crate::text::{send_cells, send_end, send_front};
@@ -49,21 +46,13 @@ pub fn render<P: Store, O: Sink>(
     requires room { 0 < length buffer.old }
     requires base { base ≤ 2 ^ 62 }
     requires stored { HasCells (P.bytes spool.old) base (cell_count shape.now) }
-    // the text of the stored cells, or a prefix of it
-    ensures text { OnOk result (AppendsCube (P.bytes spool.old) base shape.now
-        (O.written out.old) (O.written out.new)) }
-    ensures prefix { OnErr result (AppendsCubePrefix (P.bytes spool.old) base shape.now
-        (O.written out.old) (O.written out.new)) }
-    // and how many bytes it has, where they are visible
-    ensures counted { OnOk result (CountsCube (P.bytes spool.old) base shape.now
-        (O.size out.old) (O.size out.new)) }
-    ensures counted_prefix { OnErr result (CountsCubePrefix (P.bytes spool.old) base shape.now
-        (O.size out.old) (O.size out.new)) }
-    // what is refused, and why
-    ensures spool_cause { HasCauseOf RenderFail.SpoolFailed (P.faults spool.old)
-        (P.faults spool.new) result }
-    ensures sink_cause { HasCauseOf RenderFail.SinkFailed (O.faults out.old)
-        (O.faults out.new) result }
+    ensures text { WritesCube O.written out.old out.new P.bytes spool.old base shape.now result }
+    ensures prefix { BeginsCube O.written out.old out.new P.bytes spool.old base shape.now result }
+    ensures counted { CountsText O.size out.old out.new P.bytes spool.old base shape.now result }
+    ensures counted_prefix { CountsPrefix O.size out.old out.new P.bytes spool.old base
+        shape.now result }
+    ensures spool_cause { HasSpoolCause P.faults spool.old spool.new result }
+    ensures sink_cause { HasSinkCause O.faults out.old out.new result }
     ensures damage { IfErr result (IsRefusalWithin (P.bytes spool.old) 0 (cell_count shape.now)) }
     ensures same { P.bytes spool.new ≡ P.bytes spool.old }
 {
@@ -105,8 +94,7 @@ fn send_stored<P: Store, O: Sink>(
     requires stored { HasCells (P.bytes spool.old) base count }
     ensures sent { HasSentStored (P.bytes spool.old) base count 0 O.written O.size O.faults out.old
         pending.old out.new pending.new result }
-    ensures cause { HasCauseOf RenderFail.SpoolFailed (P.faults spool.old)
-        (P.faults spool.new) result }
+    ensures cause { HasSpoolCause P.faults spool.old spool.new result }
     ensures damage { IfErr result (IsRefusalWithin (P.bytes spool.old) 0 count) }
     ensures same { P.bytes spool.new ≡ P.bytes spool.old }
 {
@@ -146,8 +134,7 @@ fn send_batch<P: Store, O: Sink>(
     requires stored { HasCells (P.bytes spool.old) (base + 17 * index) (length cells.old) }
     ensures sent { HasSentStored (P.bytes spool.old) (base + 17 * index) (length cells.old) index
         O.written O.size O.faults out.old pending.old out.new pending.new result }
-    ensures cause { HasCauseOf RenderFail.SpoolFailed (P.faults spool.old)
-        (P.faults spool.new) result }
+    ensures cause { HasSpoolCause P.faults spool.old spool.new result }
     ensures damage { IfErr result (IsRefusalWithin (P.bytes spool.old) index
         (index + length cells.old)) }
     ensures same { P.bytes spool.new ≡ P.bytes spool.old }
