@@ -8,5 +8,6 @@ pub mod Planes
 pub mod Workspaces
 pub mod Results
 pub mod Runs
+pub mod Rendered
 pub mod Rounds
 pub mod Laws

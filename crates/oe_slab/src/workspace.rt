@@ -1,12 +1,10 @@
 // What a run is evaluated in that is folded slab by slab.
-ghost use Rattle.std.specs.Prelude.{◌≡◌, ◌≤◌, ◌^◌, IfErr, IfOk, List, OnErr, OnOk, length};
+ghost use Rattle.std.specs.Prelude.{◌≡◌, ◌≤◌, ◌^◌, IfErr, IfOk, List, OnOk, length};
 ghost use Rattle.oe_cell.specs.declared.cell.Cell.{Cell};
 ghost use Rattle.oe_dims.specs.Dimensions.{cell_count};
-ghost use Rattle.oe_outside.specs.Faults.{HasCauseOf};
 ghost use Rattle.oe_plan.specs.Windows.{AreWindows};
-ghost use Rattle.oe_render.specs.Rendered.{AppendsCube, AppendsCubePrefix, CountsCube, CountsCubePrefix, IsRefusalWithin};
+ghost use Rattle.oe_render.specs.Rendered.{HasSinkCause, HasSpoolCause};
 ghost use Rattle.oe_render.specs.Stored.{HasCells};
-ghost use Rattle.oe_render.specs.declared.rendering.RenderFail.{RenderFail};
 ghost use Rattle.oe_sources.specs.CatalogueRows.{rows_of};
 ghost use Rattle.oe_steps.specs.Buffers.{lists_of};
 ghost use Rattle.oe_steps.specs.Collections.{HasCollections};
@@ -16,6 +14,7 @@ ghost use Rattle.oe_window.specs.declared.window.Window.{Window};
 ghost use Rattle.oe_slab.specs.Figures.{slab_bound};
 ghost use Rattle.oe_slab.specs.Planes.{AreFolded, ForEachFolded, ForEachVisible, HasPlane, plane_folds};
 ghost use Rattle.oe_slab.specs.Plans.{most_asked};
+ghost use Rattle.oe_slab.specs.Rendered.{IsRefusalOf, RendersResult};
 ghost use Rattle.oe_slab.specs.Results.{AreResultOf, HasCellsOn, HasResultOn, IsChunkOf, answer_of};
 ghost use Rattle.oe_slab.specs.Runs.{result_shape};
 ghost use Rattle.oe_slab.specs.Slabs.{HaveFoldedKind};
@@ -246,20 +245,11 @@ impl SlabWorkspace {
         requires base { base ≤ 2 ^ 62 }
         requires stored { HasCells (P.bytes spool.old) base (cell_count (result_shape plan.now)) }
         ensures room { IsWorkspaceFor plan.now self.new }
-        ensures text { OnOk result (AppendsCube (P.bytes spool.old) base (result_shape plan.now)
-            (O.written out.old) (O.written out.new)) }
-        ensures prefix { OnErr result (AppendsCubePrefix (P.bytes spool.old) base
-            (result_shape plan.now) (O.written out.old) (O.written out.new)) }
-        ensures counted { OnOk result (CountsCube (P.bytes spool.old) base (result_shape plan.now)
-            (O.size out.old) (O.size out.new)) }
-        ensures counted_prefix { OnErr result (CountsCubePrefix (P.bytes spool.old) base
-            (result_shape plan.now) (O.size out.old) (O.size out.new)) }
-        ensures spool_cause { HasCauseOf RenderFail.SpoolFailed (P.faults spool.old)
-            (P.faults spool.new) result }
-        ensures sink_cause { HasCauseOf RenderFail.SinkFailed (O.faults out.old)
-            (O.faults out.new) result }
-        ensures damage { IfErr result
-            (IsRefusalWithin (P.bytes spool.old) 0 (cell_count (result_shape plan.now))) }
+        ensures rendered { RendersResult plan.now base O.written O.size out.old out.new
+            P.bytes spool.old result }
+        ensures spool_cause { HasSpoolCause P.faults spool.old spool.new result }
+        ensures sink_cause { HasSinkCause O.faults out.old out.new result }
+        ensures damage { IfErr result (IsRefusalOf plan.now (P.bytes spool.old)) }
         ensures same { P.bytes spool.new ≡ P.bytes spool.old }
     {
         render(plan.shape(), spool, base, out, &mut self.scratch, pending)

@@ -33,7 +33,7 @@ returns-clause-text g c =
     (result_shape_is r.plan is collections has) (result_whole r.plan is collections has) store before after done
     (subst (λ (n : ℕ). AppendsCube store n (result_shape r.plan) before after) (sym base)
     (subst (λ (plan : SlabPlanOf). AppendsCube store c.self.inside.base (result_shape plan) before after) (sym same) h)))
-    c.render.ensures.text
+    c.render.ensures.rendered.text
 
 pub returns-clause-prefix : goal.returns-clause-prefix
 returns-clause-prefix g c =
@@ -49,7 +49,7 @@ returns-clause-prefix g c =
     (result_shape_is r.plan is collections has) (result_whole r.plan is collections has) store before after done
     (subst (λ (n : ℕ). AppendsCubePrefix store n (result_shape r.plan) before after) (sym base)
     (subst (λ (plan : SlabPlanOf). AppendsCubePrefix store c.self.inside.base (result_shape plan) before after) (sym same) h)))
-    c.render.ensures.prefix
+    c.render.ensures.rendered.prefix
 
 pub returns-clause-cells : goal.returns-clause-cells
 returns-clause-cells g c =
@@ -60,7 +60,7 @@ returns-clause-cells g c =
     let after = g.O.Sink.written c.render.new.out in
     subst (λ (n : ℕ). OnOk c.render.result (AppendsCube store n (result_shape c.args.self.now.plan) before after)) base
     (subst (λ (p : SlabPlanOf). OnOk c.render.result (AppendsCube store c.self.inside.base (result_shape p) before after)) same
-    c.render.ensures.text)
+    c.render.ensures.rendered.text)
 
 pub returns-clause-counted : goal.returns-clause-counted
 returns-clause-counted g c =
@@ -76,7 +76,7 @@ returns-clause-counted g c =
     (result_shape_is r.plan is collections has) (result_whole r.plan is collections has) store before after done
     (subst (λ (n : ℕ). CountsCube store n (result_shape r.plan) before after) (sym base)
     (subst (λ (plan : SlabPlanOf). CountsCube store c.self.inside.base (result_shape plan) before after) (sym same) h)))
-    c.render.ensures.counted
+    c.render.ensures.rendered.counted
 
 pub returns-clause-counted_prefix : goal.returns-clause-counted_prefix
 returns-clause-counted_prefix g c =
@@ -92,7 +92,7 @@ returns-clause-counted_prefix g c =
     (result_shape_is r.plan is collections has) (result_whole r.plan is collections has) store before after done
     (subst (λ (n : ℕ). CountsCubePrefix store n (result_shape r.plan) before after) (sym base)
     (subst (λ (plan : SlabPlanOf). CountsCubePrefix store c.self.inside.base (result_shape plan) before after) (sym same) h)))
-    c.render.ensures.counted_prefix
+    c.render.ensures.rendered.counted_prefix
 
 pub returns-clause-damage : goal.returns-clause-damage
 returns-clause-damage g c =
