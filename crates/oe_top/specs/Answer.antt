@@ -1,6 +1,7 @@
 -- What the top call answers, and what it leaves.
-use Rattle.std.specs.Prelude.{◌≡◌, ℕ, ◌↔◌, List, Result, Err}
-use Rattle.oe_outside.specs.Stream.{ErrorOutput}
+use Rattle.std.specs.Prelude.{◌≡◌, ℕ, ◌↔◌, List, Option, Result, Err}
+use Rattle.oe_outside.specs.Stream.{ErrorOutput, error_output}
+use Rattle.oe_sources.specs.Catalogue.{Row}
 use Rattle.oe_top.specs.CheckAnswer.{CheckAnswers}
 use Rattle.oe_top.specs.DemoAnswer.{DemoAnswers}
 use Rattle.oe_top.specs.DescribeAnswer.{DescribeAnswers, ListingAnswers}
@@ -9,7 +10,7 @@ use Rattle.oe_top.specs.ExplainAnswer.{ExplainAnswers}
 use Rattle.oe_parts.specs.Parts.{PartState}
 use Rattle.oe_top.specs.JoinAnswer.{JoinAnswers}
 use Rattle.oe_top.specs.Lines.{SaysEnding, status_of}
-use Rattle.oe_top.specs.Objects.{Objects}
+use Rattle.oe_top.specs.Objects.{Objects, lends}
 use Rattle.oe_top.specs.PackAnswer.{PackAnswers}
 use Rattle.oe_top.specs.PartAnswer.{PartAnswers}
 use Rattle.oe_top.specs.PlanAnswer.{PlanAnswers}
@@ -67,3 +68,16 @@ pub record Answers (words : List (List ℕ)) (parts parts_after : List PartState
   pub status_is : status ≡ status_of ending
   pub line : SaysEnding ending err
   pub ends : Ends words parts parts_after before after ending
+
+-- of an input of type I, an output of type O, a spool of type P and an error output of type E
+module _ {I O P E : Type 0} (left : I → Option (List ℕ)) (input_faults : I → ℕ) (written : O → Option (List ℕ))
+    (out_faults : O → ℕ) (bytes : P → Option (List ℕ)) (spool_faults : P → ℕ) (said : E → Option (List ℕ))
+    (err_faults : E → ℕ) where
+  -- the same of what a call is lent, before it and after it
+  abbrev pub AnswersOver : List (List ℕ) → List PartState → I → O → P → List Row → E → List PartState → I → O → P
+      → List Row → E → ℕ → Type 0
+  AnswersOver words parts input out spool rows err parts_after input_after out_after spool_after rows_after err_after n =
+      Answers words parts parts_after
+      (lends left input_faults written out_faults bytes spool_faults input out spool rows)
+      (lends left input_faults written out_faults bytes spool_faults input_after out_after spool_after rows_after)
+      (error_output said err_faults err err_after) n

@@ -42,6 +42,15 @@ ForEachSpool left input_faults written out_faults input out input_after out_afte
     → P (objects (left input) (input_faults input) (written out) (out_faults out) spool spool_faults rows)
     (objects (left input_after) (input_faults input_after) (written out_after) (out_faults out_after) spool spool_faults rows)
 
+-- the same, whatever the collections are
+abbrev pub ForEachSpoolAndRows : {I O : Type 0} → (I → Option (List ℕ)) → (I → ℕ) → (O → Option (List ℕ)) → (O → ℕ)
+    → I → O → I → O → (Objects → Objects → Type 0) → Type 0
+ForEachSpoolAndRows left input_faults written out_faults input out input_after out_after P =
+    (spool : Option (List ℕ)) (spool_faults : ℕ) (rows : List Row)
+    → P (objects (left input) (input_faults input) (written out) (out_faults out) spool spool_faults rows)
+    (objects (left input_after) (input_faults input_after) (written out_after) (out_faults out_after) spool
+    spool_faults rows)
+
 -- of an output alone, whatever the input and the spool are
 abbrev pub ForEachInputAndSpool : {O : Type 0} → (O → Option (List ℕ)) → (O → ℕ) → O → O → List Row → List Row
     → (Objects → Objects → Type 0) → Type 0
@@ -58,6 +67,15 @@ ForEachInput written out_faults bytes spool_faults out spool out_after spool_aft
     → Holds (objects input faults (written out) (out_faults out) (bytes spool) (spool_faults spool) rows)
     (objects input_after faults_after (written out_after) (out_faults out_after) (bytes spool_after)
     (spool_faults spool_after) rows_after)
+
+-- the same, whatever the collections are
+abbrev pub ForEachInputOverRows : {O P : Type 0} → (O → Option (List ℕ)) → (O → ℕ) → (P → Option (List ℕ)) → (P → ℕ)
+    → O → P → O → P → (Objects → Objects → Type 0) → Type 0
+ForEachInputOverRows written out_faults bytes spool_faults out spool out_after spool_after Holds =
+    (input input_after : Option (List ℕ)) (faults faults_after : ℕ) (rows : List Row)
+    → Holds (objects input faults (written out) (out_faults out) (bytes spool) (spool_faults spool) rows)
+    (objects input_after faults_after (written out_after) (out_faults out_after) (bytes spool_after)
+    (spool_faults spool_after) rows)
 
 -- of an output and a spool, whatever the input and the collections are
 abbrev pub ForEachInputAndRows : {O P : Type 0} → (O → Option (List ℕ)) → (O → ℕ) → (P → Option (List ℕ)) → (P → ℕ) → O → P → O

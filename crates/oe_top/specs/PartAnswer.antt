@@ -1,6 +1,7 @@
 -- How the command `part` ends: the table of its statuses, one case a row.
 use Rattle.std.specs.Prelude.{◌≡◌, ◌<◌, ◌≤◌, ℕ, ◌+◌, ◌-◌, ◌*◌, List, None, Result, Ok, Err}
 use Rattle.oe_engine.specs.Results.{IsVisible, OfMeaning}
+use Rattle.oe_engine.specs.Runs.{PartRunOf}
 use Rattle.oe_engine.specs.Evaluations.{loads_of}
 use Rattle.oe_dims.specs.Positions.{Position, number_of}
 use Rattle.oe_dims.specs.declared.kind.CellKind.{CellKind}
@@ -41,6 +42,10 @@ head_for text c size first end = record {
   kind = kind_of_result c;
   shape = shape_of_node c c.result;
 }
+
+-- that of a part of a run
+abbrev pub head_of_part : List ℕ → PartRunOf → PartHead
+head_of_part text r = head_for text r.plan.graph r.plan.size r.first (r.first + r.count)
 
 -- these are some chunks of those that the run has
 abbrev pub AreChunksOf : CheckedGraph → ChunkSize → ℕ → ℕ → Type 0
@@ -87,6 +92,11 @@ module _ (text : List ℕ) (c : CheckedGraph) (size : ChunkSize) (first end : �
         ≤ cells_asked before.collections + (end - first) * (loads_of c * largest_window c size)
     pub out_count : NeverFalls before.out_faults after.out_faults
     pub spool_count : NeverFalls before.spool_faults after.spool_faults
+
+-- the same of a part of a run
+abbrev pub EvaluatesPart : List ℕ → PartRunOf → Objects → Objects → Result (Unit {0}) EvaluationFail → Type 0
+EvaluatesPart text r before after ending =
+    EvaluatesChunks text r.plan.graph r.plan.size r.first (r.first + r.count) before after ending
 
 -- ---- how the command ends
 
@@ -136,3 +146,7 @@ module _ (size : ChunkSize) (workers first end : ℕ) (before after : Objects) w
     pub input_count : NeverFalls before.input_faults after.input_faults
     pub out_count : NeverFalls before.out_faults after.out_faults
     pub spool_count : NeverFalls before.spool_faults after.spool_faults
+
+-- the same by the words of the command: sides and workers, a first chunk and an end
+abbrev pub PartAnswersBy : ChunkSize × ℕ → ℕ × ℕ → Objects → Objects → Result (Unit {0}) PartRefusal → Type 0
+PartAnswersBy sizes chunks before after ending = PartAnswers sizes.0 sizes.1 chunks.0 chunks.1 before after ending

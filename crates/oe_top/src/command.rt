@@ -1,7 +1,6 @@
 // The top call: from the words of a command to its status and its line.
 ghost use Rattle.oe_sources.specs.CatalogueRows.{rows_of};
-ghost use Rattle.oe_outside.specs.Stream.{error_output};
-ghost use Rattle.oe_top.specs.Answer.{Answers, Ends};
+ghost use Rattle.oe_top.specs.Answer.{AnswersOver, Ends};
 ghost use Rattle.oe_top.specs.Objects.{lends};
 
 use crate::check::check;
@@ -68,11 +67,9 @@ pub fn openeo<R: Threads + Sync, I: Source, O: Sink, E: Sink, P: Store, G: Gate,
     parts: &mut RunParts<S>,
     spool: &mut P,
 ) -> u8
-    ensures { let lent = lends I.left I.faults O.written O.faults P.bytes P.faults in
-        Answers words.now parts.old parts.new
-        (lent input.old out.old spool.old (rows_of seen catalogue.old))
-        (lent input.new out.new spool.new (rows_of seen catalogue.new))
-        (error_output E.written E.faults err.old err.new) result }
+    ensures { AnswersOver I.left I.faults O.written O.faults P.bytes P.faults E.written E.faults
+        words.now parts.old input.old out.old spool.old (rows_of seen catalogue.old) err.old
+        parts.new input.new out.new spool.new (rows_of seen catalogue.new) err.new result }
 {
     match obey(setup, words, input, out, catalogue, parts, spool) {
         Ok(()) => 0,
@@ -92,9 +89,8 @@ fn obey<R: Threads + Sync, I: Source, O: Sink, P: Store, G: Gate, S: Store + Dro
     parts: &mut RunParts<S>,
     spool: &mut P,
 ) -> Result<(), Refusal>
-    ensures { let lent = lends I.left I.faults O.written O.faults P.bytes P.faults in
-        Ends words.now parts.old parts.new
-        (lent input.old out.old spool.old (rows_of seen catalogue.old))
+    ensures { let lent = lends I.left I.faults O.written O.faults P.bytes P.faults in Ends words.now
+        parts.old parts.new (lent input.old out.old spool.old (rows_of seen catalogue.old))
         (lent input.new out.new spool.new (rows_of seen catalogue.new)) result }
 {
     let alloc = setup.alloc;

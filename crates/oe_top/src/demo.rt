@@ -8,14 +8,14 @@ ghost use Rattle.oe_cell.specs.declared.cell.Cell.TheVariants.{Over};
 ghost use Rattle.oe_dims.specs.Dimensions.{most_cells};
 ghost use Rattle.oe_engine.specs.Laws.{GivesCollections};
 ghost use Rattle.oe_engine.specs.Runs.{IsHiddenDamage, chunk_total};
-ghost use Rattle.oe_outside.specs.Faults.{HasCauseOf};
 ghost use Rattle.oe_plan.specs.Ranges.{IsWithinRanges};
+ghost use Rattle.oe_render.specs.Rendered.{HasSpoolCause};
 ghost use Rattle.oe_sources.specs.CatalogueDims.{AreDimsOf, dims_of};
 ghost use Rattle.oe_sources.specs.CatalogueRows.{rows_of};
 ghost use Rattle.oe_top.specs.DemoAnswer.{DemoAnswers, Demonstrates, IsDemonstration};
 ghost use Rattle.oe_top.specs.Demonstration.{HasSpooled, IsSpooled, demo_graph, figures_text};
 ghost use Rattle.oe_top.specs.Evaluated.{IsBegun};
-ghost use Rattle.oe_top.specs.Judged.{IsCheckedText};
+ghost use Rattle.oe_top.specs.Judged.{IsCheckedText, IsOverCollections};
 ghost use Rattle.oe_top.specs.Objects.{ForEachInputAndRows};
 
 use crate::evaluation::{EvaluationFail, begin, complete, fail_of_run, fail_of_text};
@@ -141,9 +141,7 @@ fn write_figures<R: Threads + Sync, O: Sink, P: Store, G: Gate>(
     requires chunks { chunks ≡ chunk_total run.plan }
     requires empty { line ≡ [] }
     requires demonstration { IsDemonstration (rows_of seen catalogue.old) }
-    requires rows { run.plan.graph.rows ≡ dims_of (rows_of seen catalogue.old) }
-    requires found { AreDimsOf (rows_of seen catalogue.old) run.plan.graph.rows }
-    requires collections { GivesCollections (rows_of seen catalogue.old) }
+    requires collections { IsOverCollections run.plan.graph (rows_of seen catalogue.old) }
     ensures { ForEachInputAndRows O.written O.faults P.bytes P.faults out.old spool.old out.new
         spool.new (λ before after. Demonstrates (rows_of seen catalogue.old) run.plan.graph
         before after result) }
@@ -203,8 +201,7 @@ fn read_ends<P: Store>(spool: &mut P, count: u64) -> Result<(Cell, Cell), Render
     requires last { HasSpooled (P.bytes spool.old) count (count - 1) }
     ensures first { IfOk result (λ ends. IsSpooled (P.bytes spool.old) count 0 ends.0) }
     ensures last { IfOk result (λ ends. IsSpooled (P.bytes spool.old) count (count - 1) ends.1) }
-    ensures cause { HasCauseOf RenderFail.SpoolFailed (P.faults spool.old)
-        (P.faults spool.new) result }
+    ensures cause { HasSpoolCause P.faults spool.old spool.new result }
     ensures damage { IfErr result (IsHiddenDamage (P.bytes spool.old)) }
     ensures only { IfErr result (λ e. e ≢ RenderFail.SinkFailed) }
     ensures same { P.bytes spool.new ≡ P.bytes spool.old }
@@ -222,8 +219,7 @@ fn cell_at<P: Store>(spool: &mut P, count: u64, number: u64) -> Result<Cell, Ren
     requires few { count ≤ most_cells }
     requires stored { HasSpooled (P.bytes spool.old) count number }
     ensures cell { IfOk result (IsSpooled (P.bytes spool.old) count number) }
-    ensures cause { HasCauseOf RenderFail.SpoolFailed (P.faults spool.old)
-        (P.faults spool.new) result }
+    ensures cause { HasSpoolCause P.faults spool.old spool.new result }
     ensures damage { IfErr result (IsHiddenDamage (P.bytes spool.old)) }
     ensures only { IfErr result (λ e. e ≢ RenderFail.SinkFailed) }
     ensures same { P.bytes spool.new ≡ P.bytes spool.old }

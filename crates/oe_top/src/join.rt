@@ -1,13 +1,12 @@
 // The command `join`: from the parts of a run to the text of what its graph means.
-ghost use Rattle.std.specs.Prelude.{◌≡◌, ◌<◌, ℕ, List, Option, length};
+ghost use Rattle.std.specs.Prelude.{◌≡◌, ◌<◌, length};
 ghost use Rattle.oe_outside.specs.Faults.{NeverFalls};
 ghost use Rattle.oe_parts.specs.Parts.{ArePartsRead, heads_of};
 ghost use Rattle.oe_parts.specs.Whole.{AreWhole, RunOutline, SaysMisfit};
-ghost use Rattle.oe_sources.specs.Catalogue.{Row};
 ghost use Rattle.oe_sources.specs.CatalogueRows.{rows_of};
 ghost use Rattle.oe_top.specs.JoinAnswer.{IsMisfitNamed, JoinAnswers, JoiningEnds, OfNameAt};
 ghost use Rattle.oe_top.specs.Joined.{JoinedIsRun};
-ghost use Rattle.oe_top.specs.Objects.{lends, objects};
+ghost use Rattle.oe_top.specs.Objects.{ForEachInputOverRows, lends};
 
 use crate::evaluation::{EvaluationFail, fail_of_text};
 use crate::judge::{InputRefusal, judge_and_keep};
@@ -67,9 +66,8 @@ pub(crate) fn join<I: Source, O: Sink, P: Store, S: Store + Drop>(
     parts: &mut RunParts<S>,
     spool: &mut P,
 ) -> Result<(), JoinRefusal>
-    ensures { let lent = lends I.left I.faults O.written O.faults P.bytes P.faults in
-        JoinAnswers parts.old parts.new
-        (lent input.old out.old spool.old (rows_of seen catalogue.now))
+    ensures { let lent = lends I.left I.faults O.written O.faults P.bytes P.faults in JoinAnswers
+        parts.old parts.new (lent input.old out.old spool.old (rows_of seen catalogue.now))
         (lent input.new out.new spool.new (rows_of seen catalogue.now)) result }
 {
     let (checked, graph) = match judge_and_keep(alloc, input, catalogue) {
@@ -95,13 +93,9 @@ fn write_joined<O: Sink, P: Store, S: Store + Drop>(
     spool: &mut P,
 ) -> Result<(), JoinRefusal>
     requires { (run : RunOutline) × (run.shape ≡ shape.now) × AreWhole run (heads_of parts.old) }
-    // whatever became of the input before
-    ensures ends { (input input_after : Option (List ℕ)) (faults faults_after : ℕ) (rows : List Row)
-        → JoiningEnds shape.now parts.old parts.new
-        (objects input faults (O.written out.old) (O.faults out.old)
-        (P.bytes spool.old) (P.faults spool.old) rows)
-        (objects input_after faults_after (O.written out.new) (O.faults out.new)
-        (P.bytes spool.new) (P.faults spool.new) rows) result }
+    ensures ends { ForEachInputOverRows O.written O.faults P.bytes P.faults out.old spool.old
+        out.new spool.new (λ before after. JoiningEnds shape.now parts.old parts.new
+        before after result) }
     ensures read { ArePartsRead parts.old parts.new }
     ensures out_count { NeverFalls (O.faults out.old) (O.faults out.new) }
     ensures spool_count { NeverFalls (P.faults spool.old) (P.faults spool.new) }

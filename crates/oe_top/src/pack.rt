@@ -1,13 +1,12 @@
 // The command `pack`: from a result text to a cube file.
-ghost use Rattle.std.specs.Prelude.{◌≡◌, ◌⊎◌, ℕ, List, Option, true, length, IfErr, OnOk};
+ghost use Rattle.std.specs.Prelude.{◌≡◌, ◌⊎◌, true, length, IfErr, OnOk};
 ghost use Rattle.std.specs.List.{list_all};
 ghost use Rattle.oe_cube.specs.Kinds.{is_null_or_of};
 ghost use Rattle.oe_dims.specs.Dimensions.{cell_count};
 ghost use Rattle.oe_dims.specs.Names.{is_name};
 ghost use Rattle.oe_outside.specs.Faults.{HasCauseOf};
-ghost use Rattle.oe_sources.specs.Catalogue.{Row};
 ghost use Rattle.oe_sources.specs.Packed.{AppendsPacked, AppendsPartOfPacked};
-ghost use Rattle.oe_top.specs.Objects.{objects};
+ghost use Rattle.oe_top.specs.Objects.{ForEachSpoolAndRows};
 ghost use Rattle.oe_top.specs.PackAnswer.{PackAnswers};
 
 use crate::input::read_input;
@@ -38,11 +37,8 @@ pub(crate) fn pack<I: Source, O: Sink>(
     out: &mut O,
 ) -> Result<(), PackRefusal>
     requires { is_name id.now ≡ true }
-    ensures { (spool : Option (List ℕ)) (spool_faults : ℕ) (rows : List Row) → PackAnswers id.now
-        (objects (I.left input.old) (I.faults input.old) (O.written out.old) (O.faults out.old)
-        spool spool_faults rows)
-        (objects (I.left input.new) (I.faults input.new) (O.written out.new) (O.faults out.new)
-        spool spool_faults rows) result }
+    ensures { ForEachSpoolAndRows I.left I.faults O.written O.faults input.old out.old input.new
+        out.new (λ before after. PackAnswers id.now before after result) }
 {
     let bytes = match read_input(alloc, input) {
         Ok(bytes) => bytes,

@@ -1,17 +1,15 @@
 // The command `part`: from the input to the records of some chunks of its run.
 ghost use Rattle.std.specs.Prelude.{◌≡◌, ◌<◌, ◌+◌, ◌↔◌, ℕ, [], List, IfOk, IsErrOf, IsTrue};
 ghost use Rattle.oe_dims.specs.declared.dims.DimsRow.{DimsRow};
-ghost use Rattle.oe_engine.specs.Laws.{GivesCollections};
 ghost use Rattle.oe_engine.specs.Evaluations.{IsPlanOf};
 ghost use Rattle.oe_parts.specs.Head.{AreSides, IsPartHead, front_bytes};
 ghost use Rattle.oe_plan.specs.Figures.{bound_of, most_held_cells};
 ghost use Rattle.oe_plan.specs.Ranges.{IsWithinRanges};
-ghost use Rattle.oe_sources.specs.CatalogueDims.{AreDimsOf, dims_of};
 ghost use Rattle.oe_sources.specs.CatalogueRows.{rows_of};
 ghost use Rattle.oe_steps.specs.Collections.{HasCollections};
-ghost use Rattle.oe_top.specs.Judged.{IsCheckedText};
+ghost use Rattle.oe_top.specs.Judged.{IsCheckedText, IsOverCollections};
 ghost use Rattle.oe_top.specs.Objects.{ForEachInput, lends};
-ghost use Rattle.oe_top.specs.PartAnswer.{AreChunksOf, EvaluatesChunks, PartAnswers, head_for};
+ghost use Rattle.oe_top.specs.PartAnswer.{AreChunksOf, EvaluatesPart, PartAnswersBy, head_for, head_of_part};
 ghost use Rattle.oe_top.specs.PartEvaluated.{GoesThroughPart, IsPartBegun};
 
 use crate::evaluation::{EvaluationFail, fail_of_run, fail_of_text};
@@ -68,9 +66,8 @@ pub(crate) fn part<R: Threads + Sync, I: Source, O: Sink, P: Store, G: Gate>(
     spool: &mut P,
 ) -> Result<(), PartRefusal>
     requires { IsWithinRanges sizes.0 sizes.1 }
-    ensures { let lent = lends I.left I.faults O.written O.faults P.bytes P.faults in
-        PartAnswers sizes.0 sizes.1 chunks.0 chunks.1
-        (lent input.old out.old spool.old (rows_of seen catalogue.old))
+    ensures { let lent = lends I.left I.faults O.written O.faults P.bytes P.faults in PartAnswersBy
+        sizes chunks (lent input.old out.old spool.old (rows_of seen catalogue.old))
         (lent input.new out.new spool.new (rows_of seen catalogue.new)) result }
 {
     let alloc = setup.alloc;
@@ -184,18 +181,14 @@ fn write_chunks<R: Threads + Sync, O: Sink, P: Store, G: Gate>(
 ) -> Result<(), EvaluationFail>
     requires begun { IsPartBegun run }
     requires base { run.base ≡ 0 }
-    requires head { head.now ≡ head_for head.now.graph run.plan.graph run.plan.size run.first
-        (run.first + run.count) }
+    requires head { head.now ≡ head_of_part head.now.graph run }
     requires valid { IsPartHead head.now }
     requires front { front.now ≡ front_bytes head.now }
     requires empty { pending.old ≡ [] }
-    requires rows { run.plan.graph.rows ≡ dims_of (rows_of seen catalogue.old) }
-    requires found { AreDimsOf (rows_of seen catalogue.old) run.plan.graph.rows }
-    requires collections { GivesCollections (rows_of seen catalogue.old) }
+    requires collections { IsOverCollections run.plan.graph (rows_of seen catalogue.old) }
     ensures { ForEachInput O.written O.faults P.bytes P.faults out.old spool.old out.new spool.new
         (rows_of seen catalogue.old) (rows_of seen catalogue.new)
-        (λ before after. EvaluatesChunks head.now.graph run.plan.graph run.plan.size run.first
-        (run.first + run.count) before after result) }
+        (λ before after. EvaluatesPart head.now.graph run before after result) }
 {
     // Laws that the proof rests on; they do nothing.
     laws::collections_are_mounted();

@@ -1,10 +1,20 @@
-use Rattle.std.proofs.Common.{List, subst}
+use Rattle.std.proofs.Common.{List, sym, ap, ◌∙◌, subst}
+use Rattle.oe_check.specs.Checked.{CheckedGraph}
 use Rattle.oe_sources.specs.Catalogue.{Row}
 use Rattle.oe_sources.specs.CatalogueDims.{dims_of}
 use Rattle.oe_top.specs.Demonstration.{demo_graph}
 use Rattle.oe_top.specs.Judged.{IsCheckedText}
 use Rattle.oe_top.proofs.Demos.{finished, stopped, too_large}
 use Rattle.oe_top.proofs.demo.demo.Goals as goal
+
+pub write_figures-requires-clause-collections : goal.write_figures-requires-clause-collections
+write_figures-requires-clause-collections g c κs within =
+    let graph_is = c.in-Ok.ensures.plan.graph_is in
+    record {
+      rows_are = ap (λ (k : CheckedGraph). k.rows) (graph_is ∙ c.in_ok-checked.ensures.checked.checked_is);
+      found = rw (sym graph_is) at c.in_ok-checked.ensures.found;
+      given = c.in_ok-checked.ensures.collections;
+    }
 
 pub returns-in-Ok-write_figures : goal.returns-in-Ok-write_figures
 returns-in-Ok-write_figures g c = λ input input_faults lent.

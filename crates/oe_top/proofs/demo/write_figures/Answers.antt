@@ -10,7 +10,7 @@ use Rattle.oe_top.proofs.demo.write_figures.Goals as goal
 pub complete-requires-clause-mounted : goal.complete-requires-clause-mounted
 complete-requires-clause-mounted g c = λ _ _.
     c.collections_are_mounted.ensures c.args.run.plan (rows_of (λ z. (goal.SharedSource-dyn g z).CubeSource.seen z.1) c.args.catalogue.now)
-    c.requires.begun.planned c.requires.found
+    c.requires.begun.planned c.requires.collections.found
 
 pub generated_never_failed-requires : goal.generated_never_failed-requires
 generated_never_failed-requires g c =
@@ -33,7 +33,7 @@ returns-in-Err g c = λ input input_faults lent.
     let graph_is = c.checked.ensures ∙ ap (λ (p : PlanOf). p.graph) c.in-Err.ensures.through.goes.plan in
     refused c.args.run c.complete.new.run rows rows_after (g.P.Store.bytes c.args.spool.now) (g.P.Store.bytes c.complete.new.spool)
     (g.P.Store.faults c.args.spool.now) (g.P.Store.faults c.complete.new.spool)
-    c.requires.demonstration c.requires.collections c.requires.rows c.requires.begun.planned
+    c.requires.demonstration c.requires.collections.given c.requires.collections.rows_are c.requires.begun.planned
     input input_faults (g.O.Sink.written c.args.out.now) (g.O.Sink.faults c.args.out.now) lent
     c.generated_never_failed.ensures c.in-Err.fail c.fail_of_run.result c.in-Err.ensures
     (subst (λ (k : CheckedGraph). IsFailOfRun k c.in-Err.fail c.fail_of_run.result) graph_is c.fail_of_run.ensures)
@@ -62,7 +62,7 @@ returns-in-Ok-write g c = λ input input_faults lent.
     let rows_after = rows_of (λ z. (goal.SharedSource-dyn g z).CubeSource.seen z.1) c.complete.new.catalogue in
     written c.args.run c.complete.new.run rows rows_after (g.P.Store.bytes c.args.spool.now) (g.P.Store.bytes c.complete.new.spool)
     (g.P.Store.faults c.args.spool.now) (g.P.Store.faults c.complete.new.spool)
-    c.requires.demonstration c.requires.collections c.requires.rows c.requires.begun.planned
+    c.requires.demonstration c.requires.collections.given c.requires.collections.rows_are c.requires.begun.planned
     input input_faults (g.O.Sink.written c.args.out.now) (g.O.Sink.faults c.args.out.now) lent
     c.in_default.ensures c.requires.front c.cells-count.result (c.cells-count.ensures.value ∙ ap cell_count c.shape.ensures)
     c.in-Ok.first c.in-Ok.last c.in-Ok.ensures.first c.in-Ok.ensures.last
@@ -76,7 +76,7 @@ returns-in-Ok g c = λ input input_faults lent.
     let rows_after = rows_of (λ z. (goal.SharedSource-dyn g z).CubeSource.seen z.1) c.complete.new.catalogue in
     stopped_figures c.args.run c.complete.new.run rows rows_after (g.P.Store.bytes c.args.spool.now) (g.P.Store.bytes c.complete.new.spool)
     (g.P.Store.faults c.args.spool.now) (g.P.Store.faults c.complete.new.spool)
-    c.requires.demonstration c.requires.collections c.requires.rows c.requires.begun.planned
+    c.requires.demonstration c.requires.collections.given c.requires.collections.rows_are c.requires.begun.planned
     input input_faults (g.O.Sink.written c.args.out.now) (g.O.Sink.faults c.args.out.now) lent
     c.in_default.ensures c.requires.front c.cells-count.result (c.cells-count.ensures.value ∙ ap cell_count c.shape.ensures)
     c.in-Ok.first c.in-Ok.last c.in-Ok.ensures.first c.in-Ok.ensures.last
@@ -90,7 +90,7 @@ returns g c = λ input input_faults lent.
     let rows_after = rows_of (λ z. (goal.SharedSource-dyn g z).CubeSource.seen z.1) c.complete.new.catalogue in
     unspooled c.args.run c.complete.new.run rows rows_after (g.P.Store.bytes c.args.spool.now) (g.P.Store.bytes c.complete.new.spool)
     (g.P.Store.faults c.args.spool.now) (g.P.Store.faults c.complete.new.spool)
-    c.requires.demonstration c.requires.collections c.requires.rows c.requires.begun.planned
+    c.requires.demonstration c.requires.collections.given c.requires.collections.rows_are c.requires.begun.planned
     input input_faults (g.O.Sink.written c.args.out.now) (g.O.Sink.faults c.args.out.now) lent
     c.in_default.ensures (g.P.Store.bytes c.read_ends.new.spool) (g.P.Store.faults c.read_ends.new.spool)
     c.in-Err-read_ends.fail c.fail_of_text.result c.fail_of_text.ensures c.in-Err-read_ends.ensures.cause

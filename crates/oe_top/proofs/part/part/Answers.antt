@@ -24,14 +24,15 @@ write_chunks-requires-clause-head g c κs within =
     let begun = c.in-Ok-begin_part.ensures in
     head_of_run c.in_ok-head.head _ _ _ _ _ _ _ _ _ c.in_ok-head.ensures.head begun.plan.graph_is begun.plan.size_is begun.first begun.end
 
-pub write_chunks-requires-clause-rows : goal.write_chunks-requires-clause-rows
-write_chunks-requires-clause-rows g c κs within =
-    ap (λ (k : CheckedGraph). k.rows) (c.in-Ok-begin_part.ensures.plan.graph_is ∙ c.in-Ok.ensures.text.1.checked_is)
-
-pub write_chunks-requires-clause-found : goal.write_chunks-requires-clause-found
-write_chunks-requires-clause-found g c κs within =
+pub write_chunks-requires-clause-collections : goal.write_chunks-requires-clause-collections
+write_chunks-requires-clause-collections g c κs within =
     let rows = rows_of (λ z. (goal.SharedSource-dyn g z).CubeSource.seen z.1) c.args.catalogue.now in
-    subst (λ (graph : CheckedGraph). AreDimsOf rows graph.rows) (sym c.in-Ok-begin_part.ensures.plan.graph_is) c.in-Ok.ensures.found
+    let graph_is = c.in-Ok-begin_part.ensures.plan.graph_is in
+    record {
+      rows_are = ap (λ (k : CheckedGraph). k.rows) (graph_is ∙ c.in-Ok.ensures.text.1.checked_is);
+      found = subst (λ (graph : CheckedGraph). AreDimsOf rows graph.rows) (sym graph_is) c.in-Ok.ensures.found;
+      given = c.in-Ok.ensures.collections;
+    }
 
 pub returns-in-Ok-write_chunks : goal.returns-in-Ok-write_chunks
 returns-in-Ok-write_chunks g c =

@@ -17,7 +17,7 @@ use Rattle.oe_top.proofs.part.write_chunks.Goals as goal
 
 pub complete_part-requires-clause-mounted : goal.complete_part-requires-clause-mounted
 complete_part-requires-clause-mounted g c κs within =
-    c.collections_are_mounted.ensures c.args.run.plan _ c.requires.begun.planned c.requires.found
+    c.collections_are_mounted.ensures c.args.run.plan _ c.requires.begun.planned c.requires.collections.found
 
 pub fail_of_run-requires : goal.fail_of_run-requires
 fail_of_run-requires g c =
@@ -31,7 +31,7 @@ pub returns : goal.returns
 returns g c = λ input input_after input_faults input_faults_after.
     let err : RunFail → Result (Unit {0}) RunFail = λ f. Err f in
     let same = c.checked.ensures.value ∙ ap (λ (p : PlanOf). p.graph) (c.plan.ensures ∙ c.in-Err.ensures.through.goes.plan) in
-    chunks_refused c.args.head.now.graph _ _ _ _ _ _ _ _ c.requires.collections c.requires.rows c.requires.begun.planned
+    chunks_refused c.args.head.now.graph _ _ _ _ _ _ _ _ c.requires.collections.given c.requires.collections.rows_are c.requires.begun.planned
     input input_after input_faults input_faults_after _ _ c.in-Err.fail _
     (λ number is. c.in-Err.ensures.no_overflow number (ap err is)) c.in-Err.ensures.through
     (subst (λ (graph : CheckedGraph). IsFailOfRun graph c.in-Err.fail c.fail_of_run.result) same c.fail_of_run.ensures)
@@ -40,7 +40,7 @@ pub returns-in-Ok-write_part : goal.returns-in-Ok-write_part
 returns-in-Ok-write_part g c = λ input input_after input_faults input_faults_after.
     let front = c.in-Ok.ensures.through.goes.base ∙ c.requires.base in
     rw c.write_part.ensures.left.same
-    (part_written c.args.head.now.graph _ _ _ _ _ _ _ _ c.requires.collections c.requires.rows c.requires.begun.planned
+    (part_written c.args.head.now.graph _ _ _ _ _ _ _ _ c.requires.collections.given c.requires.collections.rows_are c.requires.begun.planned
     c.in-Ok.ensures.through front input input_after input_faults input_faults_after _ _ _ _ _
     (subst IsPartHead c.requires.head c.requires.valid)
     (subst (λ (head : PartHead). AppendsRecords (g.O.Sink.written c.args.out.now) head (g.O.Sink.written c.write_part.new.out)) c.requires.head
@@ -53,7 +53,7 @@ pub returns-in-Ok : goal.returns-in-Ok
 returns-in-Ok g c = λ input input_after input_faults input_faults_after.
     let front = c.in-Ok.ensures.through.goes.base ∙ c.requires.base in
     rw c.write_part.ensures.left.same
-    (part_stopped c.args.head.now.graph _ _ _ _ _ _ _ _ c.requires.collections c.requires.rows c.requires.begun.planned
+    (part_stopped c.args.head.now.graph _ _ _ _ _ _ _ _ c.requires.collections.given c.requires.collections.rows_are c.requires.begun.planned
     c.in-Ok.ensures.through front input input_after input_faults input_faults_after _ _ _ _ _ c.in-Err-write_part.fail _
     c.fail_of_text.ensures
     (subst (λ (head : PartHead). (cube : Cube Cell) → ShowsPart (g.P.Store.bytes c.complete_part.new.spool) 0 head cube

@@ -1,4 +1,4 @@
-use Rattle.std.proofs.Common.{refl, sym, subst}
+use Rattle.std.proofs.Common.{refl, sym, ap, ◌∙◌, subst}
 use Rattle.oe_outside.proofs.Causes.{NeverFalls-refl}
 use Rattle.oe_check.specs.Checked.{CheckedGraph}
 use Rattle.oe_sources.specs.CatalogueDims.{AreDimsOf}
@@ -6,10 +6,15 @@ use Rattle.oe_sources.specs.CatalogueRows.{rows_of}
 use Rattle.oe_top.proofs.Slabs.{slab_finished, slab_lacks_cut, slab_stopped, slab_too_large}
 use Rattle.oe_top.proofs.slab.slab.Goals as goal
 
-pub write_folded-requires-clause-found : goal.write_folded-requires-clause-found
-write_folded-requires-clause-found g c κs within =
+pub write_folded-requires-clause-collections : goal.write_folded-requires-clause-collections
+write_folded-requires-clause-collections g c κs within =
     let rows = rows_of (λ z. (goal.SharedSource-dyn g z).CubeSource.seen z.1) c.args.catalogue.now in
-    subst (λ (graph : CheckedGraph). AreDimsOf rows graph.rows) (sym c.in-Ok-begin_slabs.ensures.plan.graph_is) c.in-Ok.ensures.found
+    let graph_is = c.in-Ok-begin_slabs.ensures.plan.graph_is in
+    record {
+      rows_are = ap (λ (k : CheckedGraph). k.rows) (graph_is ∙ c.in-Ok.ensures.judged.ends.text.checked_is);
+      found = subst (λ (graph : CheckedGraph). AreDimsOf rows graph.rows) (sym graph_is) c.in-Ok.ensures.found;
+      given = c.in-Ok.ensures.collections;
+    }
 
 pub returns-in-Ok-write_folded : goal.returns-in-Ok-write_folded
 returns-in-Ok-write_folded g c =

@@ -9,7 +9,7 @@ use Rattle.oe_top.proofs.slab.write_folded.Goals as goal
 
 pub complete_slabs-requires-clause-mounted : goal.complete_slabs-requires-clause-mounted
 complete_slabs-requires-clause-mounted g c κs within =
-    c.loads_are_mounted.ensures c.args.run.plan.graph _ c.requires.begun.planned.faultless c.requires.found
+    c.loads_are_mounted.ensures c.args.run.plan.graph _ c.requires.begun.planned.faultless c.requires.collections.found
 
 pub fail_of_run-requires : goal.fail_of_run-requires
 fail_of_run-requires g c =
@@ -22,20 +22,20 @@ fail_of_run-requires g c =
 pub returns : goal.returns
 returns g c = λ input input_after input_faults input_faults_after.
     let same = c.checked.ensures ∙ ap (λ (p : SlabPlanOf). p.graph) c.in-Err.ensures.through.goes.plan in
-    refused_slabs _ _ _ _ _ _ _ _ c.requires.collections c.requires.rows c.slab_over_is_of_the_result.ensures c.requires.begun.planned
+    refused_slabs _ _ _ _ _ _ _ _ c.requires.collections.given c.requires.collections.rows_are c.slab_over_is_of_the_result.ensures c.requires.begun.planned
     input input_after input_faults input_faults_after _ _ c.in-Err.fail _ c.in-Err.ensures
     (subst (λ (graph : CheckedGraph). IsFailOfRun graph c.in-Err.fail c.fail_of_run.result) same c.fail_of_run.ensures)
 
 pub returns-in-Ok-render : goal.returns-in-Ok-render
 returns-in-Ok-render g c = λ input input_after input_faults input_faults_after.
     rw c.render.ensures.same
-    (written_slabs _ _ _ _ _ _ _ _ c.requires.collections c.requires.rows c.slab_over_is_of_the_result.ensures c.requires.begun.planned
+    (written_slabs _ _ _ _ _ _ _ _ c.requires.collections.given c.requires.collections.rows_are c.slab_over_is_of_the_result.ensures c.requires.begun.planned
     c.in-Ok.ensures input input_after input_faults input_faults_after _ _ _ _ _ c.in-Ok-render.ensures.text c.in-Ok-render.ensures.spool_cause.count
     c.in-Ok-render.ensures.sink_cause.count)
 
 pub returns-in-Ok : goal.returns-in-Ok
 returns-in-Ok g c = λ input input_after input_faults input_faults_after.
     rw c.render.ensures.same
-    (stopped_slabs _ _ _ _ _ _ _ _ c.requires.collections c.requires.rows c.slab_over_is_of_the_result.ensures c.requires.begun.planned
+    (stopped_slabs _ _ _ _ _ _ _ _ c.requires.collections.given c.requires.collections.rows_are c.slab_over_is_of_the_result.ensures c.requires.begun.planned
     c.in-Ok.ensures input input_after input_faults input_faults_after _ _ _ _ _ c.in-Err-render.fail _ c.fail_of_text.ensures c.in-Err-render.ensures.prefix
     c.in-Err-render.ensures.spool_cause c.in-Err-render.ensures.sink_cause c.in-Err-render.ensures.damage)
