@@ -8,13 +8,12 @@ ghost use Rattle.oe_jobs.specs.Machine as machine;
 ghost use Rattle.oe_jobs.specs.Plain.{plain_book, plain_change, plain_job};
 ghost use Rattle.oe_jobs.specs.Valid.{IsBook, IsEvent};
 ghost use Rattle.oe_service.specs.Calls.{IsKept};
-ghost use Rattle.oe_service.specs.Causes.{IsPlannable, PlanRefused, outside, outside_of};
+ghost use Rattle.oe_service.specs.Causes.{IsPlannable, PlanRefused, outside_of};
 ghost use Rattle.oe_service.specs.GoesOn.{GoesOn, HasRan, IsRunOf, IsService, MissesAsset};
 ghost use Rattle.oe_service.specs.Refusals.{code_of};
 ghost use Rattle.oe_service.specs.Runs as runs;
 ghost use Rattle.oe_service.specs.States.{EndsRun, count_assets, moved_running, with_text};
-ghost use Rattle.oe_service.specs.Steps.{Steps, TicksService};
-ghost use Rattle.oe_sources.specs.Catalogue.{Row};
+ghost use Rattle.oe_service.specs.Steps.{Steps, TicksOver, TicksOverKeeper, TicksOverRows, TicksOverSpool};
 ghost use Rattle.oe_sources.specs.CatalogueDims.{dims_of};
 ghost use Rattle.oe_sources.specs.CatalogueRows.{rows_of};
 
@@ -44,10 +43,8 @@ pub(crate) fn start<K: Keeper>(
     requires service { IsService service.old }
     requires free { running_job (plain_book service.old.book) ≡ None }
     requires kept { IsKept (K.kept keeper.old) (plain_book service.old.book) }
-    ensures { (rows : List Row) (store : Option (List ℕ)) (faults : ℕ) → TicksService
-        (outside rows store faults (K.kept keeper.old) (K.faults keeper.old))
-        (outside rows store faults (K.kept keeper.new) (K.faults keeper.new)) now service.old
-        service.new (K.has_failed keeper.new) result }
+    ensures { TicksOverKeeper K.kept K.faults K.has_failed now service.old service.new
+        keeper.old keeper.new result }
 {
     idle_without_busy();
     let Some(job) = service.book.next_queued() else {
@@ -131,10 +128,8 @@ pub(crate) fn plan<K: Keeper>(
     requires misses { IsSomeAnd (running_job (plain_book service.old.book)) MissesAsset }
     requires no_run { service.old.run ≡ None }
     requires kept { IsKept (K.kept keeper.old) (plain_book service.old.book) }
-    ensures { (store : Option (List ℕ)) (faults : ℕ) → TicksService
-        (outside (rows_of seen catalogue.now) store faults (K.kept keeper.old) (K.faults keeper.old))
-        (outside (rows_of seen catalogue.now) store faults (K.kept keeper.new) (K.faults keeper.new))
-        now service.old service.new (K.has_failed keeper.new) result }
+    ensures { TicksOverRows K.kept K.faults K.has_failed now service.old service.new
+        (rows_of seen catalogue.now) keeper.old keeper.new result }
 {
     match begin_next(alloc, service, catalogue) {
         Ok(run) => {
@@ -182,10 +177,9 @@ pub(crate) fn round<R: Threads + Sync, P: Store, K: Keeper, G: Gate>(
     requires left { IsSomeAnd service.old.run (λ r. r.done < chunk_total r.plan) }
     requires going { GoesOn service.old.run (rows_of seen catalogue.old) (P.bytes spool.old) }
     requires kept { IsKept (K.kept keeper.old) (plain_book service.old.book) }
-    ensures { let out = outside_of P.bytes P.faults K.kept K.faults in TicksService
-        (out (rows_of seen catalogue.old) spool.old keeper.old)
-        (out (rows_of seen catalogue.new) spool.new keeper.new)
-        now service.old service.new (K.has_failed keeper.new) result }
+    ensures { TicksOver (outside_of P.bytes P.faults K.kept K.faults) K.has_failed now
+        service.old service.new (rows_of seen catalogue.old) spool.old keeper.old
+        (rows_of seen catalogue.new) spool.new keeper.new result }
 {
     let Some(run) = &mut service.run else {
         unreachable!()
@@ -209,10 +203,8 @@ pub(crate) fn store<P: Store, K: Keeper>(
     requires complete { IsSomeAnd service.old.run (λ r. r.done ≡ chunk_total r.plan) }
     requires records { IfSome service.old.run (λ r. HasRunRecords r (P.bytes spool.old)) }
     requires kept { IsKept (K.kept keeper.old) (plain_book service.old.book) }
-    ensures { let out = outside_of P.bytes P.faults K.kept K.faults in (rows : List Row)
-        → GoesOn service.old.run rows (P.bytes spool.old)
-        → TicksService (out rows spool.old keeper.old) (out rows spool.new keeper.new)
-        now service.old service.new (K.has_failed keeper.new) result }
+    ensures { TicksOverSpool P.bytes (outside_of P.bytes P.faults K.kept K.faults) K.has_failed now
+        service.old service.new spool.old keeper.old spool.new keeper.new result }
 {
     let Some(run) = &mut service.run else {
         unreachable!()

@@ -1,7 +1,7 @@
 // One tick of a service.
 ghost use Rattle.oe_dims.specs.Instant.{IsInstant};
 ghost use Rattle.oe_service.specs.Causes.{outside_of};
-ghost use Rattle.oe_service.specs.Steps.{TicksService, IsServiceOver};
+ghost use Rattle.oe_service.specs.Steps.{IsServiceOver, TicksOver};
 ghost use Rattle.oe_sources.specs.CatalogueRows.{rows_of};
 
 use crate::answer::Ticked;
@@ -33,10 +33,9 @@ pub fn tick<R: Threads + Sync, P: Store, K: Keeper, G: Gate>(
     requires service { IsServiceOver service.old (outside_of P.bytes P.faults K.kept K.faults
         (rows_of seen catalogue.old) spool.old keeper.old) }
     // Whatever it answers, this holds again; and the tick is an event, or none.
-    ensures { let out = outside_of P.bytes P.faults K.kept K.faults in TicksService
-        (out (rows_of seen catalogue.old) spool.old keeper.old)
-        (out (rows_of seen catalogue.new) spool.new keeper.new)
-        now service.old service.new (K.has_failed keeper.new) result }
+    ensures { TicksOver (outside_of P.bytes P.faults K.kept K.faults) K.has_failed now
+        service.old service.new (rows_of seen catalogue.old) spool.old keeper.old
+        (rows_of seen catalogue.new) spool.new keeper.new result }
 {
     if service.book.running().is_none() {
         return start(alloc, service, keeper, now);
