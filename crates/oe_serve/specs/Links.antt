@@ -1,5 +1,5 @@
 -- What a call sees of a connection, what comes over it, and how a reply goes out.
-use Rattle.std.specs.Prelude.{◌≡◌, ◌⊎◌, ℕ, List, [], Option, IfSome}
+use Rattle.std.specs.Prelude.{◌≡◌, ◌⊎◌, ℕ, List, [], Option, IfSome, MatchOption}
 use Rattle.oe_outside.specs.Faults.{NeverFalls, Rose}
 use Rattle.oe_outside.specs.Visible.{Appends, AppendsPrefix}
 use Rattle.oe_http.specs.Plain.{PlainRequest}
@@ -10,6 +10,7 @@ use Rattle.oe_replies.specs.Answers.{refused_reply}
 use Rattle.oe_replies.specs.Codes.{status_of}
 use Rattle.oe_replies.specs.declared.code.ReplyCode.{ReplyCode}
 use Rattle.oe_replies.specs.declared.code.ReplyCode.TheVariants as codes
+use Rattle.oe_routes.specs.Codes.{code_of_refusal}
 use Rattle.oe_serve.specs.declared.served.Served.{Served}
 use Rattle.oe_serve.specs.declared.served.Served.TheVariants.{Answered, Cut, LinkFailed}
 
@@ -60,6 +61,12 @@ abbrev pub SendsCode : ReplyCode → List ℕ → LinkOf → LinkOf → Served �
 SendsCode code detail before after result =
     SendsReply (status_of code) (reply_bytes (refused_reply code detail)) before after result
     ⊎ SendsReply 503 (reply_bytes (refused_reply codes.OutOfMemory [])) before after result
+
+-- the reply to bytes that are no request goes out; over a connection that failed nothing does
+abbrev pub AnswersRefusal : RequestRefusal → LinkOf → LinkOf → Served → Type 0
+AnswersRefusal refusal before after result =
+    MatchOption (code_of_refusal refusal) ((result ≡ LinkFailed) × (after ≡ before))
+    (λ code. SendsCode code [] before after result)
 
 -- nothing goes out over a connection that failed before
 pub record IsSilent (before after : LinkOf) (result : Served) : Type 0 where

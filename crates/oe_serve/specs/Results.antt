@@ -12,16 +12,18 @@ use Rattle.oe_http.specs.Replies.{PlainResponse, reply_bytes, reply_head}
 use Rattle.oe_outside.specs.Faults.{NeverFalls, Rose}
 use Rattle.oe_outside.specs.Visible.{Appends, AppendsPrefix}
 use Rattle.oe_plan.specs.Figures.{bound_of, most_held_cells, shape_of_node}
+use Rattle.oe_plan.specs.Plans.{PlanOf}
 use Rattle.oe_render.specs.Text.{cube_text}
 use Rattle.oe_replies.specs.Answers.{refused_reply}
 use Rattle.oe_replies.specs.Codes.{status_of}
 use Rattle.oe_replies.specs.declared.code.ReplyCode.{ReplyCode}
 use Rattle.oe_replies.specs.declared.code.ReplyCode.TheVariants as code
-use Rattle.oe_service.specs.Causes.{Outside}
+use Rattle.oe_jobs.specs.Kept.{Kept}
+use Rattle.oe_service.specs.Causes.{Outside, outside}
 use Rattle.oe_check.specs.Checked.{CheckedGraph, collection_of_node}
 use Rattle.oe_sources.specs.Catalogue.{Row}
 use Rattle.oe_window.specs.declared.grid.ChunkSize.{ChunkSize}
-use Rattle.oe_serve.specs.Links.{LinkOf, SendsReply}
+use Rattle.oe_serve.specs.Links.{LinkOf, SendsReply, link_of}
 use Rattle.oe_serve.specs.declared.refusal.ResultRefusal.{ResultRefusal}
 use Rattle.oe_serve.specs.declared.refusal.ResultRefusal.TheVariants.{PlanTooLarge, ReadFault, SourceDamaged, SpoolFault, NumberOverflow, SpoolDamaged}
 use Rattle.oe_serve.specs.declared.served.Served.{Served}
@@ -147,3 +149,12 @@ module _ (c : CheckedGraph) (size : ChunkSize) (workers : ℕ) (before after : O
     -- with that of out of memory
     without_memory : SendsReply 503 (reply_bytes (refused_reply code.OutOfMemory [])) link link_after served
         → AnswersResult
+
+-- the run of a plan is, over a connection of type L and a spool of type P, whatever the keeper is
+abbrev pub AnswersRun : {L P : Type 0} → (L → Option (List ℕ)) → (L → Option (List ℕ)) → (L → ℕ) → (P → Option (List ℕ))
+    → (P → ℕ) → PlanOf → List Row → P → L → List Row → P → L → Served → Type 0
+AnswersRun left written link_faults bytes faults p rows spool link rows_after spool_after link_after served =
+    (kept : Option Kept) (keeper_faults : ℕ)
+    → AnswersResult p.graph p.size p.workers (outside rows (bytes spool) (faults spool) kept keeper_faults)
+    (outside rows_after (bytes spool_after) (faults spool_after) kept keeper_faults)
+    (link_of left written link_faults link) (link_of left written link_faults link_after) served

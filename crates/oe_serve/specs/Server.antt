@@ -12,10 +12,14 @@ use Rattle.oe_service.specs.declared.answer.Ticked.{Ticked}
 use Rattle.oe_service.specs.declared.answer.Ticked.TheVariants as ticked
 use Rattle.oe_service.specs.declared.open.OpenBookFail.{OpenBookFail}
 use Rattle.oe_service.specs.declared.open.OpenBookFail.TheVariants as opening
+use Rattle.oe_service.specs.declared.service.Service.{Service}
+use Rattle.oe_routes.specs.declared.site.Site.{Site}
+use Rattle.oe_sources.specs.Catalogue.{Row}
 use Rattle.oe_sources.specs.CatalogueDims.{dims_of}
 use Rattle.oe_serve.specs.Links.{LinkOf}
-use Rattle.oe_serve.specs.Serves.{ServerOf}
-use Rattle.oe_serve.specs.Turns.{AllTicked, DoorOf, EndsAt, IsAsked, Situation, StaysSound, Turn, Turned, situation}
+use Rattle.oe_serve.specs.Serves.{ServerOf, server_for, server_of, setting_for}
+use Rattle.oe_serve.specs.Turns.{AllTicked, DoorOf, EndsAt, IsAsked, Situation, StaysSound, Turn, Turned, situation, situation_of}
+use Rattle.oe_serve.specs.declared.command.ServeCommand.{ServeCommand}
 use Rattle.oe_serve.specs.declared.turns.ServeFail.{ServeFail}
 use Rattle.oe_serve.specs.declared.turns.ServeFail.TheVariants.{KeeperFault, LinkFault, OutOfMemory}
 
@@ -170,3 +174,30 @@ abbrev pub IsKeeperFault : ServerOf → Outside → Outside → Bool → Result 
 IsKeeperFault server before after has_failed result =
     IsErrOf result KeeperFault
     → KeeperFails (setting_of (dims_of before.rows) server.size server.workers) before after has_failed
+
+-- ---- of the objects that a server is lent: connections of type C at a door of type D, a spool of type P and a keeper
+-- of type K, by what is outside with these and whether the last call of the keeper failed
+
+module _ {C D P K : Type 0} (link : C → LinkOf) (seen : D → DoorOf C) (out : List Row → P → K → Outside)
+    (has_failed : K → Bool) where
+  -- turns are made, and end so
+  abbrev pub MakesTurnsOver : Site → ℕ → Option ℤ → Service → Service → List Row → P → K → D → List Row → P → K → D
+      → Result (Unit {0}) ServeFail → Type 0
+  MakesTurnsOver site times moment s s_after rows spool keeper door rows_after spool_after keeper_after door_after end =
+      MakesTurns link (server_for site s) (setting_for rows s) times moment
+      (situation_of out has_failed s rows spool keeper)
+      (situation_of out has_failed s_after rows_after spool_after keeper_after) (seen door) (seen door_after) end
+
+  -- the server that was asked for ends
+  abbrev pub ServerEndsOver : Site → ServeCommand → Option ℤ → List Row → P → K → D → List Row → P → K → D
+      → Result (Unit {0}) ServeFail → Type 0
+  ServerEndsOver site asked moment rows spool keeper door rows_after spool_after keeper_after door_after ended =
+      ServerEnds link (server_of site asked.size asked.workers) asked.turns (out rows spool keeper)
+      (out rows_after spool_after keeper_after) (seen door) (seen door_after) moment (has_failed keeper_after) ended
+
+-- a failure of the keeper that ends it is one of its last call
+abbrev pub IsKeeperFaultOver : {P K : Type 0} → (List Row → P → K → Outside) → (K → Bool) → Site → ServeCommand
+    → List Row → P → K → List Row → P → K → Result (Unit {0}) ServeFail → Type 0
+IsKeeperFaultOver out has_failed site asked rows spool keeper rows_after spool_after keeper_after ended =
+    IsKeeperFault (server_of site asked.size asked.workers) (out rows spool keeper)
+    (out rows_after spool_after keeper_after) (has_failed keeper_after) ended

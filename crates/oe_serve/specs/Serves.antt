@@ -1,25 +1,27 @@
 -- How one connection is served.
-use Rattle.std.specs.Prelude.{◌≡◌, ◌≢◌, ℕ, ◌+◌, ℤ, Bool, true, false, List, IfSome, IsSome, ⊤}
+use Rattle.std.specs.Prelude.{◌≡◌, ◌≢◌, ℕ, ◌+◌, ℤ, Bool, true, false, List, Option, IfSome, IsSome, ⊤}
 use Rattle.oe_steps.specs.Collections.{AreRead}
 use Rattle.oe_engine.specs.Laws.{GivesCollections}
 use Rattle.oe_engine.specs.Runs.{RunOf}
 use Rattle.oe_engine.specs.Results.{IsVisible}
 use Rattle.http.specs.StatusCode.{reason_phrase}
 use Rattle.oe_jobs.specs.Changes.{changed}
-use Rattle.oe_jobs.specs.Plain.{PlainBook, plain_book, plain_change}
+use Rattle.oe_jobs.specs.Kept.{Kept}
+use Rattle.oe_jobs.specs.Plain.{PlainBook, PlainChange, plain_book, plain_change}
 use Rattle.oe_jobs.specs.Valid.{IsBook}
 use Rattle.oe_outside.specs.Faults.{NeverFalls}
 use Rattle.oe_outside.specs.Input.{TakesAtMost}
 use Rattle.oe_http.specs.Front.{most_head}
+use Rattle.oe_http.specs.Replies.{PlainResponse}
 use Rattle.oe_http.specs.Requests.{most_body}
-use Rattle.oe_routes.specs.Actions.{PlainAction, text_at}
+use Rattle.oe_routes.specs.Actions.{PlainAction, commit, plain_action, run_now, text_at}
 use Rattle.oe_routes.specs.declared.action.Action.{Action}
 use Rattle.oe_routes.specs.declared.action.Action.TheVariants as actions
 use Rattle.oe_routes.specs.Scenes.{PlainScene}
 use Rattle.oe_routes.specs.Tokens.{Entry}
 use Rattle.oe_routes.specs.declared.site.Site.{Site}
 use Rattle.oe_service.specs.Calls.{GoesByEvent, IsDecided, IsKept}
-use Rattle.oe_service.specs.Causes.{Outside}
+use Rattle.oe_service.specs.Causes.{Outside, outside, outside_of}
 use Rattle.oe_service.specs.GoesOn.{GoesOn, HasSizesOf, IsService, state_of}
 use Rattle.oe_service.specs.States.{Event, Setting, State, no_command, setting_of}
 use Rattle.oe_service.specs.declared.service.Service.{Service}
@@ -28,7 +30,7 @@ use Rattle.oe_sources.specs.Catalogue.{Row}
 use Rattle.oe_sources.specs.CatalogueDims.{AreDimsOf, dims_of}
 use Rattle.oe_window.specs.declared.grid.ChunkSize.{ChunkSize}
 use Rattle.oe_serve.specs.Answers.{Answer, ChangesNothing, IsAnswer, IsAnswerTo, IsEventOf, SendsAnswer, is_event}
-use Rattle.oe_serve.specs.Links.{Came, IsCame, IsSilent, LinkOf, broken, request, unread}
+use Rattle.oe_serve.specs.Links.{Came, IsCame, IsSilent, LinkOf, broken, link_of, request, unread}
 use Rattle.oe_serve.specs.declared.served.Served.{Served}
 use Rattle.oe_serve.specs.declared.served.Served.TheVariants.{Answered}
 
@@ -167,3 +169,49 @@ pub record ServesService (server : ServerOf) (now : ℤ) (s s_after : Service) (
   pub serves : Serves server now (state_of s) (state_of s_after) before after link link_after has_failed event comes
       result
   pub keeps : KeepsService s s_after before after
+
+-- ---- of the objects that a call is lent
+
+-- of a connection of type L, a spool of type P and a keeper of type K
+module _ {L P K : Type 0} (left written : L → Option (List ℕ)) (link_faults : L → ℕ) (bytes : P → Option (List ℕ))
+    (faults : P → ℕ) (kept : K → Option Kept) (keeper_faults : K → ℕ) (has_failed : K → Bool) where
+  -- what is asked for is done and answered
+  abbrev pub ActsOver : Action → Service → Service → List Row → P → K → L → List Row → P → K → L → Served → Type 0
+  ActsOver action s s_after rows spool keeper link rows_after spool_after keeper_after link_after result =
+      Acts (plain_action (plain_book s.book) action) s s_after
+      (outside_of bytes faults kept keeper_faults rows spool keeper)
+      (outside_of bytes faults kept keeper_faults rows_after spool_after keeper_after)
+      (link_of left written link_faults link) (link_of left written link_faults link_after) (has_failed keeper_after)
+      result
+
+  -- a connection is served at a moment
+  abbrev pub ServesOver : Site → ℤ → Service → Service → List Row → P → K → L → List Row → P → K → L → Served → Type 0
+  ServesOver site now s s_after rows spool keeper link rows_after spool_after keeper_after link_after result =
+      ServesService (server_for site s) now s s_after
+      (outside_of bytes faults kept keeper_faults rows spool keeper)
+      (outside_of bytes faults kept keeper_faults rows_after spool_after keeper_after)
+      (link_of left written link_faults link) (link_of left written link_faults link_after) (has_failed keeper_after)
+      result
+
+-- of a connection and a keeper, whatever collections and spool the run goes on over
+module _ {L K : Type 0} (left written : L → Option (List ℕ)) (link_faults : L → ℕ) (kept : K → Option Kept)
+    (keeper_faults : K → ℕ) (has_failed : K → Bool) where
+  -- a change is committed and made, and then answered
+  abbrev pub CommitsOver : PlainChange → PlainResponse → Service → Service → K → L → K → L → Served → Type 0
+  CommitsOver change response s s_after keeper link keeper_after link_after result =
+      (rows : List Row) (store : Option (List ℕ)) (faults : ℕ) → GoesOn s.run rows store
+      → Acts (commit change response) s s_after (outside rows store faults (kept keeper) (keeper_faults keeper))
+      (outside rows store faults (kept keeper_after) (keeper_faults keeper_after))
+      (link_of left written link_faults link) (link_of left written link_faults link_after) (has_failed keeper_after)
+      result
+
+-- of a connection and a spool, whatever becomes of the keeper, which has the book of the service
+module _ {L P : Type 0} (left written : L → Option (List ℕ)) (link_faults : L → ℕ) (bytes : P → Option (List ℕ))
+    (faults : P → ℕ) where
+  -- a graph is run at once and answered; the service stays as it is
+  abbrev pub RunsOver : CheckedGraph → Service → List Row → P → L → List Row → P → L → Served → Type 0
+  RunsOver checked s rows spool link rows_after spool_after link_after result =
+      (kept : Option Kept) (keeper_faults : ℕ) (has_failed : Bool) → IsKept kept (plain_book s.book)
+      → Acts (run_now checked) s s (outside rows (bytes spool) (faults spool) kept keeper_faults)
+      (outside rows_after (bytes spool_after) (faults spool_after) kept keeper_faults)
+      (link_of left written link_faults link) (link_of left written link_faults link_after) has_failed result

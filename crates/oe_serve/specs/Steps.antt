@@ -12,8 +12,10 @@ use Rattle.oe_service.specs.Steps.{TicksService}
 use Rattle.oe_service.specs.declared.answer.Ticked.{Ticked}
 use Rattle.oe_service.specs.declared.answer.Ticked.TheVariants as ticked
 use Rattle.oe_service.specs.declared.service.Service.{Service}
+use Rattle.oe_routes.specs.declared.site.Site.{Site}
+use Rattle.oe_sources.specs.Catalogue.{Row}
 use Rattle.oe_serve.specs.Links.{LinkOf}
-use Rattle.oe_serve.specs.Serves.{ServerOf, ServesService}
+use Rattle.oe_serve.specs.Serves.{ServerOf, ServesService, server_for}
 use Rattle.oe_serve.specs.Turns.{AllTicked, DoorOf, IsAsked, IsTurn, Passes, Situation, StaysSound, StaysVisible, Turn, Turned, situation}
 use Rattle.oe_serve.specs.declared.served.Served.{Served}
 use Rattle.oe_serve.specs.declared.turns.ServeFail.{ServeFail}
@@ -93,6 +95,33 @@ pub record TurnsOnce {C : Type 0} (link : C → LinkOf) (server : ServerOf) (mom
   pub door_count : NeverFalls door.faults door_after.faults
   pub ends : EndsTurn link server moment (situation (state_of s) before failed)
       (situation (state_of s_after) after failed_after) door door_after result
+
+-- ---- of the objects that a turn is lent
+
+-- one tick is made, of a spool of type P and a keeper of type K, by what is outside with these and whether the last
+-- call of the keeper failed
+abbrev pub TicksOnceOver : {P K : Type 0} → (List Row → P → K → Outside) → (K → Bool) → ℤ → Service → Service
+    → List Row → P → K → List Row → P → K → Result Bool ServeFail → Type 0
+TicksOnceOver out has_failed now s s_after rows spool keeper rows_after spool_after keeper_after result =
+    TicksOnce (out rows spool keeper) (out rows_after spool_after keeper_after) now s s_after (has_failed keeper_after)
+    result
+
+-- of connections of type C at a door of type D as well
+module _ {C D P K : Type 0} (link : C → LinkOf) (seen : D → DoorOf C) (out : List Row → P → K → Outside)
+    (has_failed : K → Bool) where
+  -- a connection is served, and given back
+  abbrev pub MeetsOver : Site → ℤ → C → Service → Service → List Row → P → K → D → List Row → P → K → D → Type 0
+  MeetsOver site now conn s s_after rows spool keeper door rows_after spool_after keeper_after door_after =
+      MeetsOne link (server_for site s) now conn s s_after (out rows spool keeper)
+      (out rows_after spool_after keeper_after) (seen door) (seen door_after) (has_failed keeper_after)
+
+  -- one turn, whatever it answers
+  abbrev pub TurnsOver : Site → Option ℤ → Service → Service → List Row → P → K → D → List Row → P → K → D
+      → Result Bool ServeFail → Type 0
+  TurnsOver site moment s s_after rows spool keeper door rows_after spool_after keeper_after door_after result =
+      TurnsOnce link (server_for site s) moment s s_after (out rows spool keeper)
+      (out rows_after spool_after keeper_after) (has_failed keeper) (has_failed keeper_after) (seen door)
+      (seen door_after) result
 
 -- ---- turns so far
 

@@ -4,11 +4,10 @@ use Rattle.std.specs.List.{All}
 use Rattle.oe_engine.specs.Results.{IsVisible}
 use Rattle.oe_steps.specs.Collections.{AreRead}
 use Rattle.oe_jobs.specs.Events.{has_busy_job}
-use Rattle.oe_jobs.specs.Kept.{Kept}
 use Rattle.oe_outside.specs.Doors.{VisibleDoor}
 use Rattle.oe_outside.specs.Faults.{NeverFalls, counted}
 use Rattle.oe_service.specs.Calls.{IsKept}
-use Rattle.oe_service.specs.Causes.{Outside, outside_of}
+use Rattle.oe_service.specs.Causes.{Outside}
 use Rattle.oe_service.specs.GoesOn.{state_of}
 use Rattle.oe_service.specs.States.{Event, Setting, State}
 use Rattle.oe_service.specs.States.{after as after_events}
@@ -31,11 +30,10 @@ pub record Situation : Type 0 where
 abbrev pub situation : State → Outside → Bool → Situation
 situation state outside has_failed = record { state = state; outside = outside; has_failed = has_failed }
 
--- of a service, and of collections, a spool of type P and a keeper of type K
-abbrev pub situation_of : {P K : Type 0} → (P → Option (List ℕ)) → (P → ℕ) → (K → Option Kept) → (K → ℕ) → (K → Bool)
-    → Service → List Row → P → K → Situation
-situation_of bytes faults kept keeper_faults has_failed s rows spool keeper =
-    situation (state_of s) (outside_of bytes faults kept keeper_faults rows spool keeper) (has_failed keeper)
+-- of a service, and of what is outside of it with collections, a spool of type P and a keeper of type K
+abbrev pub situation_of : {P K : Type 0} → (List Row → P → K → Outside) → (K → Bool) → Service → List Row → P → K
+    → Situation
+situation_of out has_failed s rows spool keeper = situation (state_of s) (out rows spool keeper) (has_failed keeper)
 
 -- A turn: the connection that came, as it came and as it was given back, where one came; its moment; and the answer of
 -- its tick.

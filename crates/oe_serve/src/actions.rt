@@ -1,19 +1,17 @@
 // What a request asks for, done and answered.
-ghost use Rattle.std.specs.Prelude.{◌≡◌, ℕ, IsSome, List, Option, Some};
+ghost use Rattle.std.specs.Prelude.{◌≡◌, IsSome, Some};
 ghost use Rattle.http.specs.StatusCode.{reason_phrase};
 ghost use Rattle.oe_http.specs.Replies.{plain_response};
 ghost use Rattle.oe_jobs.specs.Changes.{changed};
 ghost use Rattle.oe_jobs.specs.Plain.{plain_book, plain_change};
 ghost use Rattle.oe_jobs.specs.Valid.{IsBook};
-ghost use Rattle.oe_routes.specs.Actions.{commit, plain_action, text_at};
+ghost use Rattle.oe_routes.specs.Actions.{text_at};
 ghost use Rattle.oe_service.specs.Calls.{IsDecided, IsKept};
-ghost use Rattle.oe_service.specs.Causes.{outside, outside_of};
-ghost use Rattle.oe_service.specs.GoesOn.{GoesOn, IsService};
+ghost use Rattle.oe_service.specs.Causes.{outside_of};
+ghost use Rattle.oe_service.specs.GoesOn.{IsService};
 ghost use Rattle.oe_service.specs.Steps.{IsServiceOver};
-ghost use Rattle.oe_sources.specs.Catalogue.{Row};
 ghost use Rattle.oe_sources.specs.CatalogueRows.{rows_of};
-ghost use Rattle.oe_serve.specs.Links.{link_of};
-ghost use Rattle.oe_serve.specs.Serves.{Acts, MayAct};
+ghost use Rattle.oe_serve.specs.Serves.{ActsOver, CommitsOver, MayAct};
 
 use crate::estimate::answer_estimate;
 use crate::links::{answer, answer_out_of_memory, answer_store_fault, answer_text};
@@ -42,12 +40,9 @@ pub(crate) fn act<R: Threads + Sync, L: Link, P: Store, K: Keeper, G: Gate>(
     requires service { IsServiceOver service.old (outside_of P.bytes P.faults K.kept K.faults
         (rows_of seen catalogue.old) spool.old keeper.old) }
     requires may { MayAct (plain_book service.old.book) (rows_of seen catalogue.old) action }
-    ensures { let of = link_of L.left L.written L.faults in
-        let out = outside_of P.bytes P.faults K.kept K.faults in
-        Acts (plain_action (plain_book service.old.book) action) service.old service.new
-        (out (rows_of seen catalogue.old) spool.old keeper.old)
-        (out (rows_of seen catalogue.new) spool.new keeper.new)
-        (of link.old) (of link.new) (K.has_failed keeper.new) result }
+    ensures { ActsOver L.left L.written L.faults P.bytes P.faults K.kept K.faults K.has_failed
+        action service.old service.new (rows_of seen catalogue.old) spool.old keeper.old link.old
+        (rows_of seen catalogue.new) spool.new keeper.new link.new result }
 {
     match action {
         Action::Answer(response) => answer(link, &response),
@@ -83,13 +78,9 @@ fn obey<L: Link, K: Keeper>(
     requires valid { IsBook (changed (plain_book service.old.book) (plain_change change)) }
     requires decided { IsDecided (plain_book service.old.book)
         (changed (plain_book service.old.book) (plain_change change)) }
-    ensures { let of = link_of L.left L.written L.faults in
-        (rows : List Row) (store : Option (List ℕ)) (faults : ℕ)
-        → GoesOn service.old.run rows store
-        → Acts (commit (plain_change change) (plain_response response.now)) service.old service.new
-        (outside rows store faults (K.kept keeper.old) (K.faults keeper.old))
-        (outside rows store faults (K.kept keeper.new) (K.faults keeper.new))
-        (of link.old) (of link.new) (K.has_failed keeper.new) result }
+    ensures { CommitsOver L.left L.written L.faults K.kept K.faults K.has_failed
+        (plain_change change) (plain_response response.now) service.old service.new
+        keeper.old link.old keeper.new link.new result }
 {
     match commit_change(service, change, keeper) {
         Ok(()) => answer(link, response),

@@ -1,17 +1,16 @@
 // One connection.
-ghost use Rattle.std.specs.Prelude.{◌≡◌, [], IfOk, MatchOption};
+ghost use Rattle.std.specs.Prelude.{IfOk};
 ghost use Rattle.oe_dims.specs.Instant.{IsInstant};
 ghost use Rattle.oe_http.specs.Plain.{plain_request};
 ghost use Rattle.oe_jobs.specs.Plain.{plain_book};
 ghost use Rattle.oe_jobs.specs.Valid.{IsBook};
-ghost use Rattle.oe_routes.specs.Codes as codes;
 ghost use Rattle.oe_service.specs.Causes.{outside_of};
 ghost use Rattle.oe_service.specs.Steps.{IsServiceOver};
 ghost use Rattle.oe_sources.specs.CatalogueDims.{dims_of};
 ghost use Rattle.oe_sources.specs.CatalogueRows.{rows_of};
 ghost use Rattle.oe_serve.specs.Answers.{AsksAction, DecidesChange};
-ghost use Rattle.oe_serve.specs.Links.{SendsCode, link_of};
-ghost use Rattle.oe_serve.specs.Serves.{MayAct, ServesService, server_for};
+ghost use Rattle.oe_serve.specs.Links.{AnswersRefusal, link_of};
+ghost use Rattle.oe_serve.specs.Serves.{MayAct, ServesOver};
 
 use crate::actions::act;
 use crate::links::{answer_code, answer_out_of_memory};
@@ -47,12 +46,9 @@ pub fn serve_one<R: Threads + Sync, L: Link, P: Store, K: Keeper, G: Gate>(
     requires service { IsServiceOver service.old (outside_of P.bytes P.faults K.kept K.faults
         (rows_of seen catalogue.old) spool.old keeper.old) }
     // Whatever it answers, this holds again; and the connection is the event of its request, or none.
-    ensures { let of = link_of L.left L.written L.faults in
-        let out = outside_of P.bytes P.faults K.kept K.faults in
-        ServesService (server_for setup.now.site.now service.old) now service.old service.new
-        (out (rows_of seen catalogue.old) spool.old keeper.old)
-        (out (rows_of seen catalogue.new) spool.new keeper.new)
-        (of link.old) (of link.new) (K.has_failed keeper.new) result }
+    ensures { ServesOver L.left L.written L.faults P.bytes P.faults K.kept K.faults K.has_failed
+        setup.now.site.now now service.old service.new (rows_of seen catalogue.old) spool.old
+        keeper.old link.old (rows_of seen catalogue.new) spool.new keeper.new link.new result }
 {
     match read_request(setup.alloc, link) {
         Ok(request) => match action_for(setup, &request, service, catalogue, now) {
@@ -92,9 +88,7 @@ fn action_for<R: Threads + Sync, G: Gate>(
 /// Answers bytes that are no request. Over a connection that failed nothing is answered.
 fn answer_refusal<L: Link>(alloc: Global, link: &mut L, refusal: RequestRefusal) -> Served
     ensures { let of = link_of L.left L.written L.faults in
-        MatchOption (codes.code_of_refusal refusal)
-        ((result ≡ Served.LinkFailed) × (of link.new ≡ of link.old))
-        (λ code. SendsCode code [] (of link.old) (of link.new) result) }
+        AnswersRefusal refusal (of link.old) (of link.new) result }
 {
     match code_of_refusal(refusal) {
         Some(code) => answer_code(alloc, link, code, ""),

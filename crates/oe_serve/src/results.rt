@@ -1,22 +1,17 @@
 // A graph that is run at once, and answered with its result.
-ghost use Rattle.std.specs.Prelude.{◌≡◌, [], ℕ, Bool, None, Option};
+ghost use Rattle.std.specs.Prelude.{◌≡◌, [], None};
 ghost use Rattle.oe_steps.specs.Collections.{AreRead};
 ghost use Rattle.oe_engine.specs.Going.{ChangesOwnRecords, IsGoing};
 ghost use Rattle.oe_engine.specs.Runs.{HasRunRecords, chunk_total};
 ghost use Rattle.oe_engine.specs.Evaluations.{IsFirst};
-ghost use Rattle.oe_jobs.specs.Kept.{Kept};
-ghost use Rattle.oe_jobs.specs.Plain.{plain_book};
 ghost use Rattle.oe_outside.specs.Faults.{NeverFalls};
 ghost use Rattle.oe_plan.specs.Plans.{IsPlan};
-ghost use Rattle.oe_routes.specs.Actions.{run_now};
-ghost use Rattle.oe_service.specs.Calls.{IsKept};
-ghost use Rattle.oe_service.specs.Causes.{outside};
 ghost use Rattle.oe_service.specs.GoesOn.{GoesOn, IsService};
 ghost use Rattle.oe_sources.specs.CatalogueRows.{rows_of};
 ghost use Rattle.oe_serve.specs.Evaluations.{SendsRunText, served_of};
 ghost use Rattle.oe_serve.specs.Links.{link_of};
 ghost use Rattle.oe_serve.specs.Results as spec;
-ghost use Rattle.oe_serve.specs.Serves.{Acts, IsRunnable};
+ghost use Rattle.oe_serve.specs.Serves.{IsRunnable, RunsOver};
 
 use crate::evaluation::{begin, complete};
 use crate::links::answer_out_of_memory;
@@ -47,14 +42,9 @@ pub(crate) fn answer_result<R: Threads + Sync, L: Link, P: Store, G: Gate>(
     requires service { IsService service.now }
     requires going { GoesOn service.now.run (rows_of seen catalogue.old) (P.bytes spool.old) }
     requires runnable { IsRunnable (rows_of seen catalogue.old) checked }
-    // whatever becomes of the keeper, the book stays
-    ensures { let of = link_of L.left L.written L.faults in
-        (kept : Option Kept) (faults : ℕ) (has_failed : Bool)
-        → IsKept kept (plain_book service.now.book)
-        → Acts (run_now checked) service.now service.now
-        (outside (rows_of seen catalogue.old) (P.bytes spool.old) (P.faults spool.old) kept faults)
-        (outside (rows_of seen catalogue.new) (P.bytes spool.new) (P.faults spool.new) kept faults)
-        (of link.old) (of link.new) has_failed result }
+    ensures { RunsOver L.left L.written L.faults P.bytes P.faults checked service.now
+        (rows_of seen catalogue.old) spool.old link.old
+        (rows_of seen catalogue.new) spool.new link.new result }
 {
     match begin(setup.alloc, checked, service.sizes(), service.records_end()) {
         Ok((mut run, mut pending)) => {
@@ -78,12 +68,9 @@ fn answer_run<R: Threads + Sync, L: Link, P: Store, G: Gate>(
 ) -> Served
     requires first { IsFirst run.old }
     requires going { IsGoing run.old (rows_of seen catalogue.old) (P.bytes spool.old) }
-    ensures answers { let of = link_of L.left L.written L.faults in
-        (kept : Option Kept) (faults : ℕ)
-        → spec.AnswersResult run.old.plan.graph run.old.plan.size run.old.plan.workers
-        (outside (rows_of seen catalogue.old) (P.bytes spool.old) (P.faults spool.old) kept faults)
-        (outside (rows_of seen catalogue.new) (P.bytes spool.new) (P.faults spool.new) kept faults)
-        (of link.old) (of link.new) result }
+    ensures answers { spec.AnswersRun L.left L.written L.faults P.bytes P.faults run.old.plan
+        (rows_of seen catalogue.old) spool.old link.old
+        (rows_of seen catalogue.new) spool.new link.new result }
     ensures changes { ChangesOwnRecords run.old (P.bytes spool.old) (P.bytes spool.new) }
     ensures read { AreRead (rows_of seen catalogue.old) (rows_of seen catalogue.new) }
     ensures count { NeverFalls (P.faults spool.old) (P.faults spool.new) }

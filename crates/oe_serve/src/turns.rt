@@ -7,10 +7,9 @@ ghost use Rattle.oe_service.specs.Steps.{IsServiceOver};
 ghost use Rattle.oe_sources.specs.CatalogueRows.{rows_of};
 ghost use Rattle.oe_serve.specs.Endings as endings;
 ghost use Rattle.oe_serve.specs.Links.{link_of};
-ghost use Rattle.oe_serve.specs.Serves.{server_of, server_for, setting_for};
-ghost use Rattle.oe_serve.specs.Server.{IsKeeperFault, MakesTurns, ServerEnds};
-ghost use Rattle.oe_serve.specs.Steps.{MeetsOne, TicksOnce, TurnsOnce};
-ghost use Rattle.oe_serve.specs.Turns.{door_of, situation_of};
+ghost use Rattle.oe_serve.specs.Server.{IsKeeperFaultOver, MakesTurnsOver, ServerEndsOver};
+ghost use Rattle.oe_serve.specs.Steps.{MeetsOver, TicksOnceOver, TurnsOver};
+ghost use Rattle.oe_serve.specs.Turns.{door_of};
 
 use crate::command::ServeCommand;
 use crate::connections::serve_one;
@@ -86,18 +85,14 @@ pub fn serve<R: Threads + Sync, P: Store, K: Keeper, D: Door, C: Clock, G: Gate>
     clock: &mut C,
 ) -> Result<(), ServeFail>
     requires { IsWithinRanges command.size command.workers }
-    ensures ends { let out = outside_of P.bytes P.faults K.kept K.faults in
-        ServerEnds (link_of D.Conn.left D.Conn.written D.Conn.faults)
-        (server_of setup.now.site.now command.size command.workers) command.turns
-        (out (rows_of seen catalogue.old) spool.old keeper.old)
-        (out (rows_of seen catalogue.new) spool.new keeper.new)
-        (door_of D.visible D.faults D.dial_faults door.old)
-        (door_of D.visible D.faults D.dial_faults door.new) (C.moment clock.old)
-        (K.has_failed keeper.new) result }
-    ensures keeper { let out = outside_of P.bytes P.faults K.kept K.faults in IsKeeperFault
-        (server_of setup.now.site.now command.size command.workers)
-        (out (rows_of seen catalogue.old) spool.old keeper.old)
-        (out (rows_of seen catalogue.new) spool.new keeper.new) (K.has_failed keeper.new) result }
+    ensures ends { ServerEndsOver (link_of D.Conn.left D.Conn.written D.Conn.faults)
+        (door_of D.visible D.faults D.dial_faults) (outside_of P.bytes P.faults K.kept K.faults)
+        K.has_failed setup.now.site.now command (C.moment clock.old)
+        (rows_of seen catalogue.old) spool.old keeper.old door.old
+        (rows_of seen catalogue.new) spool.new keeper.new door.new result }
+    ensures keeper { IsKeeperFaultOver (outside_of P.bytes P.faults K.kept K.faults) K.has_failed
+        setup.now.site.now command (rows_of seen catalogue.old) spool.old keeper.old
+        (rows_of seen catalogue.new) spool.new keeper.new result }
 {
     match open_book(setup.alloc, keeper, command.size, command.workers) {
         Ok(mut service) => take_turns(
@@ -127,14 +122,11 @@ fn take_turns<R: Threads + Sync, P: Store, K: Keeper, D: Door, C: Clock, G: Gate
 ) -> Result<(), ServeFail>
     requires service { IsServiceOver service.old (outside_of P.bytes P.faults K.kept K.faults
         (rows_of seen catalogue.old) spool.old keeper.old) }
-    ensures { let at = situation_of P.bytes P.faults K.kept K.faults K.has_failed in
-        MakesTurns (link_of D.Conn.left D.Conn.written D.Conn.faults)
-        (server_for setup.now.site.now service.old)
-        (setting_for (rows_of seen catalogue.old) service.old) turns (C.moment clock.old)
-        (at service.old (rows_of seen catalogue.old) spool.old keeper.old)
-        (at service.new (rows_of seen catalogue.new) spool.new keeper.new)
-        (door_of D.visible D.faults D.dial_faults door.old)
-        (door_of D.visible D.faults D.dial_faults door.new) result }
+    ensures { MakesTurnsOver (link_of D.Conn.left D.Conn.written D.Conn.faults)
+        (door_of D.visible D.faults D.dial_faults) (outside_of P.bytes P.faults K.kept K.faults)
+        K.has_failed setup.now.site.now turns (C.moment clock.old) service.old service.new
+        (rows_of seen catalogue.old) spool.old keeper.old door.old
+        (rows_of seen catalogue.new) spool.new keeper.new door.new result }
 {
     for _ in 0..turns {
         match turn(setup, service, catalogue, spool, keeper, door, clock) {
@@ -158,14 +150,11 @@ fn turn<R: Threads + Sync, P: Store, K: Keeper, D: Door, C: Clock, G: Gate>(
 ) -> Result<bool, ServeFail>
     requires service { IsServiceOver service.old (outside_of P.bytes P.faults K.kept K.faults
         (rows_of seen catalogue.old) spool.old keeper.old) }
-    ensures turns { let out = outside_of P.bytes P.faults K.kept K.faults in
-        TurnsOnce (link_of D.Conn.left D.Conn.written D.Conn.faults)
-        (server_for setup.now.site.now service.old) (C.moment clock.old) service.old service.new
-        (out (rows_of seen catalogue.old) spool.old keeper.old)
-        (out (rows_of seen catalogue.new) spool.new keeper.new)
-        (K.has_failed keeper.old) (K.has_failed keeper.new)
-        (door_of D.visible D.faults D.dial_faults door.old)
-        (door_of D.visible D.faults D.dial_faults door.new) result }
+    ensures turns { TurnsOver (link_of D.Conn.left D.Conn.written D.Conn.faults)
+        (door_of D.visible D.faults D.dial_faults) (outside_of P.bytes P.faults K.kept K.faults)
+        K.has_failed setup.now.site.now (C.moment clock.old) service.old service.new
+        (rows_of seen catalogue.old) spool.old keeper.old door.old
+        (rows_of seen catalogue.new) spool.new keeper.new door.new result }
     ensures clock { C.moment clock.new ≡ C.moment clock.old }
 {
     match door.next(service.is_busy()) {
@@ -197,13 +186,11 @@ fn meet<R: Threads + Sync, P: Store, K: Keeper, D: Door, G: Gate>(
     requires moment { IsInstant now }
     requires service { IsServiceOver service.old (outside_of P.bytes P.faults K.kept K.faults
         (rows_of seen catalogue.old) spool.old keeper.old) }
-    ensures { let out = outside_of P.bytes P.faults K.kept K.faults in
-        MeetsOne (link_of D.Conn.left D.Conn.written D.Conn.faults)
-        (server_for setup.now.site.now service.old) now conn service.old service.new
-        (out (rows_of seen catalogue.old) spool.old keeper.old)
-        (out (rows_of seen catalogue.new) spool.new keeper.new)
-        (door_of D.visible D.faults D.dial_faults door.old)
-        (door_of D.visible D.faults D.dial_faults door.new) (K.has_failed keeper.new) }
+    ensures { MeetsOver (link_of D.Conn.left D.Conn.written D.Conn.faults)
+        (door_of D.visible D.faults D.dial_faults) (outside_of P.bytes P.faults K.kept K.faults)
+        K.has_failed setup.now.site.now now conn service.old service.new
+        (rows_of seen catalogue.old) spool.old keeper.old door.old
+        (rows_of seen catalogue.new) spool.new keeper.new door.new }
 {
     serve_one(setup, service, &mut conn, catalogue, spool, keeper, now);
     door.done(conn);
@@ -221,10 +208,9 @@ fn end_turn<R: Threads + Sync, P: Store, K: Keeper, G: Gate>(
     requires moment { IsInstant now }
     requires service { IsServiceOver service.old (outside_of P.bytes P.faults K.kept K.faults
         (rows_of seen catalogue.old) spool.old keeper.old) }
-    ensures { let out = outside_of P.bytes P.faults K.kept K.faults in TicksOnce
-        (out (rows_of seen catalogue.old) spool.old keeper.old)
-        (out (rows_of seen catalogue.new) spool.new keeper.new)
-        now service.old service.new (K.has_failed keeper.new) result }
+    ensures { TicksOnceOver (outside_of P.bytes P.faults K.kept K.faults) K.has_failed now
+        service.old service.new (rows_of seen catalogue.old) spool.old keeper.old
+        (rows_of seen catalogue.new) spool.new keeper.new result }
 {
     let alloc = setup.alloc;
     match tick(
