@@ -8,7 +8,7 @@ use Rattle.oe_dims.specs.Dimensions.{IsShape, extent}
 use Rattle.oe_dims.specs.Names.{is_name}
 use Rattle.oe_render.specs.CubeText.{Each, list_in}
 use Rattle.oe_render.specs.Members.{SaysKind, SaysShape, text_in}
-use Rattle.oe_sources.specs.Head.{Head}
+use Rattle.oe_sources.specs.Head.{Head, header_text}
 use Rattle.oe_sources.specs.declared.head.Version.{Version}
 use Rattle.oe_sources.specs.declared.head.Version.TheVariants.{First, Second}
 use Rattle.oe_wide.specs.Wide.{byte_count}
@@ -31,6 +31,20 @@ pub record IsHeadOf (version : Version) (head : Head) : Type 0 where
   pub shape : IsShape head.shape
   pub widths : HasWidthsOf version (extent head.shape.t) head.widths
 
+-- the bytes are the header of no file of the version
+abbrev pub IsNoHeader : Version → List ℕ → Type 0
+IsNoHeader version bytes = (head : Head) → IsHeadOf version head → ¬ (bytes ≡ header_text head)
+
+-- they are that of no file of the version with another head
+abbrev pub IsHeaderOfNoOther : Version → List ℕ → Head → Type 0
+IsHeaderOfNoOther version bytes head =
+    (other : Head) → IsHeadOf version other → bytes ≡ header_text other → head ≡ other
+
+-- they are the header of a file of the version with this head, and with no other
+abbrev pub IsHeaderOf : Version → List ℕ → Head → Type 0
+IsHeaderOf version bytes head =
+    IsHeadOf version head × (bytes ≡ header_text head) × IsHeaderOfNoOther version bytes head
+
 -- ---- what a JSON value says of a head, whatever the order of its members
 
 -- how many bytes a record of the width has
@@ -46,6 +60,15 @@ ListsWidths value widths =
 abbrev pub SaysWidths : Data → Option (List Width) → Type 0
 SaysWidths value None = ⊤
 SaysWidths value (Some widths) = ListsWidths value widths
+
+-- these are as many as a file of the version has, and the value says them
+abbrev pub SaysWidthsOf : Version → ℕ → Data → Option (List Width) → Type 0
+SaysWidthsOf version sections value widths = HasWidthsOf version sections widths × SaysWidths value widths
+
+-- it says no such widths
+abbrev pub SaysNoWidthsOf : Version → ℕ → Data → Type 0
+SaysNoWidthsOf version sections value =
+    (widths : Option (List Width)) → HasWidthsOf version sections widths → ¬ SaysWidths value widths
 
 -- all of the head
 pub record SaysHead (value : Data) (head : Head) : Type 0 where

@@ -1,12 +1,12 @@
 // Cube files as collections.
-ghost use Rattle.std.specs.Prelude.{◌≡◌, ◌≢◌, ◌↔◌, ◌+◌, ◌<◌, ◌≤◌, ◌*◌, ◌^◌, ℕ, Some, None, true, false, codes, length, slice_get, vec_len, IfOk, OnOk, IfErr, IfSome, MatchOption};
+ghost use Rattle.std.specs.Prelude.{◌≡◌, ◌≢◌, ◌↔◌, ◌+◌, ◌<◌, ◌≤◌, ◌*◌, ◌^◌, Some, None, true, false, codes, length, vec_len, IfOk, OnOk, IfErr, IfSome, MatchOption};
 ghost use Rattle.std.specs.List.{list_all};
 ghost use Rattle.std.specs.Option.{option_map};
 ghost use Rattle.oe_cube.specs.Kinds.{is_null_or_of};
 ghost use Rattle.oe_outside.specs.Faults.{HasCauseOf, NeverFalls, Rose};
 ghost use Rattle.oe_outside.specs.Stored.{StoreHolds};
 ghost use Rattle.oe_dims.specs.Dimensions.{cell_count};
-ghost use Rattle.oe_sources.specs.CubeFile.{IsCubeFile, cell_stored, contents_of};
+ghost use Rattle.oe_sources.specs.CubeFile.{IsCubeFile, contents_of};
 ghost use Rattle.oe_sources.specs.Head as spec;
 ghost use Rattle.oe_sources.specs.Head.{Head};
 ghost use Rattle.oe_sources.specs.Source.{AreCellsOf, TellsDamage, asked_after};
@@ -399,8 +399,8 @@ fn read_piece<S: SharedStore>(
     requires some { 0 < length into.old }
     requires within { number + length into.old ≤ cell_count file.now.head.shape }
     ensures count { IfOk result (λ n. (0 < n) × (n ≤ length into.old)) }
-    ensures read { IfOk result (λ n. IfSome (S.bytes store.now) (λ all. (k : ℕ) → k < n →
-        cell_stored file.now.head all (number + k) ≡ slice_get into.new k)) }
+    ensures read { IfOk result
+        (λ n. AreStoredFrom file.now.head (S.bytes store.now) number n into.new) }
     ensures of_kind { IfOk result (λ n. AreOfKind file.now.head.kind n into.new) }
     ensures damage { IfErr result (IsDamageFrom file.now.head (S.bytes store.now) number
         (length into.old)) }
@@ -450,8 +450,7 @@ fn read_records<S: SharedStore>(
     requires few { number + length into.old ≤ 2 ^ 40 }
     ensures read { OnOk result ((head : Head) → IsSpotOf head number spot →
         length into.old ≤ spot.left →
-        IfSome (S.bytes store.now) (λ all. (k : ℕ) → k < length into.old →
-        cell_stored head all (number + k) ≡ slice_get into.new k)) }
+        AreStoredFrom head (S.bytes store.now) number (length into.old) into.new) }
     ensures of_kind { OnOk result (AreOfKind spot.kind (length into.old) into.new) }
     ensures damage { IfErr result (λ e. (head : Head) → IsSpotOf head number spot →
         length into.old ≤ spot.left → HasRecords head (S.bytes store.now) number (length into.old) →

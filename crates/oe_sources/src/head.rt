@@ -1,5 +1,5 @@
 // What a cube file says before its records, both ways.
-ghost use Rattle.std.specs.Prelude.{◌≡◌, ◌<◌, ◌≤◌, ◌*◌, ◌++◌, ℕ, true, List, [], codes, length, map, decimal, slice_get, Option, Some, IfOk, OnOk, MatchOption};
+ghost use Rattle.std.specs.Prelude.{◌≡◌, ◌<◌, ◌≤◌, ◌*◌, ◌++◌, ℕ, true, List, [], codes, length, map, decimal, slice_get, Some, IfOk, OnOk, MatchOption};
 ghost use Rattle.std.specs.List.{filter_map};
 ghost use Rattle.std.specs.Option.{option_map};
 ghost use Rattle.serde_json.specs.View.{items_view, view};
@@ -16,7 +16,7 @@ ghost use Rattle.oe_render.specs.Members.{kind_word, text_in};
 ghost use Rattle.oe_window.specs.Windows.{extent_along};
 ghost use Rattle.oe_sources.specs.Head as spec;
 ghost use Rattle.oe_sources.specs.Packed.{packed_head};
-ghost use Rattle.oe_sources.specs.HeadRead.{HasWidthsOf, IsHeadOf, ListsWidths, SaysHead, SaysWidths, SpellsWidth, widths_seen};
+ghost use Rattle.oe_sources.specs.HeadRead.{IsHeadOf, IsHeaderOf, IsHeaderOfNoOther, IsNoHeader, ListsWidths, SaysHead, SaysNoWidthsOf, SaysWidthsOf, SpellsWidth, widths_seen};
 
 use crate::Catalogue;
 use crate::gather::Gather;
@@ -258,9 +258,7 @@ pub(crate) fn read_header(
     bytes: &[u8],
 ) -> Result<Option<Head>, OutOfMemory>
     ensures { IfOk result (λ read. MatchOption read
-        ((h : spec.Head) → IsHeadOf version h → ¬ (bytes.now ≡ spec.header_text h))
-        (λ h. IsHeadOf version h × (bytes.now ≡ spec.header_text h) × ((g : spec.Head) →
-        IsHeadOf version g → bytes.now ≡ spec.header_text g → h ≡ g))) }
+        (IsNoHeader version bytes.now) (IsHeaderOf version bytes.now)) }
 {
     let Some(head) = read_members(alloc, version, bytes)? else {
         return Ok(None);
@@ -287,10 +285,8 @@ fn respell(alloc: Global, head: &Head) -> Result<Vec<u8>, OutOfMemory>
 /// What the members of a JSON text say, whatever their order and the blanks: whether that is its one spelling is seen
 /// when it is spelled again.
 fn read_members(alloc: Global, version: Version, bytes: &[u8]) -> Result<Option<Head>, OutOfMemory>
-    ensures { IfOk result (λ read. MatchOption read
-        ((h : spec.Head) → IsHeadOf version h → ¬ (bytes.now ≡ spec.header_text h))
-        (λ h. IsHeadOf version h × ((g : spec.Head) → IsHeadOf version g →
-        bytes.now ≡ spec.header_text g → h ≡ g))) }
+    ensures { IfOk result (λ read. MatchOption read (IsNoHeader version bytes.now)
+        (λ h. IsHeadOf version h × IsHeaderOfNoOther version bytes.now h)) }
 {
     match Value::from_slice(alloc, bytes) {
         Ok(value) => read_value(alloc, version, &value),
@@ -327,10 +323,8 @@ fn read_value(alloc: Global, version: Version, value: &Value) -> Result<Option<H
 
 fn read_id(alloc: Global, value: &Value) -> Result<Option<Text>, OutOfMemory>
     ensures { IfOk result (λ read. MatchOption read
-        ((id : List ℕ) → is_name id ≡ true
-        → ¬ (text_in (codes "id") (view value.now) ≡ Some id))
-        (λ id. (is_name id ≡ true)
-        × (text_in (codes "id") (view value.now) ≡ Some id))) }
+        ((id : List ℕ) → is_name id ≡ true → ¬ (text_in (codes "id") (view value.now) ≡ Some id))
+        (λ id. (is_name id ≡ true) × (text_in (codes "id") (view value.now) ≡ Some id))) }
 {
     match text_in(value, "id") {
         Some(id) => {
@@ -351,11 +345,9 @@ fn read_widths(
     value: &Value,
     count: u32,
 ) -> Result<Option<Option<Vec<Width>>>, OutOfMemory>
-    ensures { IfOk result (λ read. MatchOption read
-        ((widths : Option (List Width)) → HasWidthsOf version count widths
-        → ¬ SaysWidths (view value.now) widths)
-        (λ widths. HasWidthsOf version count (option_map items_of widths)
-        × SaysWidths (view value.now) (option_map items_of widths))) }
+    ensures { IfOk result
+        (λ read. MatchOption read (SaysNoWidthsOf version count (view value.now))
+        (λ widths. SaysWidthsOf version count (view value.now) (option_map items_of widths))) }
 {
     match version {
         Version::First => Ok(Some(None)),
@@ -370,8 +362,7 @@ fn read_widths(
 fn read_counted(alloc: Global, value: &Value, count: u32) -> Result<Option<Vec<Width>>, OutOfMemory>
     ensures { IfOk result (λ read. MatchOption read
         ((widths : List Width) → length widths ≡ count → ¬ ListsWidths (view value.now) widths)
-        (λ widths. (length widths.items ≡ count)
-        × ListsWidths (view value.now) widths.items)) }
+        (λ widths. (length widths.items ≡ count) × ListsWidths (view value.now) widths.items)) }
 {
     match list_in(value, "widths") {
         Some(values) => {
