@@ -1,13 +1,17 @@
 -- The cube file that is written of a mounted collection, and why it is not.
-use Rattle.std.specs.Prelude.{◌≡◌, ℕ, ◌+◌, ◌-◌, ◌*◌, ◌^◌, ◌<◌, ◌≤◌, ◌⊎◌, List, Option, Result, length, take, drop, IfSome}
+use Rattle.std.specs.Prelude.{◌≡◌, ℕ, ◌+◌, ◌-◌, ◌*◌, ◌^◌, ◌<◌, ◌≤◌, ◌⊎◌, List, Option, Result, Vec, length, take, drop, vec_len, IfErr, IfSome, OnOk}
 use Rattle.std.specs.List.{Contains, range_with_len}
+use Rattle.std.specs.declared.alloc.Global.{Global}
+use Rattle.std.specs.declared.dyn_box.DynBox.{DynBox}
 use Rattle.oe_cell.specs.declared.cell.Cell.{Cell}
 use Rattle.oe_dims.specs.Dimensions.{Dimensions, cell_count, extent, most_labels}
 use Rattle.oe_outside.specs.Faults.{HasCauseOf}
 use Rattle.oe_outside.specs.Visible.{Appends, AppendsPrefix}
 use Rattle.oe_sources.specs.Catalogue.{Row, source_at}
+use Rattle.oe_sources.specs.CatalogueRows.{rows_in}
 use Rattle.oe_sources.specs.Packed.{AppendsPacked, AreLeastWidths, IsPacked, plane_size, section_records}
 use Rattle.oe_sources.specs.Source.{AreCellsOf, Contents, Source}
+use Rattle.oe_sources.specs.declared.catalogue.Catalogue.{Catalogue}
 use Rattle.oe_sources.specs.declared.repacking.Part.{Part}
 use Rattle.oe_sources.specs.declared.repacking.RepackFail.{RepackFail}
 use Rattle.oe_sources.specs.declared.repacking.RepackFail.TheVariants.{SourceFailed, SourceDamaged, SinkFailed, OutOfMemory}
@@ -67,6 +71,24 @@ abbrev pub AppendsPartOfSections : Source → List Width → Option (List ℕ) �
 AppendsPartOfSections source widths before after =
     IfSome source.contents (λ c. AppendsPrefix before (section_records (plane_size source.shape) widths c.cells) after)
 
+-- of an output of type O: where the writing of a section succeeds its records follow what was written, where it fails a
+-- prefix of them does
+pub record WritesSection {O T : Type 0} (written : O → Option (List ℕ)) (out out_after : O) (source : Source)
+    (section : ℕ) (width : Width) (result : Result T RepackFail) : Type 0 where
+  pub whole : OnOk result (AppendsSection source section width (written out) (written out_after))
+  pub part : IfErr result (λ _. AppendsPartOfSection source section width (written out) (written out_after))
+
+-- the same of the records of all sections
+pub record WritesSections {O T : Type 0} (written : O → Option (List ℕ)) (out out_after : O) (source : Source)
+    (widths : List Width) (result : Result T RepackFail) : Type 0 where
+  pub whole : OnOk result (AppendsSections source widths (written out) (written out_after))
+  pub part : IfErr result (λ _. AppendsPartOfSections source widths (written out) (written out_after))
+
+-- there is room for the cells that are read at once, and for as many bytes
+pub record HasRoom (cells : List Cell) (buffer : Vec ℕ Global) : Type 0 where
+  pub for_cells : length cells ≡ 65536
+  pub for_bytes : vec_len buffer ≡ 65536
+
 -- ---- damage
 
 -- none of so many positions is damaged, by their row-major numbers from a first one on
@@ -95,6 +117,11 @@ abbrev pub HasReadCause : {T : Type 0} → List Row → ℕ → List Row → Res
 HasReadCause before place after result =
     HasCauseOf SourceFailed (source_at before place).faults (source_at after place).faults result
 
+-- the same of the rows of a catalogue
+abbrev pub HasReadCauseIn : {X : Type 0} {F : X → Type 0} {T : Type 0} → (DynBox X Global F → Source) → Catalogue X F
+    → ℕ → Catalogue X F → Result T RepackFail → Type 0
+HasReadCauseIn seen before place after result = HasReadCause (rows_in seen before) place (rows_in seen after) result
+
 -- a refusal of a read
 abbrev pub IsReadRefusal : RepackFail → Type 0
 IsReadRefusal SourceFailed = Unit {0}
@@ -121,6 +148,11 @@ HasWidths source widths = IfSome source.contents (λ c. AreWidthsOf source.shape
 abbrev pub HasSectionWidth : Source → ℕ → Width → Type 0
 HasSectionWidth source section width =
     IfSome source.contents (λ c. IsWidthFrom c (section * plane_size source.shape) (plane_size source.shape) width)
+
+-- there is one width for each section of a source, and where its cells are visible they are those of its sections
+pub record HasAllWidths (source : Source) (widths : List Width) : Type 0 where
+  pub counted : length widths ≡ extent source.shape.t
+  pub least : HasWidths source widths
 
 -- ---- the parts of a section
 

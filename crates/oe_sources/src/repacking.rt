@@ -5,7 +5,7 @@ ghost use Rattle.oe_dims.specs.Names.{is_name};
 ghost use Rattle.oe_outside.specs.Faults.{HasCauseOf};
 ghost use Rattle.oe_sources.specs.Catalogue.{OnlyReads, source_at};
 ghost use Rattle.oe_sources.specs.CatalogueRows.{rows_in};
-ghost use Rattle.oe_sources.specs.Repacked.{AppendsPartOfSection, AppendsPartOfSections, AppendsRepacked, AppendsSection, AppendsSections, AreSidesOf, FitsSection, GivesCells, HasReadCause, HasSectionWidth, HasWidths, IsNextPart, IsReadRefusal, IsSectionAt, IsUndamaged, LeavesWritten, TellsDamageAt};
+ghost use Rattle.oe_sources.specs.Repacked.{AppendsRepacked, AreSidesOf, FitsSection, GivesCells, HasAllWidths, HasReadCause, HasReadCauseIn, HasRoom, HasSectionWidth, HasWidths, IsNextPart, IsReadRefusal, IsSectionAt, IsUndamaged, LeavesWritten, TellsDamageAt, WritesSection, WritesSections};
 ghost use Rattle.oe_wide.specs.Wide.{AllFitIn};
 ghost use Rattle.oe_window.specs.Windows.{Holds, extent_along, position_count, whole_window};
 
@@ -192,20 +192,14 @@ fn write_all<O: Sink, G: Gate>(
     gate: &G,
 ) -> Result<(), RepackFail>
     requires mounted { place < length (rows_in seen catalogue.old) }
-    requires counted { length widths.now
-        ≡ extent (source_at (rows_in seen catalogue.old) place).shape.t }
-    requires widths { HasWidths (source_at (rows_in seen catalogue.old) place) widths.now }
+    requires widths { HasAllWidths (source_at (rows_in seen catalogue.old) place) widths.now }
     requires enough { length cells.old ≡ 65536 }
     requires buffer { vec_len buffer.old ≡ 65536 }
-    ensures written { OnOk result (AppendsSections (source_at (rows_in seen catalogue.old) place)
-        widths.now (O.written out.old) (O.written out.new)) }
-    ensures left { IfErr result (λ _. AppendsPartOfSections
-        (source_at (rows_in seen catalogue.old) place)
-        widths.now (O.written out.old) (O.written out.new)) }
+    ensures writes { WritesSections O.written out.old out.new
+        (source_at (rows_in seen catalogue.old) place) widths.now result }
     ensures refusal { IfErr result (λ e. e ≢ RepackFail.OutOfMemory) }
     ensures damage { IfErr result (TellsDamageAt (rows_in seen catalogue.old) place) }
-    ensures source { HasReadCause (rows_in seen catalogue.old) place
-        (rows_in seen catalogue.new) result }
+    ensures source { HasReadCauseIn seen catalogue.old place catalogue.new result }
     ensures sink { HasCauseOf RepackFail.SinkFailed (O.faults out.old) (O.faults out.new) result }
     ensures only { OnlyReads (rows_in seen catalogue.old) place (rows_in seen catalogue.new) }
 {
@@ -233,21 +227,15 @@ fn write_one<O: Sink>(
 ) -> Result<(), RepackFail>
     requires section { IsSectionAt (rows_in seen catalogue.old) place section }
     requires fit { FitsSection (source_at (rows_in seen catalogue.old) place) section width }
-    requires enough { length cells.old ≡ 65536 }
-    requires buffer { vec_len buffer.old ≡ 65536 }
-    ensures written { OnOk result (AppendsSection (source_at (rows_in seen catalogue.old) place)
-        section width (O.written out.old) (O.written out.new)) }
-    ensures left { IfErr result (λ _. AppendsPartOfSection
-        (source_at (rows_in seen catalogue.old) place)
-        section width (O.written out.old) (O.written out.new)) }
+    requires room { HasRoom cells.old buffer.old }
+    ensures writes { WritesSection O.written out.old out.new
+        (source_at (rows_in seen catalogue.old) place) section width result }
     ensures refusal { IfErr result (λ e. e ≢ RepackFail.OutOfMemory) }
     ensures damage { IfErr result (TellsDamageAt (rows_in seen catalogue.old) place) }
-    ensures source { HasReadCause (rows_in seen catalogue.old) place
-        (rows_in seen catalogue.new) result }
+    ensures source { HasReadCauseIn seen catalogue.old place catalogue.new result }
     ensures sink { HasCauseOf RepackFail.SinkFailed (O.faults out.old) (O.faults out.new) result }
     ensures only { OnlyReads (rows_in seen catalogue.old) place (rows_in seen catalogue.new) }
-    ensures room { length cells.new ≡ length cells.old }
-    ensures kept { vec_len buffer.new ≡ 65536 }
+    ensures room { HasRoom cells.new buffer.new }
 {
     let sides = sides_of(catalogue.shape(place));
     let rows = rows_of(sides);

@@ -1,5 +1,5 @@
 use Rattle.std.proofs.Common.{length, Option, IfSome, ap, sym, ◌∙◌}
-use Rattle.oe_dims.specs.Dimensions.{Dimensions}
+use Rattle.oe_dims.specs.Dimensions.{Dimensions, extent}
 use Rattle.oe_outside.specs.Visible.{Appends, AppendsPrefix}
 use Rattle.oe_sources.specs.Packed.{plane_size, section_records}
 use Rattle.oe_sources.specs.Repacked.{AreWidthsOf}
@@ -37,8 +37,12 @@ write_all-requires-clause-mounted g c = λ κs within. still_mounted _ _ c.args.
 
 pub write_all-requires-clause-widths : goal.write_all-requires-clause-widths
 write_all-requires-clause-widths g c = λ κs within.
-    after_source (λ (d : Dimensions) (o : Option Contents). IfSome o (λ v. AreWidthsOf d v c.deref-3.result.now)) _ _ c.args.place c.find_widths.ensures.only
-    (widths_same _ _ c.in-Ok.widths.items c.deref-3.result.now c.deref-3.ensures.value c.in-Ok.ensures.widths)
+    let only = c.find_widths.ensures.only in
+    record {
+      counted = ap length c.deref-3.ensures.value ∙ c.in-Ok.ensures.counted ∙ ap (λ (d : Dimensions). extent d.t) (sym only.shape);
+      least = after_source (λ (d : Dimensions) (o : Option Contents). IfSome o (λ v. AreWidthsOf d v c.deref-3.result.now)) _ _ c.args.place only
+          (widths_same _ _ c.in-Ok.widths.items c.deref-3.result.now c.deref-3.ensures.value c.in-Ok.ensures.widths);
+    }
 
 pub returns-in-Ok-write_all-clause-written : goal.returns-in-Ok-write_all-clause-written
 returns-in-Ok-write_all-clause-written g c =
@@ -52,7 +56,7 @@ returns-in-Ok-write_all-clause-written g c =
     (c.shape.ensures.value ∙ only.shape) (c.kind-kind.ensures ∙ only.kind) (c.deref.ensures.value ∙ sym c.deref-3.ensures.value) c.requires.id c.in_ok-front.ensures.valid
     (ap length c.deref-3.ensures.value ∙ c.in-Ok.ensures.counted) c.in_ok-front.ensures.short (c.deref-2.ensures.value ∙ c.in_ok-front.ensures.front) in
     all_written _ _ c.args.place only c.args.id.now widths c.deref-2.result.now before from to front known c.in-Ok-write.ensures.appended
-    (before_source (λ (d : Dimensions) (o : Option Contents). IfSome o (λ v. Appends from (section_records (plane_size d) widths v.cells) to)) _ _ c.args.place only c.in-Ok-write_all.ensures.written)
+    (before_source (λ (d : Dimensions) (o : Option Contents). IfSome o (λ v. Appends from (section_records (plane_size d) widths v.cells) to)) _ _ c.args.place only c.in-Ok-write_all.ensures.writes.whole)
 
 pub returns-in-Ok-write_all-clause-undamaged : goal.returns-in-Ok-write_all-clause-undamaged
 returns-in-Ok-write_all-clause-undamaged g c =
@@ -75,7 +79,7 @@ returns-clause-left g c =
     left_written _ _ c.args.place only c.args.id.now widths before to c.in-Err-write_all.fail c.in-Err-write_all.ensures.refusal known
     (damage_on _ _ c.args.place only c.in-Err-write_all.fail c.in-Err-write_all.ensures.damage)
     (part_written _ _ c.args.place only c.args.id.now widths c.deref-2.result.now before from to front known c.in-Ok-write.ensures.appended
-    (before_source (λ (d : Dimensions) (o : Option Contents). IfSome o (λ v. AppendsPrefix from (section_records (plane_size d) widths v.cells) to)) _ _ c.args.place only c.in-Err-write_all.ensures.left))
+    (before_source (λ (d : Dimensions) (o : Option Contents). IfSome o (λ v. AppendsPrefix from (section_records (plane_size d) widths v.cells) to)) _ _ c.args.place only c.in-Err-write_all.ensures.writes.part))
 
 pub returns-clause-only : goal.returns-clause-only
 returns-clause-only g c = reads_on _ _ _ c.args.place c.find_widths.ensures.only c.write_all.ensures.only

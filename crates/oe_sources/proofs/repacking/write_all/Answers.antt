@@ -1,4 +1,5 @@
 use Rattle.std.proofs.Common.{◌≡◌, ◌*◌, ◌<◌, length, get_or, take, drop, Option, IfSome, ap, ◌∙◌, arith}
+use Rattle.std.proofs.lemmas.List.{take_all}
 use Rattle.oe_dims.specs.Dimensions.{Dimensions, extent}
 use Rattle.oe_outside.proofs.Causes.{NeverFalls-refl, NeverFalls-trans}
 use Rattle.oe_outside.specs.Visible.{Appends, AppendsPrefix}
@@ -34,21 +35,28 @@ write_one-requires-clause-fit g c =
     let section = c.loop-section.section in
     let ws = c.args.widths.now in
     let count : c.section_count-count.result ≡ extent c.shape.result.now.t = c.section_count-count.ensures in
-    let below : section < length ws = omega (arith, c.loop-section-test.true, count, ap (λ (d : Dimensions). extent d.t) c.shape.ensures.value, c.requires.counted) in
+    let below : section < length ws = omega (arith, c.loop-section-test.true, count, ap (λ (d : Dimensions). extent d.t) c.shape.ensures.value, c.requires.widths.counted) in
     after_source (λ (d : Dimensions) (o : Option Contents). IfSome o (λ v. AllFitIn (get_or ws section One) (take (plane_size d) (drop (section * plane_size d) v.cells)))) _ _ c.args.place reads
-    (section_fit _ _ ws section One below c.requires.widths)
+    (section_fit _ _ ws section One below c.requires.widths.least)
 
-pub returns-in-Err-clause-left : goal.returns-in-Err-clause-left
-returns-in-Err-clause-left g c =
+pub write_one-requires-clause-room : goal.write_one-requires-clause-room
+write_one-requires-clause-room g c =
+    record { for_cells = c.loop-section.invariant.room; for_bytes = c.loop-section.invariant.buffer }
+
+pub returns-in-Err-clause-writes : goal.returns-in-Err-clause-writes
+returns-in-Err-clause-writes g c =
     let reads = c.loop-section.invariant.reads in
     let section = c.loop-section.section in
     let ws = c.args.widths.now in
     let count : c.section_count-count.result ≡ extent c.shape.result.now.t = c.section_count-count.ensures in
-    let below : section < length ws = omega (arith, c.loop-section-test.true, count, ap (λ (d : Dimensions). extent d.t) c.shape.ensures.value, c.requires.counted) in
+    let below : section < length ws = omega (arith, c.loop-section-test.true, count, ap (λ (d : Dimensions). extent d.t) c.shape.ensures.value, c.requires.widths.counted) in
     let from = g.O.Sink.written c.loop-section.out in
     let to = g.O.Sink.written c.write_one.new.out in
-    sections_stop _ _ ws section One _ from to below c.loop-section.invariant.written
-    (before_source (λ (d : Dimensions) (o : Option Contents). IfSome o (λ v. AppendsPrefix from (records_in (get_or ws section One) (take (plane_size d) (drop (section * plane_size d) v.cells))) to)) _ _ c.args.place reads c.in-Err.ensures.left)
+    record {
+      whole = tt;
+      part = sections_stop _ _ ws section One _ from to below c.loop-section.invariant.written
+          (before_source (λ (d : Dimensions) (o : Option Contents). IfSome o (λ v. AppendsPrefix from (records_in (get_or ws section One) (take (plane_size d) (drop (section * plane_size d) v.cells))) to)) _ _ c.args.place reads c.in-Err.ensures.writes.part);
+    }
 
 pub returns-in-Err-clause-only : goal.returns-in-Err-clause-only
 returns-in-Err-clause-only g c = reads_on _ _ _ c.args.place c.loop-section.invariant.reads c.write_one.ensures.only
@@ -59,14 +67,22 @@ loop-section-preserved g c =
     let section = c.loop-section.section in
     let ws = c.args.widths.now in
     let count : c.section_count-count.result ≡ extent c.shape.result.now.t = c.section_count-count.ensures in
-    let below : section < length ws = omega (arith, c.loop-section-test.true, count, ap (λ (d : Dimensions). extent d.t) c.shape.ensures.value, c.requires.counted) in
+    let below : section < length ws = omega (arith, c.loop-section-test.true, count, ap (λ (d : Dimensions). extent d.t) c.shape.ensures.value, c.requires.widths.counted) in
     let from = g.O.Sink.written c.loop-section.out in
     let to = g.O.Sink.written c.write_one.new.out in
     record {
       reads = reads_on _ _ _ c.args.place reads c.write_one.ensures.only;
-      room = c.write_one.ensures.room ∙ c.loop-section.invariant.room;
-      buffer = c.write_one.ensures.kept;
+      room = c.write_one.ensures.room.for_cells;
+      buffer = c.write_one.ensures.room.for_bytes;
       sink = NeverFalls-trans c.loop-section.invariant.sink c.write_one.ensures.sink.count;
       written = sections_go _ _ ws section One _ from to below c.loop-section.invariant.written
-          (before_source (λ (d : Dimensions) (o : Option Contents). IfSome o (λ v. Appends from (records_in (get_or ws section One) (take (plane_size d) (drop (section * plane_size d) v.cells))) to)) _ _ c.args.place reads c.in-Ok.ensures.written);
+          (before_source (λ (d : Dimensions) (o : Option Contents). IfSome o (λ v. Appends from (records_in (get_or ws section One) (take (plane_size d) (drop (section * plane_size d) v.cells))) to)) _ _ c.args.place reads c.in-Ok.ensures.writes.whole);
     }
+
+pub returns-clause-writes : goal.returns-clause-writes
+returns-clause-writes g c =
+    let section = c.loop-section.section in
+    let ws = c.args.widths.now in
+    let count : c.section_count-count.result ≡ extent c.shape.result.now.t = c.section_count-count.ensures in
+    let all : take section ws ≡ ws = take_all section ws (omega (arith, c.loop-section-test.false, count, ap (λ (d : Dimensions). extent d.t) c.shape.ensures.value, c.requires.widths.counted)) in
+    record { whole = rw all at c.loop-section.invariant.written; part = tt }

@@ -9,9 +9,9 @@ use Rattle.oe_sources.proofs.repacking.write_one.Goals as goal
 pub loop-done-init : goal.loop-done-init
 loop-done-init g c = record {
   reads = reads_nothing _ c.args.place;
-  room = c.requires.enough;
+  room = c.requires.room.for_cells;
   within = omega arith;
-  buffer = c.requires.buffer;
+  buffer = c.requires.room.for_bytes;
   sink = NeverFalls-refl _;
   written = records_begin _ _ c.args.width _ _ c.sides_of-sides.result.x;
 }
@@ -19,8 +19,17 @@ loop-done-init g c = record {
 pub read_part-requires-clause-mounted : goal.read_part-requires-clause-mounted
 read_part-requires-clause-mounted g c = still_mounted _ _ c.args.place c.loop-done.invariant.reads c.requires.section.mounted
 
-pub returns-in-Err-clause-left : goal.returns-in-Err-clause-left
-returns-in-Err-clause-left g c = records_left _ _ _ (c.loop-done.done * c.sides_of-sides.result.x) c.args.width _ _ c.loop-done.invariant.written
+pub returns-in-Err-clause-writes : goal.returns-in-Err-clause-writes
+returns-in-Err-clause-writes g c = record {
+  whole = tt;
+  part = records_left _ _ _ (c.loop-done.done * c.sides_of-sides.result.x) c.args.width _ _ c.loop-done.invariant.written;
+}
+
+pub returns-in-Err-clause-room : goal.returns-in-Err-clause-room
+returns-in-Err-clause-room g c = record {
+  for_cells = c.read_part.ensures.room ∙ c.loop-done.invariant.room;
+  for_bytes = c.loop-done.invariant.buffer;
+}
 
 pub returns-in-Err-clause-sink : goal.returns-in-Err-clause-sink
 returns-in-Err-clause-sink g c = no_sink_fault _ _ c.in-Err.fail c.loop-done.invariant.sink c.in-Err.ensures.refusal
@@ -28,8 +37,17 @@ returns-in-Err-clause-sink g c = no_sink_fault _ _ c.in-Err.fail c.loop-done.inv
 pub returns-in-Err-clause-only : goal.returns-in-Err-clause-only
 returns-in-Err-clause-only g c = reads_on _ _ _ c.args.place c.loop-done.invariant.reads c.read_part.ensures.only
 
-pub returns-then-not-all_fit-clause-left : goal.returns-then-not-all_fit-clause-left
-returns-then-not-all_fit-clause-left g c = records_left _ _ _ (c.loop-done.done * c.sides_of-sides.result.x) c.args.width _ _ c.loop-done.invariant.written
+pub returns-then-not-all_fit-clause-writes : goal.returns-then-not-all_fit-clause-writes
+returns-then-not-all_fit-clause-writes g c = record {
+  whole = tt;
+  part = records_left _ _ _ (c.loop-done.done * c.sides_of-sides.result.x) c.args.width _ _ c.loop-done.invariant.written;
+}
+
+pub returns-then-not-all_fit-clause-room : goal.returns-then-not-all_fit-clause-room
+returns-then-not-all_fit-clause-room g c = record {
+  for_cells = c.read_part.ensures.room ∙ c.loop-done.invariant.room;
+  for_bytes = c.loop-done.invariant.buffer;
+}
 
 pub returns-then-not-all_fit-clause-damage : goal.returns-then-not-all_fit-clause-damage
 returns-then-not-all_fit-clause-damage g c =
@@ -47,18 +65,27 @@ returns-then-not-all_fit-clause-damage g c =
 pub returns-then-not-all_fit-clause-only : goal.returns-then-not-all_fit-clause-only
 returns-then-not-all_fit-clause-only g c = reads_on _ _ _ c.args.place c.loop-done.invariant.reads c.read_part.ensures.only
 
-pub returns-in-Err-write_section-clause-left : goal.returns-in-Err-write_section-clause-left
-returns-in-Err-write_section-clause-left g c =
+pub returns-in-Err-write_section-clause-writes : goal.returns-in-Err-write_section-clause-writes
+returns-in-Err-write_section-clause-writes g c =
     let s = c.sides_of-sides.result in
-    let part = c.part_from-part.result in
+    let next = c.part_from-part.result in
     let reads = c.loop-done.invariant.reads in
     let cells = take c.in-Ok.count c.read_part.new.cells in
-    records_stop _ _ s c.args.section c.loop-done.done part cells c.args.width _ _ _
-    (cells_counted _ _ _ c.shape.ensures.sound)
-    (subst (λ (d : Dimensions). AreSidesOf d s) c.shape.ensures.value c.sides_of-sides.ensures)
-    c.part_from-part.ensures c.requires.section.below
-    (given_before _ _ c.args.place reads part.window cells c.in-Ok.ensures.given)
-    c.loop-done.invariant.written c.in-Err-write_section.ensures.prefix
+    record {
+      whole = tt;
+      part = records_stop _ _ s c.args.section c.loop-done.done next cells c.args.width _ _ _
+          (cells_counted _ _ _ c.shape.ensures.sound)
+          (subst (λ (d : Dimensions). AreSidesOf d s) c.shape.ensures.value c.sides_of-sides.ensures)
+          c.part_from-part.ensures c.requires.section.below
+          (given_before _ _ c.args.place reads next.window cells c.in-Ok.ensures.given)
+          c.loop-done.invariant.written c.in-Err-write_section.ensures.prefix;
+    }
+
+pub returns-in-Err-write_section-clause-room : goal.returns-in-Err-write_section-clause-room
+returns-in-Err-write_section-clause-room g c = record {
+  for_cells = c.read_part.ensures.room ∙ c.loop-done.invariant.room;
+  for_bytes = c.write_section.ensures.kept;
+}
 
 pub returns-in-Err-write_section-clause-only : goal.returns-in-Err-write_section-clause-only
 returns-in-Err-write_section-clause-only g c = reads_on _ _ _ c.args.place c.loop-done.invariant.reads c.read_part.ensures.only
@@ -85,9 +112,16 @@ loop-done-preserved g c =
           c.loop-done.invariant.written c.in-Ok-write_section.ensures.appended;
     }
 
-pub returns-clause-written : goal.returns-clause-written
-returns-clause-written g c =
+pub returns-clause-writes : goal.returns-clause-writes
+returns-clause-writes g c =
     let s = c.sides_of-sides.result in
-    records_end _ _ s _ c.loop-done.done c.rows_of-rows.result c.args.width _ _
-    (subst (λ (d : Dimensions). AreSidesOf d s) c.shape.ensures.value c.sides_of-sides.ensures)
-    c.rows_of-rows.ensures.cells (omega (arith, c.loop-done-test.false, c.loop-done.invariant.within)) c.loop-done.invariant.written
+    record {
+      whole = records_end _ _ s _ c.loop-done.done c.rows_of-rows.result c.args.width _ _
+          (subst (λ (d : Dimensions). AreSidesOf d s) c.shape.ensures.value c.sides_of-sides.ensures)
+          c.rows_of-rows.ensures.cells (omega (arith, c.loop-done-test.false, c.loop-done.invariant.within))
+          c.loop-done.invariant.written;
+      part = tt;
+    }
+
+pub returns-clause-room : goal.returns-clause-room
+returns-clause-room g c = record { for_cells = c.loop-done.invariant.room; for_bytes = c.loop-done.invariant.buffer }
