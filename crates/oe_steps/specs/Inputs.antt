@@ -8,9 +8,9 @@ use Rattle.oe_check.specs.Laws.{AreCollectionsOf}
 use Rattle.oe_meanings.specs.Graphs.{Collections}
 use Rattle.oe_window.specs.Windows.{position_count}
 use Rattle.oe_window.specs.declared.window.Window.{Window}
-use Rattle.oe_plan.specs.Schedules.{AreWindowsFor, IsSchedule, ScheduleOf, is_load_at, node_at}
+use Rattle.oe_plan.specs.Schedules.{AreWindowsFor, IsSchedule, ScheduleOf, TakesAt, is_load_at, node_at}
 use Rattle.oe_plan.specs.Windows.{window_at}
-use Rattle.oe_steps.specs.Steps.{AreArguments, cell_kind_at, node_cells}
+use Rattle.oe_steps.specs.Steps.{AreArguments, AreCells, EachLoad, OfLast, cell_kind_at, node_cells}
 
 -- one cell for each position of the window of a step, each of the kind of its node
 pub record IsInput (c : CheckedGraph) (schedule : ScheduleOf) (windows : List Window) (step : ℕ)
@@ -46,3 +46,16 @@ GivesNodeCells c schedule windows step first second one two out =
 -- the cells of a step at the front of a buffer, one for each position of its window
 abbrev pub cells_of_step : List Window → ℕ → List Cell → List Cell
 cells_of_step windows step buffer = take (position_count (window_at windows step)) buffer
+
+-- over any collections of the graph, where the old buffers have the cells of the steps whose cubes a step takes, the
+-- new ones have its own
+abbrev pub EvaluatesStep : CheckedGraph → ScheduleOf → ℕ → List Window → List (List Cell) → List (List Cell) → Type 0
+EvaluatesStep c schedule step windows old new = (collections : Collections) → AreCollectionsOf c collections
+    → ((number r : ℕ) → TakesAt c schedule step number r → AreCells collections c schedule windows old r)
+    → AreCells collections c schedule windows new step
+
+-- where they have those of each step whose cube is loaded or given, the new ones have those of the last node's step
+abbrev pub EvaluatesLast : CheckedGraph → ScheduleOf → List Window → List (List Cell) → List (List Cell) → Type 0
+EvaluatesLast c schedule windows old new = (collections : Collections) → AreCollectionsOf c collections
+    → EachLoad c schedule (AreCells collections c schedule windows old)
+    → OfLast schedule (AreCells collections c schedule windows new)

@@ -4,5 +4,6 @@ pub mod Inputs
 pub mod Collections
 pub mod Refusals
 pub mod Loads
+pub mod Looks
 pub mod Strips
 pub mod Laws

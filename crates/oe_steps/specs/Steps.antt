@@ -1,5 +1,5 @@
 -- The cells of the steps of a schedule: where they are kept, and when they are those of its nodes.
-use Rattle.std.specs.Prelude.{◌≡◌, ◌⊎◌, ◌<◌, ℕ, Bool, true, List, length, slice_index, take}
+use Rattle.std.specs.Prelude.{◌≡◌, ◌≢◌, ◌⊎◌, ◌<◌, ℕ, Bool, true, List, length, slice_index, take}
 use Rattle.std.specs.List.{All}
 use Rattle.oe_cell.specs.declared.cell.Cell.{Cell}
 use Rattle.oe_cell.specs.declared.cell.Cell.TheVariants.{Empty}
@@ -14,7 +14,7 @@ use Rattle.oe_check.specs.Links.{links_of}
 use Rattle.oe_window.specs.Cells.{cells_on}
 use Rattle.oe_window.specs.Windows.{position_count}
 use Rattle.oe_window.specs.declared.window.Window.{Window}
-use Rattle.oe_plan.specs.Schedules.{ScheduleOf, TakesAt, is_load_at, links_along, node_at}
+use Rattle.oe_plan.specs.Schedules.{AreWindowsFor, IsSchedule, ScheduleOf, TakesAt, is_load_at, links_along, node_at}
 use Rattle.oe_plan.specs.Steps.{arguments_of_node}
 use Rattle.oe_plan.specs.Windows.{window_at}
 use Rattle.oe_steps.specs.Buffers.{AreOfSize, buffer_at}
@@ -22,6 +22,18 @@ use Rattle.oe_steps.specs.Buffers.{AreOfSize, buffer_at}
 -- for each slot of a schedule there is a buffer of so many cells as it says
 abbrev pub HaveRoomFor : ScheduleOf → List (List Cell) → Type 0
 HaveRoomFor schedule buffers = AreOfSize buffers schedule.order.width schedule.largest
+
+-- a schedule of the graph, with a window for each of its steps and a buffer for each of its slots
+pub record IsReadySchedule (c : CheckedGraph) (schedule : ScheduleOf) (windows : List Window)
+    (buffers : List (List Cell)) : Type 0 where
+  pub scheduled : IsSchedule c schedule
+  pub windows_fit : AreWindowsFor c schedule windows
+  pub room : HaveRoomFor schedule buffers
+
+-- the buffers of all slots but that of a step stay as they were
+abbrev pub KeepsOthers : ScheduleOf → ℕ → List (List Cell) → List (List Cell) → Type 0
+KeepsOthers schedule step old new =
+    (slot : ℕ) → slot ≢ slice_index schedule.order.slots step → buffer_at new slot ≡ buffer_at old slot
 
 -- ---- the cells of a step
 

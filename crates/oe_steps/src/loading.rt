@@ -1,22 +1,20 @@
 // The cells of collections that windows need: asked for, and put into buffers by looks.
-ghost use Rattle.std.specs.Prelude.{◌≡◌, ◌≢◌, slice_index, ◌<◌, ◌≤◌, ◌+◌, ◌^◌, ℕ, List, true, Ok, Some, IfSome, OnOk, length, replicate, take};
+ghost use Rattle.std.specs.Prelude.{◌≡◌, ◌<◌, ◌≤◌, ◌+◌, ◌^◌, ℕ, List, true, Ok, Some, IfSome, OnOk, length, replicate, take};
 ghost use Rattle.oe_cell.specs.declared.cell.Cell.TheVariants.{Empty};
 ghost use Rattle.oe_cube.specs.Collections.{IsCollection};
 ghost use Rattle.oe_dims.specs.Dimensions.{IsShape};
-ghost use Rattle.oe_steps.specs.Steps.{EachLive, HaveRoomFor, loads_at};
-ghost use Rattle.oe_steps.specs.Buffers.{buffer_at, lists_of};
-ghost use Rattle.oe_steps.specs.Collections.{AreRead, HasCollections, IsMountedAt};
-ghost use Rattle.oe_steps.specs.Loads.{AreLoaded, HasRead, IsLoadedAt, TellsWhy, refusal_for};
-ghost use Rattle.oe_ops.specs.Needs.{plane_window};
-ghost use Rattle.oe_plan.specs.Figures.{shape_of_node};
+ghost use Rattle.oe_steps.specs.Steps.{HaveRoomFor, IsReadySchedule, KeepsOthers, loads_at};
+ghost use Rattle.oe_steps.specs.Buffers.{lists_of};
+ghost use Rattle.oe_steps.specs.Collections.{HasCollections, IsMountedAt};
+ghost use Rattle.oe_steps.specs.Loads.{AreLoaded, HasRead, TellsWhy, refusal_for};
+ghost use Rattle.oe_steps.specs.Looks.{IsLoadStep, IsPlaneToLoad, IsRowToLoad, IsWindowToLoad, LoadsNext, size_at};
 ghost use Rattle.oe_plan.specs.Schedules.{AreWindowsFor, IsSchedule, node_at};
-ghost use Rattle.oe_plan.specs.Windows.{window_at};
 ghost use Rattle.oe_check.specs.Checked.{collection_of_node};
-ghost use Rattle.oe_sources.specs.Catalogue.{Row, source_at};
+ghost use Rattle.oe_sources.specs.Catalogue.{source_at};
 ghost use Rattle.oe_sources.specs.CatalogueRows.{rows_of, seal_of};
 ghost use Rattle.oe_sources.specs.Permits.{MayLook, SpendsAtMost, permit_raised};
 ghost use Rattle.oe_sources.specs.Source.{answer_of, collection_of};
-ghost use Rattle.oe_window.specs.Windows.{Holds, position_count, span_length, whole_window};
+ghost use Rattle.oe_window.specs.Windows.{position_count, span_length};
 
 use crate::fail::RunFail;
 use oe_cell::Cell;
@@ -46,13 +44,9 @@ pub fn load_slot(
     requires windows { AreWindowsFor checked.now schedule.now windows.now }
     requires room { HaveRoomFor schedule.now (lists_of buffers.old) }
     ensures room { HaveRoomFor schedule.now (lists_of buffers.new) }
-    ensures others { (slot : ℕ) → slot ≢ slice_index schedule.now.order.slots step
-        → buffer_at (lists_of buffers.new) slot ≡ buffer_at (lists_of buffers.old) slot }
-    ensures loaded { (rows : List Row) → AreRead rows (rows_of seen catalogue.old)
-        → EachLive checked.now schedule.now step
-        (IsLoadedAt checked.now schedule.now rows windows.now (lists_of buffers.old))
-        → OnOk result (EachLive checked.now schedule.now (step + 1)
-        (IsLoadedAt checked.now schedule.now rows windows.now (lists_of buffers.new))) }
+    ensures others { KeepsOthers schedule.now step (lists_of buffers.old) (lists_of buffers.new) }
+    ensures loaded { LoadsNext checked.now schedule.now (rows_of seen catalogue.old) step
+        windows.now (lists_of buffers.old) (lists_of buffers.new) result }
     ensures read { HasRead checked.now schedule.now.largest
         (rows_of seen catalogue.old) (rows_of seen catalogue.new) result }
 {
@@ -85,24 +79,15 @@ pub fn look_slot(
     buffers: &mut [Vec<Cell>],
     looker: &mut Looker,
 ) -> Result<(), LookFail>
-    requires schedule { IsSchedule checked.now schedule.now }
-    requires step { step < length schedule.now.order.steps }
-    requires load { loads_at checked.now schedule.now step ≡ true }
+    requires ready { IsReadySchedule checked.now schedule.now windows.now (lists_of buffers.old) }
+    requires load { IsLoadStep checked.now schedule.now step }
     requires mounted { HasCollections checked.now (rows_of seen catalogue.now) }
-    requires windows { AreWindowsFor checked.now schedule.now windows.now }
-    requires room { HaveRoomFor schedule.now (lists_of buffers.old) }
-    requires asked { MayLook (seal_of catalogue.now) (position_count (window_at windows.now step))
-        looker.old }
+    requires asked { MayLook (seal_of catalogue.now) (size_at windows.now step) looker.old }
     ensures room { HaveRoomFor schedule.now (lists_of buffers.new) }
-    ensures others { (slot : ℕ) → slot ≢ slice_index schedule.now.order.slots step
-        → buffer_at (lists_of buffers.new) slot ≡ buffer_at (lists_of buffers.old) slot }
-    ensures loaded { (rows : List Row) → AreRead rows (rows_of seen catalogue.now)
-        → EachLive checked.now schedule.now step
-        (IsLoadedAt checked.now schedule.now rows windows.now (lists_of buffers.old))
-        → OnOk result (EachLive checked.now schedule.now (step + 1)
-        (IsLoadedAt checked.now schedule.now rows windows.now (lists_of buffers.new))) }
-    ensures spent { OnOk result (SpendsAtMost (position_count (window_at windows.now step))
-        looker.old looker.new) }
+    ensures others { KeepsOthers schedule.now step (lists_of buffers.old) (lists_of buffers.new) }
+    ensures loaded { LoadsNext checked.now schedule.now (rows_of seen catalogue.now) step
+        windows.now (lists_of buffers.old) (lists_of buffers.new) result }
+    ensures spent { OnOk result (SpendsAtMost (size_at windows.now step) looker.old looker.new) }
     ensures refused { TellsWhy checked.now (rows_of seen catalogue.now)
         (node_at schedule.now step) result }
 {
@@ -185,12 +170,8 @@ fn look_step(
     buffer: &mut [Cell],
 ) -> Result<(), LookFail>
     requires schedule { IsSchedule checked.now schedule.now }
-    requires step { step < length schedule.now.order.steps }
-    requires load { loads_at checked.now schedule.now step ≡ true }
+    requires window { IsWindowToLoad checked.now schedule.now step window.now }
     requires mounted { HasCollections checked.now (rows_of seen catalogue.now) }
-    requires within { Holds (whole_window (shape_of_node checked.now (node_at schedule.now step)))
-        window.now }
-    requires few { position_count window.now < 2 ^ 64 }
     requires room { position_count window.now ≤ length buffer.old }
     requires asked { MayLook (seal_of catalogue.now) (position_count window.now) looker.old }
     ensures loaded { OnOk result (AreLoaded checked.now (rows_of seen catalogue.now)
@@ -251,14 +232,8 @@ fn look_plane(
     into: &mut [Cell],
 ) -> Result<(), LookFail>
     requires schedule { IsSchedule checked.now schedule.now }
-    requires step { step < length schedule.now.order.steps }
-    requires load { loads_at checked.now schedule.now step ≡ true }
-    requires mounted { (id : List ℕ)
-        → collection_of_node checked.now (node_at schedule.now step) ≡ Some id
-        → IsMountedAt checked.now (rows_of seen catalogue.now) id place }
-    requires within { Holds (whole_window (shape_of_node checked.now (node_at schedule.now step)))
+    requires plane { IsPlaneToLoad checked.now schedule.now (rows_of seen catalogue.now) step place
         plane.now }
-    requires one { plane.now ≡ plane_window plane.now plane.now.t.from plane.now.bands.from }
     requires room { length into.old ≡ position_count plane.now }
     requires asked { MayLook (seal_of catalogue.now) (position_count plane.now) looker.old }
     ensures loaded { OnOk result (AreLoaded checked.now (rows_of seen catalogue.now)
@@ -298,15 +273,8 @@ pub fn look_front(
     cells: &mut [Cell],
 ) -> Result<(), LookFail>
     requires schedule { IsSchedule checked.now schedule.now }
-    requires step { step < length schedule.now.order.steps }
-    requires load { loads_at checked.now schedule.now step ≡ true }
-    requires mounted { (id : List ℕ)
-        → collection_of_node checked.now (node_at schedule.now step) ≡ Some id
-        → IsMountedAt checked.now (rows_of seen catalogue.now) id place }
-    requires within { Holds (whole_window (shape_of_node checked.now (node_at schedule.now step)))
+    requires row { IsRowToLoad checked.now schedule.now (rows_of seen catalogue.now) step place
         row.now }
-    requires one { row.now ≡ plane_window row.now row.now.t.from row.now.bands.from }
-    requires count { position_count row.now ≡ span_length row.now.x }
     requires room { span_length row.now.x ≤ length cells.old }
     requires asked { MayLook (seal_of catalogue.now) (span_length row.now.x) looker.old }
     ensures loaded { OnOk result (AreLoaded checked.now (rows_of seen catalogue.now)

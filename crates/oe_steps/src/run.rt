@@ -2,12 +2,11 @@
 ghost use Rattle.std.specs.Prelude.{◌≡◌, ◌<◌, ◌≤◌, ℕ, false, true, length};
 ghost use Rattle.oe_graph.specs.Printed.{node_count};
 ghost use Rattle.oe_order.specs.Graph.{is_load};
-ghost use Rattle.oe_meanings.specs.Graphs.{Collections};
-ghost use Rattle.oe_check.specs.Laws.{AreCollectionsOf};
 ghost use Rattle.oe_check.specs.Links.{links_of};
 ghost use Rattle.oe_plan.specs.Figures.{scratch_of};
 ghost use Rattle.oe_plan.specs.Schedules.{AreWindowsFor, IsSchedule, is_load_at, links_along, node_at};
-ghost use Rattle.oe_steps.specs.Steps.{AreCells, AreOfKind, EachLoad, HaveRoomFor, OfLast};
+ghost use Rattle.oe_steps.specs.Inputs.{EvaluatesLast};
+ghost use Rattle.oe_steps.specs.Steps.{AreOfKind, EachLoad, HaveRoomFor, OfLast};
 ghost use Rattle.oe_steps.specs.Buffers.{lists_of};
 
 use crate::step::evaluate_step;
@@ -84,11 +83,8 @@ pub fn evaluate_steps(
     ensures room { HaveRoomFor schedule.now (lists_of buffers.new) }
     ensures kinds { OfLast schedule.now
         (AreOfKind checked.now schedule.now windows.now (lists_of buffers.new)) }
-    ensures value { (collections : Collections) → AreCollectionsOf checked.now collections
-        → EachLoad checked.now schedule.now
-        (AreCells collections checked.now schedule.now windows.now (lists_of buffers.old))
-        → OfLast schedule.now
-        (AreCells collections checked.now schedule.now windows.now (lists_of buffers.new)) }
+    ensures value { EvaluatesLast checked.now schedule.now windows.now (lists_of buffers.old)
+        (lists_of buffers.new) }
 {
     let count = schedule.steps().len() as u32;
     for step in loads(checked, schedule)..count {

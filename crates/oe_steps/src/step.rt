@@ -3,16 +3,14 @@ ghost use Rattle.std.specs.Prelude.{◌≡◌, ◌≢◌, ◌<◌, ◌≤◌, �
 ghost use Rattle.std.specs.List.{All};
 ghost use Rattle.oe_cube.specs.Kinds.{IsOfKind};
 ghost use Rattle.oe_dims.specs.Dimensions.{IsShape};
-ghost use Rattle.oe_meanings.specs.Graphs.{Collections};
-ghost use Rattle.oe_check.specs.Laws.{AreCollectionsOf};
 ghost use Rattle.oe_window.specs.Windows.{position_count};
 ghost use Rattle.oe_plan.specs.Figures.{scratch_of, shape_of_node};
 ghost use Rattle.oe_plan.specs.Schedules.{AreWindowsFor, IsSchedule, TakesAt, is_load_at, node_at};
 ghost use Rattle.oe_plan.specs.Steps.{arguments_of_node};
 ghost use Rattle.oe_plan.specs.Windows.{window_at};
-ghost use Rattle.oe_steps.specs.Steps.{AreArguments, AreCells, AreOfKind, HaveRoomFor, buffer_cells_at, cell_kind_at};
-ghost use Rattle.oe_steps.specs.Buffers.{buffer_at, buffer_beside, lists_of};
-ghost use Rattle.oe_steps.specs.Inputs.{GivesNodeCells, WorksOnCells, cells_of_step};
+ghost use Rattle.oe_steps.specs.Steps.{AreArguments, AreOfKind, HaveRoomFor, IsReadySchedule, KeepsOthers, buffer_cells_at, cell_kind_at};
+ghost use Rattle.oe_steps.specs.Buffers.{buffer_beside, lists_of};
+ghost use Rattle.oe_steps.specs.Inputs.{EvaluatesStep, GivesNodeCells, WorksOnCells, cells_of_step};
 
 use oe_cell::Cell;
 use oe_check::Checked;
@@ -218,23 +216,18 @@ pub fn evaluate_step(
     buffers: &mut [Vec<Cell>],
     scratch: &mut [Cell],
 )
-    requires schedule { IsSchedule checked.now schedule.now }
+    requires ready { IsReadySchedule checked.now schedule.now windows.now (lists_of buffers.old) }
     requires step { step < length schedule.now.order.steps }
     requires works { is_load_at checked.now schedule.now step ≡ false }
-    requires windows { AreWindowsFor checked.now schedule.now windows.now }
-    requires room { HaveRoomFor schedule.now (lists_of buffers.old) }
     requires scratch { length scratch.old ≡ scratch_of checked.now }
     requires kinds { (number r : ℕ) → TakesAt checked.now schedule.now step number r
         → AreOfKind checked.now schedule.now windows.now (lists_of buffers.old) r }
     ensures room { HaveRoomFor schedule.now (lists_of buffers.new) }
     ensures scratch { length scratch.new ≡ length scratch.old }
-    ensures others { (slot : ℕ) → slot ≢ slice_index schedule.now.order.slots step
-        → buffer_at (lists_of buffers.new) slot ≡ buffer_at (lists_of buffers.old) slot }
+    ensures others { KeepsOthers schedule.now step (lists_of buffers.old) (lists_of buffers.new) }
     ensures kinds { AreOfKind checked.now schedule.now windows.now (lists_of buffers.new) step }
-    ensures value { (collections : Collections) → AreCollectionsOf checked.now collections
-        → ((number r : ℕ) → TakesAt checked.now schedule.now step number r
-        → AreCells collections checked.now schedule.now windows.now (lists_of buffers.old) r)
-        → AreCells collections checked.now schedule.now windows.now (lists_of buffers.new) step }
+    ensures value { EvaluatesStep checked.now schedule.now step windows.now (lists_of buffers.old)
+        (lists_of buffers.new) }
 {
     let (first, second) = inputs_of(checked, schedule, step);
     let (before, rest) = buffers.split_at_mut(schedule.slot(step) as usize);

@@ -1,13 +1,11 @@
 // The rows of a hull, of which each window that is a strip of it takes its part.
-ghost use Rattle.std.specs.Prelude.{◌≡◌, ◌<◌, ◌≤◌, ◌+◌, ◌++◌, List, IsTrue, drop, length, take};
+ghost use Rattle.std.specs.Prelude.{◌≡◌, ◌<◌, ◌≤◌, ◌+◌, ◌++◌, IsTrue, drop, length, take};
 ghost use Rattle.oe_steps.specs.Steps.{HaveRoomFor};
 ghost use Rattle.oe_steps.specs.Buffers.{lists_of};
-ghost use Rattle.oe_steps.specs.Strips.{HaveLoadedRows, IsStripOf};
-ghost use Rattle.oe_steps.specs.Loads.{AreLoaded};
-ghost use Rattle.oe_plan.specs.Schedules.{AreWindowsFor, IsSchedule, node_at};
+ghost use Rattle.oe_steps.specs.Strips.{IsStripOf, TakesRow};
+ghost use Rattle.oe_plan.specs.Schedules.{AreWindowsFor, IsSchedule};
 ghost use Rattle.oe_plan.specs.Windows.{window_at};
-ghost use Rattle.oe_sources.specs.Catalogue.{Row};
-ghost use Rattle.oe_window.specs.Parts.{row_count, row_of};
+ghost use Rattle.oe_window.specs.Parts.{row_count};
 ghost use Rattle.oe_window.specs.Windows.{span_length};
 
 use oe_cell::Cell;
@@ -55,12 +53,8 @@ pub fn take_part(
     requires number { number < row_count hull.now }
     requires row { length row.now ≡ span_length hull.now.x }
     ensures room { HaveRoomFor schedule.now (lists_of buffers.new) }
-    ensures loaded { (rows : List Row)
-        → AreLoaded checked.now rows (node_at schedule.now step) (row_of hull.now number) row.now
-        → HaveLoadedRows checked.now schedule.now rows step number windows.now
-        (lists_of buffers.old)
-        → HaveLoadedRows checked.now schedule.now rows step (number + 1) windows.now
-        (lists_of buffers.new) }
+    ensures loaded { TakesRow checked.now schedule.now step hull.now number row.now windows.now
+        (lists_of buffers.old) (lists_of buffers.new) }
 {
     let slot = schedule.slot(step);
     let x = windows[step as usize].x;

@@ -21,6 +21,13 @@ ask-requires-clause-own g c = ap (λ (p : PermitOf). p.seal) c.permit-permit.ens
 pub ask-requires-clause-few : goal.ask-requires-clause-few
 ask-requires-clause-few g c = omega (arith, ap (λ (p : PermitOf). p.left) c.permit-permit.ensures)
 
+pub look_slot-looked-requires-clause-ready : goal.look_slot-looked-requires-clause-ready
+look_slot-looked-requires-clause-ready g c =
+    record { scheduled = c.requires.schedule; windows_fit = c.requires.windows; room = c.requires.room }
+
+pub look_slot-looked-requires-clause-load : goal.look_slot-looked-requires-clause-load
+look_slot-looked-requires-clause-load g c = record { step_in = c.requires.step; loads = c.requires.load }
+
 pub look_slot-looked-requires-clause-mounted : goal.look_slot-looked-requires-clause-mounted
 look_slot-looked-requires-clause-mounted g c = has_same _ _ c.ask.ensures.asked.read.same c.args.checked.now c.requires.mounted
 
@@ -35,6 +42,9 @@ look_slot-looked-requires-clause-asked g c =
 
 pub settle-requires-clause-mounted : goal.settle-requires-clause-mounted
 settle-requires-clause-mounted g c = has_same _ _ c.ask.ensures.asked.read.same c.args.checked.now c.requires.mounted
+
+pub returns-clause-others : goal.returns-clause-others
+returns-clause-others g c = c.look_slot-looked.ensures.others
 
 pub returns-clause-loaded : goal.returns-clause-loaded
 returns-clause-loaded g c = λ rows read before.

@@ -22,8 +22,18 @@ returns-clause-loaded g c =
     subst (λ (xs : List Cell). OnOk c.look_plane.result (AreLoaded graph rows (node_at schedule c.args.step) c.args.row.now xs))
     (sym (take_front into (drop count cells) width long)) c.look_plane.ensures.loaded
 
+pub look_plane-requires-clause-plane : goal.look_plane-requires-clause-plane
+look_plane-requires-clause-plane g c = c.requires.row.plane
+
+pub look_plane-requires-clause-room : goal.look_plane-requires-clause-room
+look_plane-requires-clause-room g c =
+    let count = c.saturating_sub-count.result in
+    let cells = c.args.cells.now in
+    let fits : count ≤ length cells = omega (arith, c.requires.room, c.saturating_sub-count.ensures) in
+    length-take-le count cells fits ∙ (c.saturating_sub-count.ensures ∙ sym c.requires.row.count)
+
 pub look_plane-requires-clause-asked : goal.look_plane-requires-clause-asked
-look_plane-requires-clause-asked g c = record { enough = omega (arith, c.requires.asked.enough, c.requires.count); own = c.requires.asked.own }
+look_plane-requires-clause-asked g c = record { enough = omega (arith, c.requires.asked.enough, c.requires.row.count); own = c.requires.asked.own }
 
 pub returns-clause-spent : goal.returns-clause-spent
-returns-clause-spent g c = record { left = omega (arith, c.look_plane.ensures.spent.left, c.requires.count); seal = c.look_plane.ensures.spent.seal }
+returns-clause-spent g c = record { left = omega (arith, c.look_plane.ensures.spent.left, c.requires.row.count); seal = c.look_plane.ensures.spent.seal }

@@ -29,7 +29,7 @@ size-count-requires g c =
     let fits = ends_within w c.plane-plane.result n c.planes-number-end.result c.plane-plane.ensures.value c.planes-number-end.ensures.value c.loop-number-test.true in
     let done = c.loop-number.invariant.done_is in
     let room = c.loop-number.invariant.room in
-    omega (arith, fits.counted, fits.within, c.requires.few)
+    omega (arith, fits.counted, fits.within, c.requires.window.few)
 
 pub overflow_add-piece : goal.overflow_add-piece
 overflow_add-piece g c =
@@ -39,7 +39,7 @@ overflow_add-piece g c =
     let size = c.size-count.ensures.value in
     let done = c.loop-number.invariant.done_is in
     let room = c.loop-number.invariant.room in
-    omega (arith, size, done, fits.counted, fits.within, c.requires.few)
+    omega (arith, size, done, fits.counted, fits.within, c.requires.window.few)
 
 pub slice_bounds-piece-end : goal.slice_bounds-piece-end
 slice_bounds-piece-end g c =
@@ -51,20 +51,18 @@ slice_bounds-piece-end g c =
     let room = c.loop-number.invariant.room in
     omega (arith, size, done, room, fits.counted, fits.within)
 
-pub look_plane-requires-clause-mounted : goal.look_plane-requires-clause-mounted
-look_plane-requires-clause-mounted g c =
+pub look_plane-requires-clause-plane : goal.look_plane-requires-clause-plane
+look_plane-requires-clause-plane g c =
     let graph = c.args.checked.now in
     let schedule = c.args.schedule.now in
     let rows = rows_of (λ z. (goal.SharedSource-dyn g z).CubeSource.seen z.1) c.args.catalogue.now in
     let at = c.place_of-place.ensures in
-    mounted_for graph schedule rows rows c.args.step c.place_of-place.result at.0 at.1 at.2 (AreRead-refl rows)
-
-pub look_plane-requires-clause-within : goal.look_plane-requires-clause-within
-look_plane-requires-clause-within g c = λ q in'. c.requires.within q (c.plane-plane.ensures.part.inside q in')
-
-pub look_plane-requires-clause-one : goal.look_plane-requires-clause-one
-look_plane-requires-clause-one g c =
-    one_plane c.args.window.now c.plane-plane.result c.loop-number.number c.plane-plane.ensures.value
+    record {
+      load = c.requires.window.load;
+      mounted = mounted_for graph schedule rows rows c.args.step c.place_of-place.result at.0 at.1 at.2 (AreRead-refl rows);
+      within = λ q in'. c.requires.window.within q (c.plane-plane.ensures.part.inside q in');
+      one = one_plane c.args.window.now c.plane-plane.result c.loop-number.number c.plane-plane.ensures.value;
+    }
 
 pub look_plane-requires-clause-room : goal.look_plane-requires-clause-room
 look_plane-requires-clause-room g c =

@@ -19,6 +19,10 @@ loop-step-init c = record {
       c.loads-step.result c.loads-step.ensures.most c.loads-step.ensures.load loaded;
 }
 
+pub evaluate_step-requires-clause-ready : goal.evaluate_step-requires-clause-ready
+evaluate_step-requires-clause-ready c =
+    record { scheduled = c.requires.schedule; windows_fit = c.requires.windows; room = c.loop-step.invariant.room }
+
 pub evaluate_step-requires-clause-kinds : goal.evaluate_step-requires-clause-kinds
 evaluate_step-requires-clause-kinds c = λ number r takes.
     let long = ap length c.steps.ensures in

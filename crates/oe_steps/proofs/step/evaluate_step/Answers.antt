@@ -13,7 +13,7 @@ pub front_beside-one-requires-clause-other : goal.front_beside-one-requires-clau
 front_beside-one-requires-clause-other c =
     let graph = c.args.checked.now in
     let schedule = c.args.schedule.now in
-    let is = c.requires.schedule in
+    let is = c.requires.ready.scheduled in
     let step = c.args.step in
     let buffers = c.args.buffers.now in
     let before = c.split_at_mut-before.result.0.now in
@@ -41,7 +41,7 @@ pub front_beside-two-requires-clause-other : goal.front_beside-two-requires-clau
 front_beside-two-requires-clause-other c =
     let graph = c.args.checked.now in
     let schedule = c.args.schedule.now in
-    let is = c.requires.schedule in
+    let is = c.requires.ready.scheduled in
     let step = c.args.step in
     let buffers = c.args.buffers.now in
     let before = c.split_at_mut-before.result.0.now in
@@ -69,7 +69,7 @@ pub front_beside-one-requires-clause-room : goal.front_beside-one-requires-claus
 front_beside-one-requires-clause-room c =
     let graph = c.args.checked.now in
     let schedule = c.args.schedule.now in
-    let is = c.requires.schedule in
+    let is = c.requires.ready.scheduled in
     let step = c.args.step in
     let buffers = c.args.buffers.now in
     let before = c.split_at_mut-before.result.0.now in
@@ -91,13 +91,13 @@ front_beside-one-requires-clause-room c =
     let b_slot = get_or schedule.order.slots b 0 in
     let a_other : a_slot ≢ slot = λ e. taken_apart graph schedule is step c.requires.step c.requires.works 0 a takes (e ∙ c.slot.ensures.value) in
     let b_other : b_slot ≢ slot = λ e. taken_apart graph schedule is step c.requires.step c.requires.works second.0 b second.1 (e ∙ c.slot.ensures.value) in
-    beside_long buffers before own after slot schedule.order.width _ parts c.requires.room a_slot (slot_below graph schedule is a a_in) a_other
+    beside_long buffers before own after slot schedule.order.width _ parts c.requires.ready.room a_slot (slot_below graph schedule is a a_in) a_other
 
 pub front_beside-two-requires-clause-room : goal.front_beside-two-requires-clause-room
 front_beside-two-requires-clause-room c =
     let graph = c.args.checked.now in
     let schedule = c.args.schedule.now in
-    let is = c.requires.schedule in
+    let is = c.requires.ready.scheduled in
     let step = c.args.step in
     let buffers = c.args.buffers.now in
     let before = c.split_at_mut-before.result.0.now in
@@ -119,13 +119,13 @@ front_beside-two-requires-clause-room c =
     let b_slot = get_or schedule.order.slots b 0 in
     let a_other : a_slot ≢ slot = λ e. taken_apart graph schedule is step c.requires.step c.requires.works 0 a takes (e ∙ c.slot.ensures.value) in
     let b_other : b_slot ≢ slot = λ e. taken_apart graph schedule is step c.requires.step c.requires.works second.0 b second.1 (e ∙ c.slot.ensures.value) in
-    beside_long buffers before own after slot schedule.order.width _ parts c.requires.room b_slot (slot_below graph schedule is b b_in) b_other
+    beside_long buffers before own after slot schedule.order.width _ parts c.requires.ready.room b_slot (slot_below graph schedule is b b_in) b_other
 
 pub evaluate_into-requires-clause-works : goal.evaluate_into-requires-clause-works
 evaluate_into-requires-clause-works c =
     let graph = c.args.checked.now in
     let schedule = c.args.schedule.now in
-    let is = c.requires.schedule in
+    let is = c.requires.ready.scheduled in
     let step = c.args.step in
     let buffers = c.args.buffers.now in
     let before = c.split_at_mut-before.result.0.now in
@@ -157,25 +157,25 @@ evaluate_into-requires-clause-works c =
       scheduled = is;
       step_in = c.requires.step;
       computes = c.requires.works;
-      windows_fit = c.requires.windows;
+      windows_fit = c.requires.ready.windows_fit;
       arguments = c.inputs_of-first.ensures;
-      first_input = is_input graph schedule is c.args.windows.now c.requires.windows (lists_of buffers) c.requires.room a a_in c.front_beside-one.result.now is_one (c.requires.kinds 0 a takes);
-      second_input = is_input graph schedule is c.args.windows.now c.requires.windows (lists_of buffers) c.requires.room b b_in c.front_beside-two.result.now is_two (c.requires.kinds second.0 b second.1);
+      first_input = is_input graph schedule is c.args.windows.now c.requires.ready.windows_fit (lists_of buffers) c.requires.ready.room a a_in c.front_beside-one.result.now is_one (c.requires.kinds 0 a takes);
+      second_input = is_input graph schedule is c.args.windows.now c.requires.ready.windows_fit (lists_of buffers) c.requires.ready.room b b_in c.front_beside-two.result.now is_two (c.requires.kinds second.0 b second.1);
     }
 
 pub evaluate_into-requires-clause-few : goal.evaluate_into-requires-clause-few
 evaluate_into-requires-clause-few c =
-    few_positions c.args.checked.now c.args.schedule.now c.requires.schedule c.args.windows.now c.requires.windows c.args.step c.requires.step
+    few_positions c.args.checked.now c.args.schedule.now c.requires.ready.scheduled c.args.windows.now c.requires.ready.windows_fit c.args.step c.requires.step
 
 pub evaluate_into-requires-clause-within : goal.evaluate_into-requires-clause-within
 evaluate_into-requires-clause-within c =
-    omega (arith, step_of_windows c.args.checked.now c.args.schedule.now c.requires.schedule c.args.windows.now c.requires.windows, c.requires.step)
+    omega (arith, step_of_windows c.args.checked.now c.args.schedule.now c.requires.ready.scheduled c.args.windows.now c.requires.ready.windows_fit, c.requires.step)
 
 pub evaluate_into-requires-clause-room : goal.evaluate_into-requires-clause-room
 evaluate_into-requires-clause-room c =
     let graph = c.args.checked.now in
     let schedule = c.args.schedule.now in
-    let is = c.requires.schedule in
+    let is = c.requires.ready.scheduled in
     let step = c.args.step in
     let buffers = c.args.buffers.now in
     let before = c.split_at_mut-before.result.0.now in
@@ -198,15 +198,15 @@ evaluate_into-requires-clause-room c =
     let a_other : a_slot ≢ slot = λ e. taken_apart graph schedule is step c.requires.step c.requires.works 0 a takes (e ∙ c.slot.ensures.value) in
     let b_other : b_slot ≢ slot = λ e. taken_apart graph schedule is step c.requires.step c.requires.works second.0 b second.1 (e ∙ c.slot.ensures.value) in
     let held = ap length (part_own buffers before own after slot parts ∙ own_items own c.index-own-0.result c.split_at_mut-own.ensures.front_len ∙ sym c.as_mut_slice-buffer.ensures.value) in
-    let some = few graph schedule is c.args.windows.now c.requires.windows step c.requires.step in
-    let size = c.requires.room.each slot c.slot.ensures.below in
+    let some = few graph schedule is c.args.windows.now c.requires.ready.windows_fit step c.requires.step in
+    let size = c.requires.ready.room.each slot c.slot.ensures.below in
     omega (arith, held, some, size)
 
 pub returns-clause-room : goal.returns-clause-room
 returns-clause-room c =
     let graph = c.args.checked.now in
     let schedule = c.args.schedule.now in
-    let is = c.requires.schedule in
+    let is = c.requires.ready.scheduled in
     let step = c.args.step in
     let buffers = c.args.buffers.now in
     let before = c.split_at_mut-before.result.0.now in
@@ -232,13 +232,13 @@ returns-clause-room c =
     let out = c.evaluate_into.new.buffer in
     let held = ap length (part_own buffers before own after slot parts ∙ own_items own c.index-own-0.result c.split_at_mut-own.ensures.front_len ∙ sym c.as_mut_slice-buffer.ensures.value) in
     let long : length out ≡ length w.items = omega (arith, ap length c.as_mut_slice-buffer.ensures.value) in
-    size_after buffers before own after slot schedule.order.width _ parts c.requires.room w out long (omega (arith, held))
+    size_after buffers before own after slot schedule.order.width _ parts c.requires.ready.room w out long (omega (arith, held))
 
 pub returns-clause-others : goal.returns-clause-others
 returns-clause-others c =
     let graph = c.args.checked.now in
     let schedule = c.args.schedule.now in
-    let is = c.requires.schedule in
+    let is = c.requires.ready.scheduled in
     let step = c.args.step in
     let buffers = c.args.buffers.now in
     let before = c.split_at_mut-before.result.0.now in
@@ -270,7 +270,7 @@ pub returns-clause-kinds : goal.returns-clause-kinds
 returns-clause-kinds c =
     let graph = c.args.checked.now in
     let schedule = c.args.schedule.now in
-    let is = c.requires.schedule in
+    let is = c.requires.ready.scheduled in
     let step = c.args.step in
     let buffers = c.args.buffers.now in
     let before = c.split_at_mut-before.result.0.now in
@@ -304,7 +304,7 @@ returns-clause-value c =
     λ collections has given.
     let graph = c.args.checked.now in
     let schedule = c.args.schedule.now in
-    let is = c.requires.schedule in
+    let is = c.requires.ready.scheduled in
     let step = c.args.step in
     let buffers = c.args.buffers.now in
     let before = c.split_at_mut-before.result.0.now in
