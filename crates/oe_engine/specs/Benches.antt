@@ -5,7 +5,7 @@ use Rattle.oe_meanings.specs.Graphs.{Collections}
 use Rattle.oe_check.specs.Laws.{AreCollectionsOf}
 use Rattle.oe_window.specs.Chunks.{chunk_window, tiling_of}
 use Rattle.oe_window.specs.declared.window.Window.{Window}
-use Rattle.oe_plan.specs.Figures.{chunks_of, scratch_of, shape_of_node}
+use Rattle.oe_plan.specs.Figures.{chunks_of, largest_window, scratch_of, shape_of_node}
 use Rattle.oe_plan.specs.Plans.{PlanOf, schedule_of}
 use Rattle.oe_plan.specs.Schedules as schedules
 use Rattle.oe_plan.specs.Windows.{AreWindows}
@@ -37,6 +37,10 @@ pub record HasRoomFor (p : PlanOf) (b : BenchOf) : Type 0 where
   pub windows : length b.windows ≡ length p.order.steps
   pub buffers : HaveRoomFor p b.buffers
   pub scratch : length b.scratch ≡ scratch_of p.graph
+
+-- how many cells the largest window of a step has
+abbrev pub window_cells : PlanOf → ℕ
+window_cells p = largest_window p.graph p.size
 
 -- ---- the cells of a step
 

@@ -4,6 +4,7 @@ use Rattle.std.specs.List.{All}
 use denote.Param.Members.{Shared}
 use denote.Ref.{MutBor}
 use Rattle.oe_cell.specs.declared.cell.Cell.{Cell}
+use Rattle.oe_window.specs.Parts.{row_of}
 use Rattle.oe_window.specs.Windows.{Holds, position_count, span_length, whole_window}
 use Rattle.oe_window.specs.declared.window.Window.{Window}
 use Rattle.oe_plan.specs.Figures.{largest_window, scratch_of, shape_of_node}
@@ -16,7 +17,7 @@ use Rattle.oe_steps.specs.Strips as strips
 use Rattle.oe_steps.specs.Strips.{IsStripOf}
 use Rattle.oe_sources.specs.Permits.{MayLook, PermitOf}
 use Rattle.oe_sources.specs.declared.source.LookFail.{LookFail}
-use Rattle.oe_steps.specs.Loads.{TellsWhy}
+use Rattle.oe_steps.specs.Loads.{AreLoaded, TellsWhy}
 use Rattle.oe_engine.specs.Evaluations.{most_asked}
 use Rattle.oe_engine.specs.Loads.{IsLoadedAt, LoadsBench}
 use Rattle.oe_engine.specs.Runs.{chunk_total}
@@ -67,6 +68,39 @@ HaveLoadedRows p rows step number windows buffers =
 pub record HasLoadedRows (p : PlanOf) (rows : List Row) (step number k : ℕ) (b : BenchOf) : Type 0 where
   pub chunk : IsAtChunk p k b
   pub loaded : HaveLoadedRows p rows step number b.windows b.buffers
+
+-- ---- one row of a hull
+
+-- some benches whose windows of a step are strips of a hull, which may be read for them
+pub record AreStripped (p : PlanOf) (step : ℕ) (hull : Window) (benches : List BenchOf) : Type 0 where
+  pub some : 0 < length benches
+  pub each : All (IsStripped p hull step) benches
+  pub readable : IsReadable p step (length benches) hull
+
+-- over any rows of a catalogue: where these are the cells of a hull's row of a number, and so many rows of a step's
+-- window are loaded in the old buffers, one row more is in the new ones
+abbrev pub TakesRow : PlanOf → ℕ → Window → ℕ → List Cell → List Window → List (List Cell) → List (List Cell) → Type 0
+TakesRow p step hull number cells windows old new =
+    strips.TakesRow p.graph (schedule_of p) step hull number cells windows old new
+
+-- the same of a bench at a chunk
+abbrev pub BenchTakesRow : PlanOf → ℕ → Window → ℕ → List Cell → BenchOf → BenchOf → Type 0
+BenchTakesRow p step hull number cells old new =
+    (rows : List Row) (k : ℕ) → AreLoaded p.graph rows (node_at p step) (row_of hull number) cells
+    → HasLoadedRows p rows step number k old → HasLoadedRows p rows step (number + 1) k new
+
+-- the same of each of these benches
+abbrev pub BenchesTakeRow : PlanOf → ℕ → Window → ℕ → List Cell → List BenchOf → List BenchOf → Type 0
+BenchesTakeRow p step hull number cells old new =
+    (rows : List Row) (first : ℕ) → AreLoaded p.graph rows (node_at p step) (row_of hull number) cells
+    → EachBench first (HasLoadedRows p rows step number) old
+    → EachBench first (HasLoadedRows p rows step (number + 1)) new
+
+-- of each of these benches one row more is loaded, unless it was refused
+abbrev pub LoadsRow : PlanOf → List Row → ℕ → ℕ → List BenchOf → List BenchOf → Result (Unit {0}) LookFail → Type 0
+LoadsRow p rows step number old new result =
+    (first : ℕ) → EachBench first (HasLoadedRows p rows step number) old
+    → OnOk result (EachBench first (HasLoadedRows p rows step (number + 1)) new)
 
 -- ---- one step of all
 

@@ -1,33 +1,30 @@
 // A bench: what one chunk of a run is evaluated in.
-ghost use Rattle.std.specs.Prelude.{◌≡◌, ◌<◌, ◌+◌, ◌*◌, ℕ, IfOk, length, ◌≤◌, ◌^◌, OnOk, OnErr, IfErr, List, take, Some, true};
+ghost use Rattle.std.specs.Prelude.{◌≡◌, ◌<◌, ◌+◌, ◌*◌, ℕ, IfOk, length, ◌≤◌, ◌^◌, OnOk, OnErr, IfErr, List, take, true};
 ghost use Rattle.oe_meanings.specs.Graphs.{Collections};
 ghost use Rattle.oe_check.specs.Laws.{AreCollectionsOf};
 ghost use Rattle.oe_plan.specs.Fits.{bench_cells};
-ghost use Rattle.oe_engine.specs.Benches.{IsBenchFor, IsDone, IsLoaded, chunk_of, held_cells, IsAtChunk, is_load_at, node_at};
+ghost use Rattle.oe_engine.specs.Benches.{IsBenchFor, IsDone, IsLoaded, chunk_of, held_cells, IsAtChunk, is_load_at, node_at, window_cells};
 ghost use Rattle.oe_steps.specs.Steps.{node_cells};
 ghost use Rattle.oe_steps.specs.Buffers.{lists_of};
 ghost use Rattle.oe_engine.specs.Chunks.{AreResultOf};
 ghost use Rattle.oe_engine.specs.declared.bench.State.TheVariants.{Idle, Loaded, Done};
 ghost use Rattle.oe_dims.specs.Dimensions.{cell_count};
 ghost use Rattle.oe_outside.specs.Faults.{HasCauseOf};
-ghost use Rattle.oe_plan.specs.Figures.{largest_window, shape_of_node};
 ghost use Rattle.oe_render.specs.Rendered.{AppendsCube, AppendsCubePrefix, CountsCube, CountsCubePrefix, IsRefusalWithin};
 ghost use Rattle.oe_render.specs.Stored.{HasCells};
 ghost use Rattle.oe_render.specs.declared.rendering.RenderFail.{RenderFail};
 ghost use Rattle.oe_sources.specs.CatalogueRows.{rows_of, seal_of};
 ghost use Rattle.oe_sources.specs.Permits.{MayLook, SpendsAtMost};
-ghost use Rattle.oe_steps.specs.Collections.{HasCollections, IsMountedAt};
-ghost use Rattle.oe_steps.specs.Loads.{AreLoaded, TellsWhy};
-ghost use Rattle.oe_engine.specs.Loads.{LoadsBench};
+ghost use Rattle.oe_steps.specs.Collections.{HasCollections};
+ghost use Rattle.oe_steps.specs.Loads.{AreLoaded};
+ghost use Rattle.oe_engine.specs.Loads.{IsRowToLoad, LoadsBench, TellsWhyAt};
 ghost use Rattle.oe_engine.specs.Runs.{chunk_total, result_shape};
-ghost use Rattle.oe_engine.specs.Hulls.{HasLoadedRows, HasLoadedSteps, IsBegun, IsStripped, LoadsFirst};
-ghost use Rattle.oe_ops.specs.Needs.{plane_window};
+ghost use Rattle.oe_engine.specs.Hulls.{BenchTakesRow, HasLoadedSteps, IsBegun, IsStripped, LoadsFirst};
 ghost use Rattle.oe_plan.specs.Plans.{IsPlan, PlanOf};
 ghost use Rattle.oe_plan.specs.Windows.{window_at};
-ghost use Rattle.oe_check.specs.Checked.{collection_of_node};
 ghost use Rattle.oe_sources.specs.Catalogue.{Row};
-ghost use Rattle.oe_window.specs.Parts.{row_count, row_of};
-ghost use Rattle.oe_window.specs.Windows.{Holds, position_count, span_length, whole_window};
+ghost use Rattle.oe_window.specs.Parts.{row_count};
+ghost use Rattle.oe_window.specs.Windows.{span_length};
 
 use crate::steps::{evaluate_steps, front, look_front, look_slot, step_of_result, take_part};
 use oe_cell::Cell;
@@ -155,16 +152,13 @@ impl Bench {
         requires load { is_load_at plan.now step ≡ true }
         requires mounted { HasCollections plan.now.graph (rows_of seen catalogue.now) }
         requires begun { IsBegun plan.now self.old }
-        requires asked { MayLook (seal_of catalogue.now)
-            (largest_window plan.now.graph plan.now.size) looker.old }
+        requires asked { MayLook (seal_of catalogue.now) (window_cells plan.now) looker.old }
         ensures begun { IsBegun plan.now self.new }
         ensures loaded { (k : ℕ)
             → HasLoadedSteps plan.now (rows_of seen catalogue.now) step k self.old → OnOk result
             (HasLoadedSteps plan.now (rows_of seen catalogue.now) (step + 1) k self.new) }
-        ensures spent { OnOk result (SpendsAtMost (largest_window plan.now.graph plan.now.size)
-            looker.old looker.new) }
-        ensures refused { TellsWhy plan.now.graph (rows_of seen catalogue.now)
-            (node_at plan.now step) result }
+        ensures spent { OnOk result (SpendsAtMost (window_cells plan.now) looker.old looker.new) }
+        ensures refused { TellsWhyAt plan.now (rows_of seen catalogue.now) step result }
     {
         look_slot(
             plan,
@@ -188,15 +182,7 @@ impl Bench {
         row: &Window,
         looker: &mut Looker,
     ) -> Result<(), LookFail>
-        requires step { step < length plan.now.order.steps }
-        requires load { is_load_at plan.now step ≡ true }
-        requires mounted { (id : List ℕ)
-            → collection_of_node plan.now.graph (node_at plan.now step) ≡ Some id
-            → IsMountedAt plan.now.graph (rows_of seen catalogue.now) id place }
-        requires within { Holds
-            (whole_window (shape_of_node plan.now.graph (node_at plan.now step))) row.now }
-        requires one { row.now ≡ plane_window row.now row.now.t.from row.now.bands.from }
-        requires count { position_count row.now ≡ span_length row.now.x }
+        requires row { IsRowToLoad plan.now (rows_of seen catalogue.now) step place row.now }
         requires room { span_length row.now.x ≤ length self.old.scratch }
         requires asked { MayLook (seal_of catalogue.now) (span_length row.now.x) looker.old }
         ensures loaded { OnOk result (AreLoaded plan.now.graph (rows_of seen catalogue.now)
@@ -204,8 +190,7 @@ impl Bench {
         ensures others { (record self.new { scratch = self.old.scratch }) ≡ self.old }
         ensures scratch { length self.new.scratch ≡ length self.old.scratch }
         ensures spent { SpendsAtMost (span_length row.now.x) looker.old looker.new }
-        ensures refused { TellsWhy plan.now.graph (rows_of seen catalogue.now)
-            (node_at plan.now step) result }
+        ensures refused { TellsWhyAt plan.now (rows_of seen catalogue.now) step result }
     {
         look_front(plan, catalogue, step, place, row, looker, &mut self.scratch)
     }
@@ -218,11 +203,8 @@ impl Bench {
         requires room { span_length hull.now.x ≤ length self.old.scratch }
         ensures stripped { IsStripped plan.now hull.now step self.new }
         ensures scratch { self.new.scratch ≡ self.old.scratch }
-        ensures loaded { (rows : List Row) (k : ℕ)
-            → AreLoaded plan.now.graph rows (node_at plan.now step) (row_of hull.now number)
-            (take (span_length hull.now.x) self.old.scratch)
-            → HasLoadedRows plan.now rows step number k self.old
-            → HasLoadedRows plan.now rows step (number + 1) k self.new }
+        ensures loaded { BenchTakesRow plan.now step hull.now number
+            (take (span_length hull.now.x) self.old.scratch) self.old self.new }
     {
         let count = (hull.x.to - hull.x.from) as usize;
         let row = &self.scratch[..count];
@@ -251,10 +233,7 @@ impl Bench {
         requires number { number < row_count hull.now }
         requires row { length row.now ≡ span_length hull.now.x }
         ensures stripped { IsStripped plan.now hull.now step self.new }
-        ensures loaded { (rows : List Row) (k : ℕ)
-            → AreLoaded plan.now.graph rows (node_at plan.now step) (row_of hull.now number) row.now
-            → HasLoadedRows plan.now rows step number k self.old
-            → HasLoadedRows plan.now rows step (number + 1) k self.new }
+        ensures loaded { BenchTakesRow plan.now step hull.now number row.now self.old self.new }
     {
         take_part(
             plan,

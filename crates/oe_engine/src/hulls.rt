@@ -1,22 +1,20 @@
 // The chunks of a round, loaded together: where the windows of a step that are neighbours along x are strips of one
 // hull, each row of that is looked at once and dealt to the benches, so that a collection is looked at in long rows.
-ghost use Rattle.std.specs.Prelude.{◌≡◌, ◌<◌, ◌+◌, ◌*◌, ◌^◌, ◌≤◌, ℕ, List, Some, IsTrue, OnOk, length, true};
+ghost use Rattle.std.specs.Prelude.{◌≡◌, ◌<◌, ◌+◌, ◌*◌, ◌^◌, ◌≤◌, ℕ, List, IsTrue, OnOk, length, true};
 ghost use Rattle.std.specs.List.{All};
-ghost use Rattle.oe_engine.specs.Benches.{IsAtChunk, IsBenchFor, is_load_at, node_at};
+ghost use Rattle.oe_engine.specs.Benches.{IsAtChunk, IsBenchFor, is_load_at};
 ghost use Rattle.oe_engine.specs.Chunks.{EachBench};
 ghost use Rattle.oe_engine.specs.Evaluations.{most_asked};
-ghost use Rattle.oe_steps.specs.Collections.{HasCollections, IsMountedAt};
-ghost use Rattle.oe_engine.specs.Hulls.{HasLoadedRows, HasLoadedSteps, IsBegun, IsReadable, IsStripped, LoadsChunks, LoadsFirst, LoadsStep};
-ghost use Rattle.oe_steps.specs.Loads.{AreLoaded, TellsWhy};
-ghost use Rattle.oe_engine.specs.Loads.{LoadsBench};
+ghost use Rattle.oe_steps.specs.Collections.{HasCollections};
+ghost use Rattle.oe_engine.specs.Hulls.{AreStripped, BenchesTakeRow, HasLoadedSteps, IsBegun, IsReadable, IsStripped, LoadsChunks, LoadsFirst, LoadsRow, LoadsStep};
+ghost use Rattle.oe_engine.specs.Loads.{LoadsBench, LoadsFrom, TellsWhyAt};
 ghost use Rattle.oe_engine.specs.Runs.{chunk_total};
 ghost use Rattle.oe_plan.specs.Figures.{largest_window};
 ghost use Rattle.oe_plan.specs.Plans.{IsPlan, PlanOf};
-ghost use Rattle.oe_check.specs.Checked.{collection_of_node};
 ghost use Rattle.oe_sources.specs.Catalogue.{Row};
 ghost use Rattle.oe_sources.specs.CatalogueRows.{rows_of, seal_of};
 ghost use Rattle.oe_sources.specs.Permits.{MayLook, SpendsAtMost};
-ghost use Rattle.oe_window.specs.Parts.{row_count, row_of};
+ghost use Rattle.oe_window.specs.Parts.{row_count};
 ghost use Rattle.oe_window.specs.Windows.{span_length};
 
 use crate::bench::Bench;
@@ -275,25 +273,16 @@ fn load_row(
     number: u64,
     looker: &mut Looker,
 ) -> Result<(), LookFail>
-    requires step { step < length plan.now.order.steps }
-    requires load { is_load_at plan.now step ≡ true }
-    requires mounted { (id : List ℕ)
-        → collection_of_node plan.now.graph (node_at plan.now step) ≡ Some id
-        → IsMountedAt plan.now.graph (rows_of seen catalogue.now) id place }
-    requires some { 0 < length benches.old }
-    requires stripped { All (IsStripped plan.now hull.now step) benches.old }
-    requires readable { IsReadable plan.now step (length benches.old) hull.now }
+    requires from { LoadsFrom plan.now (rows_of seen catalogue.now) step place }
+    requires strips { AreStripped plan.now step hull.now benches.old }
     requires number { number < row_count hull.now }
     requires asked { MayLook (seal_of catalogue.now) (span_length hull.now.x) looker.old }
     ensures count { length benches.new ≡ length benches.old }
     ensures stripped { All (IsStripped plan.now hull.now step) benches.new }
-    ensures loaded { (first : ℕ) → EachBench first
-        (HasLoadedRows plan.now (rows_of seen catalogue.now) step number) benches.old
-        → OnOk result (EachBench first
-        (HasLoadedRows plan.now (rows_of seen catalogue.now) step (number + 1)) benches.new) }
+    ensures loaded { LoadsRow plan.now (rows_of seen catalogue.now) step number benches.old
+        benches.new result }
     ensures spent { SpendsAtMost (span_length hull.now.x) looker.old looker.new }
-    ensures refused { TellsWhy plan.now.graph (rows_of seen catalogue.now)
-        (node_at plan.now step) result }
+    ensures refused { TellsWhyAt plan.now (rows_of seen catalogue.now) step result }
 {
     let row = hull.row(number);
     let (one, others) = benches.split_at_mut(1);
@@ -312,10 +301,7 @@ fn deal_row(plan: &Plan, benches: &mut [Bench], step: u32, hull: &Window, number
     requires row { length row.now ≡ span_length hull.now.x }
     ensures count { length benches.new ≡ length benches.old }
     ensures stripped { All (IsStripped plan.now hull.now step) benches.new }
-    ensures loaded { (rows : List Row) (first : ℕ)
-        → AreLoaded plan.now.graph rows (node_at plan.now step) (row_of hull.now number) row.now
-        → EachBench first (HasLoadedRows plan.now rows step number) benches.old
-        → EachBench first (HasLoadedRows plan.now rows step (number + 1)) benches.new }
+    ensures loaded { BenchesTakeRow plan.now step hull.now number row.now benches.old benches.new }
 {
     for index in 0..benches.len() {
         benches[index].take_row(plan, step, hull, number, row);

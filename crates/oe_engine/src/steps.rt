@@ -1,16 +1,14 @@
 // The steps of a plan: those of its schedule.
 ghost use Rattle.std.specs.Prelude.{◌≡◌, ◌<◌, ◌≤◌, ◌+◌, ◌^◌, ℕ, List, false, true, Ok, Some, OnOk, length, take};
-ghost use Rattle.oe_engine.specs.Benches.{AreCells, AreOfChunk, AreOfKind, EachLive, EachLoad, HaveRoomFor, OfResult, buffer_cells_at, is_load_at, node_at};
-ghost use Rattle.oe_engine.specs.Hulls.{HaveLoadedRows};
-ghost use Rattle.oe_engine.specs.Loads.{IsLoadedAt};
-ghost use Rattle.oe_ops.specs.Needs.{plane_window};
-ghost use Rattle.oe_plan.specs.Figures.{largest_window, scratch_of, shape_of_node};
+ghost use Rattle.oe_engine.specs.Benches.{AreCells, AreOfChunk, AreOfKind, EachLoad, HaveRoomFor, OfResult, buffer_cells_at, is_load_at, node_at, window_cells};
+ghost use Rattle.oe_engine.specs.Hulls.{TakesRow};
+ghost use Rattle.oe_engine.specs.Loads.{IsRowToLoad, LoadsOver, TellsWhyAt};
+ghost use Rattle.oe_plan.specs.Figures.{scratch_of};
 ghost use Rattle.oe_plan.specs.Plans.{IsPlan};
 ghost use Rattle.oe_plan.specs.Windows.{window_at};
 ghost use Rattle.oe_check.specs.Checked.{collection_of_node};
 ghost use Rattle.oe_meanings.specs.Graphs.{Collections};
 ghost use Rattle.oe_check.specs.Laws.{AreCollectionsOf};
-ghost use Rattle.oe_sources.specs.Catalogue.{Row};
 ghost use Rattle.oe_sources.specs.CatalogueRows.{rows_of, seal_of};
 ghost use Rattle.oe_sources.specs.Permits.{MayLook, SpendsAtMost, permit_raised};
 ghost use Rattle.oe_sources.specs.Source.{answer_of};
@@ -18,8 +16,8 @@ ghost use Rattle.oe_steps.specs.Buffers.{lists_of};
 ghost use Rattle.oe_steps.specs.Collections.{HasCollections, IsMountedAt};
 ghost use Rattle.oe_steps.specs.Loads.{AreLoaded, HasRead, TellsWhy, refusal_for};
 ghost use Rattle.oe_steps.specs.Strips.{IsStripOf};
-ghost use Rattle.oe_window.specs.Parts.{row_count, row_of};
-ghost use Rattle.oe_window.specs.Windows.{Holds, position_count, span_length, whole_window};
+ghost use Rattle.oe_window.specs.Parts.{row_count};
+ghost use Rattle.oe_window.specs.Windows.{span_length};
 
 use oe_cell::Cell;
 use oe_plan::Plan;
@@ -99,17 +97,12 @@ pub(crate) fn look_slot(
     requires mounted { HasCollections plan.now.graph (rows_of seen catalogue.now) }
     requires windows { AreOfChunk plan.now windows.now }
     requires room { HaveRoomFor plan.now (lists_of buffers.old) }
-    requires asked { MayLook (seal_of catalogue.now) (largest_window plan.now.graph plan.now.size)
-        looker.old }
+    requires asked { MayLook (seal_of catalogue.now) (window_cells plan.now) looker.old }
     ensures room { HaveRoomFor plan.now (lists_of buffers.new) }
-    ensures loaded { EachLive plan.now step (IsLoadedAt plan.now (rows_of seen catalogue.now)
-        windows.now (lists_of buffers.old))
-        → OnOk result (EachLive plan.now (step + 1) (IsLoadedAt plan.now
-        (rows_of seen catalogue.now) windows.now (lists_of buffers.new))) }
-    ensures spent { OnOk result (SpendsAtMost (largest_window plan.now.graph plan.now.size)
-        looker.old looker.new) }
-    ensures refused { TellsWhy plan.now.graph (rows_of seen catalogue.now)
-        (node_at plan.now step) result }
+    ensures loaded { LoadsOver plan.now (rows_of seen catalogue.now) step windows.now
+        (lists_of buffers.old) (lists_of buffers.new) result }
+    ensures spent { OnOk result (SpendsAtMost (window_cells plan.now) looker.old looker.new) }
+    ensures refused { TellsWhyAt plan.now (rows_of seen catalogue.now) step result }
 {
     oe_steps::look_slot(
         plan.checked(),
@@ -192,22 +185,13 @@ pub(crate) fn look_front(
     looker: &mut Looker,
     cells: &mut [Cell],
 ) -> Result<(), LookFail>
-    requires step { step < length plan.now.order.steps }
-    requires load { is_load_at plan.now step ≡ true }
-    requires mounted { (id : List ℕ)
-        → collection_of_node plan.now.graph (node_at plan.now step) ≡ Some id
-        → IsMountedAt plan.now.graph (rows_of seen catalogue.now) id place }
-    requires within { Holds (whole_window (shape_of_node plan.now.graph (node_at plan.now step)))
-        row.now }
-    requires one { row.now ≡ plane_window row.now row.now.t.from row.now.bands.from }
-    requires count { position_count row.now ≡ span_length row.now.x }
+    requires row { IsRowToLoad plan.now (rows_of seen catalogue.now) step place row.now }
     requires room { span_length row.now.x ≤ length cells.old }
     requires asked { MayLook (seal_of catalogue.now) (span_length row.now.x) looker.old }
     ensures loaded { OnOk result (AreLoaded plan.now.graph (rows_of seen catalogue.now)
         (node_at plan.now step) row.now (take (span_length row.now.x) cells.new)) }
     ensures spent { SpendsAtMost (span_length row.now.x) looker.old looker.new }
-    ensures refused { TellsWhy plan.now.graph (rows_of seen catalogue.now)
-        (node_at plan.now step) result }
+    ensures refused { TellsWhyAt plan.now (rows_of seen catalogue.now) step result }
 {
     oe_steps::look_front(
         plan.checked(),
@@ -239,10 +223,8 @@ pub(crate) fn take_part(
     requires number { number < row_count hull.now }
     requires row { length row.now ≡ span_length hull.now.x }
     ensures room { HaveRoomFor plan.now (lists_of buffers.new) }
-    ensures loaded { (rows : List Row)
-        → AreLoaded plan.now.graph rows (node_at plan.now step) (row_of hull.now number) row.now
-        → HaveLoadedRows plan.now rows step number windows.now (lists_of buffers.old)
-        → HaveLoadedRows plan.now rows step (number + 1) windows.now (lists_of buffers.new) }
+    ensures loaded { TakesRow plan.now step hull.now number row.now windows.now
+        (lists_of buffers.old) (lists_of buffers.new) }
 {
     oe_steps::take_part(
         plan.checked(),

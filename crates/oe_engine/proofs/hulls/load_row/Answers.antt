@@ -13,23 +13,30 @@ use Rattle.oe_engine.proofs.HullLemmas.{both_of_all, both_of_each, none_if_refus
 use Rattle.oe_steps.proofs.PlaneLemmas.{tells_handed}
 use Rattle.oe_engine.proofs.hulls.load_row.Goals as goal
 
-pub look_row-requires-clause-within : goal.look_row-requires-clause-within
-look_row-requires-clause-within g c = λ q in'. c.requires.readable.within q (c.row-row.ensures.part.inside q in')
-
-pub look_row-requires-clause-one : goal.look_row-requires-clause-one
-look_row-requires-clause-one g c = one_row c.args.hull.now c.row-row.result c.args.number c.row-row.ensures.value
-
-pub look_row-requires-clause-count : goal.look_row-requires-clause-count
-look_row-requires-clause-count g c = row_long c.args.hull.now c.row-row.result c.args.number c.row-row.ensures.value
+pub look_row-requires-clause-row : goal.look_row-requires-clause-row
+look_row-requires-clause-row g c =
+    let from = c.requires.from in
+    let hull = c.args.hull.now in
+    let row = c.row-row.result in
+    let is = c.row-row.ensures.value in
+    record {
+      plane = record {
+        load = record { step_in = from.step_in; loads = from.load };
+        mounted = from.mounted;
+        within = λ q in'. c.requires.strips.readable.within q (c.row-row.ensures.part.inside q in');
+        one = one_row hull row c.args.number is;
+      };
+      count = row_long hull row c.args.number is;
+    }
 
 pub look_row-requires-clause-room : goal.look_row-requires-clause-room
 look_row-requires-clause-room g c =
     let P = IsStripped c.args.plan.now c.args.hull.now c.args.step in
     let own = c.split_at_mut-one.result.0.now in
     let s = own_of_all P own c.split_at_mut-one.result.1.now c.split_at_mut-one.ensures.front_len c.index-one-0.result
-    (subst (All P) c.split_at_mut-one.ensures.value c.requires.stripped) in
+    (subst (All P) c.split_at_mut-one.ensures.value c.requires.strips.each) in
     let wide : span_length c.row-row.result.x ≡ span_length c.args.hull.now.x = ap (λ (w : Window). span_length w.x) c.row-row.ensures.value in
-    omega (arith, wide, s.begun.room.scratch, c.requires.readable.row)
+    omega (arith, wide, s.begun.room.scratch, c.requires.strips.readable.row)
 
 pub look_row-requires-clause-asked : goal.look_row-requires-clause-asked
 look_row-requires-clause-asked g c =
@@ -48,7 +55,7 @@ returns-in_err-look_row-clause-stripped g c =
     let own = c.split_at_mut-one.result.0.now in
     let others = c.split_at_mut-one.result.1.now in
     let one = c.split_at_mut-one.ensures.front_len in
-    let all = subst (All P) c.split_at_mut-one.ensures.value c.requires.stripped in
+    let all = subst (All P) c.split_at_mut-one.ensures.value c.requires.strips.each in
     let s = own_of_all P own others one c.index-one-0.result all in
     both_of_all P own others one c.look_row.new.self others
     (stripped_after_read (get_or own 0 c.index-one-0.result) c.look_row.new.self c.look_row.ensures.others c.look_row.ensures.scratch p c.args.hull.now c.args.step s)
@@ -70,7 +77,7 @@ take_own_row-requires-clause-stripped g c =
     let own = c.split_at_mut-one.result.0.now in
     let others = c.split_at_mut-one.result.1.now in
     let one = c.split_at_mut-one.ensures.front_len in
-    let all = subst (All P) c.split_at_mut-one.ensures.value c.requires.stripped in
+    let all = subst (All P) c.split_at_mut-one.ensures.value c.requires.strips.each in
     let s = own_of_all P own others one c.index-one-0.result all in
     subst P (sym (own_set own c.look_row.new.self c.index-one-0-2.result one))
     (stripped_after_read (get_or own 0 c.index-one-0.result) c.look_row.new.self c.look_row.ensures.others c.look_row.ensures.scratch p c.args.hull.now c.args.step s)
@@ -78,20 +85,20 @@ take_own_row-requires-clause-stripped g c =
 pub take_own_row-requires-clause-room : goal.take_own_row-requires-clause-room
 take_own_row-requires-clause-room g c =
     let s = take_own_row-requires-clause-stripped g c in
-    omega (arith, s.begun.room.scratch, c.requires.readable.row)
+    omega (arith, s.begun.room.scratch, c.requires.strips.readable.row)
 
 pub scratch-cells-requires : goal.scratch-cells-requires
 scratch-cells-requires g c =
     let own = c.split_at_mut-one.result.0.now in
     let one = length-set own 0 c.look_row.new.self ∙ c.split_at_mut-one.ensures.front_len in
     let same = ap (λ (b : BenchOf). length b.scratch) (own_set (set own 0 c.look_row.new.self) c.take_own_row.new.self c.index-one-0-3.result one) in
-    omega (arith, same, c.take_own_row.ensures.stripped.begun.room.scratch, c.requires.readable.row)
+    omega (arith, same, c.take_own_row.ensures.stripped.begun.room.scratch, c.requires.strips.readable.row)
 
 pub deal_row-requires-clause-stripped : goal.deal_row-requires-clause-stripped
 deal_row-requires-clause-stripped g c =
     let P = IsStripped c.args.plan.now c.args.hull.now c.args.step in
     others_of_all P c.split_at_mut-one.result.0.now c.split_at_mut-one.result.1.now c.split_at_mut-one.ensures.front_len
-    (subst (All P) c.split_at_mut-one.ensures.value c.requires.stripped)
+    (subst (All P) c.split_at_mut-one.ensures.value c.requires.strips.each)
 
 pub deal_row-requires-clause-row : goal.deal_row-requires-clause-row
 deal_row-requires-clause-row g c =
@@ -99,7 +106,7 @@ deal_row-requires-clause-row g c =
     let one = length-set own 0 c.look_row.new.self ∙ c.split_at_mut-one.ensures.front_len in
     let same = ap (λ (b : BenchOf). length b.scratch) (own_set (set own 0 c.look_row.new.self) c.take_own_row.new.self c.index-one-0-3.result one) in
     ap length c.scratch-cells.ensures
-    ∙ length-take-le _ _ (omega (arith, same, c.take_own_row.ensures.stripped.begun.room.scratch, c.requires.readable.row))
+    ∙ length-take-le _ _ (omega (arith, same, c.take_own_row.ensures.stripped.begun.room.scratch, c.requires.strips.readable.row))
 
 pub returns-clause-count : goal.returns-clause-count
 returns-clause-count g c =

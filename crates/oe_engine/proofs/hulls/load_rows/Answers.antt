@@ -1,10 +1,10 @@
-use Rattle.std.proofs.Common.{◌≡◌, ◌*◌, ℕ, ◌∙◌, refl, ap, arith}
+use Rattle.std.proofs.Common.{◌≡◌, ◌*◌, ℕ, ◌∙◌, refl, sym, ap, subst, arith}
 use Rattle.std.proofs.lemmas.List.Elements.{All-weaker}
 use Rattle.oe_plan.specs.Plans.{schedule_of}
 use Rattle.oe_sources.specs.CatalogueRows.{rows_of}
 use Rattle.oe_window.specs.Windows.{position_count, span_length}
 use Rattle.oe_engine.specs.Benches.{BenchOf, node_at}
-use Rattle.oe_engine.specs.Hulls.{IsBegun, IsStripped}
+use Rattle.oe_engine.specs.Hulls.{IsBegun, IsReadable, IsStripped}
 use Rattle.oe_engine.proofs.BenchLoadLemmas.{asked_one_more}
 use Rattle.oe_engine.proofs.HullLemmas.{all_rows_of_each, no_row_of_each, none_if_refused}
 use Rattle.oe_steps.proofs.PlaneLemmas.{tells_handed}
@@ -23,11 +23,25 @@ loop-number-init g c =
       loaded = λ first each. no_row_of_each p c.slot-slot.ensures.valid rows first c.args.step c.requires.step c.args.benches.now each;
     }
 
-pub load_row-requires-clause-mounted : goal.load_row-requires-clause-mounted
-load_row-requires-clause-mounted g c =
+pub load_row-requires-clause-from : goal.load_row-requires-clause-from
+load_row-requires-clause-from g c =
+    let p = c.args.plan.now in
     let rows = rows_of (λ z. (goal.SharedSource-dyn g z).CubeSource.seen z.1) c.args.catalogue.now in
     let at = c.place_of-place.ensures in
-    mounted_for c.args.plan.now.graph (schedule_of c.args.plan.now) rows rows c.args.step c.place_of-place.result at.0 at.1 at.2 (AreRead-refl rows)
+    record {
+      step_in = c.requires.step;
+      load = c.requires.load;
+      mounted = mounted_for p.graph (schedule_of p) rows rows c.args.step c.place_of-place.result at.0 at.1 at.2 (AreRead-refl rows);
+    }
+
+pub load_row-requires-clause-strips : goal.load_row-requires-clause-strips
+load_row-requires-clause-strips g c =
+    let inv = c.loop-number.invariant in
+    record {
+      some = omega (arith, c.requires.some, inv.many);
+      each = inv.stripped;
+      readable = subst (λ (n : ℕ). IsReadable c.args.plan.now c.args.step n c.args.hull.now) (sym inv.many) c.requires.readable;
+    }
 
 pub load_row-requires-clause-asked : goal.load_row-requires-clause-asked
 load_row-requires-clause-asked g c =

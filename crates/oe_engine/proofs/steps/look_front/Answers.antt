@@ -1,13 +1,10 @@
-use Rattle.std.proofs.Common.{◌≡◌, ◌<◌, ℕ, List, true, Some, OnOk, length, take}
+use Rattle.std.proofs.Common.{OnOk, take}
 use Rattle.oe_plan.specs.Schedules.{IsSchedule, node_at}
 use Rattle.oe_plan.proofs.ScheduleLemmas.{plan_schedule}
-use Rattle.oe_plan.specs.Figures.{shape_of_node}
-use Rattle.oe_check.specs.Checked.{collection_of_node}
 use Rattle.oe_sources.specs.CatalogueRows.{rows_of}
-use Rattle.oe_steps.specs.Collections.{IsMountedAt}
 use Rattle.oe_steps.specs.Loads.{AreLoaded, TellsWhy}
-use Rattle.oe_steps.specs.Steps.{loads_at}
-use Rattle.oe_window.specs.Windows.{Holds, span_length, whole_window}
+use Rattle.oe_steps.specs.Looks.{IsRowToLoad}
+use Rattle.oe_window.specs.Windows.{span_length}
 use Rattle.oe_engine.proofs.ScheduleLemmas.{as_read, of_plan}
 use Rattle.oe_engine.proofs.steps.look_front.Goals as goal
 
@@ -20,42 +17,15 @@ look_front-requires-clause-schedule g c =
     let is = c.schedule.ensures.value in
     as_read (λ g s. IsSchedule g s) p graph schedule same is (plan_schedule p c.schedule.ensures.valid)
 
-pub look_front-requires-clause-step : goal.look_front-requires-clause-step
-look_front-requires-clause-step g c =
-    let p = c.args.plan.now in
-    let graph = c.checked.result.now in
-    let schedule = c.schedule.result.now in
-    let same = c.checked.ensures.value in
-    let is = c.schedule.ensures.value in
-    as_read (λ g s. c.args.step < length s.order.steps) p graph schedule same is c.requires.step
-
-pub look_front-requires-clause-load : goal.look_front-requires-clause-load
-look_front-requires-clause-load g c =
-    let p = c.args.plan.now in
-    let graph = c.checked.result.now in
-    let schedule = c.schedule.result.now in
-    let same = c.checked.ensures.value in
-    let is = c.schedule.ensures.value in
-    as_read (λ g s. loads_at g s c.args.step ≡ true) p graph schedule same is c.requires.load
-
-pub look_front-requires-clause-mounted : goal.look_front-requires-clause-mounted
-look_front-requires-clause-mounted g c =
+pub look_front-requires-clause-row : goal.look_front-requires-clause-row
+look_front-requires-clause-row g c =
     let p = c.args.plan.now in
     let graph = c.checked.result.now in
     let schedule = c.schedule.result.now in
     let same = c.checked.ensures.value in
     let is = c.schedule.ensures.value in
     let rows = rows_of (λ z. (goal.SharedSource-dyn g z).CubeSource.seen z.1) c.args.catalogue.now in
-    as_read (λ g s. (id : List ℕ) → collection_of_node g (node_at s c.args.step) ≡ Some id → IsMountedAt g rows id c.args.place) p graph schedule same is c.requires.mounted
-
-pub look_front-requires-clause-within : goal.look_front-requires-clause-within
-look_front-requires-clause-within g c =
-    let p = c.args.plan.now in
-    let graph = c.checked.result.now in
-    let schedule = c.schedule.result.now in
-    let same = c.checked.ensures.value in
-    let is = c.schedule.ensures.value in
-    as_read (λ g s. Holds (whole_window (shape_of_node g (node_at s c.args.step))) c.args.row.now) p graph schedule same is c.requires.within
+    as_read (λ g s. IsRowToLoad g s rows c.args.step c.args.place c.args.row.now) p graph schedule same is c.requires.row
 
 pub returns-clause-loaded : goal.returns-clause-loaded
 returns-clause-loaded g c =

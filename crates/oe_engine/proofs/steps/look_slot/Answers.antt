@@ -1,6 +1,6 @@
-use Rattle.std.proofs.Common.{◌≡◌, ◌<◌, ◌+◌, true, OnOk, length, arith}
+use Rattle.std.proofs.Common.{arith}
 use Rattle.oe_plan.specs.Plans.{schedule_of}
-use Rattle.oe_plan.specs.Schedules.{AreWindowsFor, IsSchedule, node_at}
+use Rattle.oe_plan.specs.Schedules.{node_at}
 use Rattle.oe_plan.proofs.ScheduleLemmas.{plan_schedule, plan_windows}
 use Rattle.oe_plan.specs.Figures.{largest_window}
 use Rattle.oe_plan.specs.Windows.{window_at}
@@ -12,28 +12,28 @@ use Rattle.oe_steps.proofs.Outcomes.{on_ok}
 use Rattle.oe_steps.proofs.ReadLemmas.{AreRead-refl}
 use Rattle.oe_steps.proofs.ScheduleLemmas.{few}
 use Rattle.oe_steps.specs.Collections.{HasCollections}
-use Rattle.oe_steps.specs.Loads.{IsLoadedAt, TellsWhy}
-use Rattle.oe_steps.specs.Steps.{EachLive, HaveRoomFor, loads_at}
+use Rattle.oe_steps.specs.Loads.{TellsWhy}
+use Rattle.oe_steps.specs.Looks.{IsLoadStep, LoadsOver}
+use Rattle.oe_steps.specs.Steps.{HaveRoomFor, IsReadySchedule}
 use Rattle.oe_engine.proofs.ScheduleLemmas.{as_read, of_plan}
 use Rattle.oe_engine.proofs.steps.look_slot.Goals as goal
 
-pub look_slot-requires-clause-schedule : goal.look_slot-requires-clause-schedule
-look_slot-requires-clause-schedule g c =
+pub look_slot-requires-clause-ready : goal.look_slot-requires-clause-ready
+look_slot-requires-clause-ready g c =
     let p = c.args.plan.now in
     let graph = c.checked.result.now in
     let schedule = c.schedule.result.now in
     let same = c.checked.ensures.value in
     let is = c.schedule.ensures.value in
-    as_read (λ g s. IsSchedule g s) p graph schedule same is (plan_schedule p c.schedule.ensures.valid)
-
-pub look_slot-requires-clause-step : goal.look_slot-requires-clause-step
-look_slot-requires-clause-step g c =
-    let p = c.args.plan.now in
-    let graph = c.checked.result.now in
-    let schedule = c.schedule.result.now in
-    let same = c.checked.ensures.value in
-    let is = c.schedule.ensures.value in
-    as_read (λ g s. c.args.step < length s.order.steps) p graph schedule same is c.requires.step
+    let windows = c.args.windows.now in
+    let buffers = lists_of c.args.buffers.now in
+    let valid = c.schedule.ensures.valid in
+    let ready : IsReadySchedule p.graph (schedule_of p) windows buffers = record {
+      scheduled = plan_schedule p valid;
+      windows_fit = plan_windows p valid c.requires.windows.0 windows c.requires.windows.1;
+      room = c.requires.room;
+    } in
+    as_read (λ g s. IsReadySchedule g s windows buffers) p graph schedule same is ready
 
 pub look_slot-requires-clause-load : goal.look_slot-requires-clause-load
 look_slot-requires-clause-load g c =
@@ -42,7 +42,8 @@ look_slot-requires-clause-load g c =
     let schedule = c.schedule.result.now in
     let same = c.checked.ensures.value in
     let is = c.schedule.ensures.value in
-    as_read (λ g s. loads_at g s c.args.step ≡ true) p graph schedule same is c.requires.load
+    let load : IsLoadStep p.graph (schedule_of p) c.args.step = record { step_in = c.requires.step; loads = c.requires.load } in
+    as_read (λ g s. IsLoadStep g s c.args.step) p graph schedule same is load
 
 pub look_slot-requires-clause-mounted : goal.look_slot-requires-clause-mounted
 look_slot-requires-clause-mounted g c =
@@ -53,24 +54,6 @@ look_slot-requires-clause-mounted g c =
     let is = c.schedule.ensures.value in
     let rows = rows_of (λ z. (goal.SharedSource-dyn g z).CubeSource.seen z.1) c.args.catalogue.now in
     as_read (λ g s. HasCollections g rows) p graph schedule same is c.requires.mounted
-
-pub look_slot-requires-clause-windows : goal.look_slot-requires-clause-windows
-look_slot-requires-clause-windows g c =
-    let p = c.args.plan.now in
-    let graph = c.checked.result.now in
-    let schedule = c.schedule.result.now in
-    let same = c.checked.ensures.value in
-    let is = c.schedule.ensures.value in
-    as_read (λ g s. AreWindowsFor g s c.args.windows.now) p graph schedule same is (plan_windows p c.schedule.ensures.valid c.requires.windows.0 c.args.windows.now c.requires.windows.1)
-
-pub look_slot-requires-clause-room : goal.look_slot-requires-clause-room
-look_slot-requires-clause-room g c =
-    let p = c.args.plan.now in
-    let graph = c.checked.result.now in
-    let schedule = c.schedule.result.now in
-    let same = c.checked.ensures.value in
-    let is = c.schedule.ensures.value in
-    as_read (λ g s. HaveRoomFor s (lists_of c.args.buffers.now)) p graph schedule same is c.requires.room
 
 pub returns-clause-room : goal.returns-clause-room
 returns-clause-room g c =
@@ -89,9 +72,8 @@ returns-clause-loaded g c =
     let same = c.checked.ensures.value in
     let is = c.schedule.ensures.value in
     let rows = rows_of (λ z. (goal.SharedSource-dyn g z).CubeSource.seen z.1) c.args.catalogue.now in
-    of_plan (λ g s. EachLive g s c.args.step (IsLoadedAt g s rows c.args.windows.now (lists_of c.args.buffers.now))
-    → OnOk c.look_slot.result (EachLive g s (c.args.step + 1) (IsLoadedAt g s rows c.args.windows.now (lists_of c.look_slot.new.buffers)))) p graph schedule same is
-    (c.look_slot.ensures.loaded rows (AreRead-refl rows))
+    of_plan (λ g s. LoadsOver g s rows c.args.step c.args.windows.now (lists_of c.args.buffers.now) (lists_of c.look_slot.new.buffers) c.look_slot.result)
+    p graph schedule same is (c.look_slot.ensures.loaded rows (AreRead-refl rows))
 
 pub returns-clause-refused : goal.returns-clause-refused
 returns-clause-refused g c =

@@ -1,12 +1,9 @@
-use Rattle.std.proofs.Common.{◌<◌, ◌+◌, List, length}
-use Rattle.oe_plan.specs.Schedules.{AreWindowsFor, IsSchedule, node_at}
+use Rattle.std.proofs.Common.{◌<◌, length}
+use Rattle.oe_plan.specs.Schedules.{AreWindowsFor, IsSchedule}
 use Rattle.oe_plan.proofs.ScheduleLemmas.{plan_schedule, plan_windows}
-use Rattle.oe_sources.specs.Catalogue.{Row}
 use Rattle.oe_steps.specs.Buffers.{lists_of}
-use Rattle.oe_steps.specs.Loads.{AreLoaded}
 use Rattle.oe_steps.specs.Steps.{HaveRoomFor}
-use Rattle.oe_steps.specs.Strips.{HaveLoadedRows}
-use Rattle.oe_window.specs.Parts.{row_of}
+use Rattle.oe_steps.specs.Strips.{TakesRow}
 use Rattle.oe_engine.proofs.ScheduleLemmas.{as_read, of_plan}
 use Rattle.oe_engine.proofs.steps.take_part.Goals as goal
 
@@ -62,6 +59,5 @@ returns-clause-loaded c =
     let schedule = c.schedule.result.now in
     let same = c.checked.ensures.value in
     let is = c.schedule.ensures.value in
-    of_plan (λ g s. (rows : List Row) → AreLoaded g rows (node_at s c.args.step) (row_of c.args.hull.now c.args.number) c.args.row.now
-    → HaveLoadedRows g s rows c.args.step c.args.number c.args.windows.now (lists_of c.args.buffers.now)
-    → HaveLoadedRows g s rows c.args.step (c.args.number + 1) c.args.windows.now (lists_of c.take_part.new.buffers)) p graph schedule same is c.take_part.ensures.loaded
+    of_plan (λ g s. TakesRow g s c.args.step c.args.hull.now c.args.number c.args.row.now c.args.windows.now (lists_of c.args.buffers.now)
+    (lists_of c.take_part.new.buffers)) p graph schedule same is c.take_part.ensures.loaded

@@ -7,6 +7,9 @@ use Rattle.oe_steps.specs.Loads.{AreLoaded}
 use Rattle.oe_steps.proofs.BufferLemmas.{with_items_is}
 use Rattle.oe_engine.proofs.bench.Bench.look_row.Goals as goal
 
+pub look_front-requires-clause-row : goal.look_front-requires-clause-row
+look_front-requires-clause-row g c = c.requires.row
+
 pub returns-clause-loaded : goal.returns-clause-loaded
 returns-clause-loaded g c =
     let p = c.args.plan.now in
