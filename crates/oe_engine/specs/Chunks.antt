@@ -1,16 +1,18 @@
 -- The chunks of one round, each in a bench of its own.
-use Rattle.std.specs.Prelude.{◌≡◌, ◌≢◌, ℕ, ◌+◌, List, length, slice_get, Option, Some, None}
+use Rattle.std.specs.Prelude.{◌≡◌, ◌≢◌, ℕ, ◌+◌, List, length, slice_get, take, Option, Some, None}
 use Rattle.std.specs.List.{All}
 use Rattle.oe_cell.specs.Cells.{IsCell}
 use Rattle.oe_cell.specs.declared.cell.Cell.{Cell}
 use Rattle.oe_cell.specs.declared.cell.Cell.TheVariants.{Empty, Over}
+use Rattle.oe_check.specs.Laws.{AreCollectionsOf}
 use Rattle.oe_dims.specs.Cube.{Cube}
+use Rattle.oe_meanings.specs.Graphs.{Collections}
 use Rattle.oe_plan.specs.Figures.{shape_of_node}
 use Rattle.oe_plan.specs.Plans.{PlanOf}
 use Rattle.oe_spool.specs.Least.{IsLeastOver}
 use Rattle.oe_spool.specs.Spooled.{HoldsWindow, IsInSome}
 use Rattle.oe_window.specs.Cells.{cells_on}
-use Rattle.oe_engine.specs.Benches.{BenchOf, IsBenchFor, OfResult, buffer_cells_at, chunk_of}
+use Rattle.oe_engine.specs.Benches.{BenchOf, IsBenchFor, IsDone, IsLoaded, OfResult, buffer_cells_at, chunk_of}
 use Rattle.oe_engine.specs.Runs.{chunks_from}
 use Rattle.oe_engine.specs.declared.bench.State.TheVariants.{Loaded, Done}
 
@@ -26,6 +28,13 @@ pub record IsAtLoaded (p : PlanOf) (k : ℕ) (b : BenchOf) : Type 0 where
 pub record IsAtDone (p : PlanOf) (k : ℕ) (b : BenchOf) : Type 0 where
   pub bench : IsBenchFor p b
   pub state : b.state ≡ Done k
+
+-- over whatever collections the first so many of the old benches are loaded, each for its chunk, over the same ones the
+-- first so many of the new are done
+abbrev pub EvaluatesFirst : PlanOf → ℕ → ℕ → List BenchOf → List BenchOf → Type 0
+EvaluatesFirst p first count old new = (collections : Collections) → AreCollectionsOf p.graph collections
+    → EachBench first (IsLoaded p collections) (take count old)
+    → EachBench first (IsDone p collections) (take count new)
 
 -- the cells of the result that a bench holds once it is done
 abbrev pub AreResultOf : PlanOf → BenchOf → List Cell → Type 0

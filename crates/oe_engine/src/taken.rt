@@ -1,16 +1,14 @@
 // The benches that a round takes: the first so many of a run. The others stay as they are.
 ghost use Rattle.std.specs.Prelude.{◌≡◌, ◌+◌, ◌*◌, ◌≤◌, OnOk, length, take};
 ghost use Rattle.std.specs.List.{All};
-ghost use Rattle.oe_plan.specs.Figures.{largest_window};
-ghost use Rattle.oe_meanings.specs.Graphs.{Collections};
-ghost use Rattle.oe_check.specs.Laws.{AreCollectionsOf};
 ghost use Rattle.oe_sources.specs.CatalogueRows.{rows_of};
-ghost use Rattle.oe_engine.specs.Benches.{IsBenchFor, IsDone, IsLoaded};
-ghost use Rattle.oe_engine.specs.Chunks.{EachBench, IsAtDone, IsAtLoaded};
+ghost use Rattle.oe_engine.specs.Benches.{IsBenchFor};
+ghost use Rattle.oe_engine.specs.Chunks.{EachBench, EvaluatesFirst, IsAtDone, IsAtLoaded};
+ghost use Rattle.oe_engine.specs.Evaluations.{most_asked};
 ghost use Rattle.oe_steps.specs.Collections.{HasCollections};
 ghost use Rattle.oe_steps.specs.Loads.{HasRead};
 ghost use Rattle.oe_engine.specs.Loads.{LoadsBench};
-ghost use Rattle.oe_engine.specs.Runs.{chunk_total, evaluated_after, load_count};
+ghost use Rattle.oe_engine.specs.Runs.{chunk_total, evaluated_after};
 ghost use Rattle.oe_engine.specs.Workspaces.{AreBenchesFor};
 
 use crate::asking::{ask_for_chunks, settle_chunks};
@@ -40,13 +38,11 @@ pub(crate) fn load_taken<R: Threads + Sync>(
     requires benches { All (IsBenchFor plan.now) benches.old }
     requires chunks { first + count ≤ chunk_total plan.now }
     requires mounted { HasCollections plan.now.graph (rows_of seen catalogue.old) }
-    ensures loaded { OnOk result
-        (EachBench first (LoadsBench plan.now (rows_of seen catalogue.old))
-        (take count benches.new)) }
+    ensures loaded { OnOk result (EachBench first
+        (LoadsBench plan.now (rows_of seen catalogue.old)) (take count benches.new)) }
     ensures benches { All (IsBenchFor plan.now) benches.new }
     ensures many { length benches.new ≡ length benches.old }
-    ensures read { HasRead plan.now.graph (count
-        * (load_count plan.now * largest_window plan.now.graph plan.now.size))
+    ensures read { HasRead plan.now.graph (count * most_asked plan.now)
         (rows_of seen catalogue.old) (rows_of seen catalogue.new) result }
 {
     let mut permit = ask_for_chunks(plan, catalogue, count);
@@ -76,9 +72,7 @@ pub(crate) fn evaluate_taken<R: Threads + Sync, G: Gate>(
     requires chunks { first + count ≤ chunk_total plan.now }
     ensures crew { crew.new ≡ crew.old }
     ensures done { EachBench first (IsAtDone plan.now) (take count benches.new.items) }
-    ensures value { (collections : Collections) → AreCollectionsOf plan.now.graph collections
-        → EachBench first (IsLoaded plan.now collections) (take count benches.old.items)
-        → EachBench first (IsDone plan.now collections) (take count benches.new.items) }
+    ensures value { EvaluatesFirst plan.now first count benches.old.items benches.new.items }
     ensures made { AreBenchesFor plan.now benches.new.items }
     ensures evaluations { result ≡ evaluated_after evaluations count }
 {
