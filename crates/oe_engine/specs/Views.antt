@@ -235,6 +235,11 @@ pub record Stands (task : Task) (first made ended held : ℕ) (laid : List Conte
   pub is : me ≡ (Leads (record { task = task; first = first; made = made; ended = ended; held = held; laid = laid }), slots)
   pub stack : IsStack held slots
 
+-- where it has made so many workers and holds no slot, and none of them has ended, all have afterwards
+abbrev pub EndsAll : Task → ℕ → At → At → Type 0
+EndsAll task count before after = (first : ℕ) (laid : List Content)
+    → Stands task first count 0 0 laid before → Stands task first count count 0 laid after
+
 -- between two rounds it holds all slots, and nobody works
 pub record IsReady (task : Task) (me : At) : Type 0 where
   pub first : ℕ
@@ -312,6 +317,11 @@ AreFull p slots laid = (slot : ℕ) → slot < slots
 abbrev pub AreEvaluated : PlanOf → List Content → List BenchOf → Type 0
 AreEvaluated p laid benches = (slot : ℕ) (after : BenchOf) → slice_get benches slot ≡ Some after
     → (before : Lent) × (laid_at laid slot ≡ Some before) × IsEvaluated p before.bench after
+
+-- whatever was laid into all slots when all workers had ended, these are those benches, each evaluated
+abbrev pub AreTakenBack : PlanOf → Task → ℕ → At → List BenchOf → Type 0
+AreTakenBack p task slots me benches = (first made : ℕ) (laid : List Content)
+    → Stands task first made made 0 laid me → AreFull p slots laid → AreEvaluated p laid benches
 
 -- each bench is what an evaluation makes of the one in its place before
 abbrev pub AreEvaluations : PlanOf → List BenchOf → List BenchOf → Type 0

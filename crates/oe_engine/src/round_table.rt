@@ -3,7 +3,7 @@
 ghost use Rattle.std.specs.Prelude.{◌≡◌, ◌+◌, ◌*◌, ◌<◌, ◌≤◌, ◌^◌, ◌++◌, ◌∷◌, ℕ, [], List, length, vec_capacity, IfOk, IfSome};
 ghost use Rattle.std.specs.List.{All};
 ghost use Rattle.oe_engine.specs.Benches.{IsBenchFor};
-ghost use Rattle.oe_engine.specs.Views.{AreEvaluated, AreEvaluations, AreFull, AreLaid, Content, HasNothing, IsReady, IsSpareAt, Stands};
+ghost use Rattle.oe_engine.specs.Views.{AreEvaluations, AreFull, AreLaid, AreTakenBack, Content, EndsAll, HasNothing, IsReady, IsSpareAt, Stands};
 
 use crate::bench::Bench;
 use crate::hands::work_all;
@@ -121,10 +121,7 @@ fn join_all(shelf: &Shelf, seat: &mut Place, hands: &mut Vec<Hand>)
         × Stands shelf.now.key first (length hands.old.items) 0 0 laid seat.old.me }
     requires hands { All (HasNothing shelf.now.table_id) hands.old.items }
     ensures table { seat.new.table_id ≡ seat.old.table_id }
-    ensures ended { (first : ℕ) (laid : List Content)
-        → Stands shelf.now.key first (length hands.old.items) 0 0 laid seat.old.me
-        → Stands shelf.now.key first (length hands.old.items) (length hands.old.items) 0 laid
-        seat.new.me }
+    ensures ended { EndsAll shelf.now.key (length hands.old.items) seat.old.me seat.new.me }
     ensures none { hands.new.items ≡ [] }
     ensures capacity { vec_capacity hands.new ≡ vec_capacity hands.old }
 {
@@ -169,9 +166,7 @@ fn take_all<G: Gate>(
     ensures table { seat.new.table_id ≡ seat.old.table_id }
     ensures ready { IsReady shelf.now.key seat.new.me }
     ensures many { length benches.new.items ≡ slots }
-    ensures evaluated { (first made : ℕ) (laid : List Content)
-        → Stands shelf.now.key first made made 0 laid seat.old.me → AreFull plan.now slots laid
-        → AreEvaluated plan.now laid benches.new.items }
+    ensures evaluated { AreTakenBack plan.now shelf.now.key slots seat.old.me benches.new.items }
 {
     for slot in 0..slots {
         let taken = take(shelf, seat, slot);

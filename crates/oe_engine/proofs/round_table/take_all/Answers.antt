@@ -77,6 +77,9 @@ loop-slot-preserved g c =
           (ap (λ (n : ℕ). laid_at laid n) inv.many ∙ b.laid_is) b.evaluated);
     }
 
+pub returns-clause-evaluated : goal.returns-clause-evaluated
+returns-clause-evaluated g c = c.loop-slot.invariant.evaluated
+
 pub returns-clause-ready : goal.returns-clause-ready
 returns-clause-ready g c =
     let key = c.args.shelf.now.key in
