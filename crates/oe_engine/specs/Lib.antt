@@ -11,3 +11,4 @@ pub mod Going
 pub mod Views
 pub mod Results
 pub mod Evaluations
+pub mod Rendered

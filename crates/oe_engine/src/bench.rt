@@ -1,5 +1,5 @@
 // A bench: what one chunk of a run is evaluated in.
-ghost use Rattle.std.specs.Prelude.{◌≡◌, ◌<◌, ◌+◌, ◌*◌, ℕ, IfOk, length, ◌≤◌, ◌^◌, OnOk, OnErr, IfErr, List, take, true};
+ghost use Rattle.std.specs.Prelude.{◌≡◌, ◌<◌, ◌+◌, ◌*◌, ℕ, IfOk, length, ◌≤◌, ◌^◌, OnOk, IfErr, List, take, true};
 ghost use Rattle.oe_meanings.specs.Graphs.{Collections};
 ghost use Rattle.oe_check.specs.Laws.{AreCollectionsOf};
 ghost use Rattle.oe_plan.specs.Fits.{bench_cells};
@@ -9,15 +9,14 @@ ghost use Rattle.oe_steps.specs.Buffers.{lists_of};
 ghost use Rattle.oe_engine.specs.Chunks.{AreResultOf};
 ghost use Rattle.oe_engine.specs.declared.bench.State.TheVariants.{Idle, Loaded, Done};
 ghost use Rattle.oe_dims.specs.Dimensions.{cell_count};
-ghost use Rattle.oe_outside.specs.Faults.{HasCauseOf};
-ghost use Rattle.oe_render.specs.Rendered.{AppendsCube, AppendsCubePrefix, CountsCube, CountsCubePrefix, IsRefusalWithin};
+ghost use Rattle.oe_render.specs.Rendered.{HasSinkCause, HasSpoolCause};
 ghost use Rattle.oe_render.specs.Stored.{HasCells};
-ghost use Rattle.oe_render.specs.declared.rendering.RenderFail.{RenderFail};
 ghost use Rattle.oe_sources.specs.CatalogueRows.{rows_of, seal_of};
 ghost use Rattle.oe_sources.specs.Permits.{MayLook, SpendsAtMost};
 ghost use Rattle.oe_steps.specs.Collections.{HasCollections};
 ghost use Rattle.oe_steps.specs.Loads.{AreLoaded};
 ghost use Rattle.oe_engine.specs.Loads.{IsRowToLoad, LoadsBench, TellsWhyAt};
+ghost use Rattle.oe_engine.specs.Rendered.{IsRefusalOf, RendersResult};
 ghost use Rattle.oe_engine.specs.Runs.{chunk_total, result_shape};
 ghost use Rattle.oe_engine.specs.Hulls.{BenchTakesRow, HasLoadedSteps, IsBegun, IsStripped, LoadsFirst};
 ghost use Rattle.oe_plan.specs.Plans.{IsPlan, PlanOf};
@@ -261,20 +260,11 @@ impl Bench {
         requires base { base ≤ 2 ^ 62 }
         requires stored { HasCells (P.bytes spool.old) base (cell_count (result_shape plan.now)) }
         ensures bench { IsBenchFor plan.now self.new }
-        ensures text { OnOk result (AppendsCube (P.bytes spool.old) base (result_shape plan.now)
-            (O.written out.old) (O.written out.new)) }
-        ensures prefix { OnErr result (AppendsCubePrefix (P.bytes spool.old) base
-            (result_shape plan.now) (O.written out.old) (O.written out.new)) }
-        ensures counted { OnOk result (CountsCube (P.bytes spool.old) base (result_shape plan.now)
-            (O.size out.old) (O.size out.new)) }
-        ensures counted_prefix { OnErr result (CountsCubePrefix (P.bytes spool.old) base
-            (result_shape plan.now) (O.size out.old) (O.size out.new)) }
-        ensures spool_cause { HasCauseOf RenderFail.SpoolFailed (P.faults spool.old)
-            (P.faults spool.new) result }
-        ensures sink_cause { HasCauseOf RenderFail.SinkFailed (O.faults out.old)
-            (O.faults out.new) result }
-        ensures damage { IfErr result
-            (IsRefusalWithin (P.bytes spool.old) 0 (cell_count (result_shape plan.now))) }
+        ensures rendered { RendersResult plan.now base O.written O.size out.old out.new
+            P.bytes spool.old result }
+        ensures spool_cause { HasSpoolCause P.faults spool.old spool.new result }
+        ensures sink_cause { HasSinkCause O.faults out.old out.new result }
+        ensures damage { IfErr result (IsRefusalOf plan.now (P.bytes spool.old)) }
         ensures same { P.bytes spool.new ≡ P.bytes spool.old }
     {
         render(plan.shape(), spool, base, out, &mut self.scratch, pending)

@@ -56,14 +56,14 @@ impl Model for PartRun {
 }
 
 impl PartRun {
-    ghost use Rattle.std.specs.Prelude.{◌≡◌, ◌≤◌, ◌+◌, ◌^◌, None, IfErr, OnErr, OnOk};
+    ghost use Rattle.std.specs.Prelude.{◌≡◌, ◌≤◌, ◌+◌, ◌^◌, None, IfErr};
     ghost use Rattle.oe_dims.specs.Dimensions.{cell_count};
-    ghost use Rattle.oe_outside.specs.Faults.{HasCauseOf};
-    ghost use Rattle.oe_render.specs.Rendered.{AppendsCube, AppendsCubePrefix, CountsCube, CountsCubePrefix, IsRefusalWithin};
+    ghost use Rattle.oe_render.specs.Rendered.{HasSinkCause, HasSpoolCause};
     ghost use Rattle.oe_render.specs.Stored.{HasCells};
     ghost use Rattle.oe_sources.specs.CatalogueRows.{rows_of};
     ghost use Rattle.oe_steps.specs.Collections.{HasCollections};
     ghost use Rattle.oe_engine.specs.Parts.{AdvancesPart, HasPartCauses, ReadsPart, WritesPart};
+    ghost use Rattle.oe_engine.specs.Rendered.{IsRefusalOf, RendersResult};
     ghost use Rattle.oe_engine.specs.Runs.{chunk_total, result_shape};
     ghost use Rattle.oe_engine.specs.Workspaces.{AreBenchesFor};
 
@@ -158,20 +158,11 @@ impl PartRun {
     ) -> Result<(), RenderFail>
         requires stored { HasCells (P.bytes spool.old) self.old.base
             (cell_count (result_shape self.old.plan)) }
-        ensures text { OnOk result (AppendsCube (P.bytes spool.old) self.old.base
-            (result_shape self.old.plan) (O.written out.old) (O.written out.new)) }
-        ensures prefix { OnErr result (AppendsCubePrefix (P.bytes spool.old) self.old.base
-            (result_shape self.old.plan) (O.written out.old) (O.written out.new)) }
-        ensures counted { OnOk result (CountsCube (P.bytes spool.old) self.old.base
-            (result_shape self.old.plan) (O.size out.old) (O.size out.new)) }
-        ensures counted_prefix { OnErr result (CountsCubePrefix (P.bytes spool.old) self.old.base
-            (result_shape self.old.plan) (O.size out.old) (O.size out.new)) }
-        ensures spool_cause { HasCauseOf RenderFail.SpoolFailed (P.faults spool.old)
-            (P.faults spool.new) result }
-        ensures sink_cause { HasCauseOf RenderFail.SinkFailed (O.faults out.old)
-            (O.faults out.new) result }
-        ensures damage { IfErr result (IsRefusalWithin (P.bytes spool.old) 0
-            (cell_count (result_shape self.old.plan))) }
+        ensures rendered { RendersResult self.old.plan self.old.base O.written O.size
+            out.old out.new P.bytes spool.old result }
+        ensures spool_cause { HasSpoolCause P.faults spool.old spool.new result }
+        ensures sink_cause { HasSinkCause O.faults out.old out.new result }
+        ensures damage { IfErr result (IsRefusalOf self.old.plan (P.bytes spool.old)) }
         ensures same { P.bytes spool.new ≡ P.bytes spool.old }
         ensures run { self.new ≡ self.old }
     {

@@ -43,22 +43,16 @@ impl Model for Run {
 }
 
 impl Run {
-    ghost use Rattle.std.specs.Prelude.{◌≡◌, ◌≤◌, ◌+◌, ◌^◌, None, IfErr, OnErr, OnOk, length};
-    ghost use Rattle.oe_dims.specs.Cube.{Cube};
-    ghost use Rattle.oe_dims.specs.Dimensions.{cell_count};
-    ghost use Rattle.oe_cell.specs.declared.cell.Cell.{Cell};
-    ghost use Rattle.oe_outside.specs.Visible.{AddsBytes, AddsSome, Appends, AppendsPrefix};
-    ghost use Rattle.oe_outside.specs.Faults.{HasCauseOf};
+    ghost use Rattle.std.specs.Prelude.{◌≡◌, ◌≤◌, ◌+◌, ◌^◌, None, IfErr};
     ghost use Rattle.oe_plan.specs.Figures.{shape_of_node};
-    ghost use Rattle.oe_render.specs.Rendered.{AppendsCube, IsRefusalWithin};
-    ghost use Rattle.oe_render.specs.Text.{cube_text};
-    ghost use Rattle.oe_render.specs.declared.rendering.RenderFail.{RenderFail};
+    ghost use Rattle.oe_render.specs.Rendered.{HasSinkCause, HasSpoolCause};
     ghost use Rattle.oe_sources.specs.CatalogueRows.{rows_of};
     ghost use Rattle.oe_steps.specs.Collections.{HasCollections};
     ghost use Rattle.oe_steps.specs.Refusals.{overflow_of};
     ghost use Rattle.oe_engine.specs.Going as spec;
+    ghost use Rattle.oe_engine.specs.Rendered.{BeginsRun, CountsRun, CountsRunPrefix, IsRefusalOf, WritesRun, WritesStored};
     ghost use Rattle.oe_engine.specs.Rounds.{Advances, HasCauses, ReadsChunks, WritesChunks};
-    ghost use Rattle.oe_engine.specs.Runs.{HasRunRecords, OfRun, chunk_total, result_shape};
+    ghost use Rattle.oe_engine.specs.Runs.{HasRunRecords, chunk_total};
     ghost use Rattle.oe_engine.specs.Workspaces.{AreBenchesFor};
 
     /// A run of a plan at its first chunk, whose records are to stand in a spool from byte `base` on.
@@ -126,24 +120,15 @@ impl Run {
         requires complete { self.old.done ≡ chunk_total self.old.plan }
         requires numbers { self.old.over ≡ None }
         requires records { HasRunRecords self.old (P.bytes spool.old) }
-        ensures text { OnOk result (OfRun self.old (P.bytes spool.old) (λ cube.
-            Appends (O.written out.old) (cube_text cube) (O.written out.new))) }
-        ensures prefix { OnErr result (OfRun self.old (P.bytes spool.old) (λ cube.
-            AppendsPrefix (O.written out.old) (cube_text cube) (O.written out.new))) }
-        // it is that of cells that stand there, also where collections are hidden
-        ensures cells { OnOk result (AppendsCube (P.bytes spool.old) self.old.base
-            (result_shape self.old.plan) (O.written out.old) (O.written out.new)) }
-        // and how many bytes it has
-        ensures counted { OnOk result (OfRun self.old (P.bytes spool.old) (λ cube.
-            AddsBytes (O.size out.old) (length (cube_text cube)) (O.size out.new))) }
-        ensures counted_prefix { OnErr result (OfRun self.old (P.bytes spool.old) (λ cube.
-            AddsSome (O.size out.old) (length (cube_text cube)) (O.size out.new))) }
-        ensures spool_cause { HasCauseOf RenderFail.SpoolFailed (P.faults spool.old)
-            (P.faults spool.new) result }
-        ensures sink_cause { HasCauseOf RenderFail.SinkFailed (O.faults out.old)
-            (O.faults out.new) result }
-        ensures damage { IfErr result (IsRefusalWithin (P.bytes spool.old) 0
-            (cell_count (result_shape self.old.plan))) }
+        ensures text { WritesRun O.written out.old out.new self.old P.bytes spool.old result }
+        ensures prefix { BeginsRun O.written out.old out.new self.old P.bytes spool.old result }
+        ensures cells { WritesStored O.written out.old out.new self.old P.bytes spool.old result }
+        ensures counted { CountsRun O.size out.old out.new self.old P.bytes spool.old result }
+        ensures counted_prefix { CountsRunPrefix O.size out.old out.new self.old
+            P.bytes spool.old result }
+        ensures spool_cause { HasSpoolCause P.faults spool.old spool.new result }
+        ensures sink_cause { HasSinkCause O.faults out.old out.new result }
+        ensures damage { IfErr result (IsRefusalOf self.old.plan (P.bytes spool.old)) }
         ensures same { P.bytes spool.new ≡ P.bytes spool.old }
         ensures run { self.new ≡ self.old }
     {

@@ -13,25 +13,23 @@ render-requires-clause-stored g c =
     subst (λ (r : PartRunOf). HasCells (g.P.Store.bytes c.args.spool.now) r.base (cell_count (result_shape r.plan)))
     (sym c.self.view_is) c.requires.stored
 
-pub returns-clause-text : goal.returns-clause-text
-returns-clause-text g c =
-    subst (λ (r : PartRunOf). OnOk c.render.result (AppendsCube (g.P.Store.bytes c.args.spool.now) r.base (result_shape r.plan)
-    (g.O.Sink.written c.args.out.now) (g.O.Sink.written c.render.new.out))) c.self.view_is c.render.ensures.text
-
-pub returns-clause-prefix : goal.returns-clause-prefix
-returns-clause-prefix g c =
-    subst (λ (r : PartRunOf). OnErr c.render.result (AppendsCubePrefix (g.P.Store.bytes c.args.spool.now) r.base (result_shape r.plan)
-    (g.O.Sink.written c.args.out.now) (g.O.Sink.written c.render.new.out))) c.self.view_is c.render.ensures.prefix
-
-pub returns-clause-counted : goal.returns-clause-counted
-returns-clause-counted g c =
-    subst (λ (r : PartRunOf). OnOk c.render.result (CountsCube (g.P.Store.bytes c.args.spool.now) r.base (result_shape r.plan)
-    (g.O.Sink.size c.args.out.now) (g.O.Sink.size c.render.new.out))) c.self.view_is c.render.ensures.counted
-
-pub returns-clause-counted_prefix : goal.returns-clause-counted_prefix
-returns-clause-counted_prefix g c =
-    subst (λ (r : PartRunOf). OnErr c.render.result (CountsCubePrefix (g.P.Store.bytes c.args.spool.now) r.base (result_shape r.plan)
-    (g.O.Sink.size c.args.out.now) (g.O.Sink.size c.render.new.out))) c.self.view_is c.render.ensures.counted_prefix
+pub returns-clause-rendered : goal.returns-clause-rendered
+returns-clause-rendered g c =
+    let is = c.self.view_is in
+    let answer = c.render.result in
+    let rendered = c.render.ensures.rendered in
+    let store = g.P.Store.bytes c.args.spool.now in
+    let before = g.O.Sink.written c.args.out.now in
+    let after = g.O.Sink.written c.render.new.out in
+    let size = g.O.Sink.size c.args.out.now in
+    let size_after = g.O.Sink.size c.render.new.out in
+    record {
+      text = subst (λ (r : PartRunOf). OnOk answer (AppendsCube store r.base (result_shape r.plan) before after)) is rendered.text;
+      prefix = subst (λ (r : PartRunOf). OnErr answer (AppendsCubePrefix store r.base (result_shape r.plan) before after)) is rendered.prefix;
+      counted = subst (λ (r : PartRunOf). OnOk answer (CountsCube store r.base (result_shape r.plan) size size_after)) is rendered.counted;
+      counted_prefix = subst (λ (r : PartRunOf). OnErr answer (CountsCubePrefix store r.base (result_shape r.plan) size size_after)) is
+          rendered.counted_prefix;
+    }
 
 pub returns-clause-damage : goal.returns-clause-damage
 returns-clause-damage g c =

@@ -1,11 +1,13 @@
-use Rattle.std.proofs.Common.{◌≡◌, ℕ, IfErr, OnOk, refl, sym, ap, ◌∙◌, subst}
+use Rattle.std.proofs.Common.{◌≡◌, ℕ, IfErr, OnOk, length, refl, sym, ap, ◌∙◌, subst}
 use Rattle.oe_steps.proofs.Outcomes.{on_err, on_ok}
 use Rattle.oe_dims.specs.Dimensions.{cell_count}
+use Rattle.oe_outside.specs.Visible.{AddsBytes, AddsSome, Appends, AppendsPrefix}
 use Rattle.oe_plan.specs.Plans.{IsPlan, PlanOf}
 use Rattle.oe_render.specs.Rendered.{AppendsCube, AppendsCubePrefix, CountsCube, CountsCubePrefix, IsRefusalWithin}
 use Rattle.oe_render.specs.Stored.{HasCells}
+use Rattle.oe_render.specs.Text.{cube_text}
 use Rattle.oe_engine.specs.Parts.{IsWhole}
-use Rattle.oe_engine.specs.Runs.{RunOf, chunk_total, result_cube, result_shape}
+use Rattle.oe_engine.specs.Runs.{OfRun, RunOf, chunk_total, result_cube, result_shape}
 use Rattle.oe_engine.proofs.RenderLemmas.{count_is, has_cells, part_count_is, prefix_is, result_shape_is, result_whole, text_is}
 use Rattle.oe_engine.proofs.rounds.Run.render.Goals as goal
 
@@ -31,12 +33,13 @@ returns-clause-text g c =
     let store = g.P.Store.bytes c.args.spool.now in
     let before = g.O.Sink.written c.args.out.now in
     let after = g.O.Sink.written c.render.new.out in
-    on_ok (AppendsCube store c.self.inside.part.base (result_shape c.self.inside.part.plan) before after) _ c.render.result
+    on_ok (AppendsCube store c.self.inside.part.base (result_shape c.self.inside.part.plan) before after)
+    (OfRun r store (λ cube. Appends before (cube_text cube) after)) c.render.result
     (λ h collections has done. text_is r.plan is r refl c.requires.complete (result_cube collections r.plan)
     (result_shape_is r.plan is collections has) (result_whole r.plan is collections has) store before after done
     (subst (λ (n : ℕ). AppendsCube store n (result_shape r.plan) before after) (sym base)
     (subst (λ (plan : PlanOf). AppendsCube store c.self.inside.part.base (result_shape plan) before after) (sym same) h)))
-    c.render.ensures.text
+    c.render.ensures.rendered.text
 
 pub returns-clause-prefix : goal.returns-clause-prefix
 returns-clause-prefix g c =
@@ -47,12 +50,13 @@ returns-clause-prefix g c =
     let store = g.P.Store.bytes c.args.spool.now in
     let before = g.O.Sink.written c.args.out.now in
     let after = g.O.Sink.written c.render.new.out in
-    on_err (AppendsCubePrefix store c.self.inside.part.base (result_shape c.self.inside.part.plan) before after) _ c.render.result
+    on_err (AppendsCubePrefix store c.self.inside.part.base (result_shape c.self.inside.part.plan) before after)
+    (OfRun r store (λ cube. AppendsPrefix before (cube_text cube) after)) c.render.result
     (λ h collections has done. prefix_is r.plan is r refl c.requires.complete (result_cube collections r.plan)
     (result_shape_is r.plan is collections has) (result_whole r.plan is collections has) store before after done
     (subst (λ (n : ℕ). AppendsCubePrefix store n (result_shape r.plan) before after) (sym base)
     (subst (λ (plan : PlanOf). AppendsCubePrefix store c.self.inside.part.base (result_shape plan) before after) (sym same) h)))
-    c.render.ensures.prefix
+    c.render.ensures.rendered.prefix
 
 pub returns-clause-cells : goal.returns-clause-cells
 returns-clause-cells g c =
@@ -63,7 +67,7 @@ returns-clause-cells g c =
     let after = g.O.Sink.written c.render.new.out in
     subst (λ (n : ℕ). OnOk c.render.result (AppendsCube store n (result_shape c.args.self.now.plan) before after)) base
     (subst (λ (p : PlanOf). OnOk c.render.result (AppendsCube store c.self.inside.part.base (result_shape p) before after)) same
-    c.render.ensures.text)
+    c.render.ensures.rendered.text)
 
 pub returns-clause-counted : goal.returns-clause-counted
 returns-clause-counted g c =
@@ -74,12 +78,13 @@ returns-clause-counted g c =
     let store = g.P.Store.bytes c.args.spool.now in
     let before = g.O.Sink.size c.args.out.now in
     let after = g.O.Sink.size c.render.new.out in
-    on_ok (CountsCube store c.self.inside.part.base (result_shape c.self.inside.part.plan) before after) _ c.render.result
+    on_ok (CountsCube store c.self.inside.part.base (result_shape c.self.inside.part.plan) before after)
+    (OfRun r store (λ cube. AddsBytes before (length (cube_text cube)) after)) c.render.result
     (λ h collections has done. count_is r.plan is r refl c.requires.complete (result_cube collections r.plan)
     (result_shape_is r.plan is collections has) (result_whole r.plan is collections has) store before after done
     (subst (λ (n : ℕ). CountsCube store n (result_shape r.plan) before after) (sym base)
     (subst (λ (plan : PlanOf). CountsCube store c.self.inside.part.base (result_shape plan) before after) (sym same) h)))
-    c.render.ensures.counted
+    c.render.ensures.rendered.counted
 
 pub returns-clause-counted_prefix : goal.returns-clause-counted_prefix
 returns-clause-counted_prefix g c =
@@ -90,12 +95,13 @@ returns-clause-counted_prefix g c =
     let store = g.P.Store.bytes c.args.spool.now in
     let before = g.O.Sink.size c.args.out.now in
     let after = g.O.Sink.size c.render.new.out in
-    on_err (CountsCubePrefix store c.self.inside.part.base (result_shape c.self.inside.part.plan) before after) _ c.render.result
+    on_err (CountsCubePrefix store c.self.inside.part.base (result_shape c.self.inside.part.plan) before after)
+    (OfRun r store (λ cube. AddsSome before (length (cube_text cube)) after)) c.render.result
     (λ h collections has done. part_count_is r.plan is r refl c.requires.complete (result_cube collections r.plan)
     (result_shape_is r.plan is collections has) (result_whole r.plan is collections has) store before after done
     (subst (λ (n : ℕ). CountsCubePrefix store n (result_shape r.plan) before after) (sym base)
     (subst (λ (plan : PlanOf). CountsCubePrefix store c.self.inside.part.base (result_shape plan) before after) (sym same) h)))
-    c.render.ensures.counted_prefix
+    c.render.ensures.rendered.counted_prefix
 
 pub returns-clause-damage : goal.returns-clause-damage
 returns-clause-damage g c =
