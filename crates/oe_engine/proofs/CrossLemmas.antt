@@ -37,6 +37,10 @@ lent_send = search (crosses, sendable, bench_send) depth 30
 pub hand_send : IsSend hand.the_row
 hand_send = search (crosses, sendable, lent_send, seat_send) depth 30
 
+-- a place for a bench
+pub place_send : IsSend (option_of bench.the_row)
+place_send = search (crosses, sendable, bench_send) depth 30
+
 content_send : IsSend (option_of lent.the_row)
 content_send = search (crosses, sendable, lent_send) depth 30
 

@@ -1,5 +1,5 @@
 -- All the cells of a run.
-use Rattle.std.specs.Prelude.{◌≡◌, ℕ, ◌*◌, List, length, sum_by}
+use Rattle.std.specs.Prelude.{◌≡◌, ℕ, ◌*◌, IfSome, List, Option, length, sum_by}
 use Rattle.std.specs.List.{All}
 use Rattle.oe_plan.specs.Plans.{PlanOf}
 use Rattle.oe_engine.specs.Benches.{BenchOf, IsBenchFor, held_cells}
@@ -12,3 +12,7 @@ cells_of_benches benches = sum_by held_cells benches
 pub record AreBenchesFor (p : PlanOf) (benches : List BenchOf) : Type 0 where
   pub as_many : length benches ≡ 2 * p.workers
   pub each : All (IsBenchFor p) benches
+
+-- a place for a bench: if there is one in it, it has room for every chunk of the plan
+pub record HasBenchFor (p : PlanOf) (place : Option BenchOf) : Type 0 where
+  pub bench : IfSome place (IsBenchFor p)

@@ -15,6 +15,7 @@ mod hulls;
 mod laws;
 mod lead;
 mod loading;
+mod making;
 mod over;
 mod part_run;
 mod round_table;

@@ -97,7 +97,7 @@ fn carry_out<R: Threads + Sync>(
     requires { IsWithinRanges sizes.0 sizes.1 }
 {
     let mut spool = spool_of(alloc, failing.spool)?;
-    let mut run = begin(alloc, catalogue, sizes, graph)?;
+    let mut run = begin(rt, alloc, catalogue, sizes, graph)?;
     evaluate(
         rt,
         alloc,
@@ -149,7 +149,13 @@ fn evaluate<R: Threads + Sync>(
 }
 
 /// A run of a graph before its first round, whose records are to follow the front of a spool.
-fn begin(alloc: Global, catalogue: &Catalogue, sizes: Sizes, graph: &str) -> Result<Run, Fault>
+fn begin<R: Threads + Sync>(
+    rt: &R,
+    alloc: Global,
+    catalogue: &Catalogue,
+    sizes: Sizes,
+    graph: &str,
+) -> Result<Run, Fault>
     requires { IsWithinRanges sizes.0 sizes.1 }
     ensures mounted { IfOk result (λ r. HasCollections r.plan.graph (rows_of seen catalogue.now)) }
     ensures none_done { IfOk result (λ r. r.done ≡ 0) }
@@ -161,7 +167,7 @@ fn begin(alloc: Global, catalogue: &Catalogue, sizes: Sizes, graph: &str) -> Res
     let Ok(plan) = Plan::new(alloc, checked, size, workers) else {
         return Err(Fault::Line);
     };
-    let workspace = Workspace::new(alloc, &plan)?;
+    let workspace = Workspace::new(rt, alloc, &plan)?;
     collections_are_mounted();
     Ok(Run::start(plan, workspace, BASE))
 }

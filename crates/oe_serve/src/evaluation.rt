@@ -27,7 +27,8 @@ use std::thread::Threads;
 /// spool from a byte on; and the bytes that its text goes through. From here on nothing takes memory.
 ///
 /// Refuses: `TooLarge` exactly where it would hold more cells than are allowed; out of memory.
-pub(crate) fn begin(
+pub(crate) fn begin<R: Threads + Sync>(
+    rt: &R,
     alloc: Global,
     checked: Checked,
     sizes: (ChunkSize, u32),
@@ -40,7 +41,7 @@ pub(crate) fn begin(
         → IsTooLarge checked sizes.0 sizes.1 cells }
 {
     let plan = Plan::new(alloc, checked, sizes.0, sizes.1)?;
-    let workspace = Workspace::new(alloc, &plan)?;
+    let workspace = Workspace::new(rt, alloc, &plan)?;
     let pending = Pending::new(alloc)?;
     Ok((Run::start(plan, workspace, base), pending))
 }

@@ -46,7 +46,13 @@ pub(crate) fn answer_result<R: Threads + Sync, L: Link, P: Store, G: Gate>(
         (rows_of seen catalogue.old) spool.old link.old
         (rows_of seen catalogue.new) spool.new link.new result }
 {
-    match begin(setup.alloc, checked, service.sizes(), service.records_end()) {
+    match begin(
+        setup.rt,
+        setup.alloc,
+        checked,
+        service.sizes(),
+        service.records_end(),
+    ) {
         Ok((mut run, mut pending)) => {
             answer_run(setup, &mut run, &mut pending, link, catalogue, spool)
         }

@@ -28,6 +28,7 @@ use oe_plan::Plan;
 use oe_sources::Catalogue;
 use oe_window::ChunkSize;
 use std::alloc::Global;
+use std::thread::Threads;
 
 /// The ids of the nodes that make an asset each of what a job runs. Refuses: out of memory.
 pub(crate) fn ids_of_job(alloc: Global, job: &Job) -> Result<Vec<Text>, OutOfMemory>
@@ -66,7 +67,8 @@ fn read_process(alloc: Global, ran: &Ran) -> Result<Graph, OutOfMemory>
 ///
 /// Refuses: by the least fault of its graph, exactly where one stands; `PlanTooLarge` exactly where it would hold more
 /// cells than are allowed; out of memory.
-pub(crate) fn begin_asset(
+pub(crate) fn begin_asset<R: Threads + Sync>(
+    rt: &R,
     alloc: Global,
     job: &Job,
     sizes: (ChunkSize, u32),
@@ -86,7 +88,7 @@ pub(crate) fn begin_asset(
 {
     let checked = judge_asset(alloc, ran_of(job), job.assets.len(), catalogue)?;
     let plan = Plan::new(alloc, checked, sizes.0, sizes.1)?;
-    let workspace = Workspace::new(alloc, &plan)?;
+    let workspace = Workspace::new(rt, alloc, &plan)?;
     Ok(Run::start(plan, workspace, 0))
 }
 

@@ -116,7 +116,8 @@ pub(crate) fn misses_asset(service: &Service) -> bool
 }
 
 /// Plans the next asset of the running job.
-pub(crate) fn plan<K: Keeper>(
+pub(crate) fn plan<R: Threads + Sync, K: Keeper>(
+    rt: &R,
     alloc: Global,
     service: &mut Service,
     catalogue: &Catalogue,
@@ -131,7 +132,7 @@ pub(crate) fn plan<K: Keeper>(
     ensures { TicksOverRows K.kept K.faults K.has_failed now service.old service.new
         (rows_of seen catalogue.now) keeper.old keeper.new result }
 {
-    match begin_next(alloc, service, catalogue) {
+    match begin_next(rt, alloc, service, catalogue) {
         Ok(run) => {
             service.run = Some(run);
             Ticked::Moved
@@ -140,7 +141,12 @@ pub(crate) fn plan<K: Keeper>(
     }
 }
 
-fn begin_next(alloc: Global, service: &Service, catalogue: &Catalogue) -> Result<Run, RunRefusal>
+fn begin_next<R: Threads + Sync>(
+    rt: &R,
+    alloc: Global,
+    service: &Service,
+    catalogue: &Catalogue,
+) -> Result<Run, RunRefusal>
     requires service { IsService service.now }
     requires misses { IsSomeAnd (running_job (plain_book service.now.book)) MissesAsset }
     ensures run { IfOk result (λ r. IfSome (running_job (plain_book service.now.book))
@@ -156,7 +162,7 @@ fn begin_next(alloc: Global, service: &Service, catalogue: &Catalogue) -> Result
         (count_assets job) service.now.size service.now.workers reason)) }
 {
     match service.book.running() {
-        Some(job) => begin_asset(alloc, job, (service.size, service.workers), catalogue),
+        Some(job) => begin_asset(rt, alloc, job, (service.size, service.workers), catalogue),
         None => unreachable!(),
     }
 }

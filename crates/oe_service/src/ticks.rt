@@ -43,7 +43,7 @@ pub fn tick<R: Threads + Sync, P: Store, K: Keeper, G: Gate>(
     match &service.run {
         None => {
             if misses_asset(service) {
-                plan(alloc, service, catalogue, keeper, now)
+                plan(rt, alloc, service, catalogue, keeper, now)
             } else {
                 finish(alloc, service, keeper, now)
             }

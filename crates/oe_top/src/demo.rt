@@ -85,7 +85,7 @@ pub(crate) fn demo<R: Threads + Sync, O: Sink, P: Store, G: Gate>(
     let mut catalogue = Catalogue::generated(alloc, source.0, source.1)?;
     let checked = checked_graph(alloc, &catalogue)?;
     let line = Line::new(alloc)?;
-    match begin(alloc, checked, sizes.0, sizes.1) {
+    match begin(setup.rt, alloc, checked, sizes.0, sizes.1) {
         Ok((run, chunks)) => {
             match write_figures(
                 setup.rt,

@@ -40,7 +40,8 @@ pub enum EvaluationFail {
 /// A run of a graph before its first round, with its records at the front of a spool, and how many chunks it has.
 ///
 /// Refuses: `TooLarge` only where it would hold more cells than are allowed, with their number; out of memory.
-pub(crate) fn begin(
+pub(crate) fn begin<R: Threads + Sync>(
+    rt: &R,
     alloc: Global,
     checked: Checked,
     size: ChunkSize,
@@ -56,7 +57,7 @@ pub(crate) fn begin(
 {
     let plan = Plan::new(alloc, checked, size, workers)?;
     let chunks = plan.chunks();
-    let workspace = Workspace::new(alloc, &plan)?;
+    let workspace = Workspace::new(rt, alloc, &plan)?;
     Ok((Run::start(plan, workspace, 0), chunks))
 }
 

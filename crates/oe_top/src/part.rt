@@ -81,7 +81,7 @@ pub(crate) fn part<R: Threads + Sync, I: Source, O: Sink, P: Store, G: Gate>(
     let head = head_of(alloc, &graph, &checked, sizes.0, chunks)?;
     let front = head.front(alloc)?;
     let mut pending = Pending::new(alloc)?;
-    match begin_part(alloc, checked, sizes, chunks) {
+    match begin_part(setup.rt, alloc, checked, sizes, chunks) {
         Ok(run) => {
             match write_chunks(
                 setup,
@@ -146,7 +146,8 @@ fn head_of(
 /// The run of these chunks of a graph before its first round, with its records at the front of a spool.
 ///
 /// Refuses: `TooLarge` only where it would hold more cells than are allowed, with their number; out of memory.
-fn begin_part(
+fn begin_part<R: Threads + Sync>(
+    rt: &R,
     alloc: Global,
     checked: Checked,
     sizes: (ChunkSize, u32),
@@ -163,7 +164,7 @@ fn begin_part(
         → (cells ≡ bound_of checked sizes.0 sizes.1) × (most_held_cells < cells) }
 {
     let plan = Plan::new(alloc, checked, sizes.0, sizes.1)?;
-    let workspace = Workspace::new(alloc, &plan)?;
+    let workspace = Workspace::new(rt, alloc, &plan)?;
     Ok(PartRun::start(plan, workspace, 0, chunks.0, chunks.1 - chunks.0))
 }
 

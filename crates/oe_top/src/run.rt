@@ -65,7 +65,7 @@ pub(crate) fn run<R: Threads + Sync, I: Source, O: Sink, P: Store, G: Gate>(
         Err(refusal) => return Err(RunRefusal::Input(refusal)),
     };
     let mut pending = Pending::new(alloc)?;
-    match begin(alloc, checked, sizes.0, sizes.1) {
+    match begin(setup.rt, alloc, checked, sizes.0, sizes.1) {
         Ok((run, chunks)) => {
             match write_result(
                 setup.rt,

@@ -5,7 +5,7 @@ use Rattle.oe_serve.proofs.Acts.{acts_out_of_memory, acts_run, acts_too_large, b
 use Rattle.oe_serve.proofs.results.answer_result.Goals as goal
 
 pub begin-requires-clause-ranges : goal.begin-requires-clause-ranges
-begin-requires-clause-ranges g c =
+begin-requires-clause-ranges g c κs within =
     subst (λ (z : ChunkSize × ℕ). IsWithinRanges z.0 z.1) (sym c.sizes.ensures) c.requires.service.ranges
 
 pub returns-in-Err-TooLarge : goal.returns-in-Err-TooLarge

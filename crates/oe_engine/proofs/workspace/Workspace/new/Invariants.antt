@@ -1,5 +1,0 @@
-use Rattle.oe_engine.proofs.WorkspaceLemmas.{AreSome}
-use Rattle.oe_engine.proofs.workspace.Workspace.new.Given as goal
-
-abbrev pub invariant-loop : goal.invariant-loop
-invariant-loop l = AreSome l.plan l.benches.items l.counter l.cells
