@@ -37,27 +37,38 @@ CountsCubePrefix store at shape size size_after =
     × AddsSome size (length (cube_text (record { shape = shape; cells = cells }))) size_after
 
 -- Cells that are stored at an offset of a store of type P are rendered to a sink of type O: where that succeeds, their
--- text follows what was written; where it fails, a prefix of it does.
+-- text follows what was written.
 abbrev pub WritesCube : {O P T : Type 0} → (O → Option (List ℕ)) → O → O → (P → Option (List ℕ)) → P → ℕ → Dimensions
     → Result T RenderFail → Type 0
 WritesCube written before after bytes store at shape result =
     OnOk result (AppendsCube (bytes store) at shape (written before) (written after))
 
+-- the same of a prefix of their text, where it fails
 abbrev pub BeginsCube : {O P T : Type 0} → (O → Option (List ℕ)) → O → O → (P → Option (List ℕ)) → P → ℕ → Dimensions
     → Result T RenderFail → Type 0
 BeginsCube written before after bytes store at shape result =
     OnErr result (AppendsCubePrefix (bytes store) at shape (written before) (written after))
 
--- the same of the number of bytes that are counted
+-- where it succeeds, the number of bytes of their text is counted
 abbrev pub CountsText : {O P T : Type 0} → (O → Option ℕ) → O → O → (P → Option (List ℕ)) → P → ℕ → Dimensions
     → Result T RenderFail → Type 0
 CountsText size before after bytes store at shape result =
     OnOk result (CountsCube (bytes store) at shape (size before) (size after))
 
+-- the same of a prefix of their text, where it fails
 abbrev pub CountsPrefix : {O P T : Type 0} → (O → Option ℕ) → O → O → (P → Option (List ℕ)) → P → ℕ → Dimensions
     → Result T RenderFail → Type 0
 CountsPrefix size before after bytes store at shape result =
     OnErr result (CountsCubePrefix (bytes store) at shape (size before) (size after))
+
+-- the cells of a shape stand in the store from an offset on: what is written of them, and what is counted
+pub record RendersCube {O P T : Type 0} (at : ℕ) (shape : Dimensions) (written : O → Option (List ℕ))
+    (size : O → Option ℕ) (before after : O) (bytes : P → Option (List ℕ)) (store : P) (result : Result T RenderFail)
+    : Type 0 where
+  pub text : WritesCube written before after bytes store at shape result
+  pub prefix : BeginsCube written before after bytes store at shape result
+  pub counted : CountsText size before after bytes store at shape result
+  pub counted_prefix : CountsPrefix size before after bytes store at shape result
 
 -- `SpoolFailed` only where the fault counter of a store of type P rose
 abbrev pub HasSpoolCause : {P T : Type 0} → (P → ℕ) → P → P → Result T RenderFail → Type 0

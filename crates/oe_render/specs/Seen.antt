@@ -1,5 +1,5 @@
 -- What contracts see of the values of dimensions that were found.
-use Rattle.std.specs.Prelude.{◌≡◌, List, MatchOption, Option, Vec, option_map}
+use Rattle.std.specs.Prelude.{◌≡◌, MatchOption, Option, Vec, option_map}
 use Rattle.std.specs.Borrow.{Bor}
 use Rattle.std.specs.declared.alloc.Global.{Global}
 use Rattle.serde_json.specs.Data.{Data, Items, no_items}
