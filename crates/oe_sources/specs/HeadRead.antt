@@ -61,7 +61,7 @@ abbrev pub SaysWidths : Data → Option (List Width) → Type 0
 SaysWidths value None = ⊤
 SaysWidths value (Some widths) = ListsWidths value widths
 
--- these are as many as a file of the version has, and the value says them
+-- a file of the version with so many sections has these widths, or none, and the value says them
 abbrev pub SaysWidthsOf : Version → ℕ → Data → Option (List Width) → Type 0
 SaysWidthsOf version sections value widths = HasWidthsOf version sections widths × SaysWidths value widths
 

@@ -5,7 +5,7 @@ ghost use Rattle.oe_dims.specs.Names.{is_name};
 ghost use Rattle.oe_outside.specs.Faults.{HasCauseOf};
 ghost use Rattle.oe_sources.specs.Catalogue.{OnlyReads, source_at};
 ghost use Rattle.oe_sources.specs.CatalogueRows.{rows_in};
-ghost use Rattle.oe_sources.specs.Repacked.{AppendsRepacked, AreSidesOf, FitsSection, GivesCells, HasAllWidths, HasReadCause, HasReadCauseIn, HasRoom, HasSectionWidth, HasWidths, IsNextPart, IsReadRefusal, IsSectionAt, IsUndamaged, LeavesWritten, TellsDamageAt, WritesSection, WritesSections};
+ghost use Rattle.oe_sources.specs.Repacked.{AppendsRepacked, AreSidesOf, FitsSection, GivesCells, HasAllWidths, HasReadCauseIn, HasRoom, HasSectionWidth, HasWidths, IsNextPart, IsReadRefusal, IsSectionAt, IsUndamaged, LeavesWritten, TellsDamageAt, WritesSection, WritesSections};
 ghost use Rattle.oe_wide.specs.Wide.{AllFitIn};
 ghost use Rattle.oe_window.specs.Windows.{Holds, extent_along, position_count, whole_window};
 
@@ -69,8 +69,7 @@ pub fn repack<O: Sink, G: Gate>(
     ensures left { IfErr result (LeavesWritten id.now (source_at (rows_in seen catalogue.old) place)
         (O.written out.old) (O.written out.new)) }
     ensures damage { IfErr result (TellsDamageAt (rows_in seen catalogue.old) place) }
-    ensures source { HasReadCause (rows_in seen catalogue.old) place
-        (rows_in seen catalogue.new) result }
+    ensures source { HasReadCauseIn seen catalogue.old place catalogue.new result }
     ensures sink { HasCauseOf RepackFail.SinkFailed (O.faults out.old) (O.faults out.new) result }
     ensures only { OnlyReads (rows_in seen catalogue.old) place (rows_in seen catalogue.new) }
 {
@@ -126,8 +125,7 @@ fn find_widths<G: Gate>(
         (λ widths. HasWidths (source_at (rows_in seen catalogue.old) place) widths.items) }
     ensures refusal { IfErr result (λ e. e ≢ RepackFail.SinkFailed) }
     ensures damage { IfErr result (TellsDamageAt (rows_in seen catalogue.old) place) }
-    ensures cause { HasReadCause (rows_in seen catalogue.old) place
-        (rows_in seen catalogue.new) result }
+    ensures cause { HasReadCauseIn seen catalogue.old place catalogue.new result }
     ensures only { OnlyReads (rows_in seen catalogue.old) place (rows_in seen catalogue.new) }
     ensures room { length cells.new ≡ length cells.old }
 {
@@ -160,8 +158,7 @@ fn section_width(
         (HasSectionWidth (source_at (rows_in seen catalogue.old) place) section) }
     ensures refusal { IfErr result IsReadRefusal }
     ensures damage { IfErr result (TellsDamageAt (rows_in seen catalogue.old) place) }
-    ensures cause { HasReadCause (rows_in seen catalogue.old) place
-        (rows_in seen catalogue.new) result }
+    ensures cause { HasReadCauseIn seen catalogue.old place catalogue.new result }
     ensures only { OnlyReads (rows_in seen catalogue.old) place (rows_in seen catalogue.new) }
     ensures room { length cells.new ≡ length cells.old }
 {
@@ -283,8 +280,7 @@ fn read_part(
         (source_at (rows_in seen catalogue.old) place) window.now (take count cells.new)) }
     ensures refusal { IfErr result IsReadRefusal }
     ensures damage { IfErr result (TellsDamageAt (rows_in seen catalogue.old) place) }
-    ensures cause { HasReadCause (rows_in seen catalogue.old) place
-        (rows_in seen catalogue.new) result }
+    ensures cause { HasReadCauseIn seen catalogue.old place catalogue.new result }
     ensures only { OnlyReads (rows_in seen catalogue.old) place (rows_in seen catalogue.new) }
     ensures room { length cells.new ≡ length cells.old }
 {
