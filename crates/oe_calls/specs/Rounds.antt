@@ -153,7 +153,8 @@ abbrev mutual
   round_each stored waits all (argument a rest) =
       argument (round_argument stored waits all a) (round_each stored waits all rest)
 
--- what stands in place of one node: itself, or where it calls a process the nodes of that; the arguments of a call wait
+-- what stands in place of one node: itself, or where it calls a process the nodes of that; callbacks in the arguments
+-- of a call wait
 abbrev pub round_node : List PlainStored → Nodes → PlainNode → Option PlainStored → Nodes
 round_node stored all n process =
     opened stored (record n { arguments = round_named stored (is_some process) all n.arguments }) process
