@@ -73,8 +73,8 @@ pub record AreIndicesAt (shape argument : Dimensions) (plane : PlaneIndices) (p 
   pub y : IsOnRun Y shape argument plane.y p.y
   pub x : IsOnRun X shape argument plane.x p.x
 
--- this is the row in the argument of the labels of a row of the result, at whatever indices of t and bands the plane is
--- for which these were found
+-- whatever indices of t and bands a plane was found for, this is the row in the argument of the labels there and at an
+-- index of y; none where it has no such row
 abbrev pub IsRowOfPlane : Dimensions → Dimensions → PlaneIndices → ℕ → Option RowIndices → Type 0
 IsRowOfPlane shape argument plane y row =
     (t band : ℕ) → plane.t ≡ index_in_argument Time shape argument t
