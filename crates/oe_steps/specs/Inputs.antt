@@ -54,7 +54,8 @@ EvaluatesStep c schedule step windows old new = (collections : Collections) → 
     → ((number r : ℕ) → TakesAt c schedule step number r → AreCells collections c schedule windows old r)
     → AreCells collections c schedule windows new step
 
--- where they have those of each step whose cube is loaded or given, the new ones have those of the last node's step
+-- the same where the old ones have those of each step whose cube is loaded or given: the new ones have those of the
+-- last node's step
 abbrev pub EvaluatesLast : CheckedGraph → ScheduleOf → List Window → List (List Cell) → List (List Cell) → Type 0
 EvaluatesLast c schedule windows old new = (collections : Collections) → AreCollectionsOf c collections
     → EachLoad c schedule (AreCells collections c schedule windows old)

@@ -59,8 +59,8 @@ LoadsOver c schedule rows step windows old new result =
     EachLive c schedule step (IsLoadedAt c schedule rows windows old)
     → OnOk result (EachLive c schedule (step + 1) (IsLoadedAt c schedule rows windows new))
 
--- the same over all rows that reading may have left so
+-- the same over any rows of a catalogue of which reads may have made these
 abbrev pub LoadsNext : {E : Type 0} → CheckedGraph → ScheduleOf → List Row → ℕ → List Window → List (List Cell)
     → List (List Cell) → Result (Unit {0}) E → Type 0
-LoadsNext c schedule now step windows old new result =
-    (rows : List Row) → AreRead rows now → LoadsOver c schedule rows step windows old new result
+LoadsNext c schedule read step windows old new result =
+    (rows : List Row) → AreRead rows read → LoadsOver c schedule rows step windows old new result
