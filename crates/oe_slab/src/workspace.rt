@@ -3,7 +3,7 @@ ghost use Rattle.std.specs.Prelude.{◌≡◌, ◌≤◌, ◌^◌, IfErr, IfOk, 
 ghost use Rattle.oe_cell.specs.declared.cell.Cell.{Cell};
 ghost use Rattle.oe_dims.specs.Dimensions.{cell_count};
 ghost use Rattle.oe_plan.specs.Windows.{AreWindows};
-ghost use Rattle.oe_render.specs.Rendered.{HasSinkCause, HasSpoolCause};
+ghost use Rattle.oe_render.specs.Rendered.{HasSinkCause, HasSpoolCause, RendersCube};
 ghost use Rattle.oe_render.specs.Stored.{HasCells};
 ghost use Rattle.oe_sources.specs.CatalogueRows.{rows_of};
 ghost use Rattle.oe_steps.specs.Buffers.{lists_of};
@@ -14,7 +14,7 @@ ghost use Rattle.oe_window.specs.declared.window.Window.{Window};
 ghost use Rattle.oe_slab.specs.Figures.{slab_bound};
 ghost use Rattle.oe_slab.specs.Planes.{AreFolded, ForEachFolded, ForEachVisible, HasPlane, plane_folds};
 ghost use Rattle.oe_slab.specs.Plans.{most_asked};
-ghost use Rattle.oe_slab.specs.Rendered.{IsRefusalOf, RendersResult};
+ghost use Rattle.oe_slab.specs.Rendered.{IsRefusalOf};
 ghost use Rattle.oe_slab.specs.Results.{AreResultOf, HasCellsOn, HasResultOn, IsChunkOf, answer_of};
 ghost use Rattle.oe_slab.specs.Runs.{result_shape};
 ghost use Rattle.oe_slab.specs.Slabs.{HaveFoldedKind};
@@ -245,8 +245,8 @@ impl SlabWorkspace {
         requires base { base ≤ 2 ^ 62 }
         requires stored { HasCells (P.bytes spool.old) base (cell_count (result_shape plan.now)) }
         ensures room { IsWorkspaceFor plan.now self.new }
-        ensures rendered { RendersResult plan.now base O.written O.size out.old out.new
-            P.bytes spool.old result }
+        ensures rendered { RendersCube base (result_shape plan.now) O.written O.size
+            out.old out.new P.bytes spool.old result }
         ensures spool_cause { HasSpoolCause P.faults spool.old spool.new result }
         ensures sink_cause { HasSinkCause O.faults out.old out.new result }
         ensures damage { IfErr result (IsRefusalOf plan.now (P.bytes spool.old)) }
