@@ -13,7 +13,7 @@ use Rattle.oe_plan.specs.Plans.{IsPlan, PlanOf}
 use Rattle.oe_plan.proofs.FitLemmas.{fit_memory}
 use Rattle.oe_steps.proofs.BufferLemmas.{sum_of_size}
 use Rattle.oe_engine.specs.Benches.{BenchOf, IsBenchFor, held_cells}
-use Rattle.oe_engine.specs.Workspaces.{HasBenchFor, cells_of_benches}
+use Rattle.oe_engine.specs.Workspaces.{IsPlaceFor, cells_of_benches}
 
 -- ---- one bench
 
@@ -24,7 +24,7 @@ cells_of_bench p b is =
     ap (λ (n : ℕ). n + length b.scratch) sum ∙ ap (λ (n : ℕ). p.order.width * largest_window p.graph p.size + n) is.room.scratch
 
 -- the bench of the last place, where there is one
-pub bench_of_last : (p : PlanOf) (last : Option (Option BenchOf)) → IfSome last (HasBenchFor p)
+pub bench_of_last : (p : PlanOf) (last : Option (Option BenchOf)) → IfSome last (IsPlaceFor p)
     → IfSome (option_flatten last) (IsBenchFor p)
 bench_of_last p None has = tt
 bench_of_last p (Some place) has = has.bench
@@ -51,9 +51,9 @@ pub record AreSome (p : PlanOf) (benches : List BenchOf) (places : List (Option 
   pub sum : cells ≡ cells_of_benches benches
   pub total : cells ≡ count * bench_cells p
   pub left : length places + count ≡ 2 * p.workers
-  pub made : All (HasBenchFor p) places
+  pub made : All (IsPlaceFor p) places
 
-pub none_yet : (p : PlanOf) (places : List (Option BenchOf)) → length places ≡ 2 * p.workers → All (HasBenchFor p) places
+pub none_yet : (p : PlanOf) (places : List (Option BenchOf)) → length places ≡ 2 * p.workers → All (IsPlaceFor p) places
     → AreSome p [] places 0 0
 none_yet p places all has = record {
   many = refl;
@@ -65,7 +65,7 @@ none_yet p places all has = record {
 }
 
 pub one_more : (p : PlanOf) (benches : List BenchOf) (places after : List (Option BenchOf)) (b : BenchOf) (count cells : ℕ)
-    → AreSome p benches places count cells → IsBenchFor p b → length after + 1 ≡ length places → All (HasBenchFor p) after
+    → AreSome p benches places count cells → IsBenchFor p b → length after + 1 ≡ length places → All (IsPlaceFor p) after
     → AreSome p (benches ++ b ∷ []) after (count + 1) (cells + held_cells b)
 one_more p benches places after b count cells s is fewer has =
     let many = s.many in

@@ -39,8 +39,8 @@ pub record HasRoomFor (p : PlanOf) (b : BenchOf) : Type 0 where
   pub scratch : length b.scratch ≡ scratch_of p.graph
 
 -- how many cells the largest window of a step has
-abbrev pub window_cells : PlanOf → ℕ
-window_cells p = largest_window p.graph p.size
+abbrev pub cells_of_largest_window : PlanOf → ℕ
+cells_of_largest_window p = largest_window p.graph p.size
 
 -- ---- the cells of a step
 

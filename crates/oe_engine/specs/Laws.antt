@@ -59,6 +59,13 @@ pub record GivesCollections (rows : List Row) : Type 0 where
   pub valid : (c : CheckedGraph) → c.rows ≡ dims_of rows → AreCollectionsOf c (collections_of rows)
   pub shown : (c : CheckedGraph) → c.rows ≡ dims_of rows → LoadsVisible c rows → Shows c rows (collections_of rows)
 
+-- A graph was checked over the collections of a catalogue with these rows: what it has of them is their ids, shapes and
+-- kinds, under each id those that are mounted, and they are collections of each graph that was checked so.
+pub record IsCheckedOver (rows : List Row) (c : CheckedGraph) : Type 0 where
+  pub rows_are : c.rows ≡ dims_of rows
+  pub found : AreDimsOf rows c.rows
+  pub given : GivesCollections rows
+
 -- ---- laws
 
 -- A plan of a graph that was checked over a catalogue has its collections mounted there.

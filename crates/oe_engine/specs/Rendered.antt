@@ -3,17 +3,18 @@ use Rattle.std.specs.Prelude.{ℕ, List, length, Option, OnErr, OnOk, Result}
 use Rattle.oe_dims.specs.Dimensions.{cell_count}
 use Rattle.oe_outside.specs.Visible.{AddsBytes, AddsSome, Appends, AppendsPrefix}
 use Rattle.oe_plan.specs.Plans.{PlanOf}
-use Rattle.oe_render.specs.Rendered.{BeginsCube, CountsPrefix, CountsText, IsRefusalWithin, WritesCube}
+use Rattle.oe_render.specs.Rendered.{IsRefusalWithin, WritesCube}
 use Rattle.oe_render.specs.Text.{cube_text}
 use Rattle.oe_render.specs.declared.rendering.RenderFail.{RenderFail}
 use Rattle.oe_engine.specs.Runs.{OfRun, RunOf, result_shape}
 
--- where it succeeds, the text of the cube of the run follows what was written; where it fails, a prefix of it does
+-- where it succeeds, the text of the cube of the run follows what was written
 abbrev pub WritesRun : {O P T : Type 0} → (O → Option (List ℕ)) → O → O → RunOf → (P → Option (List ℕ)) → P
     → Result T RenderFail → Type 0
 WritesRun written before after r bytes store result =
     OnOk result (OfRun r (bytes store) (λ cube. Appends (written before) (cube_text cube) (written after)))
 
+-- the same of a prefix of the text, where it fails
 abbrev pub BeginsRun : {O P T : Type 0} → (O → Option (List ℕ)) → O → O → RunOf → (P → Option (List ℕ)) → P
     → Result T RenderFail → Type 0
 BeginsRun written before after r bytes store result =
@@ -25,12 +26,13 @@ abbrev pub WritesStored : {O P T : Type 0} → (O → Option (List ℕ)) → O �
 WritesStored written before after r bytes store result =
     WritesCube written before after bytes store r.base (result_shape r.plan) result
 
--- where it succeeds, the number of bytes of the text of that cube is counted; where it fails, at most as many are
+-- where it succeeds, the number of bytes of the text of that cube is counted
 abbrev pub CountsRun : {O P T : Type 0} → (O → Option ℕ) → O → O → RunOf → (P → Option (List ℕ)) → P
     → Result T RenderFail → Type 0
 CountsRun size before after r bytes store result =
     OnOk result (OfRun r (bytes store) (λ cube. AddsBytes (size before) (length (cube_text cube)) (size after)))
 
+-- the same of a prefix of the text, where it fails
 abbrev pub CountsRunPrefix : {O P T : Type 0} → (O → Option ℕ) → O → O → RunOf → (P → Option (List ℕ)) → P
     → Result T RenderFail → Type 0
 CountsRunPrefix size before after r bytes store result =
@@ -39,11 +41,3 @@ CountsRunPrefix size before after r bytes store result =
 -- what it may refuse: damage only in a store whose bytes are hidden, and at a cell of the result
 abbrev pub IsRefusalOf : PlanOf → Option (List ℕ) → RenderFail → Type 0
 IsRefusalOf p store = IsRefusalWithin store 0 (cell_count (result_shape p))
-
--- the cells of the result of a plan stand in the store from an offset on: what is written of them, and what is counted
-pub record RendersResult {O P T : Type 0} (p : PlanOf) (base : ℕ) (written : O → Option (List ℕ)) (size : O → Option ℕ)
-    (before after : O) (bytes : P → Option (List ℕ)) (store : P) (result : Result T RenderFail) : Type 0 where
-  pub text : WritesCube written before after bytes store base (result_shape p) result
-  pub prefix : BeginsCube written before after bytes store base (result_shape p) result
-  pub counted : CountsText size before after bytes store base (result_shape p) result
-  pub counted_prefix : CountsPrefix size before after bytes store base (result_shape p) result

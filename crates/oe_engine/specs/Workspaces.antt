@@ -13,6 +13,6 @@ pub record AreBenchesFor (p : PlanOf) (benches : List BenchOf) : Type 0 where
   pub as_many : length benches ≡ 2 * p.workers
   pub each : All (IsBenchFor p) benches
 
--- a place for a bench: if there is one in it, it has room for every chunk of the plan
-pub record HasBenchFor (p : PlanOf) (place : Option BenchOf) : Type 0 where
+-- a place for a bench: it is empty, or what is in it is a bench for the plan
+pub record IsPlaceFor (p : PlanOf) (place : Option BenchOf) : Type 0 where
   pub bench : IfSome place (IsBenchFor p)

@@ -1,8 +1,8 @@
 // What a round asks of the collections before its chunks are loaded, and what it counts afterwards.
 ghost use Rattle.std.specs.Prelude.{◌≡◌, ◌≤◌, ◌*◌, Ok, OnOk, IfErr};
+ghost use Rattle.oe_engine.specs.Benches.{cells_of_largest_window};
 ghost use Rattle.oe_engine.specs.Evaluations.{most_asked};
 ghost use Rattle.oe_engine.specs.Hulls.{IsNote};
-ghost use Rattle.oe_plan.specs.Figures.{largest_window};
 ghost use Rattle.oe_plan.specs.Plans.{IsPlan};
 ghost use Rattle.oe_sources.specs.CatalogueRows.{rows_of, seal_of};
 ghost use Rattle.oe_sources.specs.Permits.{MayLook};
@@ -34,7 +34,7 @@ pub(crate) fn ask_for_chunks(plan: &Plan, catalogue: &mut Catalogue, count: usiz
 /// How many cells the windows of a step for so many chunks have at most.
 fn cells_at_step(plan: &Plan, count: usize) -> u64
     requires { count ≤ 2 * plan.now.workers }
-    ensures value { result ≡ count * largest_window plan.now.graph plan.now.size }
+    ensures value { result ≡ count * cells_of_largest_window plan.now }
     ensures few { result ≤ 67108864 }
     ensures valid { IsPlan plan.now }
 {

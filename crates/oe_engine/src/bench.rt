@@ -3,20 +3,20 @@ ghost use Rattle.std.specs.Prelude.{◌≡◌, ◌<◌, ◌+◌, ◌*◌, ℕ, I
 ghost use Rattle.oe_meanings.specs.Graphs.{Collections};
 ghost use Rattle.oe_check.specs.Laws.{AreCollectionsOf};
 ghost use Rattle.oe_plan.specs.Fits.{bench_cells};
-ghost use Rattle.oe_engine.specs.Benches.{IsBenchFor, IsDone, IsLoaded, chunk_of, held_cells, IsAtChunk, is_load_at, node_at, window_cells};
+ghost use Rattle.oe_engine.specs.Benches.{IsBenchFor, IsDone, IsLoaded, cells_of_largest_window, chunk_of, held_cells, IsAtChunk, is_load_at, node_at};
 ghost use Rattle.oe_steps.specs.Steps.{node_cells};
 ghost use Rattle.oe_steps.specs.Buffers.{lists_of};
 ghost use Rattle.oe_engine.specs.Chunks.{AreResultOf};
 ghost use Rattle.oe_engine.specs.declared.bench.State.TheVariants.{Idle, Loaded, Done};
 ghost use Rattle.oe_dims.specs.Dimensions.{cell_count};
-ghost use Rattle.oe_render.specs.Rendered.{HasSinkCause, HasSpoolCause};
+ghost use Rattle.oe_render.specs.Rendered.{HasSinkCause, HasSpoolCause, RendersCube};
 ghost use Rattle.oe_render.specs.Stored.{HasCells};
 ghost use Rattle.oe_sources.specs.CatalogueRows.{rows_of, seal_of};
 ghost use Rattle.oe_sources.specs.Permits.{MayLook, SpendsAtMost};
 ghost use Rattle.oe_steps.specs.Collections.{HasCollections};
 ghost use Rattle.oe_steps.specs.Loads.{AreLoaded};
 ghost use Rattle.oe_engine.specs.Loads.{IsRowToLoad, LoadsBench, TellsWhyAt};
-ghost use Rattle.oe_engine.specs.Rendered.{IsRefusalOf, RendersResult};
+ghost use Rattle.oe_engine.specs.Rendered.{IsRefusalOf};
 ghost use Rattle.oe_engine.specs.Runs.{chunk_total, result_shape};
 ghost use Rattle.oe_engine.specs.Hulls.{BenchTakesRow, HasLoadedSteps, IsBegun, IsStripped, LoadsFirst};
 ghost use Rattle.oe_plan.specs.Plans.{IsPlan, PlanOf};
@@ -151,12 +151,14 @@ impl Bench {
         requires load { is_load_at plan.now step ≡ true }
         requires mounted { HasCollections plan.now.graph (rows_of seen catalogue.now) }
         requires begun { IsBegun plan.now self.old }
-        requires asked { MayLook (seal_of catalogue.now) (window_cells plan.now) looker.old }
+        requires asked { MayLook (seal_of catalogue.now)
+            (cells_of_largest_window plan.now) looker.old }
         ensures begun { IsBegun plan.now self.new }
         ensures loaded { (k : ℕ)
             → HasLoadedSteps plan.now (rows_of seen catalogue.now) step k self.old → OnOk result
             (HasLoadedSteps plan.now (rows_of seen catalogue.now) (step + 1) k self.new) }
-        ensures spent { OnOk result (SpendsAtMost (window_cells plan.now) looker.old looker.new) }
+        ensures spent { OnOk result (SpendsAtMost
+            (cells_of_largest_window plan.now) looker.old looker.new) }
         ensures refused { TellsWhyAt plan.now (rows_of seen catalogue.now) step result }
     {
         look_slot(
@@ -260,8 +262,8 @@ impl Bench {
         requires base { base ≤ 2 ^ 62 }
         requires stored { HasCells (P.bytes spool.old) base (cell_count (result_shape plan.now)) }
         ensures bench { IsBenchFor plan.now self.new }
-        ensures rendered { RendersResult plan.now base O.written O.size out.old out.new
-            P.bytes spool.old result }
+        ensures rendered { RendersCube base (result_shape plan.now) O.written O.size
+            out.old out.new P.bytes spool.old result }
         ensures spool_cause { HasSpoolCause P.faults spool.old spool.new result }
         ensures sink_cause { HasSinkCause O.faults out.old out.new result }
         ensures damage { IfErr result (IsRefusalOf plan.now (P.bytes spool.old)) }

@@ -2,14 +2,13 @@
 // hull, each row of that is looked at once and dealt to the benches, so that a collection is looked at in long rows.
 ghost use Rattle.std.specs.Prelude.{◌≡◌, ◌<◌, ◌+◌, ◌*◌, ◌^◌, ◌≤◌, ℕ, List, IsTrue, OnOk, length, true};
 ghost use Rattle.std.specs.List.{All};
-ghost use Rattle.oe_engine.specs.Benches.{IsAtChunk, IsBenchFor, is_load_at};
+ghost use Rattle.oe_engine.specs.Benches.{IsAtChunk, IsBenchFor, cells_of_largest_window, is_load_at};
 ghost use Rattle.oe_engine.specs.Chunks.{EachBench};
 ghost use Rattle.oe_engine.specs.Evaluations.{most_asked};
 ghost use Rattle.oe_steps.specs.Collections.{HasCollections};
 ghost use Rattle.oe_engine.specs.Hulls.{AreStripped, BenchesTakeRow, HasLoadedSteps, IsBegun, IsReadable, IsStripped, LoadsChunks, LoadsFirst, LoadsRow, LoadsStep};
 ghost use Rattle.oe_engine.specs.Loads.{LoadsBench, LoadsFrom, TellsWhyAt};
 ghost use Rattle.oe_engine.specs.Runs.{chunk_total};
-ghost use Rattle.oe_plan.specs.Figures.{largest_window};
 ghost use Rattle.oe_plan.specs.Plans.{IsPlan, PlanOf};
 ghost use Rattle.oe_sources.specs.Catalogue.{Row};
 ghost use Rattle.oe_sources.specs.CatalogueRows.{rows_of, seal_of};
@@ -106,11 +105,11 @@ fn load_step_of_all(
     requires mounted { HasCollections plan.now.graph (rows_of seen catalogue.now) }
     requires begun { All (IsBegun plan.now) benches.old }
     requires asked { MayLook (seal_of catalogue.now)
-        (length benches.old * largest_window plan.now.graph plan.now.size) looker.old }
+        (length benches.old * cells_of_largest_window plan.now) looker.old }
     ensures loads { LoadsStep plan.now step (rows_of seen catalogue.now) benches.old benches.new
         result }
     ensures spent { OnOk result (SpendsAtMost
-        (length benches.old * largest_window plan.now.graph plan.now.size) looker.old looker.new) }
+        (length benches.old * cells_of_largest_window plan.now) looker.old looker.new) }
 {
     let mut first = 0;
     while first < benches.len() {
@@ -158,11 +157,11 @@ fn load_neighbours(
     requires mounted { HasCollections plan.now.graph (rows_of seen catalogue.now) }
     requires begun { All (IsBegun plan.now) benches.old }
     requires asked { MayLook (seal_of catalogue.now)
-        (length benches.old * largest_window plan.now.graph plan.now.size) looker.old }
+        (length benches.old * cells_of_largest_window plan.now) looker.old }
     ensures loads { LoadsStep plan.now step (rows_of seen catalogue.now) benches.old benches.new
         result }
     ensures spent { OnOk result (SpendsAtMost
-        (length benches.old * largest_window plan.now.graph plan.now.size) looker.old looker.new) }
+        (length benches.old * cells_of_largest_window plan.now) looker.old looker.new) }
 {
     if benches.len() < 2 {
         return load_each(plan, benches, catalogue, step, looker);
@@ -219,11 +218,11 @@ fn load_each(
     requires mounted { HasCollections plan.now.graph (rows_of seen catalogue.now) }
     requires begun { All (IsBegun plan.now) benches.old }
     requires asked { MayLook (seal_of catalogue.now)
-        (length benches.old * largest_window plan.now.graph plan.now.size) looker.old }
+        (length benches.old * cells_of_largest_window plan.now) looker.old }
     ensures loads { LoadsStep plan.now step (rows_of seen catalogue.now) benches.old benches.new
         result }
     ensures spent { OnOk result (SpendsAtMost
-        (length benches.old * largest_window plan.now.graph plan.now.size) looker.old looker.new) }
+        (length benches.old * cells_of_largest_window plan.now) looker.old looker.new) }
 {
     for index in 0..benches.len() {
         benches[index].load_step(plan, catalogue, step, looker)?;
@@ -247,11 +246,11 @@ fn load_rows(
     requires stripped { All (IsStripped plan.now hull.now step) benches.old }
     requires readable { IsReadable plan.now step (length benches.old) hull.now }
     requires asked { MayLook (seal_of catalogue.now)
-        (length benches.old * largest_window plan.now.graph plan.now.size) looker.old }
+        (length benches.old * cells_of_largest_window plan.now) looker.old }
     ensures loads { LoadsStep plan.now step (rows_of seen catalogue.now) benches.old benches.new
         result }
     ensures spent { OnOk result (SpendsAtMost
-        (length benches.old * largest_window plan.now.graph plan.now.size) looker.old looker.new) }
+        (length benches.old * cells_of_largest_window plan.now) looker.old looker.new) }
 {
     // What a plan gives shows that it is valid: its slots keep the steps that are live apart.
     let _slot = plan.slot(step);

@@ -2,7 +2,7 @@
 ghost use Rattle.std.specs.Prelude.{◌≡◌, ◌+◌, ◌<◌, ℕ, IfOk, OnOk, Option, length, slice_index_or};
 ghost use Rattle.std.specs.List.{All};
 ghost use Rattle.oe_engine.specs.Benches.{BenchOf, IsBenchFor};
-ghost use Rattle.oe_engine.specs.Workspaces.{HasBenchFor};
+ghost use Rattle.oe_engine.specs.Workspaces.{IsPlaceFor};
 ghost use Rattle.oe_plan.specs.Plans.{PlanOf};
 
 use crate::bench::Bench;
@@ -23,7 +23,7 @@ pub(crate) fn make_benches<R: Threads + Sync>(
 ) -> Result<Vec<Option<Bench>>, AllocError>
     requires { 0 < threads }
     ensures many { IfOk result (λ places. length places.items ≡ count) }
-    ensures made { IfOk result (λ places. All (HasBenchFor plan.now) places.items) }
+    ensures made { IfOk result (λ places. All (IsPlaceFor plan.now) places.items) }
 {
     let mut places: Vec<Option<Bench>> = Vec::new(alloc);
     places.resize_with(count, || None)?;
@@ -42,14 +42,14 @@ fn make_all<R: Threads + Sync>(
     requires threads { 0 < threads }
     ensures many { length places.new ≡ length places.old }
     ensures made { (i : ℕ) (d : Option BenchOf) → i < length places.old
-        → HasBenchFor plan.now (slice_index_or places.new i d) }
+        → IsPlaceFor plan.now (slice_index_or places.new i d) }
 {
     thread::for_each_mut(
         rt,
         places,
         threads,
         &|_index: usize, place: &mut Option<Bench>|
-            ensures { HasBenchFor plan.entry.now place.new }
+            ensures { IsPlaceFor plan.entry.now place.new }
         {
             *place = bench_or_none(alloc, plan);
         },
@@ -58,7 +58,7 @@ fn make_all<R: Threads + Sync>(
 
 /// An idle bench for a plan, or none where memory ran out.
 fn bench_or_none(alloc: Global, plan: &Plan) -> Option<Bench>
-    ensures { HasBenchFor plan.now result }
+    ensures { IsPlaceFor plan.now result }
 {
     match Bench::new(alloc, plan) {
         Ok(bench) => Some(bench),
@@ -69,10 +69,10 @@ fn bench_or_none(alloc: Global, plan: &Plan) -> Option<Bench>
 /// Takes the bench out of the last place. Refuses: out of memory, where none could be made for it.
 pub(crate) fn take_bench(places: &mut Vec<Option<Bench>>) -> Result<Bench, OutOfMemory>
     requires { 0 < length places.old.items }
-    ensures bench { (p : PlanOf) → All (HasBenchFor p) places.old.items
+    ensures bench { (p : PlanOf) → All (IsPlaceFor p) places.old.items
         → IfOk result (IsBenchFor p) }
-    ensures others { (p : PlanOf) → All (HasBenchFor p) places.old.items
-        → All (HasBenchFor p) places.new.items }
+    ensures others { (p : PlanOf) → All (IsPlaceFor p) places.old.items
+        → All (IsPlaceFor p) places.new.items }
     ensures fewer { OnOk result (length places.new.items + 1 ≡ length places.old.items) }
 {
     places.pop().flatten().ok_or(OutOfMemory)

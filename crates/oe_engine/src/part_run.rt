@@ -58,12 +58,12 @@ impl Model for PartRun {
 impl PartRun {
     ghost use Rattle.std.specs.Prelude.{◌≡◌, ◌≤◌, ◌+◌, ◌^◌, None, IfErr};
     ghost use Rattle.oe_dims.specs.Dimensions.{cell_count};
-    ghost use Rattle.oe_render.specs.Rendered.{HasSinkCause, HasSpoolCause};
+    ghost use Rattle.oe_render.specs.Rendered.{HasSinkCause, HasSpoolCause, RendersCube};
     ghost use Rattle.oe_render.specs.Stored.{HasCells};
     ghost use Rattle.oe_sources.specs.CatalogueRows.{rows_of};
     ghost use Rattle.oe_steps.specs.Collections.{HasCollections};
     ghost use Rattle.oe_engine.specs.Parts.{AdvancesPart, HasPartCauses, ReadsPart, WritesPart};
-    ghost use Rattle.oe_engine.specs.Rendered.{IsRefusalOf, RendersResult};
+    ghost use Rattle.oe_engine.specs.Rendered.{IsRefusalOf};
     ghost use Rattle.oe_engine.specs.Runs.{chunk_total, result_shape};
     ghost use Rattle.oe_engine.specs.Workspaces.{AreBenchesFor};
 
@@ -158,7 +158,7 @@ impl PartRun {
     ) -> Result<(), RenderFail>
         requires stored { HasCells (P.bytes spool.old) self.old.base
             (cell_count (result_shape self.old.plan)) }
-        ensures rendered { RendersResult self.old.plan self.old.base O.written O.size
+        ensures rendered { RendersCube self.old.base (result_shape self.old.plan) O.written O.size
             out.old out.new P.bytes spool.old result }
         ensures spool_cause { HasSpoolCause P.faults spool.old spool.new result }
         ensures sink_cause { HasSinkCause O.faults out.old out.new result }

@@ -1,6 +1,6 @@
 // The steps of a plan: those of its schedule.
 ghost use Rattle.std.specs.Prelude.{◌≡◌, ◌<◌, ◌≤◌, ◌+◌, ◌^◌, ℕ, List, false, true, Ok, Some, OnOk, length, take};
-ghost use Rattle.oe_engine.specs.Benches.{AreCells, AreOfChunk, AreOfKind, EachLoad, HaveRoomFor, OfResult, buffer_cells_at, is_load_at, node_at, window_cells};
+ghost use Rattle.oe_engine.specs.Benches.{AreCells, AreOfChunk, AreOfKind, EachLoad, HaveRoomFor, OfResult, buffer_cells_at, cells_of_largest_window, is_load_at, node_at};
 ghost use Rattle.oe_engine.specs.Hulls.{TakesRow};
 ghost use Rattle.oe_engine.specs.Loads.{IsRowToLoad, LoadsOver, TellsWhyAt};
 ghost use Rattle.oe_plan.specs.Figures.{scratch_of};
@@ -97,11 +97,12 @@ pub(crate) fn look_slot(
     requires mounted { HasCollections plan.now.graph (rows_of seen catalogue.now) }
     requires windows { AreOfChunk plan.now windows.now }
     requires room { HaveRoomFor plan.now (lists_of buffers.old) }
-    requires asked { MayLook (seal_of catalogue.now) (window_cells plan.now) looker.old }
+    requires asked { MayLook (seal_of catalogue.now) (cells_of_largest_window plan.now) looker.old }
     ensures room { HaveRoomFor plan.now (lists_of buffers.new) }
     ensures loaded { LoadsOver plan.now (rows_of seen catalogue.now) step windows.now
         (lists_of buffers.old) (lists_of buffers.new) result }
-    ensures spent { OnOk result (SpendsAtMost (window_cells plan.now) looker.old looker.new) }
+    ensures spent { OnOk result (SpendsAtMost
+        (cells_of_largest_window plan.now) looker.old looker.new) }
     ensures refused { TellsWhyAt plan.now (rows_of seen catalogue.now) step result }
 {
     oe_steps::look_slot(

@@ -2,7 +2,7 @@
 ghost use Rattle.std.specs.Prelude.{◌≡◌, ◌*◌, IfOk, length};
 ghost use Rattle.std.specs.List.{All};
 ghost use Rattle.oe_plan.specs.Figures.{bound_of};
-ghost use Rattle.oe_engine.specs.Workspaces.{AreBenchesFor, HasBenchFor, cells_of_benches};
+ghost use Rattle.oe_engine.specs.Workspaces.{AreBenchesFor, IsPlaceFor, cells_of_benches};
 
 use crate::bench::Bench;
 use crate::making::{make_benches, take_bench};
@@ -62,7 +62,7 @@ impl Workspace {
         places: &mut Vec<Option<Bench>>,
     ) -> Result<Workspace, OutOfMemory>
         requires many { length places.old.items ≡ 2 * plan.now.workers }
-        requires made { All (HasBenchFor plan.now) places.old.items }
+        requires made { All (IsPlaceFor plan.now) places.old.items }
         ensures benches { IfOk result (AreBenchesFor plan.now) }
         ensures cells { IfOk result (λ benches. cells_of_benches benches
             ≡ bound_of plan.now.graph plan.now.size plan.now.workers) }
