@@ -2,6 +2,7 @@
 use Rattle.std.proofs.Common.{◌≡◌, ℕ, Bool, true, false, List, Option, Some, None, IfSome, if◌then◌else◌, [], decimal, inl, inr, refl, sym, ap, ◌∙◌, subst, arith}
 use Rattle.oe_steps.specs.Collections.{AreRead}
 use Rattle.oe_engine.specs.Going.{ChangesOwnRecords, IsGoing, StandsBehind}
+use Rattle.oe_engine.specs.Laws.{IsCheckedOver}
 use Rattle.oe_engine.specs.Runs.{RunOf}
 use Rattle.oe_engine.specs.Results.{IsVisible}
 use Rattle.oe_engine.proofs.GoingLemmas.{runs_go_on, runs_stay_apart}
@@ -29,7 +30,7 @@ use Rattle.oe_serve.specs.Answers.{no_result, out_of_memory, result}
 use Rattle.oe_serve.specs.Evaluations.{IsBegun}
 use Rattle.oe_serve.specs.Links.{LinkOf, SendsCode, SendsReply}
 use Rattle.oe_serve.specs.Results.{AnswersResult, IsTooLarge, with_refusal, with_result, without_memory}
-use Rattle.oe_serve.specs.Serves.{Acts, IsRunnable, KeepsService}
+use Rattle.oe_serve.specs.Serves.{Acts, KeepsService}
 use Rattle.oe_serve.specs.declared.refusal.ResultRefusal.TheVariants.{PlanTooLarge}
 use Rattle.oe_serve.specs.declared.served.Served.{Served}
 
@@ -143,7 +144,7 @@ same_sizes c size workers p graph_is size_is workers_are before after link link_
     (subst (λ (g : CheckedGraph). AnswersResult g p.size p.workers before after link link_after served) graph_is answers))
 
 module _ (c : CheckedGraph) (size : ChunkSize) (workers base : ℕ) (r : RunOf) (b : IsBegun c size workers base r)
-    (rows : List Row) (may : IsRunnable rows c) (store : Option (List ℕ)) where
+    (rows : List Row) (may : IsCheckedOver rows c) (store : Option (List ℕ)) where
   -- it is under way
   pub begun_going : IsGoing r rows store
   begun_going =

@@ -150,7 +150,7 @@ module _ (c : CheckedGraph) (size : ChunkSize) (workers : ℕ) (before after : O
     without_memory : SendsReply 503 (reply_bytes (refused_reply code.OutOfMemory [])) link link_after served
         → AnswersResult
 
--- the run of a plan is, over a connection of type L and a spool of type P, whatever the keeper is
+-- the run of a plan is answered so, over a connection of type L and a spool of type P, whatever the keeper is
 abbrev pub AnswersRun : {L P : Type 0} → (L → Option (List ℕ)) → (L → Option (List ℕ)) → (L → ℕ) → (P → Option (List ℕ))
     → (P → ℕ) → PlanOf → List Row → P → L → List Row → P → L → Served → Type 0
 AnswersRun left written link_faults bytes faults p rows spool link rows_after spool_after link_after served =

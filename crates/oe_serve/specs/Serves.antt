@@ -1,7 +1,7 @@
 -- How one connection is served.
 use Rattle.std.specs.Prelude.{◌≡◌, ◌≢◌, ℕ, ◌+◌, ℤ, Bool, true, false, List, Option, IfSome, IsSome, ⊤}
 use Rattle.oe_steps.specs.Collections.{AreRead}
-use Rattle.oe_engine.specs.Laws.{GivesCollections}
+use Rattle.oe_engine.specs.Laws.{IsCheckedOver}
 use Rattle.oe_engine.specs.Runs.{RunOf}
 use Rattle.oe_engine.specs.Results.{IsVisible}
 use Rattle.http.specs.StatusCode.{reason_phrase}
@@ -27,7 +27,7 @@ use Rattle.oe_service.specs.States.{Event, Setting, State, no_command, setting_o
 use Rattle.oe_service.specs.declared.service.Service.{Service}
 use Rattle.oe_check.specs.Checked.{CheckedGraph}
 use Rattle.oe_sources.specs.Catalogue.{Row}
-use Rattle.oe_sources.specs.CatalogueDims.{AreDimsOf, dims_of}
+use Rattle.oe_sources.specs.CatalogueDims.{dims_of}
 use Rattle.oe_window.specs.declared.grid.ChunkSize.{ChunkSize}
 use Rattle.oe_serve.specs.Answers.{Answer, ChangesNothing, IsAnswer, IsAnswerTo, IsEventOf, SendsAnswer, is_event}
 use Rattle.oe_serve.specs.Links.{Came, IsCame, IsSilent, LinkOf, broken, link_of, request, unread}
@@ -132,20 +132,14 @@ pub record KeepsService (s s_after : Service) (before after : Outside) : Type 0 
   pub spool_count : NeverFalls before.spool_faults after.spool_faults
   pub keeper_count : NeverFalls before.keeper_faults after.keeper_faults
 
--- A graph is planned over these collections as it was checked over them.
-pub record IsRunnable (rows : List Row) (c : CheckedGraph) : Type 0 where
-  pub rows_are : c.rows ≡ dims_of rows
-  pub found : AreDimsOf rows c.rows
-  pub given : GivesCollections rows
-
--- what is to be done can be done: replies have a phrase, a change is that of a command and keeps the book valid, and an
--- asset is there
+-- what is to be done can be done: replies have a phrase, a change is that of a command and keeps the book valid, a
+-- graph was checked over these collections, and an asset is there
 abbrev pub MayAct : PlainBook → List Row → Action → Type 0
 MayAct book rows (actions.Answer response) = IsSome (reason_phrase response.status)
 MayAct book rows (actions.Commit made response) =
     IsSome (reason_phrase response.status) × IsBook (changed book (plain_change made))
     × IsDecided book (changed book (plain_change made))
-MayAct book rows (actions.RunNow checked) = IsRunnable rows checked
+MayAct book rows (actions.RunNow checked) = IsCheckedOver rows checked
 MayAct book rows (actions.SendAsset job asset) = IsSome (text_at book job asset)
 MayAct book rows (actions.Estimate graphs) = ⊤
 
@@ -205,7 +199,7 @@ module _ {L K : Type 0} (left written : L → Option (List ℕ)) (link_faults : 
       (link_of left written link_faults link) (link_of left written link_faults link_after) (has_failed keeper_after)
       result
 
--- of a connection and a spool, whatever becomes of the keeper, which has the book of the service
+-- of a connection and a spool, whatever the keeper is that has the book
 module _ {L P : Type 0} (left written : L → Option (List ℕ)) (link_faults : L → ℕ) (bytes : P → Option (List ℕ))
     (faults : P → ℕ) where
   -- a graph is run at once and answered; the service stays as it is

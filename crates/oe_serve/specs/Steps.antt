@@ -110,15 +110,15 @@ TicksOnceOver out has_failed now s s_after rows spool keeper rows_after spool_af
 module _ {C D P K : Type 0} (link : C → LinkOf) (seen : D → DoorOf C) (out : List Row → P → K → Outside)
     (has_failed : K → Bool) where
   -- a connection is served, and given back
-  abbrev pub MeetsOver : Site → ℤ → C → Service → Service → List Row → P → K → D → List Row → P → K → D → Type 0
-  MeetsOver site now conn s s_after rows spool keeper door rows_after spool_after keeper_after door_after =
+  abbrev pub MeetsOneOver : Site → ℤ → C → Service → Service → List Row → P → K → D → List Row → P → K → D → Type 0
+  MeetsOneOver site now conn s s_after rows spool keeper door rows_after spool_after keeper_after door_after =
       MeetsOne link (server_for site s) now conn s s_after (out rows spool keeper)
       (out rows_after spool_after keeper_after) (seen door) (seen door_after) (has_failed keeper_after)
 
   -- one turn, whatever it answers
-  abbrev pub TurnsOver : Site → Option ℤ → Service → Service → List Row → P → K → D → List Row → P → K → D
+  abbrev pub TurnsOnceOver : Site → Option ℤ → Service → Service → List Row → P → K → D → List Row → P → K → D
       → Result Bool ServeFail → Type 0
-  TurnsOver site moment s s_after rows spool keeper door rows_after spool_after keeper_after door_after result =
+  TurnsOnceOver site moment s s_after rows spool keeper door rows_after spool_after keeper_after door_after result =
       TurnsOnce link (server_for site s) moment s s_after (out rows spool keeper)
       (out rows_after spool_after keeper_after) (has_failed keeper) (has_failed keeper_after) (seen door)
       (seen door_after) result

@@ -2,6 +2,7 @@
 ghost use Rattle.std.specs.Prelude.{◌≡◌, [], None};
 ghost use Rattle.oe_steps.specs.Collections.{AreRead};
 ghost use Rattle.oe_engine.specs.Going.{ChangesOwnRecords, IsGoing};
+ghost use Rattle.oe_engine.specs.Laws.{IsCheckedOver};
 ghost use Rattle.oe_engine.specs.Runs.{HasRunRecords, chunk_total};
 ghost use Rattle.oe_engine.specs.Evaluations.{IsFirst};
 ghost use Rattle.oe_outside.specs.Faults.{NeverFalls};
@@ -11,7 +12,7 @@ ghost use Rattle.oe_sources.specs.CatalogueRows.{rows_of};
 ghost use Rattle.oe_serve.specs.Evaluations.{SendsRunText, served_of};
 ghost use Rattle.oe_serve.specs.Links.{link_of};
 ghost use Rattle.oe_serve.specs.Results as spec;
-ghost use Rattle.oe_serve.specs.Serves.{IsRunnable, RunsOver};
+ghost use Rattle.oe_serve.specs.Serves.{RunsOver};
 
 use crate::evaluation::{begin, complete};
 use crate::links::answer_out_of_memory;
@@ -41,7 +42,7 @@ pub(crate) fn answer_result<R: Threads + Sync, L: Link, P: Store, G: Gate>(
 ) -> Served
     requires service { IsService service.now }
     requires going { GoesOn service.now.run (rows_of seen catalogue.old) (P.bytes spool.old) }
-    requires runnable { IsRunnable (rows_of seen catalogue.old) checked }
+    requires runnable { IsCheckedOver (rows_of seen catalogue.old) checked }
     ensures { RunsOver L.left L.written L.faults P.bytes P.faults checked service.now
         (rows_of seen catalogue.old) spool.old link.old
         (rows_of seen catalogue.new) spool.new link.new result }

@@ -8,7 +8,7 @@ ghost use Rattle.oe_sources.specs.CatalogueRows.{rows_of};
 ghost use Rattle.oe_serve.specs.Endings as endings;
 ghost use Rattle.oe_serve.specs.Links.{link_of};
 ghost use Rattle.oe_serve.specs.Server.{IsKeeperFaultOver, MakesTurnsOver, ServerEndsOver};
-ghost use Rattle.oe_serve.specs.Steps.{MeetsOver, TicksOnceOver, TurnsOver};
+ghost use Rattle.oe_serve.specs.Steps.{MeetsOneOver, TicksOnceOver, TurnsOnceOver};
 ghost use Rattle.oe_serve.specs.Turns.{door_of};
 
 use crate::command::ServeCommand;
@@ -150,7 +150,7 @@ fn turn<R: Threads + Sync, P: Store, K: Keeper, D: Door, C: Clock, G: Gate>(
 ) -> Result<bool, ServeFail>
     requires service { IsServiceOver service.old (outside_of P.bytes P.faults K.kept K.faults
         (rows_of seen catalogue.old) spool.old keeper.old) }
-    ensures turns { TurnsOver (link_of D.Conn.left D.Conn.written D.Conn.faults)
+    ensures turns { TurnsOnceOver (link_of D.Conn.left D.Conn.written D.Conn.faults)
         (door_of D.visible D.faults D.dial_faults) (outside_of P.bytes P.faults K.kept K.faults)
         K.has_failed setup.now.site.now (C.moment clock.old) service.old service.new
         (rows_of seen catalogue.old) spool.old keeper.old door.old
@@ -186,7 +186,7 @@ fn meet<R: Threads + Sync, P: Store, K: Keeper, D: Door, G: Gate>(
     requires moment { IsInstant now }
     requires service { IsServiceOver service.old (outside_of P.bytes P.faults K.kept K.faults
         (rows_of seen catalogue.old) spool.old keeper.old) }
-    ensures { MeetsOver (link_of D.Conn.left D.Conn.written D.Conn.faults)
+    ensures { MeetsOneOver (link_of D.Conn.left D.Conn.written D.Conn.faults)
         (door_of D.visible D.faults D.dial_faults) (outside_of P.bytes P.faults K.kept K.faults)
         K.has_failed setup.now.site.now now conn service.old service.new
         (rows_of seen catalogue.old) spool.old keeper.old door.old
