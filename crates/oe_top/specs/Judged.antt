@@ -10,9 +10,7 @@ use Rattle.oe_judge.specs.Judged.{checked_over}
 use Rattle.oe_outside.specs.Faults.{NeverFalls, Rose}
 use Rattle.oe_outside.specs.Input.{ReadsUpTo, TakesAtMost}
 use Rattle.oe_check.specs.Checked.{CheckedGraph}
-use Rattle.oe_engine.specs.Laws.{GivesCollections}
-use Rattle.oe_sources.specs.Catalogue.{Row}
-use Rattle.oe_sources.specs.CatalogueDims.{AreDimsOf, dims_of}
+use Rattle.oe_sources.specs.CatalogueDims.{dims_of}
 use Rattle.oe_top.specs.Faults.{StandsOver}
 use Rattle.oe_top.specs.Objects.{IsReadWhole, Objects}
 use Rattle.oe_top.specs.declared.judge.InputRefusal.{InputRefusal}
@@ -43,12 +41,6 @@ module _ (rows : List DimsRow) where
     pub was_read : ReadsUpTo most_input before bytes after
     pub least : IsLeast (StandsOver rows bytes) fault
     pub of_all : IfSome before (λ all. IsLeast (StandsOver rows all) fault)
-
--- a graph was checked over the collections of a catalogue with these rows, which they are of each such graph
-pub record IsOverCollections (c : CheckedGraph) (rows : List Row) : Type 0 where
-  pub rows_are : c.rows ≡ dims_of rows
-  pub found : AreDimsOf rows c.rows
-  pub given : GivesCollections rows
 
 -- the whole input was read, and it is this graph, in which no fault stands over the collections
 abbrev pub IsInput : Objects → Objects → CheckedGraph → Type 0

@@ -42,7 +42,7 @@ ForEachSpool left input_faults written out_faults input out input_after out_afte
     → P (objects (left input) (input_faults input) (written out) (out_faults out) spool spool_faults rows)
     (objects (left input_after) (input_faults input_after) (written out_after) (out_faults out_after) spool spool_faults rows)
 
--- the same, whatever the collections are
+-- the same, whatever the collections are, which stay
 abbrev pub ForEachSpoolAndRows : {I O : Type 0} → (I → Option (List ℕ)) → (I → ℕ) → (O → Option (List ℕ)) → (O → ℕ)
     → I → O → I → O → (Objects → Objects → Type 0) → Type 0
 ForEachSpoolAndRows left input_faults written out_faults input out input_after out_after P =
@@ -68,7 +68,7 @@ ForEachInput written out_faults bytes spool_faults out spool out_after spool_aft
     (objects input_after faults_after (written out_after) (out_faults out_after) (bytes spool_after)
     (spool_faults spool_after) rows_after)
 
--- the same, whatever the collections are
+-- the same, whatever the collections are, which stay
 abbrev pub ForEachInputOverRows : {O P : Type 0} → (O → Option (List ℕ)) → (O → ℕ) → (P → Option (List ℕ)) → (P → ℕ)
     → O → P → O → P → (Objects → Objects → Type 0) → Type 0
 ForEachInputOverRows written out_faults bytes spool_faults out spool out_after spool_after Holds =

@@ -6,7 +6,7 @@ ghost use Rattle.oe_cell.specs.Spelling.{cell_text};
 ghost use Rattle.oe_cell.specs.declared.cell.Cell.{Cell};
 ghost use Rattle.oe_cell.specs.declared.cell.Cell.TheVariants.{Over};
 ghost use Rattle.oe_dims.specs.Dimensions.{most_cells};
-ghost use Rattle.oe_engine.specs.Laws.{GivesCollections};
+ghost use Rattle.oe_engine.specs.Laws.{GivesCollections, IsCheckedOver};
 ghost use Rattle.oe_engine.specs.Runs.{IsHiddenDamage, chunk_total};
 ghost use Rattle.oe_plan.specs.Ranges.{IsWithinRanges};
 ghost use Rattle.oe_render.specs.Rendered.{HasSpoolCause};
@@ -15,7 +15,7 @@ ghost use Rattle.oe_sources.specs.CatalogueRows.{rows_of};
 ghost use Rattle.oe_top.specs.DemoAnswer.{DemoAnswers, Demonstrates, IsDemonstration};
 ghost use Rattle.oe_top.specs.Demonstration.{HasSpooled, IsSpooled, demo_graph, figures_text};
 ghost use Rattle.oe_top.specs.Evaluated.{IsBegun};
-ghost use Rattle.oe_top.specs.Judged.{IsCheckedText, IsOverCollections};
+ghost use Rattle.oe_top.specs.Judged.{IsCheckedText};
 ghost use Rattle.oe_top.specs.Objects.{ForEachInputAndRows};
 
 use crate::evaluation::{EvaluationFail, begin, complete, fail_of_run, fail_of_text};
@@ -141,7 +141,7 @@ fn write_figures<R: Threads + Sync, O: Sink, P: Store, G: Gate>(
     requires chunks { chunks ≡ chunk_total run.plan }
     requires empty { line ≡ [] }
     requires demonstration { IsDemonstration (rows_of seen catalogue.old) }
-    requires collections { IsOverCollections run.plan.graph (rows_of seen catalogue.old) }
+    requires collections { IsCheckedOver (rows_of seen catalogue.old) run.plan.graph }
     ensures { ForEachInputAndRows O.written O.faults P.bytes P.faults out.old spool.old out.new
         spool.new (λ before after. Demonstrates (rows_of seen catalogue.old) run.plan.graph
         before after result) }

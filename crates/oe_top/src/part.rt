@@ -2,12 +2,13 @@
 ghost use Rattle.std.specs.Prelude.{◌≡◌, ◌<◌, ◌+◌, ◌↔◌, ℕ, [], List, IfOk, IsErrOf, IsTrue};
 ghost use Rattle.oe_dims.specs.declared.dims.DimsRow.{DimsRow};
 ghost use Rattle.oe_engine.specs.Evaluations.{IsPlanOf};
+ghost use Rattle.oe_engine.specs.Laws.{IsCheckedOver};
 ghost use Rattle.oe_parts.specs.Head.{AreSides, IsPartHead, front_bytes};
 ghost use Rattle.oe_plan.specs.Figures.{bound_of, most_held_cells};
 ghost use Rattle.oe_plan.specs.Ranges.{IsWithinRanges};
 ghost use Rattle.oe_sources.specs.CatalogueRows.{rows_of};
 ghost use Rattle.oe_steps.specs.Collections.{HasCollections};
-ghost use Rattle.oe_top.specs.Judged.{IsCheckedText, IsOverCollections};
+ghost use Rattle.oe_top.specs.Judged.{IsCheckedText};
 ghost use Rattle.oe_top.specs.Objects.{ForEachInput, lends};
 ghost use Rattle.oe_top.specs.PartAnswer.{AreChunksOf, EvaluatesPart, PartAnswersBy, head_for, head_of_part};
 ghost use Rattle.oe_top.specs.PartEvaluated.{GoesThroughPart, IsPartBegun};
@@ -186,7 +187,7 @@ fn write_chunks<R: Threads + Sync, O: Sink, P: Store, G: Gate>(
     requires valid { IsPartHead head.now }
     requires front { front.now ≡ front_bytes head.now }
     requires empty { pending.old ≡ [] }
-    requires collections { IsOverCollections run.plan.graph (rows_of seen catalogue.old) }
+    requires collections { IsCheckedOver (rows_of seen catalogue.old) run.plan.graph }
     ensures { ForEachInput O.written O.faults P.bytes P.faults out.old spool.old out.new spool.new
         (rows_of seen catalogue.old) (rows_of seen catalogue.new)
         (λ before after. EvaluatesPart head.now.graph run before after result) }

@@ -1,10 +1,10 @@
 // The command `run`: from the input to the text of what its graph means.
 ghost use Rattle.std.specs.Prelude.{◌≡◌};
+ghost use Rattle.oe_engine.specs.Laws.{IsCheckedOver};
 ghost use Rattle.oe_engine.specs.Runs.{chunk_total};
 ghost use Rattle.oe_plan.specs.Ranges.{IsWithinRanges};
 ghost use Rattle.oe_sources.specs.CatalogueRows.{rows_of};
 ghost use Rattle.oe_top.specs.Evaluated.{IsBegun};
-ghost use Rattle.oe_top.specs.Judged.{IsOverCollections};
 ghost use Rattle.oe_top.specs.Objects.{ForEachInput, lends};
 ghost use Rattle.oe_top.specs.RunAnswer.{Evaluates, RunAnswers};
 
@@ -99,7 +99,7 @@ fn write_result<R: Threads + Sync, O: Sink, P: Store, G: Gate>(
 ) -> Result<(), EvaluationFail>
     requires begun { IsBegun run }
     requires chunks { chunks ≡ chunk_total run.plan }
-    requires collections { IsOverCollections run.plan.graph (rows_of seen catalogue.old) }
+    requires collections { IsCheckedOver (rows_of seen catalogue.old) run.plan.graph }
     ensures { ForEachInput O.written O.faults P.bytes P.faults out.old spool.old out.new spool.new
         (rows_of seen catalogue.old) (rows_of seen catalogue.new)
         (λ before after. Evaluates run.plan.graph run.plan.size before after result) }

@@ -1,8 +1,8 @@
 // The command `slab`: from the input to the text of what its graph means, where slabs of dates are folded one after the
 // other.
+ghost use Rattle.oe_engine.specs.Laws.{IsCheckedOver};
 ghost use Rattle.oe_slab.specs.Figures.{AreSlabSides};
 ghost use Rattle.oe_sources.specs.CatalogueRows.{rows_of};
-ghost use Rattle.oe_top.specs.Judged.{IsOverCollections};
 ghost use Rattle.oe_top.specs.Objects.{ForEachInput, lends};
 ghost use Rattle.oe_top.specs.SlabAnswer.{FoldsSlabs, SlabAnswers};
 ghost use Rattle.oe_top.specs.SlabEvaluated.{IsSlabBegun};
@@ -88,7 +88,7 @@ fn write_folded<O: Sink, P: Store, G: Gate>(
     gate: &G,
 ) -> Result<(), EvaluationFail>
     requires begun { IsSlabBegun run }
-    requires collections { IsOverCollections run.plan.graph (rows_of seen catalogue.old) }
+    requires collections { IsCheckedOver (rows_of seen catalogue.old) run.plan.graph }
     ensures { ForEachInput O.written O.faults P.bytes P.faults out.old spool.old out.new spool.new
         (rows_of seen catalogue.old) (rows_of seen catalogue.new)
         (λ before after. FoldsSlabs run.plan.graph run.plan.size run.plan.fold before after result) }
