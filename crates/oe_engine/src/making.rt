@@ -21,7 +21,7 @@ pub(crate) fn make_benches<R: Threads + Sync>(
     count: usize,
     threads: usize,
 ) -> Result<Vec<Option<Bench>>, AllocError>
-    requires { 0 < threads }
+    requires threads { 0 < threads }
     ensures many { IfOk result (λ places. length places.items ≡ count) }
     ensures made { IfOk result (λ places. All (IsPlaceFor plan.now) places.items) }
 {
