@@ -20,7 +20,7 @@ use Rattle.oe_engine.specs.Going.{ChangesOwnRecords, IsGoing, RunsGoOn, RunsStay
 use Rattle.oe_engine.specs.Laws.{GivesCollections}
 use Rattle.oe_engine.specs.Rounds.{Advances, ReadsChunks, WritesChunks}
 use Rattle.oe_engine.specs.Runs.{HasDone, HasRunRecords, RunOf, chunk_total, chunks_from, chunks_in_round, result_cube, result_shape}
-use Rattle.oe_engine.specs.declared.rounds.Progress.{Progress}
+use Rattle.oe_engine.specs.declared.run.Progress.{Progress}
 use Rattle.oe_steps.specs.declared.fail.RunFail.{RunFail}
 use Rattle.oe_engine.proofs.LawLemmas.{begin_and_end}
 use Rattle.oe_engine.proofs.ReadLemmas.{dims_same, given_same}

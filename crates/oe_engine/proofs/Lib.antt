@@ -1,5 +1,4 @@
 pub mod ScheduleLemmas
-pub mod OverLemmas
 pub mod BenchLemmas
 pub mod WorkspaceLemmas
 pub mod ReadLemmas

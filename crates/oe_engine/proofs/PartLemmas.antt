@@ -14,8 +14,8 @@ use Rattle.oe_window.specs.declared.window.Window.{Window}
 use Rattle.oe_engine.specs.Parts.{AdvancesPart, HasPartCauses, HasPartDone, HasPartRecords, IsWhole, ReadsPart, WritesPart, chunks_done, chunks_next, in_round, run_of}
 use Rattle.oe_engine.specs.Rounds.{Advances, HasCauses, ReadsChunks, WritesChunks}
 use Rattle.oe_engine.specs.Runs.{HasDone, HasRunRecords, PartRunOf, chunk_total, chunks_from, chunks_in_round, evaluated_after, load_count, result_shape}
-use Rattle.oe_engine.specs.declared.rounds.Progress.{Progress}
-use Rattle.oe_engine.specs.declared.rounds.Progress.TheVariants.{Complete}
+use Rattle.oe_engine.specs.declared.run.Progress.{Progress}
+use Rattle.oe_engine.specs.declared.run.Progress.TheVariants.{Complete}
 use Rattle.oe_steps.specs.declared.fail.RunFail.{RunFail}
 
 -- ---- what is done of it

@@ -16,8 +16,8 @@ use Rattle.oe_engine.proofs.LawLemmas.{begin_and_end, stay_after_reads}
 use Rattle.oe_engine.specs.Rounds.{Advances, HasCauses, ReadsChunks, WritesChunks}
 use Rattle.oe_steps.specs.Refusals.{RefusalSays, overflow_of}
 use Rattle.oe_engine.specs.Runs.{HasDone, RunOf, chunk_total, chunks_in_round, result_cube, result_shape}
-use Rattle.oe_engine.specs.declared.rounds.Progress.{Progress}
-use Rattle.oe_engine.specs.declared.rounds.Progress.TheVariants.{Complete, More}
+use Rattle.oe_engine.specs.declared.run.Progress.{Progress}
+use Rattle.oe_engine.specs.declared.run.Progress.TheVariants.{Complete, More}
 use Rattle.oe_steps.specs.declared.fail.RunFail.{RunFail}
 use Rattle.oe_steps.specs.declared.fail.RunFail.TheVariants as run
 use Rattle.oe_engine.specs.Evaluations.{Evaluates, GoesThrough, IsFirst, LeavesRun, ReadsForPlan, most_asked}

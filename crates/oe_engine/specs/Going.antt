@@ -12,7 +12,7 @@ use Rattle.oe_steps.specs.Collections.{AreRead, HasCollections, Shows}
 use Rattle.oe_engine.specs.Laws.{GivesCollections}
 use Rattle.oe_engine.specs.Rounds.{Advances, ReadsChunks, WritesChunks}
 use Rattle.oe_engine.specs.Runs.{HasDone, HasRunRecords, RunOf, chunk_total, result_cube, result_shape}
-use Rattle.oe_engine.specs.declared.rounds.Progress.{Progress}
+use Rattle.oe_engine.specs.declared.run.Progress.{Progress}
 use Rattle.oe_steps.specs.declared.fail.RunFail.{RunFail}
 
 -- ---- under way

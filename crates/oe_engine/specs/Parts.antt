@@ -19,8 +19,8 @@ use Rattle.oe_steps.specs.declared.fail.RunFail.TheVariants.{SourceFailed, Spool
 use Rattle.oe_window.specs.Cells.{cell_at}
 use Rattle.oe_window.specs.declared.window.Window.{Window}
 use Rattle.oe_engine.specs.Runs.{HasSome, PartRunOf, RunOf, chunk_total, chunks_from, evaluated_after, load_count, result_cube, result_shape}
-use Rattle.oe_engine.specs.declared.rounds.Progress.{Progress}
-use Rattle.oe_engine.specs.declared.rounds.Progress.TheVariants.{Complete}
+use Rattle.oe_engine.specs.declared.run.Progress.{Progress}
+use Rattle.oe_engine.specs.declared.run.Progress.TheVariants.{Complete}
 
 -- ---- what is done of a part
 

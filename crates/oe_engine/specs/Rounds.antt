@@ -9,8 +9,8 @@ use Rattle.oe_spool.specs.Spooled.{ChangesOnly, IsInSome}
 use Rattle.oe_steps.specs.Collections.{AreRead, LoadRose, Shows}
 use Rattle.oe_steps.specs.Refusals.{IsOfSource, RefusalSays}
 use Rattle.oe_engine.specs.Runs.{HasDone, HasRunRecords, RunOf, chunk_total, chunks_from, chunks_in_round, evaluated_after, load_count, result_cube}
-use Rattle.oe_engine.specs.declared.rounds.Progress.{Progress}
-use Rattle.oe_engine.specs.declared.rounds.Progress.TheVariants.{Complete}
+use Rattle.oe_engine.specs.declared.run.Progress.{Progress}
+use Rattle.oe_engine.specs.declared.run.Progress.TheVariants.{Complete}
 use Rattle.oe_steps.specs.declared.fail.RunFail.{RunFail}
 use Rattle.oe_steps.specs.declared.fail.RunFail.TheVariants.{SourceFailed, SpoolFailed}
 

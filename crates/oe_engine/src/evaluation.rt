@@ -5,7 +5,7 @@ ghost use Rattle.oe_sources.specs.CatalogueRows.{rows_of};
 ghost use Rattle.oe_steps.specs.Collections.{HasCollections};
 ghost use Rattle.oe_engine.specs.Evaluations.{Evaluates, GoesThrough, IsFirst};
 
-use crate::rounds::{Progress, Run};
+use crate::run::{Progress, Run};
 use oe_outside::{Gate, Store};
 use oe_sources::Catalogue;
 use oe_steps::RunFail;

@@ -16,13 +16,12 @@ mod laws;
 mod lead;
 mod loading;
 mod making;
-mod over;
 mod part_run;
+mod round;
 mod round_table;
-mod rounds;
+mod run;
 mod steps;
 mod table;
-mod taken;
 mod work;
 mod workspace;
 
@@ -33,7 +32,6 @@ pub use laws::{
     reads_change_nothing, runs_go_on, runs_stay_apart,
 };
 pub use oe_steps::RunFail;
-pub use over::first_over;
 pub use part_run::PartRun;
-pub use rounds::{Progress, Run};
+pub use run::{Progress, Run};
 pub use workspace::Workspace;

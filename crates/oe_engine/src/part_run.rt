@@ -1,9 +1,9 @@
 // A part of a run: rounds of some of its chunks, from collections to the records of a spool.
 use crate::bench::Bench;
 use crate::chunks::{least_of_chunks, write_chunks};
+use crate::round::{evaluate_taken, load_taken};
 use crate::round_table::Crew;
-use crate::rounds::Progress;
-use crate::taken::{evaluate_taken, load_taken};
+use crate::run::Progress;
 use crate::workspace::Workspace;
 use oe_outside::{Gate, Pending, Sink, Store};
 use oe_plan::Plan;

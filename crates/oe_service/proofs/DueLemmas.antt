@@ -6,7 +6,7 @@ use Rattle.std.specs.Option.{option_map_or}
 use Rattle.oe_engine.specs.Going.{IsGoing}
 use Rattle.oe_engine.specs.Rounds.{Advances, HasCauses, ReadsChunks, WritesChunks}
 use Rattle.oe_engine.specs.Runs.{RunOf, chunk_total}
-use Rattle.oe_engine.specs.declared.rounds.Progress.{Progress}
+use Rattle.oe_engine.specs.declared.run.Progress.{Progress}
 use Rattle.oe_steps.specs.declared.fail.RunFail.{RunFail}
 use Rattle.oe_engine.proofs.GoingLemmas.{runs_stay_apart}
 use Rattle.oe_engine.proofs.LawLemmas.{stay_after_reads}

@@ -3,7 +3,7 @@ use Rattle.std.proofs.Common.{◌≡◌, ◌<◌, ℕ, ℤ, ◌+◌, ◌*◌, Bo
 use Rattle.std.specs.Prelude.{min, ◌-◌}
 use Rattle.oe_engine.specs.Rounds.{Advances}
 use Rattle.oe_engine.specs.Runs.{RunOf, chunk_total}
-use Rattle.oe_engine.specs.declared.rounds.Progress.{Progress}
+use Rattle.oe_engine.specs.declared.run.Progress.{Progress}
 use Rattle.oe_jobs.specs.Events.{has_busy_job, running_job}
 use Rattle.oe_jobs.specs.Plain.{PlainBook, PlainJob, plain_book}
 use Rattle.oe_jobs.specs.Valid.{IsBook}

@@ -5,7 +5,7 @@ use Rattle.oe_engine.specs.Going.{IsGoing}
 use Rattle.oe_engine.specs.Laws.{GivesCollections}
 use Rattle.oe_engine.specs.Rounds.{Advances, HasCauses, ReadsChunks, WritesChunks}
 use Rattle.oe_engine.specs.Runs.{RunOf, chunk_total}
-use Rattle.oe_engine.specs.declared.rounds.Progress.{Progress}
+use Rattle.oe_engine.specs.declared.run.Progress.{Progress}
 use Rattle.oe_engine.specs.Evaluations.{IsPlanOf}
 use Rattle.oe_steps.specs.declared.fail.RunFail.{RunFail}
 use Rattle.oe_steps.specs.declared.fail.RunFail.TheVariants as run

@@ -14,8 +14,8 @@ use Rattle.oe_steps.specs.declared.fail.RunFail.TheVariants as run
 use Rattle.oe_engine.specs.Laws.{StayAfterReads}
 use Rattle.oe_engine.specs.Parts.{AdvancesPart, HasPartCauses, HasPartDone, ReadsPart, WritesPart, chunks_done, in_round}
 use Rattle.oe_engine.specs.Runs.{PartRunOf, chunks_from, result_cube}
-use Rattle.oe_engine.specs.declared.rounds.Progress.{Progress}
-use Rattle.oe_engine.specs.declared.rounds.Progress.TheVariants.{Complete}
+use Rattle.oe_engine.specs.declared.run.Progress.{Progress}
+use Rattle.oe_engine.specs.declared.run.Progress.TheVariants.{Complete}
 use Rattle.oe_engine.specs.Evaluations.{most_asked}
 use Rattle.oe_engine.proofs.RunRounds.{still_visible}
 use Rattle.oe_spool.specs.Least.{IsLeastOver}

@@ -9,7 +9,7 @@ use Rattle.oe_render.specs.Text.{cube_text}
 use Rattle.oe_engine.specs.Parts.{IsWhole}
 use Rattle.oe_engine.specs.Runs.{OfRun, RunOf, chunk_total, result_cube, result_shape}
 use Rattle.oe_engine.proofs.RenderLemmas.{count_is, has_cells, part_count_is, prefix_is, result_shape_is, result_whole, text_is}
-use Rattle.oe_engine.proofs.rounds.Run.render.Goals as goal
+use Rattle.oe_engine.proofs.run.Run.render.Goals as goal
 
 pub render-requires : goal.render-requires
 render-requires g c =

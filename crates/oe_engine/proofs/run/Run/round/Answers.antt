@@ -5,7 +5,7 @@ use Rattle.oe_engine.specs.Parts.{run_of}
 use Rattle.oe_engine.specs.Rounds.{Advances, HasCauses, ReadsChunks, WritesChunks}
 use Rattle.oe_engine.specs.Runs.{RunOf}
 use Rattle.oe_engine.proofs.PartLemmas.{run_advances, run_causes, run_reads, run_writes, still_whole}
-use Rattle.oe_engine.proofs.rounds.Run.round.Goals as goal
+use Rattle.oe_engine.proofs.run.Run.round.Goals as goal
 
 pub round-requires-clause-mounted : goal.round-requires-clause-mounted
 round-requires-clause-mounted g c κs within =

@@ -2,7 +2,7 @@ use Rattle.std.proofs.Common.{◌≡◌, ◌+◌, ◌*◌, ◌<◌, ◌≤◌, �
 use Rattle.std.proofs.lemmas.List.{length-take-le}
 use Rattle.oe_engine.specs.Benches.{BenchOf}
 use Rattle.oe_engine.proofs.EvaluationLemmas.{benches_after, each_done, each_value, take_evaluations}
-use Rattle.oe_engine.proofs.taken.evaluate_taken.Goals as goal
+use Rattle.oe_engine.proofs.round.evaluate_taken.Goals as goal
 
 as_many : (count : ℕ) (olds news : List BenchOf) → length news ≡ length olds → count ≤ length olds
     → length (take count news) ≡ length (take count olds)

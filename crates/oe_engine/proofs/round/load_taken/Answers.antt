@@ -8,7 +8,7 @@ use Rattle.oe_engine.specs.Loads.{LoadsBench}
 use Rattle.oe_steps.proofs.BufferLemmas.{take_front}
 use Rattle.oe_steps.proofs.ReadLemmas.{has_more, has_most, has_same}
 use Rattle.oe_engine.proofs.RoundLemmas.{each_after, each_before, front_long}
-use Rattle.oe_engine.proofs.taken.load_taken.Goals as goal
+use Rattle.oe_engine.proofs.round.load_taken.Goals as goal
 
 pub load_in_threads-loaded-requires-clause-benches : goal.load_in_threads-loaded-requires-clause-benches
 load_in_threads-loaded-requires-clause-benches g c κs within = each_before c.args.plan.now c.args.count c.args.benches.now c.requires.benches
