@@ -6,9 +6,9 @@ import unittest
 
 from common import ROOT, InFolder, needs
 
-ROWS = os.path.abspath(os.environ.get("ROWS_DATABASE") or f"{ROOT}/crates/oe_rows_database/out/oe_rows_database")
+ROWS = os.path.abspath(os.environ.get("ROWS") or f"{ROOT}/crates/oe_rows_messages/out/oe_rows_messages")
 
-needs_rows = unittest.skipUnless(os.access(ROWS, os.X_OK), "no program oe_rows_database: `make test`, or ROWS_DATABASE")
+needs_rows = unittest.skipUnless(os.access(ROWS, os.X_OK), "no program oe_rows_messages: `make test`, or ROWS")
 
 
 @needs("sqlite3")
@@ -18,7 +18,7 @@ class Database(InFolder):
         """A connection to the file that the keeper leaves once it has taken these steps of a row program."""
         import sqlite3
 
-        rows = [*(f"keep {line}" for line in lines), "bytes", ""]
+        rows = ["== database", *(f"keep {line}" for line in lines), "bytes", ""]
         ran = subprocess.run([ROWS], input="\n".join(rows).encode(), capture_output=True)
         self.assertEqual(ran.returncode, 0, ran.stderr.decode())
         self.keep("jobs.db", bytes.fromhex(ran.stdout.decode().splitlines()[-1]))

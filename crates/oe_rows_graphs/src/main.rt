@@ -1,6 +1,6 @@
 //! Graphs that are read, resolved, planned and run, collections that are mounted and read, calls of `openeo` over
-//! objects in memory, and parts of mosaics. The answers were taken from outside: by hand, from the public texts and
-//! `docs/formats.md`, or from references that share no code with these crates.
+//! objects in memory, parts of mosaics, and graphs that are translated. The answers were taken from outside: by hand,
+//! from the public texts and `docs/formats.md`, or from references that share no code with these crates.
 //!
 //! The input has parts, each of which begins with a line `== NAME`, and a line for each step; a line that begins with
 //! `#` says what the next ones show, and has no answer. `oe_lines` says how words are spelled. SIZES are the sides of
@@ -129,6 +129,16 @@
 //! A PART is `CALLS KIND SHAPE CELLS`: the numbers of its reads that fail, from 0 on and `-` for none, `number` or
 //! `boolean`, its shape and its cells. A part or a mosaic is spelled as its labels along t, y and x, where it has the
 //! dimension, and all its cells, or `failed` where their read fails.
+//!
+//! **`translations`**: graphs whose calendar periods and running sums are written by other processes. Their texts were
+//! written by hand from what `docs/definitions.md` says of translated graphs, and the periods from the calendar.
+//!
+//! | Line | What it does |
+//! |---|---|
+//! | `dates ID DATES` | has a collection of numbers of one pixel with these dates, a blank between two; ids come in byte order |
+//! | `forget` | forgets the collections before it |
+//! | `translate GRAPH` | the text of the graph, resolved and translated over the collections, or its fault |
+//! | `check GRAPH` | the nodes of the checked translation, each with the count of its dates, or the fault of the graph |
 #![tactic(auto)]
 
 mod attempt;
@@ -147,6 +157,8 @@ mod repeated;
 mod resolved;
 mod runs;
 mod sources;
+mod translated;
+mod translations;
 mod windows;
 
 use calls::answer_calls;
@@ -160,6 +172,7 @@ use std::alloc::Global;
 use std::io::{Read, Write};
 use std::process::ExitCode;
 use std::thread::Threads;
+use translations::answer_translations;
 
 fn main(rt: HostRuntime) -> ExitCode {
     let mut text = String::new(rt.alloc());
@@ -208,6 +221,7 @@ fn answer_part<R: Threads + Sync>(
             answer_mosaics(alloc, lines, answers);
             Ok(())
         }
+        "translations" => answer_translations(alloc, lines, answers),
         _ => Err(Fault::Line),
     }
 }

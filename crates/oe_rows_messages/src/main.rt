@@ -1,4 +1,5 @@
-//! HTTP messages and a client's calls, the job book and its keepers, objects in memory, and the command `client`.
+//! HTTP messages and a client's calls, the job book and its keepers, in memory and over a database, objects in memory,
+//! and the command `client`.
 //!
 //! The input has parts, each of which begins with a line `== NAME`, and a line for each step; a line that begins with
 //! `#` says what the next ones show, and has no answer. `oe_lines` says how words are spelled.
@@ -110,20 +111,56 @@
 //! where the words spell no call. Else it is the exit status; what was sent, where a connection was given back; what
 //! stands on the output and on the error output; the bytes of the input that were left, where there are any; and the
 //! counters of failed dials and connections that are not 0.
+//!
+//! **`database`**: the keeper of a job book over a database, on disks in memory. Before each line the disks crash and
+//! lose what was not synced; then the database on them is opened, and closed after the line, when its log is copied
+//! into its own file. The answers were written from what each change makes of a book. Those of `fuse` are from the
+//! words of SQLite on the log that is written ahead: a commit appends to the log and syncs it, and the database's own
+//! file is written when it is made, and again only where a log of so many pages is copied into it. All changes of a
+//! line make far fewer than 1000 pages. So a log that fails may do so after any number of changes; a file that fails
+//! does so before the first change, or never, and where the log is copied after each commit after any number of them
+//! too.
+//!
+//! | Line | What it does |
+//! |---|---|
+//! | `new` | puts two empty disks in place of the ones before |
+//! | `keep STEPS` | has a keeper take these steps, with `; ` between them, and prints a line for each |
+//! | `sql TEXT` | runs statements on the database, beneath every keeper |
+//! | `ask TEXT` | runs a query on it, and prints the first value of the first row |
+//! | `bytes` | prints the database's own file in hexadecimal digits; `tools/tests` has the system's SQLite read it |
+//! | `fuse log PAGES STEPS`, `fuse db PAGES STEPS` | takes the steps, each change with a `load` before and after it, on new disks, whose log is copied once it has so many pages, again and again, where from the first, second, .. call on all calls of one of the two disks fail, until no change fails; prints how many changes were kept before one failed, each number once, and how many of the crashes behind them leave another book than that of these changes, or the next one after it |
+//!
+//! | Step | What it does |
+//! |---|---|
+//! | `load` | loads the book, and prints it |
+//! | `put NEXT LENGTH ID ENTRY` | commits a job with this entry, with no asset where the length is 0, else with one `a.json` of so many digits 1, and the next number of the book |
+//! | `asset ID LENGTH UPDATED MESSAGE` | commits that a job gets such an asset at a moment, and a log entry where there is a message |
+//! | `drop ID` | commits that there is no job of this id |
+//! | `store USER ID TEXT`, `forget USER ID` | commits that a user has this stored process, or none |
+//!
+//! A commit prints `kept`, and what is refused `failed` and how often a call of this keeper has failed. A book that is
+//! printed has its next number, its jobs by id and entry with their assets, and its stored processes, with bars
+//! between them.
 #![tactic(auto)]
 
 mod asked;
 mod books;
+mod changes;
 mod client;
 mod clocks;
 mod commands;
 mod copies;
 mod counted;
+mod database;
 mod dialled;
+mod disks;
 mod doors;
 mod events;
+mod fuses;
 mod jobs;
 mod keepers;
+mod keeping;
+mod kept;
 mod links;
 mod messages;
 mod objects;
@@ -136,6 +173,7 @@ mod valid;
 mod writing;
 
 use books::answer_jobs;
+use database::answer_database;
 use dialled::answer_dialled;
 use messages::answer_messages;
 use objects::answer_objects;
@@ -177,6 +215,7 @@ fn answer_part(alloc: Global, name: &str, lines: &str, answers: &mut Answers) {
         "jobs" => answer_jobs(alloc, lines, answers),
         "objects" => answer_objects(alloc, lines, answers),
         "client" => answer_dialled(alloc, lines, answers),
+        "database" => answer_database(alloc, lines, answers),
         _ => answers.note(Fault::Line),
     }
 }

@@ -1,6 +1,6 @@
 // Lines over an open database.
 use crate::changes::change_of;
-use crate::spelling::spell_book;
+use crate::kept::spell_book;
 use oe_database::SqliteKeeper;
 use oe_jobs::{Keeper, KeeperFail};
 use oe_lines::{Answers, Fault, Line, end_line, first_word, push, push_number};

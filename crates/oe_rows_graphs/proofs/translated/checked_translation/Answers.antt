@@ -7,7 +7,7 @@ use Rattle.oe_graph.specs.Valid.{AreValidStored}
 use Rattle.oe_calls.specs.Calls.{Calls}
 use Rattle.oe_calls.proofs.Along.{none_there}
 use Rattle.oe_translate.specs.Laws.{HasFewNodes, HasRoomForSums}
-use Rattle.oe_rows_translate.proofs.translated.checked_translation.Goals as goal
+use Rattle.oe_rows_graphs.proofs.translated.checked_translation.Goals as goal
 
 none_stored : AreValidStored []
 none_stored = record { each = λ s has. absurd (none_there s has); differ = λ i j a b below is other. absurd cc }
