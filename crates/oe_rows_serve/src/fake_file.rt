@@ -1,5 +1,5 @@
 // A file of the system in memory.
-use crate::script::Script;
+use crate::failing::Script;
 use std::cell::RefCell;
 use std::fs::{Metadata, OpenFile};
 use std::io::{Error, ErrorKind, Read, Result as IoResult, Seek, SeekFrom, Write};

@@ -1,7 +1,7 @@
 // Files as stores.
+use crate::called::{end_with, spell_count, spell_read, spell_write};
+use crate::failing::script_of;
 use crate::fake_file::FakeFile;
-use crate::script::script_of;
-use crate::spelling::{end_with, spell_count, spell_read, spell_write};
 use oe_adapters::FileStore;
 use oe_lines::{Answers, Fault, Line};
 use oe_outside::Store;

@@ -1,7 +1,7 @@
 // Readers and writers.
+use crate::called::{end_with, spell_bytes, spell_read, spell_write};
+use crate::failing::script_of;
 use crate::fake_stream::FakeStream;
-use crate::script::script_of;
-use crate::spelling::{end_with, spell_bytes, spell_read, spell_write};
 use oe_adapters::{Reader, Writer};
 use oe_lines::{Answers, Fault, Line, number_of, push};
 use oe_outside::{Sink, Source};

@@ -1,6 +1,6 @@
 // The words of a process, and the lines of faults.
+use crate::called::{end_with, spell_bytes, spell_fault};
 use crate::kinds::error_of;
-use crate::spelling::{end_with, spell_bytes, spell_fault};
 use oe_adapters::{Fault as ProgramFault, words_of};
 use oe_dims::Text;
 use oe_lines::{Answers, Fault, bytes_of, push};

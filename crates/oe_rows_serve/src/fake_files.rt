@@ -1,9 +1,9 @@
 // The files of a system, as a row tells them.
 ghost use Rattle.std.specs.Prelude.{◌≤◌, length};
 
+use crate::failing::Script;
 use crate::fake_file::{FakeFile, refuse};
 use crate::kinds::error_of;
-use crate::script::Script;
 use oe_lines::number_of;
 use std::alloc::{Allocator, Global};
 use std::cell::Cell;

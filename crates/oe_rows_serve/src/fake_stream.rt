@@ -1,5 +1,5 @@
 // A stream of the system in memory.
-use crate::script::Script;
+use crate::failing::Script;
 use std::alloc::Global;
 use std::cell::RefCell;
 use std::io::{Error, ErrorKind, Read, Result as IoResult, Write};

@@ -1,7 +1,7 @@
 // What the program sets up, over the files of a system.
+use crate::called::{end_with, spell_bytes, spell_fault};
 use crate::fake_file::FakeFile;
 use crate::fake_files::FakeFiles;
-use crate::spelling::{end_with, spell_bytes, spell_fault};
 use oe_adapters::{
     Fault as ProgramFault, FileStore, collection_files, hold_standard, open_collection, open_parts,
     open_spool,
