@@ -31,11 +31,18 @@ pub struct ProcessRow {
     pub in_callback: bool,
 }
 
+/// All entries. Both that read them do so by this call, so that the table stands in one proof alone.
+fn entries() -> &'static [ProcessEntry]
+    ensures { map spec.process_of result.now ≡ spec.catalogue }
+{
+    &PROCESSES
+}
+
 /// The entry of a process, where the catalogue has it. Takes no memory.
 pub fn process_entry(id: &str) -> Option<&'static ProcessEntry>
     ensures { option_map (λ e. spec.process_of e.now) result ≡ spec.process_named id.now }
 {
-    entry_of(&PROCESSES, id)
+    entry_of(entries(), id)
 }
 
 /// The first entry with this id.
@@ -120,7 +127,7 @@ fn literal_arg(alloc: Global, literal: Literal) -> Arg
 pub fn processes_text(alloc: Global) -> Result<Text, OutOfMemory>
     ensures { IfOk result (λ text. text ≡ compact_text spec.processes_data) }
 {
-    let processes = process_values(alloc, &PROCESSES)?;
+    let processes = process_values(alloc, entries())?;
     let text = reply_json(alloc, processes)?.to_string(alloc)?;
     Text::of(alloc, text.as_str())
 }
