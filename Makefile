@@ -57,7 +57,7 @@ bench: program
 # The gate: every proof, the edits *.edit that must be refused, every test, and the program twice. Beside it the tool that
 # takes cubes in and out, of which nothing is proved.
 test:
-	@rt ci
+	@.ci/run
 	@$(MAKE) --no-print-directory tools-test
 
 tools-test:
