@@ -1,4 +1,5 @@
 use Rattle.std.proofs.Common.{◌<◌, ◌≤◌, get_or, arith}
+use Rattle.std.proofs.lemmas.Grind.{common_steps}
 use Rattle.oe_http.proofs.FieldLemmas.{room_mul, room_add}
 use Rattle.oe_http.proofs.fields.length_of.Goals as goal
 
@@ -20,3 +21,9 @@ overflow_add-length c =
     let small : c.from.result < 256 = omega (arith, byte, is) in
     let room = room_add c.loop-digit.length c.loop-digit.digit-index c.from.result c.loop-digit.invariant.small below small in
     omega (arith, room)
+
+pub loop-digit-preserved : goal.loop-digit-preserved
+loop-digit-preserved c = grind (arith, common_steps) steps 2000000
+
+pub returns-clause-some : goal.returns-clause-some
+returns-clause-some c = grind (arith, common_steps) steps 2000000

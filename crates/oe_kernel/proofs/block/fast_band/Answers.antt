@@ -2,6 +2,7 @@ use Rattle.std.proofs.Common.{◌≡◌, ◌<◌, ◌≤◌, ◌∙◌, ◌+◌,
 use Rattle.std.specs.Prelude.{pos}
 use Rattle.std.proofs.Math.Nat.{mul-le-mul_left}
 use Rattle.std.proofs.lemmas.List.{get_or-take}
+use Rattle.std.proofs.lemmas.Grind.{common_steps}
 use Rattle.oe_cell.specs.Operations.{multiply_of}
 use Rattle.oe_cell.specs.Rational.{whole_of}
 use Rattle.oe_cell.specs.declared.cell.Cell.TheVariants.{Empty, Number}
@@ -65,3 +66,6 @@ returns-clause-value c = λ yes whole part row k row_in k_in.
     block_cell kernel c.args.border.now c.args.replace plane c.args.y c.args.x row k i j stride (row * stride + k) pixels refl
     (c.unpack_rows.ensures.value c.if-not-unpack_rows.false (row + i) (k + j) (omega arith) (omega arith) ∙ ap (λ z. Number (whole_of z)) (sym (get_or-take (under * stride) c.unpack_rows.new.pixels ((row + i) * stride + (k + j)) (pos 0) place)))))
     written
+
+pub write_rows-requires-clause-pixels : goal.write_rows-requires-clause-pixels
+write_rows-requires-clause-pixels c = grind (arith, common_steps) steps 2000000

@@ -1,4 +1,5 @@
 use Rattle.std.proofs.Common.{◌≡◌, ◌<◌, ◌≤◌, ◌∙◌, ◌+◌, ◌-◌, ◌*◌, ℕ, ap, sym, arith, length, get_or}
+use Rattle.std.proofs.lemmas.Grind.{common_steps}
 use Rattle.oe_cell.specs.Operations.{multiply_of}
 use Rattle.oe_cell.specs.declared.cell.Cell.TheVariants.{Empty, Number}
 use Rattle.oe_kernel.specs.Convolution.{rows_added}
@@ -34,3 +35,6 @@ loop-row-preserved c =
           ap (λ (r : ℕ). get_or out (start + (r * columns + i)) Empty) row_is ∙ sym (ap (λ (m : ℕ). get_or out m Empty) index) ∙ c.write_row.ensures.value i within ∙ ap (λ (r : ℕ). multiply_of (rows_added (unpacked k c.args.pixels.now stride (r * stride + i)) k.width k.height) (Number c.args.factor)) (sym row_is));
       before = λ j h. c.write_row.ensures.before j (omega arith) ∙ c.loop-row.invariant.before j h;
     }
+
+pub returns-clause-value : goal.returns-clause-value
+returns-clause-value c = grind (arith, common_steps) steps 2000000

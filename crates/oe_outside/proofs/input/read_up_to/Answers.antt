@@ -1,4 +1,5 @@
 use Rattle.std.proofs.Common.{◌+◌, vec_len, sym, arith}
+use Rattle.std.proofs.lemmas.Grind.{common_steps}
 use Rattle.oe_outside.proofs.Causes.{NeverFalls-refl, NeverFalls-trans}
 use Rattle.oe_outside.proofs.Inputs.{taken_at_most, taken_later, none_given, none_within, more_given, reads_to_end, reads_past, same_within, same_past, later_cause, answered}
 use Rattle.oe_outside.proofs.input.read_up_to.Goals as goal
@@ -50,3 +51,6 @@ returns-clause-bounded g c =
 
 pub returns-clause-cause : goal.returns-clause-cause
 returns-clause-cause g c = answered _ _ _ _ c.loop-source.invariant.falls
+
+pub loop-source-smaller : goal.loop-source-smaller
+loop-source-smaller g c = grind (arith, common_steps) steps 2000000

@@ -1,4 +1,5 @@
-use Rattle.std.proofs.Common.{Some, sym, ap, ◌∙◌}
+use Rattle.std.proofs.Common.{Some, sym, ap, ◌∙◌, arith}
+use Rattle.std.proofs.lemmas.Grind.{common_steps}
 use Rattle.serde_json.specs.View.{view}
 use Rattle.oe_render.specs.CubeText.{SpellsName}
 use Rattle.oe_render.proofs.Ahead.{ahead_next, ahead_all}
@@ -15,3 +16,6 @@ loop-value-preserved c =
 
 pub returns : goal.returns
 returns c = ahead_all c.loop-value.invariant c.loop-value-test.false
+
+pub returns-in-None : goal.returns-in-None
+returns-in-None c = grind (arith, common_steps) steps 2000000

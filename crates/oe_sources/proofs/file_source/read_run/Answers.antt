@@ -1,5 +1,6 @@
 use Rattle.std.proofs.Common.{◌≡◌, ◌+◌, ◌-◌, ◌++◌, length, take, drop, sym, ap, ◌∙◌, subst, arith}
 use Rattle.std.proofs.lemmas.List.{length-append, length-take, length-take-le, length-drop}
+use Rattle.std.proofs.lemmas.Grind.{common_steps}
 use Rattle.oe_dims.proofs.ShapeLemmas.{cell_count_within}
 use Rattle.oe_sources.specs.OpenedFile.{AreOfKind, AreStoredFrom}
 use Rattle.oe_sources.proofs.ContentLemmas.{more_of_kind}
@@ -27,3 +28,21 @@ loop-done-preserved g c =
       of_kind = subst (AreOfKind c.args.file.now.head.kind (done + c.in-Ok.count)) (sym put)
           (more_of_kind c.args.file.now.head.kind done c.in-Ok.count into new inside c.loop-done.invariant.of_kind c.in-Ok.ensures.of_kind);
     }
+
+pub returns-clause-damage : goal.returns-clause-damage
+returns-clause-damage g c = grind (arith, common_steps) steps 2000000
+
+pub returns-clause-of_kind : goal.returns-clause-of_kind
+returns-clause-of_kind g c = grind (arith, common_steps) steps 2000000
+
+pub returns-clause-read : goal.returns-clause-read
+returns-clause-read g c = grind (arith, common_steps) steps 2000000
+
+pub returns-in-Err-clause-damage : goal.returns-in-Err-clause-damage
+returns-in-Err-clause-damage g c = grind (arith, common_steps) steps 2000000
+
+pub returns-in-Err-clause-of_kind : goal.returns-in-Err-clause-of_kind
+returns-in-Err-clause-of_kind g c = grind (arith, common_steps) steps 2000000
+
+pub returns-in-Err-clause-read : goal.returns-in-Err-clause-read
+returns-in-Err-clause-read g c = grind (arith, common_steps) steps 2000000

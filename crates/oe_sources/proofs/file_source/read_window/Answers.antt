@@ -1,6 +1,7 @@
 use Rattle.std.proofs.Common.{◌≡◌, ◌≤◌, ◌+◌, ◌-◌, ◌++◌, ℕ, length, take, drop, refl, sym, ap, ◌∙◌, subst, arith}
-use borrow.Rule.Slice.PartMut.{post_of}
 use Rattle.std.proofs.lemmas.List.{length-take, length-drop}
+use Rattle.std.proofs.lemmas.Grind.{elements}
+use borrow.Rule.Slice.PartMut.{post_of}
 use Rattle.oe_dims.specs.Dimensions.{Dimensions, cell_count}
 use Rattle.oe_sources.specs.declared.file_source.Opened.{Opened}
 use Rattle.oe_dims.proofs.ShapeLemmas.{cell_count_within}
@@ -108,3 +109,6 @@ returns-clause-of_kind g c =
     let w = c.args.window.now in
     let end : c.loop-first.done ≡ position_count w = visiting_ends (window_numbers head.shape w) c.loop-first.first-iterator c.loop-first.done c.loop-first.invariant.visiting c.in-None.ensures.steps.0 ∙ number_count head.shape w in
     all_of_kind head.kind c.loop-first.done c.loop-first.into (omega (arith, end, c.loop-first.auto.into, c.requires.counted)) c.loop-first.invariant.of_kind
+
+pub runs-first-items-requires : goal.runs-first-items-requires
+runs-first-items-requires g c = grind (arith, elements) steps 2000000

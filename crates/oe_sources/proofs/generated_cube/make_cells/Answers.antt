@@ -1,6 +1,7 @@
 use Rattle.std.proofs.Common.{◌≡◌, ◌≤◌, ◌+◌, ◌-◌, ◌*◌, ◌++◌, ℕ, length, map, take, drop, sym, ap, ◌∙◌, subst, arith}
-use borrow.Rule.Slice.PartMut.{post_of}
 use Rattle.std.proofs.lemmas.List.{length-take, length-drop}
+use Rattle.std.proofs.lemmas.Grind.{common_steps}
+use borrow.Rule.Slice.PartMut.{post_of}
 use Rattle.oe_sources.specs.Generated.{generated_cell}
 use Rattle.oe_sources.proofs.GeneratedLemmas.{all_rows, next_row, row_ends, row_size}
 use Rattle.oe_window.specs.Parts.{IsPartFrom}
@@ -50,3 +51,6 @@ returns c =
     let end : c.loop-number.number ≡ rows = omega (arith, c.loop-number-test.false, c.loop-number.auto.number-end) in
     let done : c.loop-number.done ≡ position_count w = c.loop-number.invariant.done_is ∙ ap (λ (m : ℕ). m * span_length w.x) end ∙ c.rows-number-end.ensures.all in
     all_rows c.args.seed c.loop-number.done w c.loop-number.into (c.loop-number.auto.into ∙ c.requires) done c.loop-number.invariant.made
+
+pub offset_bounds-into-done : goal.offset_bounds-into-done
+offset_bounds-into-done c = grind (arith, common_steps) steps 2000000

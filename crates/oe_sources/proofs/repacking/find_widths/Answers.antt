@@ -1,4 +1,5 @@
 use Rattle.std.proofs.Common.{◌≡◌, ◌+◌, ◌*◌, length, Option, IfSome, ap, ◌∙◌, arith}
+use Rattle.std.proofs.lemmas.Grind.{common_steps, elements}
 use Rattle.oe_dims.specs.Dimensions.{Dimensions, extent}
 use Rattle.oe_sources.specs.Packed.{plane_size}
 use Rattle.oe_sources.specs.Repacked.{IsWidthFrom}
@@ -56,3 +57,75 @@ returns-clause-widths g c =
     widths_end _ _ c.loop-section.section c.loop-section.widths.items
     (omega (arith, c.loop-section-test.false, c.loop-section.auto.section-end, count, ap (λ (d : Dimensions). extent d.t) c.shape.ensures.value))
     (cells_counted _ _ _ c.shape.ensures.sound) c.loop-section.invariant.widths
+
+pub returns-clause-cause : goal.returns-clause-cause
+returns-clause-cause g c = grind (arith, common_steps) steps 2000000
+
+pub returns-clause-counted : goal.returns-clause-counted
+returns-clause-counted g c = grind (arith, common_steps) steps 2000000
+
+pub returns-clause-damage : goal.returns-clause-damage
+returns-clause-damage g c = grind (arith, common_steps) steps 2000000
+
+pub returns-clause-only : goal.returns-clause-only
+returns-clause-only g c = grind (arith, common_steps) steps 2000000
+
+pub returns-clause-refusal : goal.returns-clause-refusal
+returns-clause-refusal g c = grind (arith, common_steps) steps 2000000
+
+pub returns-clause-room : goal.returns-clause-room
+returns-clause-room g c = grind (arith, common_steps) steps 2000000
+
+pub returns-in-Err-clause-cause : goal.returns-in-Err-clause-cause
+returns-in-Err-clause-cause g c = grind (arith, common_steps) steps 2000000
+
+pub returns-in-Err-clause-counted : goal.returns-in-Err-clause-counted
+returns-in-Err-clause-counted g c = grind (arith, common_steps) steps 2000000
+
+pub returns-in-Err-clause-damage : goal.returns-in-Err-clause-damage
+returns-in-Err-clause-damage g c = grind (arith, common_steps) steps 2000000
+
+pub returns-in-Err-clause-refusal : goal.returns-in-Err-clause-refusal
+returns-in-Err-clause-refusal g c = grind (arith, common_steps) steps 2000000
+
+pub returns-in-Err-clause-room : goal.returns-in-Err-clause-room
+returns-in-Err-clause-room g c = grind (arith, common_steps) steps 2000000
+
+pub returns-in-Err-clause-widths : goal.returns-in-Err-clause-widths
+returns-in-Err-clause-widths g c = grind (arith, common_steps) steps 2000000
+
+pub returns-in-Err-push-clause-cause : goal.returns-in-Err-push-clause-cause
+returns-in-Err-push-clause-cause g c = grind (arith, common_steps) steps 2000000
+
+pub returns-in-Err-push-clause-counted : goal.returns-in-Err-push-clause-counted
+returns-in-Err-push-clause-counted g c = grind (arith, common_steps) steps 2000000
+
+pub returns-in-Err-push-clause-damage : goal.returns-in-Err-push-clause-damage
+returns-in-Err-push-clause-damage g c = grind (arith, common_steps) steps 2000000
+
+pub returns-in-Err-push-clause-refusal : goal.returns-in-Err-push-clause-refusal
+returns-in-Err-push-clause-refusal g c = grind (arith, common_steps) steps 2000000
+
+pub returns-in-Err-push-clause-room : goal.returns-in-Err-push-clause-room
+returns-in-Err-push-clause-room g c = grind (arith, common_steps) steps 2000000
+
+pub returns-in-Err-push-clause-widths : goal.returns-in-Err-push-clause-widths
+returns-in-Err-push-clause-widths g c = grind (arith, common_steps) steps 2000000
+
+pub returns-in_err-width-clause-cause : goal.returns-in_err-width-clause-cause
+returns-in_err-width-clause-cause g c = grind (arith, common_steps) steps 2000000
+
+pub returns-in_err-width-clause-counted : goal.returns-in_err-width-clause-counted
+returns-in_err-width-clause-counted g c = grind (arith, common_steps) steps 2000000
+
+pub returns-in_err-width-clause-damage : goal.returns-in_err-width-clause-damage
+returns-in_err-width-clause-damage g c = grind (arith, elements) steps 2000000
+
+pub returns-in_err-width-clause-refusal : goal.returns-in_err-width-clause-refusal
+returns-in_err-width-clause-refusal g c = grind (arith, common_steps) steps 2000000
+
+pub returns-in_err-width-clause-room : goal.returns-in_err-width-clause-room
+returns-in_err-width-clause-room g c = grind (arith, common_steps) steps 2000000
+
+pub returns-in_err-width-clause-widths : goal.returns-in_err-width-clause-widths
+returns-in_err-width-clause-widths g c = grind (arith, common_steps) steps 2000000

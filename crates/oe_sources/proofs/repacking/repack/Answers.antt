@@ -1,4 +1,5 @@
-use Rattle.std.proofs.Common.{length, Option, IfSome, ap, sym, ◌∙◌}
+use Rattle.std.proofs.Common.{length, Option, IfSome, ap, sym, ◌∙◌, arith}
+use Rattle.std.proofs.lemmas.Grind.{common_steps}
 use Rattle.oe_dims.specs.Dimensions.{Dimensions, extent}
 use Rattle.oe_outside.specs.Visible.{Appends, AppendsPrefix}
 use Rattle.oe_sources.specs.Packed.{plane_size, section_records}
@@ -83,3 +84,123 @@ returns-clause-left g c =
 
 pub returns-clause-only : goal.returns-clause-only
 returns-clause-only g c = reads_on _ _ _ c.args.place c.find_widths.ensures.only c.write_all.ensures.only
+
+pub returns-clause-damage : goal.returns-clause-damage
+returns-clause-damage g c = grind (arith, common_steps) steps 2000000
+
+pub returns-clause-sink : goal.returns-clause-sink
+returns-clause-sink g c = grind (arith, common_steps) steps 2000000
+
+pub returns-clause-source : goal.returns-clause-source
+returns-clause-source g c = grind (arith, common_steps) steps 2000000
+
+pub returns-clause-undamaged : goal.returns-clause-undamaged
+returns-clause-undamaged g c = grind (arith, common_steps) steps 2000000
+
+pub returns-clause-written : goal.returns-clause-written
+returns-clause-written g c = grind (arith, common_steps) steps 2000000
+
+pub returns-in-Err-clause-damage : goal.returns-in-Err-clause-damage
+returns-in-Err-clause-damage g c = grind (arith, common_steps) steps 2000000
+
+pub returns-in-Err-clause-only : goal.returns-in-Err-clause-only
+returns-in-Err-clause-only g c = grind (arith, common_steps) steps 2000000
+
+pub returns-in-Err-clause-sink : goal.returns-in-Err-clause-sink
+returns-in-Err-clause-sink g c = grind (arith, common_steps) steps 2000000
+
+pub returns-in-Err-clause-source : goal.returns-in-Err-clause-source
+returns-in-Err-clause-source g c = grind (arith, common_steps) steps 2000000
+
+pub returns-in-Err-clause-undamaged : goal.returns-in-Err-clause-undamaged
+returns-in-Err-clause-undamaged g c = grind (arith, common_steps) steps 2000000
+
+pub returns-in-Err-clause-written : goal.returns-in-Err-clause-written
+returns-in-Err-clause-written g c = grind (arith, common_steps) steps 2000000
+
+pub returns-in-Err-write-clause-damage : goal.returns-in-Err-write-clause-damage
+returns-in-Err-write-clause-damage g c = grind (arith, common_steps) steps 2000000
+
+pub returns-in-Err-write-clause-only : goal.returns-in-Err-write-clause-only
+returns-in-Err-write-clause-only g c = grind (arith, common_steps) steps 2000000
+
+pub returns-in-Err-write-clause-sink : goal.returns-in-Err-write-clause-sink
+returns-in-Err-write-clause-sink g c = grind (arith, common_steps) steps 2000000
+
+pub returns-in-Err-write-clause-source : goal.returns-in-Err-write-clause-source
+returns-in-Err-write-clause-source g c = grind (arith, common_steps) steps 2000000
+
+pub returns-in-Err-write-clause-undamaged : goal.returns-in-Err-write-clause-undamaged
+returns-in-Err-write-clause-undamaged g c = grind (arith, common_steps) steps 2000000
+
+pub returns-in-Err-write-clause-written : goal.returns-in-Err-write-clause-written
+returns-in-Err-write-clause-written g c = grind (arith, common_steps) steps 2000000
+
+pub returns-in-Ok-write_all-clause-damage : goal.returns-in-Ok-write_all-clause-damage
+returns-in-Ok-write_all-clause-damage g c = grind (arith, common_steps) steps 2000000
+
+pub returns-in-Ok-write_all-clause-left : goal.returns-in-Ok-write_all-clause-left
+returns-in-Ok-write_all-clause-left g c = grind (arith, common_steps) steps 2000000
+
+pub returns-in-Ok-write_all-clause-sink : goal.returns-in-Ok-write_all-clause-sink
+returns-in-Ok-write_all-clause-sink g c = grind (arith, common_steps) steps 2000000
+
+pub returns-in-Ok-write_all-clause-source : goal.returns-in-Ok-write_all-clause-source
+returns-in-Ok-write_all-clause-source g c = grind (arith, common_steps) steps 2000000
+
+pub returns-in_err-buffer-clause-damage : goal.returns-in_err-buffer-clause-damage
+returns-in_err-buffer-clause-damage g c = grind (arith, common_steps) steps 2000000
+
+pub returns-in_err-buffer-clause-left : goal.returns-in_err-buffer-clause-left
+returns-in_err-buffer-clause-left g c = grind (arith, common_steps) steps 2000000
+
+pub returns-in_err-buffer-clause-sink : goal.returns-in_err-buffer-clause-sink
+returns-in_err-buffer-clause-sink g c = grind (arith, common_steps) steps 2000000
+
+pub returns-in_err-buffer-clause-source : goal.returns-in_err-buffer-clause-source
+returns-in_err-buffer-clause-source g c = grind (arith, common_steps) steps 2000000
+
+pub returns-in_err-buffer-clause-undamaged : goal.returns-in_err-buffer-clause-undamaged
+returns-in_err-buffer-clause-undamaged g c = grind (arith, common_steps) steps 2000000
+
+pub returns-in_err-buffer-clause-written : goal.returns-in_err-buffer-clause-written
+returns-in_err-buffer-clause-written g c = grind (arith, common_steps) steps 2000000
+
+pub returns-in_err-cells-clause-damage : goal.returns-in_err-cells-clause-damage
+returns-in_err-cells-clause-damage g c = grind (arith, common_steps) steps 2000000
+
+pub returns-in_err-cells-clause-left : goal.returns-in_err-cells-clause-left
+returns-in_err-cells-clause-left g c = grind (arith, common_steps) steps 2000000
+
+pub returns-in_err-cells-clause-sink : goal.returns-in_err-cells-clause-sink
+returns-in_err-cells-clause-sink g c = grind (arith, common_steps) steps 2000000
+
+pub returns-in_err-cells-clause-source : goal.returns-in_err-cells-clause-source
+returns-in_err-cells-clause-source g c = grind (arith, common_steps) steps 2000000
+
+pub returns-in_err-cells-clause-undamaged : goal.returns-in_err-cells-clause-undamaged
+returns-in_err-cells-clause-undamaged g c = grind (arith, common_steps) steps 2000000
+
+pub returns-in_err-cells-clause-written : goal.returns-in_err-cells-clause-written
+returns-in_err-cells-clause-written g c = grind (arith, common_steps) steps 2000000
+
+pub returns-in_err-front-clause-damage : goal.returns-in_err-front-clause-damage
+returns-in_err-front-clause-damage g c = grind (arith, common_steps) steps 2000000
+
+pub returns-in_err-front-clause-left : goal.returns-in_err-front-clause-left
+returns-in_err-front-clause-left g c = grind (arith, common_steps) steps 2000000
+
+pub returns-in_err-front-clause-only : goal.returns-in_err-front-clause-only
+returns-in_err-front-clause-only g c = grind (arith, common_steps) steps 2000000
+
+pub returns-in_err-front-clause-sink : goal.returns-in_err-front-clause-sink
+returns-in_err-front-clause-sink g c = grind (arith, common_steps) steps 2000000
+
+pub returns-in_err-front-clause-source : goal.returns-in_err-front-clause-source
+returns-in_err-front-clause-source g c = grind (arith, common_steps) steps 2000000
+
+pub returns-in_err-front-clause-undamaged : goal.returns-in_err-front-clause-undamaged
+returns-in_err-front-clause-undamaged g c = grind (arith, common_steps) steps 2000000
+
+pub returns-in_err-front-clause-written : goal.returns-in_err-front-clause-written
+returns-in_err-front-clause-written g c = grind (arith, common_steps) steps 2000000

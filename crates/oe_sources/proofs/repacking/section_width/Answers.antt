@@ -1,4 +1,5 @@
 use Rattle.std.proofs.Common.{◌∙◌, subst, take, arith}
+use Rattle.std.proofs.lemmas.Grind.{common_steps}
 use Rattle.oe_dims.specs.Dimensions.{Dimensions}
 use Rattle.oe_sources.specs.Repacked.{AreSidesOf}
 use Rattle.oe_sources.proofs.RepackLemmas.{cells_counted, fits_rows, given_before, reads_nothing, reads_on, still_mounted, width_begins, width_goes}
@@ -38,3 +39,36 @@ loop-done-preserved g c =
           (given_before _ _ c.args.place reads part.window (take count cells) c.in-Ok.ensures.given)
           c.wider-width.ensures c.common_width.ensures c.loop-done.invariant.width;
     }
+
+pub returns-clause-cause : goal.returns-clause-cause
+returns-clause-cause g c = grind (arith, common_steps) steps 2000000
+
+pub returns-clause-damage : goal.returns-clause-damage
+returns-clause-damage g c = grind (arith, common_steps) steps 2000000
+
+pub returns-clause-only : goal.returns-clause-only
+returns-clause-only g c = grind (arith, common_steps) steps 2000000
+
+pub returns-clause-refusal : goal.returns-clause-refusal
+returns-clause-refusal g c = grind (arith, common_steps) steps 2000000
+
+pub returns-clause-room : goal.returns-clause-room
+returns-clause-room g c = grind (arith, common_steps) steps 2000000
+
+pub returns-clause-width : goal.returns-clause-width
+returns-clause-width g c = grind (arith, common_steps) steps 2000000
+
+pub returns-in-Err-clause-cause : goal.returns-in-Err-clause-cause
+returns-in-Err-clause-cause g c = grind (arith, common_steps) steps 2000000
+
+pub returns-in-Err-clause-damage : goal.returns-in-Err-clause-damage
+returns-in-Err-clause-damage g c = grind (arith, common_steps) steps 2000000
+
+pub returns-in-Err-clause-refusal : goal.returns-in-Err-clause-refusal
+returns-in-Err-clause-refusal g c = grind (arith, common_steps) steps 2000000
+
+pub returns-in-Err-clause-room : goal.returns-in-Err-clause-room
+returns-in-Err-clause-room g c = grind (arith, common_steps) steps 2000000
+
+pub returns-in-Err-clause-width : goal.returns-in-Err-clause-width
+returns-in-Err-clause-width g c = grind (arith, common_steps) steps 2000000

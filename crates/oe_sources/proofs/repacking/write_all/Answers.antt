@@ -1,5 +1,6 @@
 use Rattle.std.proofs.Common.{◌≡◌, ◌*◌, ◌<◌, length, get_or, take, drop, Option, IfSome, ap, ◌∙◌, arith}
 use Rattle.std.proofs.lemmas.List.{take_all}
+use Rattle.std.proofs.lemmas.Grind.{common_steps, elements}
 use Rattle.oe_dims.specs.Dimensions.{Dimensions, extent}
 use Rattle.oe_outside.proofs.Causes.{NeverFalls-refl, NeverFalls-trans}
 use Rattle.oe_outside.specs.Visible.{Appends, AppendsPrefix}
@@ -86,3 +87,30 @@ returns-clause-writes g c =
     let count : c.section_count-count.result ≡ extent c.shape.result.now.t = c.section_count-count.ensures in
     let all : take section ws ≡ ws = take_all section ws (omega (arith, c.loop-section-test.false, count, ap (λ (d : Dimensions). extent d.t) c.shape.ensures.value, c.requires.widths.counted)) in
     record { whole = rw all at c.loop-section.invariant.written; part = tt }
+
+pub returns-clause-damage : goal.returns-clause-damage
+returns-clause-damage g c = grind (arith, common_steps) steps 2000000
+
+pub returns-clause-only : goal.returns-clause-only
+returns-clause-only g c = grind (arith, common_steps) steps 2000000
+
+pub returns-clause-refusal : goal.returns-clause-refusal
+returns-clause-refusal g c = grind (arith, common_steps) steps 2000000
+
+pub returns-clause-sink : goal.returns-clause-sink
+returns-clause-sink g c = grind (arith, common_steps) steps 2000000
+
+pub returns-clause-source : goal.returns-clause-source
+returns-clause-source g c = grind (arith, common_steps) steps 2000000
+
+pub returns-in-Err-clause-damage : goal.returns-in-Err-clause-damage
+returns-in-Err-clause-damage g c = grind (arith, elements) steps 2000000
+
+pub returns-in-Err-clause-refusal : goal.returns-in-Err-clause-refusal
+returns-in-Err-clause-refusal g c = grind (arith, common_steps) steps 2000000
+
+pub returns-in-Err-clause-sink : goal.returns-in-Err-clause-sink
+returns-in-Err-clause-sink g c = grind (arith, common_steps) steps 2000000
+
+pub returns-in-Err-clause-source : goal.returns-in-Err-clause-source
+returns-in-Err-clause-source g c = grind (arith, common_steps) steps 2000000

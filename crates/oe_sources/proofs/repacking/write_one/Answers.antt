@@ -1,4 +1,5 @@
 use Rattle.std.proofs.Common.{◌*◌, ◌∙◌, subst, take, arith}
+use Rattle.std.proofs.lemmas.Grind.{common_steps}
 use Rattle.oe_dims.specs.Dimensions.{Dimensions}
 use Rattle.oe_outside.proofs.Causes.{NeverFalls-refl, NeverFalls-trans}
 use Rattle.oe_sources.specs.Repacked.{AreSidesOf}
@@ -125,3 +126,48 @@ returns-clause-writes g c =
 
 pub returns-clause-room : goal.returns-clause-room
 returns-clause-room g c = record { for_cells = c.loop-done.invariant.room; for_bytes = c.loop-done.invariant.buffer }
+
+pub returns-clause-damage : goal.returns-clause-damage
+returns-clause-damage g c = grind (arith, common_steps) steps 2000000
+
+pub returns-clause-only : goal.returns-clause-only
+returns-clause-only g c = grind (arith, common_steps) steps 2000000
+
+pub returns-clause-refusal : goal.returns-clause-refusal
+returns-clause-refusal g c = grind (arith, common_steps) steps 2000000
+
+pub returns-clause-sink : goal.returns-clause-sink
+returns-clause-sink g c = grind (arith, common_steps) steps 2000000
+
+pub returns-clause-source : goal.returns-clause-source
+returns-clause-source g c = grind (arith, common_steps) steps 2000000
+
+pub returns-in-Err-clause-damage : goal.returns-in-Err-clause-damage
+returns-in-Err-clause-damage g c = grind (arith, common_steps) steps 2000000
+
+pub returns-in-Err-clause-refusal : goal.returns-in-Err-clause-refusal
+returns-in-Err-clause-refusal g c = grind (arith, common_steps) steps 2000000
+
+pub returns-in-Err-clause-source : goal.returns-in-Err-clause-source
+returns-in-Err-clause-source g c = grind (arith, common_steps) steps 2000000
+
+pub returns-in-Err-write_section-clause-damage : goal.returns-in-Err-write_section-clause-damage
+returns-in-Err-write_section-clause-damage g c = grind (arith, common_steps) steps 2000000
+
+pub returns-in-Err-write_section-clause-refusal : goal.returns-in-Err-write_section-clause-refusal
+returns-in-Err-write_section-clause-refusal g c = grind (arith, common_steps) steps 2000000
+
+pub returns-in-Err-write_section-clause-sink : goal.returns-in-Err-write_section-clause-sink
+returns-in-Err-write_section-clause-sink g c = grind (arith, common_steps) steps 2000000
+
+pub returns-in-Err-write_section-clause-source : goal.returns-in-Err-write_section-clause-source
+returns-in-Err-write_section-clause-source g c = grind (arith, common_steps) steps 2000000
+
+pub returns-then-not-all_fit-clause-refusal : goal.returns-then-not-all_fit-clause-refusal
+returns-then-not-all_fit-clause-refusal g c = grind (arith, common_steps) steps 2000000
+
+pub returns-then-not-all_fit-clause-sink : goal.returns-then-not-all_fit-clause-sink
+returns-then-not-all_fit-clause-sink g c = grind (arith, common_steps) steps 2000000
+
+pub returns-then-not-all_fit-clause-source : goal.returns-then-not-all_fit-clause-source
+returns-then-not-all_fit-clause-source g c = grind (arith, common_steps) steps 2000000

@@ -1,4 +1,5 @@
-use Rattle.std.proofs.Common.{◌∙◌, sym, subst}
+use Rattle.std.proofs.Common.{◌∙◌, sym, subst, arith}
+use Rattle.std.proofs.lemmas.Grind.{common_steps}
 use Rattle.oe_window.specs.Runs.{EndWithin}
 use Rattle.oe_window.proofs.CellLemmas.{copying_begins, copying_goes, copying_fits, copying_ends, each_cell}
 use Rattle.oe_window.proofs.cells.copy_window.Goals as goal
@@ -25,3 +26,6 @@ returns-clause-value g c other =
 
 pub returns-clause-each : goal.returns-clause-each
 returns-clause-each g c = each_cell c.args.shape.now c.args.window.now _ _ c.requires.whole c.requires.inside (returns-clause-value g c)
+
+pub overflow_add-done : goal.overflow_add-done
+overflow_add-done g c = grind (arith, common_steps) steps 2000000

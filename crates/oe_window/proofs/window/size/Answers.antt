@@ -1,5 +1,6 @@
 use Rattle.std.proofs.Common.{arith, sym, ◌∙◌}
 use Rattle.std.proofs.lemmas.Bool.{false≢true}
+use Rattle.std.proofs.lemmas.Grind.{common_steps}
 use Rattle.oe_window.specs.Windows.{span_length}
 use Rattle.oe_window.proofs.WindowLemmas.{length-positions, numbered, count_of_empty, partial_products, filled_unless_empty}
 use Rattle.oe_window.proofs.window.size.Goals as goal
@@ -38,3 +39,9 @@ returns-clause-listed c =
 
 pub returns-clause-numbered : goal.returns-clause-numbered
 returns-clause-numbered c k p = numbered c.args.window.now k p
+
+pub returns-clause-empty : goal.returns-clause-empty
+returns-clause-empty c = grind (arith, common_steps) steps 2000000
+
+pub returns-then-is_empty-clause-empty : goal.returns-then-is_empty-clause-empty
+returns-then-is_empty-clause-empty c = grind (arith, common_steps) steps 2000000

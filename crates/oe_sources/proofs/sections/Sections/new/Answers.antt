@@ -1,5 +1,6 @@
 use Rattle.std.proofs.Common.{◌≤◌, ℕ, ◌+◌, ◌*◌, length, get_or, take, sym, ap, ◌∙◌, arith}
 use Rattle.std.proofs.lemmas.List.{length-take-le, length-append}
+use Rattle.std.proofs.lemmas.Grind.{common_steps}
 use Rattle.oe_sources.proofs.SizeLemmas.{bytes_few, starts_more, sum_more}
 use Rattle.oe_wide.specs.Wide.{byte_count}
 use Rattle.oe_wide.specs.declared.width.Width.TheVariants.{One}
@@ -20,3 +21,6 @@ loop-width-preserved c =
       end_is = after ∙ ap (λ (n : ℕ). n + c.args.size * byte_count (get_or c.args.widths.now c.loop-width.width-index One)) c.loop-width.invariant.end_is
           ∙ sym (sum_more c.args.size c.args.widths.now c.loop-width.width-index One (omega (arith, c.loop-width-test.true, c.loop-width.auto.width-index-end)));
     }
+
+pub returns-clause-starts : goal.returns-clause-starts
+returns-clause-starts c = grind (arith, common_steps) steps 2000000

@@ -1,0 +1,12 @@
+use Rattle.std.proofs.Common.{arith}
+use Rattle.std.proofs.lemmas.Grind.{common_steps}
+use Rattle.oe_requests.proofs.parameter_list.by_starts.Goals as goal
+
+pub loop-extent-preserved : goal.loop-extent-preserved
+loop-extent-preserved c = grind (arith, common_steps) steps 2000000
+
+pub returns : goal.returns
+returns c = grind (arith, common_steps) steps 2000000
+
+pub returns-in-None : goal.returns-in-None
+returns-in-None c = grind (arith, common_steps) steps 2000000
