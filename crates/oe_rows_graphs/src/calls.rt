@@ -160,34 +160,14 @@ pub(crate) fn answers_of<R: Threads + Sync>(
                 }
                 Err(word) => Answer::Word(word),
             },
-            "keep" => {
-                let (name, line) = first_word(rest);
-                let mut objects = objects_of(alloc, line, none_failing())?;
-                let setup = Setup {
-                    rt,
-                    alloc,
-                    gate: &objects.gate,
-                };
-                let status = openeo(
-                    &setup,
-                    &objects.words,
-                    &mut objects.input,
-                    &mut objects.out,
-                    &mut objects.err,
-                    &mut catalogue,
-                    &mut parts,
-                    &mut objects.spool,
-                );
-                keep_part(
-                    alloc,
-                    name,
-                    objects.into_answer(status),
-                    failing.parts,
-                    &mut parts,
-                )?
-            }
             _ => {
-                let mut objects = objects_of(alloc, line, failing)?;
+                let (name, line) = kept_of(line);
+                let calls = if name.is_some() {
+                    none_failing()
+                } else {
+                    failing
+                };
+                let mut objects = objects_of(alloc, line, calls)?;
                 let setup = Setup {
                     rt,
                     alloc,
@@ -203,7 +183,11 @@ pub(crate) fn answers_of<R: Threads + Sync>(
                     &mut parts,
                     &mut objects.spool,
                 );
-                objects.into_answer(status)
+                let answer = objects.into_answer(status);
+                match name {
+                    Some(name) => keep_part(alloc, name, answer, failing.parts, &mut parts)?,
+                    None => answer,
+                }
             }
         };
         answers.push(answer)?;
@@ -233,6 +217,16 @@ fn detach_answer(outcome: Option<Box<dyn SharedSource>>) -> Answer {
         Some(_) => Answer::Word(""),
         None => Answer::Word("none\n"),
     }
+}
+
+/// The name under which what a call writes is kept as a part, if its line says that, and the rest of the line.
+fn kept_of(line: &str) -> (Option<&str>, &str) {
+    let (verb, rest) = first_word(line);
+    if verb != "keep" {
+        return (None, line);
+    }
+    let (name, line) = first_word(rest);
+    (Some(name), line)
 }
 
 /// The words of a call and its objects, of which these calls fail. The input has blanks behind it up to as many bytes as
