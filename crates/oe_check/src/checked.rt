@@ -14,7 +14,6 @@ use std::snapshot::Snapshot;
 use std::sync::Arc;
 
 /// What is kept of a node without a fault at or below it.
-#[derive(Drop)]
 pub(crate) struct CheckedNode {
     pub operation: Operation,
     /// The collection that it loads.
@@ -24,13 +23,24 @@ pub(crate) struct CheckedNode {
     pub kind: CellKind,
 }
 
+/// Written out, so that what is kept of a node that ends is one call wherever it does.
+impl Drop for CheckedNode {
+    fn drop(self) {
+        let CheckedNode {
+            operation: _,
+            collection: _,
+            shape: _,
+            kind: _,
+        } = self;
+    }
+}
+
 /// What is known of a node.
 pub(crate) type State = NodeState<CheckedNode>;
 
 /// A graph without a fault over the collections of a catalogue, as [`check`](crate::check) gives it: for each node its
 /// operation, and the shape and the kind of its cube (openEO API, process graphs). Nodes are named by their indices in
 /// byte order of their ids, from 0.
-#[derive(Drop)]
 pub struct Checked {
     graph: Snapshot<Graph>,
     dims: Snapshot<Dims>,
@@ -63,6 +73,20 @@ impl Model for Checked {
           result = s.result;
           rows = plain_rows s.dims.value;
         }) s.ids.items s.states.items s.links.items };
+}
+
+/// Written out, so that a checked graph that ends is one call wherever it does.
+impl Drop for Checked {
+    fn drop(self) {
+        let Checked {
+            graph: _,
+            dims: _,
+            result: _,
+            ids: _,
+            states: _,
+            links: _,
+        } = self;
+    }
 }
 
 impl Checked {

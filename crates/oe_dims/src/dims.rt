@@ -5,7 +5,6 @@ use crate::{CellKind, Shape, Text};
 use oe_memory::OutOfMemory;
 
 /// A collection by its id, with its shape and the kind of its cells.
-#[derive(Drop)]
 pub struct DimsRow {
     /// The id of the collection.
     pub id: Text,
@@ -13,6 +12,17 @@ pub struct DimsRow {
     pub shape: Shape,
     /// What its cells are, besides null.
     pub kind: CellKind,
+}
+
+/// Written out, so that a row that ends is one call wherever it does.
+impl Drop for DimsRow {
+    fn drop(self) {
+        let DimsRow {
+            id: _,
+            shape: _,
+            kind: _,
+        } = self;
+    }
 }
 
 impl DimsRow {
@@ -30,10 +40,16 @@ impl DimsRow {
 
 /// The dimensions of several collections, a row each. Whoever takes them asks that the ids rise in byte order
 /// (`HaveRisingIds`).
-#[derive(Drop)]
 pub struct Dims {
     /// A row for each collection.
     pub rows: Vec<DimsRow>,
+}
+
+/// Written out, so that a table of rows that ends is one call wherever it does.
+impl Drop for Dims {
+    fn drop(self) {
+        let Dims { rows: _ } = self;
+    }
 }
 
 impl Dims {

@@ -24,7 +24,6 @@ pub enum Kind {
 }
 
 /// The labels of one dimension.
-#[derive(Drop)]
 pub enum Labels {
     /// Whole seconds since 1970-01-01T00:00:00Z.
     Instants(Vec<i64>),
@@ -32,4 +31,15 @@ pub enum Labels {
     Names(Vec<Text>),
     /// Coordinates, whole numbers in the unit of the reference system.
     Places(Vec<i64>),
+}
+
+/// Written out, so that a list of labels that ends is one call wherever it does.
+impl Drop for Labels {
+    fn drop(self) {
+        match self {
+            Labels::Instants(_) => {}
+            Labels::Names(_) => {}
+            Labels::Places(_) => {}
+        }
+    }
 }

@@ -49,7 +49,6 @@ pub enum State {
 }
 
 /// What a chunk is evaluated in: a window for each step of a plan, a buffer for each slot, and cells to work with.
-#[derive(Drop)]
 pub struct Bench {
     state: State,
     windows: Vec<Window>,
@@ -69,6 +68,18 @@ impl Model for Bench {
       buffers = lists_of b.buffers.items;
       scratch = b.scratch.items;
     } };
+}
+
+/// Written out, so that a bench that ends is one call wherever it does.
+impl Drop for Bench {
+    fn drop(self) {
+        let Bench {
+            state: _,
+            windows: _,
+            buffers: _,
+            scratch: _,
+        } = self;
+    }
 }
 
 impl Bench {

@@ -27,7 +27,6 @@ use std::marker::Model;
 use std::snapshot::Snapshot;
 
 /// A callback that was checked, ready to be evaluated.
-#[derive(Drop)]
 pub struct Expr {
     graph: Snapshot<Graph>,
     scope: Snapshot<Scope>,
@@ -61,6 +60,20 @@ impl Model for Expr {
           scope = plain_scope s.scope.value;
           context = s.context;
         }) s.kind s.reducer s.program };
+}
+
+/// Written out, so that a callback that ends is one call wherever it does.
+impl Drop for Expr {
+    fn drop(self) {
+        let Expr {
+            graph: _,
+            scope: _,
+            context: _,
+            kind: _,
+            reducer: _,
+            program: _,
+        } = self;
+    }
 }
 
 impl Expr {

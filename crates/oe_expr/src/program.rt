@@ -34,10 +34,21 @@ pub(crate) const MOST_STEPS: usize = 64;
 
 /// The steps in their order, the elements of the lists that are written, where each list of the scope begins among the
 /// labels, and where the result is.
-#[derive(Drop)]
 pub(crate) struct Program {
     pub steps: Vec<Step>,
     pub elements: Vec<Operand>,
     pub starts: Vec<u32>,
     pub result: Operand,
+}
+
+/// Written out, so that a program that ends is one call wherever it does.
+impl Drop for Program {
+    fn drop(self) {
+        let Program {
+            steps: _,
+            elements: _,
+            starts: _,
+            result: _,
+        } = self;
+    }
 }

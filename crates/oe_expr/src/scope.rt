@@ -10,7 +10,6 @@ pub struct ListPart {
 }
 
 /// What the parent of a callback gives it (openEO API, process graphs; openEO Processes).
-#[derive(Drop)]
 pub enum Scope {
     /// `x` and `context`, by `apply`: the kind of the cells.
     Apply {
@@ -27,6 +26,21 @@ pub enum Scope {
     Merge {
         cells: CellKind,
     },
+}
+
+/// Written out, so that a scope that ends is one call wherever it does.
+impl Drop for Scope {
+    fn drop(self) {
+        match self {
+            Scope::Apply { x: _ } => {}
+            Scope::Reduce {
+                cells: _,
+                labels: _,
+                lists: _,
+            } => {}
+            Scope::Merge { cells: _ } => {}
+        }
+    }
 }
 
 /// What a callback is evaluated on: `x` and `y`, or the cells of a list and the number of the list among those of the

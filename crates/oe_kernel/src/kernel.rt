@@ -27,7 +27,6 @@ pub enum KernelFault {
 
 /// A kernel of `apply_kernel` of openEO Processes: an odd width and height from 1 to 31, and a number for each row and
 /// column.
-#[derive(Drop)]
 pub struct Kernel {
     width: u32,
     height: u32,
@@ -44,6 +43,17 @@ impl Model for Kernel {
     ghost view = { λ k. record { width = k.width; height = k.height; values = k.values.items } };
 
     ghost invariant = { λ k. IsKernel (record { width = k.width; height = k.height; values = k.values.items }) };
+}
+
+/// Written out, so that a kernel that ends is one call wherever it does.
+impl Drop for Kernel {
+    fn drop(self) {
+        let Kernel {
+            width: _,
+            height: _,
+            values: _,
+        } = self;
+    }
 }
 
 impl Kernel {

@@ -31,7 +31,6 @@ use std::alloc::Global;
 use std::marker::Model;
 
 /// What one node of a graph refers to. Nodes are named by their index in the byte order of their names.
-#[derive(Drop)]
 pub struct Links {
     /// Whether the node loads a cube. Such a node stands before every other, whatever it refers to.
     pub load: bool,
@@ -39,8 +38,17 @@ pub struct Links {
     pub arguments: Vec<u32>,
 }
 
+/// Written out, so that such a value that ends is one call wherever it does.
+impl Drop for Links {
+    fn drop(self) {
+        let Links {
+            load: _,
+            arguments: _,
+        } = self;
+    }
+}
+
 /// The nodes of a run in the order in which they are worked off, with a slot for the result of each.
-#[derive(Drop)]
 pub struct NodeOrder {
     steps: Vec<u32>,
     slots: Vec<u32>,
@@ -58,6 +66,18 @@ impl Model for NodeOrder {
     ghost view = { λ o. record { steps = o.steps.items; slots = o.slots.items; width = o.width } };
 
     ghost invariant = { λ o. IsKeptOrder o.steps.items o.slots.items o.by_node.items o.width };
+}
+
+/// Written out, so that an order that ends is one call wherever it does.
+impl Drop for NodeOrder {
+    fn drop(self) {
+        let NodeOrder {
+            steps: _,
+            slots: _,
+            width: _,
+            by_node: _,
+        } = self;
+    }
 }
 
 impl NodeOrder {

@@ -47,7 +47,6 @@ impl From<OutOfMemory> for PlanFail {
 
 /// A plan of the run of a checked graph: its steps, one for each node that the result needs, the slots in which their
 /// windows are kept, and the chunks of the result. It holds no cell.
-#[derive(Drop)]
 pub struct Plan {
     checked: Checked,
     schedule: Schedule,
@@ -81,6 +80,20 @@ impl Model for Plan {
           order = p.schedule.order;
         })
         p.schedule p.grid p.scratch };
+}
+
+/// Written out, so that a plan that ends is one call wherever it does.
+impl Drop for Plan {
+    fn drop(self) {
+        let Plan {
+            checked: _,
+            schedule: _,
+            size: _,
+            workers: _,
+            grid: _,
+            scratch: _,
+        } = self;
+    }
 }
 
 impl Plan {

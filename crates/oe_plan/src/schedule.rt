@@ -6,7 +6,6 @@ use std::marker::Model;
 
 /// The nodes that a last node needs, in an order to evaluate them by, with a slot for the cells of each. The cube of
 /// one node may be given: it counts as one that loads, and what it takes is not needed for it.
-#[derive(Drop)]
 pub struct Schedule {
     order: NodeOrder,
     /// How many slots there are, no fewer than the order needs.
@@ -30,6 +29,19 @@ impl Model for Schedule {
     } };
 
     ghost invariant = { λ s. s.order.width ≤ s.width };
+}
+
+/// Written out, so that a schedule that ends is one call wherever it does.
+impl Drop for Schedule {
+    fn drop(self) {
+        let Schedule {
+            order: _,
+            width: _,
+            last: _,
+            given: _,
+            largest: _,
+        } = self;
+    }
 }
 
 impl Schedule {

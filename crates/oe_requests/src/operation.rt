@@ -8,15 +8,24 @@ use oe_kernel::{Border, Kernel};
 
 /// What is kept of a cube: the labels inside a box and inside a temporal extent, and the given bands in their order.
 /// What is not restricted is kept whole.
-#[derive(Drop)]
 pub struct Restriction {
     pub area: Option<BoundingBox>,
     pub time: Option<TemporalExtent>,
     pub bands: Option<Vec<Text>>,
 }
 
+/// Written out, so that a restriction that ends is one call wherever it does.
+impl Drop for Restriction {
+    fn drop(self) {
+        let Restriction {
+            area: _,
+            time: _,
+            bands: _,
+        } = self;
+    }
+}
+
 /// An operation on cubes (openEO Processes).
-#[derive(Drop)]
 pub enum Operation {
     /// Of a collection or of a cube, what is kept.
     Keep(Restriction),
@@ -41,4 +50,26 @@ pub enum Operation {
     Cover(Cell),
     /// The cube as it is: `save_result`.
     GiveBack,
+}
+
+/// Written out, so that an operation that ends is one call wherever it does.
+impl Drop for Operation {
+    fn drop(self) {
+        match self {
+            Operation::Keep(_) => {}
+            Operation::EachCell(_) => {}
+            Operation::Convolve {
+                kernel: _,
+                factor: _,
+                border: _,
+                replace_invalid: _,
+            } => {}
+            Operation::Reduce(_, _) => {}
+            Operation::Aggregate(_, _) => {}
+            Operation::Accumulate(_) => {}
+            Operation::Merge(_) => {}
+            Operation::Cover(_) => {}
+            Operation::GiveBack => {}
+        }
+    }
 }

@@ -45,7 +45,6 @@ impl From<OutOfMemory> for SlabPlanFail {
 }
 
 /// A plan of the run of a checked graph that folds slabs of some dates one after the other. It holds no cell.
-#[derive(Drop)]
 pub struct SlabPlan {
     checked: Checked,
     size: ChunkSize,
@@ -84,6 +83,21 @@ impl Model for SlabPlan {
           behind = p.schedules.behind;
         })
         p.cut p.sizes p.bound p.grid };
+}
+
+/// Written out, so that a plan that ends is one call wherever it does.
+impl Drop for SlabPlan {
+    fn drop(self) {
+        let SlabPlan {
+            checked: _,
+            size: _,
+            cut: _,
+            sizes: _,
+            bound: _,
+            grid: _,
+            schedules: _,
+        } = self;
+    }
 }
 
 impl SlabPlan {

@@ -18,11 +18,21 @@ use std::alloc::Global;
 
 /// The schedules of a run that is cut at a node: of the whole run, whose windows are found first; of the cube that the
 /// node takes; and of the result, where the cube of the node is given.
-#[derive(Drop)]
 pub(crate) struct Schedules {
     pub whole: Schedule,
     pub before: Schedule,
     pub behind: Schedule,
+}
+
+/// Written out, so that such a value that ends is one call wherever it does.
+impl Drop for Schedules {
+    fn drop(self) {
+        let Schedules {
+            whole: _,
+            before: _,
+            behind: _,
+        } = self;
+    }
 }
 
 /// The schedules of a run in this order that is cut at a node, with slots for slabs and for planes.
