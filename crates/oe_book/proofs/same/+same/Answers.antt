@@ -1,4 +1,5 @@
-use Rattle.std.proofs.Common.{◌≡◌, ◌↔◌, ◌∙◌, IsTrue, ap, subst, sym}
+use Rattle.std.proofs.Common.{◌≡◌, ◌↔◌, ◌∙◌, IsTrue, ap, subst, sym, arith}
+use Rattle.std.proofs.lemmas.Grind.{common_steps}
 use Rattle.oe_graph.specs.Plain.{plain_arg, plain_args, plain_named}
 use Rattle.oe_graph.specs.Tree as tree
 use Rattle.oe_graph.specs.Tree.{Argument}
@@ -30,3 +31,39 @@ pub is_same_node-returns : goal.is_same_node-returns
 is_same_node-returns t c =
     node_told c.are_same_named.result c.args.node.now c.args.other.now (c.is_same_head.ensures.0 c.if-not-is_same_head.false)
     c.are_same_named.ensures
+
+pub are_same_args-loop-index-preserved : goal.are_same_args-loop-index-preserved
+are_same_args-loop-index-preserved t c = grind (arith, common_steps) steps 2000000
+
+pub are_same_args-returns : goal.are_same_args-returns
+are_same_args-returns t c = grind (arith, common_steps) steps 2000000
+
+pub are_same_args-returns-in_default : goal.are_same_args-returns-in_default
+are_same_args-returns-in_default t c = grind (arith, common_steps) steps 2000000
+
+pub are_same_args-returns-then-not-is_same_arg : goal.are_same_args-returns-then-not-is_same_arg
+are_same_args-returns-then-not-is_same_arg t c = grind (arith, common_steps) steps 2000000
+
+pub are_same_named-loop-index-preserved : goal.are_same_named-loop-index-preserved
+are_same_named-loop-index-preserved t c = grind (arith, common_steps) steps 2000000
+
+pub are_same_named-returns : goal.are_same_named-returns
+are_same_named-returns t c = grind (arith, common_steps) steps 2000000
+
+pub are_same_named-returns-in_default : goal.are_same_named-returns-in_default
+are_same_named-returns-in_default t c = grind (arith, common_steps) steps 2000000
+
+pub are_same_named-returns-then-not-is_same_member : goal.are_same_named-returns-then-not-is_same_member
+are_same_named-returns-then-not-is_same_member t c = grind (arith, common_steps) steps 2000000
+
+pub are_same_nodes-loop-index-preserved : goal.are_same_nodes-loop-index-preserved
+are_same_nodes-loop-index-preserved t c = grind (arith, common_steps) steps 2000000
+
+pub are_same_nodes-returns : goal.are_same_nodes-returns
+are_same_nodes-returns t c = grind (arith, common_steps) steps 2000000
+
+pub are_same_nodes-returns-in_default : goal.are_same_nodes-returns-in_default
+are_same_nodes-returns-in_default t c = grind (arith, common_steps) steps 2000000
+
+pub are_same_nodes-returns-then-not-is_same_node : goal.are_same_nodes-returns-then-not-is_same_node
+are_same_nodes-returns-then-not-is_same_node t c = grind (arith, common_steps) steps 2000000

@@ -1,5 +1,7 @@
-use Rattle.std.proofs.Common.{◌≡◌, ◌++◌, ℕ, List, [], ◌∷◌, map, take, refl, sym, ap, ◌∙◌}
+use Rattle.std.proofs.Common.{◌≡◌, ◌++◌, ℕ, List, [], ◌∷◌, map, take, refl, sym, ap, ◌∙◌, arith}
 use Rattle.std.proofs.lemmas.List.{map-append, take_all}
+use Rattle.std.proofs.lemmas.Grind.{common_steps}
+use borrow.Author.Differences.{ints}
 use Rattle.oe_graph.specs.Plain.{plain_arg, plain_pair, plain_node, plain_nodes, plain_stored}
 use Rattle.oe_graph.specs.Tree.{Argument, values_from_list, named_from_list, nodes_from_list}
 use Rattle.oe_graph.specs.declared.tree.Arg.{Arg}
@@ -73,3 +75,9 @@ inline_nodes-returns-clause-kept t c inside =
     ap nodes_from_list all
     ∙ (inlined_nodes stored values rename c.args.nodes.now.items
     ∙ ap (substituted_nodes stored values) (kept_nodes rename (kept_inside c.args.values.now inside) (plain_nodes c.args.nodes.now.items)))
+
+pub inline_args-loop-item-preserved : goal.inline_args-loop-item-preserved
+inline_args-loop-item-preserved t c = grind (arith, common_steps) steps 2000000
+
+pub inline_nodes-loop-node-preserved : goal.inline_nodes-loop-node-preserved
+inline_nodes-loop-node-preserved t c = grind (ints, arith, common_steps) steps 4000000

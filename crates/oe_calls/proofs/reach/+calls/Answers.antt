@@ -1,5 +1,6 @@
-use Rattle.std.proofs.Common.{◌∷◌, [], map, take, sym, ◌∙◌, subst}
+use Rattle.std.proofs.Common.{◌∷◌, [], map, take, sym, ◌∙◌, subst, arith}
 use Rattle.std.proofs.lemmas.Result.{on_ok_weaker}
+use Rattle.std.proofs.lemmas.Grind.{common_steps}
 use Rattle.oe_graph.specs.Plain.{plain_arg, plain_args, plain_named, plain_node, plain_nodes, plain_stored}
 use Rattle.oe_graph.specs.Tree.{PlainNode}
 use Rattle.oe_graph.proofs.PartLemmas.{node_parts}
@@ -56,3 +57,12 @@ add_node-returns-then-is_empty t c =
     let old = c.args.found.now.items in
     subst (λ stored. IsCalledBehind stored held old old)
     (sym (map_empty plain_stored c.args.stored.now (sym c.is_empty.ensures ∙ c.if-is_empty.true))) (uncalled_behind held old)
+
+pub add_args-returns : goal.add_args-returns
+add_args-returns t c = grind (arith, common_steps) steps 2000000
+
+pub add_named-returns : goal.add_named-returns
+add_named-returns t c = grind (arith, common_steps) steps 2000000
+
+pub add_nodes-returns : goal.add_nodes-returns
+add_nodes-returns t c = grind (arith, common_steps) steps 2000000

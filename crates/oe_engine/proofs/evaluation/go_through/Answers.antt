@@ -1,3 +1,5 @@
+use Rattle.std.proofs.Common.{arith}
+use Rattle.std.proofs.lemmas.Grind.{elements}
 use Rattle.oe_engine.proofs.RunRounds.{last_one, more_is_left, one_more, refused, still_mounted}
 use Rattle.oe_engine.proofs.evaluation.go_through.Goals as goal
 
@@ -20,3 +22,6 @@ loop-preserved g c =
     one_more _ _ _ _ _ _ _ _ _ _ _ _ _ c.requires.planned c.loop.invariant
     c.in-Ok-More.field-0 c.in-Ok-More.ensures.advances c.in-Ok-More.ensures.writes c.in-Ok-More.ensures.reads
     c.in-Ok-More.ensures.causes.spool_cause.count (more_is_left c.in-Ok-More.field-0 c.in-Ok-More.field-0-is)
+
+pub returns-clause-through : goal.returns-clause-through
+returns-clause-through g c = grind (arith, elements) steps 2000000

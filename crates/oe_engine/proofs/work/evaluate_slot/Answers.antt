@@ -1,4 +1,5 @@
-use Rattle.std.proofs.Common.{◌≡◌, ◌∙◌, ◌%◌, ◌+◌, ◌∷◌, [], ℕ, List, None, IfSome, get_or, sym, ap, subst}
+use Rattle.std.proofs.Common.{◌≡◌, ◌∙◌, ◌%◌, ◌+◌, ◌∷◌, [], ℕ, List, None, IfSome, get_or, sym, ap, subst, arith}
+use Rattle.std.proofs.lemmas.Grind.{common_steps, elements}
 use Rattle.atomic_table.specs.Table.{Allows, rest}
 use Rattle.oe_engine.specs.Views.{AreFor, At, Became, Content, IsFinished, IsLentFor, IsOrderly, laid_at, laid_by, puts}
 use Rattle.oe_engine.specs.declared.table.View.TheVariants.{Works}
@@ -31,3 +32,9 @@ load-requires g c =
       subst (λ (m : At). Allows (IsOrderly key) slots id m 0 (λ n. n) (puts m)) (sym me_is)
           (can_put key slots id slot w now c.requires.slots has.hand fits),
     )
+
+pub exchange-none-requires : goal.exchange-none-requires
+exchange-none-requires g c = grind (arith, common_steps) steps 2000000
+
+pub finish-now-requires-clause-lent : goal.finish-now-requires-clause-lent
+finish-now-requires-clause-lent g c = grind (arith, elements) steps 2000000

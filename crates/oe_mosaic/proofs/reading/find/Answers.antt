@@ -1,5 +1,6 @@
 use Rattle.std.proofs.Common.{◌<◌, length, sym, subst, arith}
 use Rattle.std.proofs.lemmas.List.{get_or_read}
+use Rattle.std.proofs.lemmas.Grind.{common_steps}
 use Rattle.oe_dims.specs.Dimensions.{Dimensions}
 use Rattle.oe_mosaic.specs.Places.{HasBox, HasNumbersOf}
 use Rattle.oe_mosaic.proofs.FindLemmas.{found_in, numbers_of_part, place_within}
@@ -27,3 +28,6 @@ returns-in-Box g c =
       c.loop-index.invariant,
       found_in seen items c.args.shape.now c.args.window.now c.in-Box.part k item below is (subst (λ (s : Dimensions). HasBox c.args.shape.now s c.args.window.now c.in-Box.part) c.shape.ensures.value c.in-Box.ensures),
     )
+
+pub returns : goal.returns
+returns g c = grind (arith, common_steps) steps 2000000

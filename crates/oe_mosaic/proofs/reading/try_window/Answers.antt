@@ -1,5 +1,6 @@
-use Rattle.std.proofs.Common.{◌<◌, length, Err, sym, ap, ◌∙◌, subst}
+use Rattle.std.proofs.Common.{◌<◌, length, Err, sym, ap, ◌∙◌, subst, arith}
 use Rattle.std.proofs.lemmas.List.{get_or_read}
+use Rattle.std.proofs.lemmas.Grind.{common_steps}
 use Rattle.oe_mosaic.specs.Mosaics.{parts_of}
 use Rattle.oe_mosaic.specs.Readings.{IsDamagedThere}
 use Rattle.oe_mosaic.proofs.ReadLemmas.{box_count, item_box, item_there, nowhere_read, part_damaged, part_ok}
@@ -63,3 +64,9 @@ returns-then-is_single g c =
     subst (IsDamagedThere (parts_of seen items) d w) (sym c.first_number.ensures)
     (part_damaged seen items d w box k _ item c.look.new.into c.requires.parts below is c.in-In.ensures.1 c.in-In.ensures.2 (c.is_single.ensures.single c.if-is_single.true) c.requires.filled
     (subst (λ r. Looks (seen item) box c.look.new.into (answer_of r)) (c.in-Err-Damaged.is ∙ ap Err c.in-Err-Damaged.field-0-is) c.look.ensures))
+
+pub bounds-items-index : goal.bounds-items-index
+bounds-items-index g c = grind (arith, common_steps) steps 2000000
+
+pub offset_bounds-items-index : goal.offset_bounds-items-index
+offset_bounds-items-index g c = grind (arith, common_steps) steps 2000000

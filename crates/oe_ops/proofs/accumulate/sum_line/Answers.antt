@@ -1,6 +1,7 @@
 use Rattle.std.proofs.Common.{◌≡◌, ◌≢◌, ◌-◌, ◌<◌, ◌≤◌, ℕ, inl, inr, length, refl, sym, ap, arith, ◌∙◌}
 use Rattle.std.specs.List.{slice_index_or}
 use Rattle.std.proofs.lemmas.Bool.{cases_lt}
+use Rattle.std.proofs.lemmas.Grind.{common_steps}
 use Rattle.oe_cell.specs.declared.cell.Cell.TheVariants.{Empty}
 use Rattle.oe_dims.specs.Positions.{Position}
 use Rattle.oe_dims.specs.declared.kind.Kind.TheVariants.{Time}
@@ -66,3 +67,6 @@ returns-clause-sums c = λ p h band y. let before = h.t.before in c.loop-t.invar
 
 pub returns-clause-others : goal.returns-clause-others
 returns-clause-others c = λ p h other. c.loop-t.invariant.others p h other
+
+pub write_row-requires-clause-row : goal.write_row-requires-clause-row
+write_row-requires-clause-row c = grind (arith, common_steps) steps 2000000

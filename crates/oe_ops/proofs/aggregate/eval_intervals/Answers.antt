@@ -1,5 +1,7 @@
 use Rattle.std.proofs.Common.{◌≡◌, ◌*◌, ◌+◌, ◌<◌, ◌≤◌, ◌∙◌, arith, length, subst, sym}
 use Rattle.std.specs.List.{All}
+use Rattle.std.proofs.lemmas.Grind.{common_steps}
+use borrow.Author.Differences.{ints}
 use Rattle.oe_cell.specs.declared.cell.Cell.TheVariants.{Empty}
 use Rattle.oe_cube.specs.Kinds.{IsOfKind}
 use Rattle.oe_dims.specs.declared.kind.Kind.TheVariants.{Time}
@@ -114,3 +116,9 @@ returns-clause-kinds c =
     let ended : c.loop-number.number ≡ span_length w.t = omega (arith, c.loop-number-test.false, c.indices-number-end.ensures, c.loop-number.auto.number-end) in
     let done = all_done w c.loop-number.number c.stride_along-area.result ended c.stride_along-area.ensures in
     subst (All (IsOfKind (callback_kind c.args.expr.now))) (front_all c.loop-number.out (c.loop-number.number * c.stride_along-area.result) (omega (arith, done, c.requires.out.counted, c.loop-number.auto.out))) c.loop-number.invariant.kinds
+
+pub offset_bounds-out-first : goal.offset_bounds-out-first
+offset_bounds-out-first c = grind (ints, arith, common_steps) steps 4000000
+
+pub overflow_mul-first : goal.overflow_mul-first
+overflow_mul-first c = grind (ints, arith, common_steps) steps 4000000

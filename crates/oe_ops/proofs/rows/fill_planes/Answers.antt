@@ -1,7 +1,8 @@
 use Rattle.std.proofs.Common.{◌≡◌, ◌+◌, ◌-◌, ◌*◌, ◌≤◌, ℕ, length, map, sym, ap, ◌∙◌, subst, arith}
-use borrow.Rule.Slice.PartMut.{post_of}
 use Rattle.std.specs.List.{slice_range}
 use Rattle.std.proofs.lemmas.List.{length-map, take_all}
+use Rattle.std.proofs.lemmas.Grind.{common_steps}
+use borrow.Rule.Slice.PartMut.{post_of}
 use Rattle.oe_window.specs.Parts.{IsPartFrom, plane_size}
 use Rattle.oe_window.specs.Windows.{position_count, positions}
 use Rattle.oe_window.proofs.WindowLemmas.{length-positions}
@@ -90,3 +91,6 @@ returns g c =
     sym (take_all c.loop-number.done out (omega (arith, whole, c.loop-number.auto.out, c.requires.counted)))
     ∙ c.loop-number.invariant.value
     ∙ take_all c.loop-number.done all (omega (arith, whole, total))
+
+pub overflow_add-done-in-loop-number : goal.overflow_add-done-in-loop-number
+overflow_add-done-in-loop-number g c = grind (arith, common_steps) steps 2000000

@@ -1,5 +1,6 @@
 use Rattle.std.proofs.Common.{◌≡◌, ℕ, ◌+◌, ◌*◌, ◌/◌, ◌<◌, ◌≤◌, length, ap, arith}
 use Rattle.std.proofs.lemmas.Nat.{mul-le}
+use Rattle.std.proofs.lemmas.Grind.{common_steps}
 use Rattle.oe_window.specs.Windows.{IsIn, number_in, position_count}
 use Rattle.oe_ops.specs.Slices.{at_indices, along_x}
 use Rattle.oe_ops.proofs.FillLemmas.{row_at, all_rows, length-part, row_written, all_written}
@@ -40,3 +41,15 @@ returns g c =
     let rows : position_count c.args.window.now / c.indices-width.result ≤ c.loop-number.number = omega (arith, ap (λ n. n / c.indices-width.result) c.requires.counted) in
     let product = mul-le (position_count c.args.window.now / c.indices-width.result) c.indices-width.result c.loop-number.number c.indices-width.result rows (omega arith) in
     all_written (g.R.Rows.cell c.args.rows.now) c.args.window.now c.loop-number.out (c.loop-number.number * c.indices-width.result) (omega (arith, c.requires.counted)) (omega (arith, all, product)) c.loop-number.invariant
+
+pub index_after-band-requires : goal.index_after-band-requires
+index_after-band-requires g c = grind (arith, common_steps) steps 2000000
+
+pub nonzero_div-number : goal.nonzero_div-number
+nonzero_div-number g c = grind (arith, common_steps) steps 2000000
+
+pub nonzero_div-number-in-loop-number : goal.nonzero_div-number-in-loop-number
+nonzero_div-number-in-loop-number g c = grind (arith, common_steps) steps 2000000
+
+pub nonzero_rem-number : goal.nonzero_rem-number
+nonzero_rem-number g c = grind (arith, common_steps) steps 2000000

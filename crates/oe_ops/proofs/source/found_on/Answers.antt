@@ -1,5 +1,6 @@
 use Rattle.std.proofs.Common.{is_some, length, slice_index_or, unwrap_or, sym, ap, ◌∙◌, arith}
 use Rattle.std.specs.Option.{option_map}
+use Rattle.std.proofs.lemmas.Grind.{common_steps}
 use Rattle.oe_cell.specs.declared.cell.Cell.TheVariants.{Empty}
 use Rattle.oe_dims.specs.declared.kind.Kind.TheVariants.{X}
 use Rattle.oe_ops.specs.Indices.{position_on}
@@ -43,3 +44,9 @@ returns-in-Some-clause-all c = λ sure k lt.
     let source = c.args.source.now in
     let begins = run_begins X source.shape.now source.argument.now c.args.run c.args.x (length c.args.out.now) c.requires.labels.some c.requires.labels.on_run in
     ap is_some (run_behind X source.shape.now source.argument.now c.args.run c.args.x k c.in-Some.first c.in-Some.is begins (c.requires.labels.on_run k lt))
+
+pub cell_of-requires-clause-inside : goal.cell_of-requires-clause-inside
+cell_of-requires-clause-inside c = grind (arith, common_steps) steps 2000000
+
+pub returns-then-is_none-clause-value : goal.returns-then-is_none-clause-value
+returns-then-is_none-clause-value c = grind (arith, common_steps) steps 2000000

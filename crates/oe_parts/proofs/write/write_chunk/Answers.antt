@@ -1,5 +1,6 @@
 use Rattle.std.proofs.Common.{◌≡◌, ◌<◌, ◌+◌, ◌*◌, ℕ, List, Option, Ok, take, drop, refl, sym, ap, ◌∙◌, subst, arith}
 use Rattle.std.proofs.lemmas.List.{length-take-le}
+use Rattle.std.proofs.lemmas.Grind.{common_steps}
 use Rattle.oe_cell.specs.Record.{records_of}
 use Rattle.oe_cell.specs.declared.cell.Cell.{Cell}
 use Rattle.oe_cell.specs.declared.cell.Cell.TheVariants.{Empty}
@@ -146,3 +147,12 @@ returns-clause-records g c =
     let last : c.loop-number.number ≡ c.rows-number-end.result = omega (arith, c.loop-number-test.false, c.loop-number.auto.number-end) in
     subst (λ (m : ℕ). SendsRecords (g.O.Sink.written c.args.out.now) (g.O.Sink.size c.args.out.now) c.args.pending.now m (g.O.Sink.written c.loop-number.out) (g.O.Sink.size c.loop-number.out) c.loop-number.pending)
     (ap (λ (n : ℕ). n * len) last ∙ c.rows-number-end.ensures.all) c.loop-number.invariant.records
+
+pub returns-clause-damage : goal.returns-clause-damage
+returns-clause-damage g c = grind (arith, common_steps) steps 2000000
+
+pub returns-clause-left : goal.returns-clause-left
+returns-clause-left g c = grind (arith, common_steps) steps 2000000
+
+pub returns-in-Err-clause-records : goal.returns-in-Err-clause-records
+returns-in-Err-clause-records g c = grind (arith, common_steps) steps 2000000

@@ -1,5 +1,7 @@
-use Rattle.std.proofs.Common.{◌≡◌, map, take, refl, ap, ◌∙◌}
+use Rattle.std.proofs.Common.{◌≡◌, map, take, refl, ap, ◌∙◌, arith}
 use Rattle.std.proofs.lemmas.List.{take_all}
+use Rattle.std.proofs.lemmas.Grind.{common_steps}
+use borrow.Author.Differences.{ints}
 use Rattle.oe_graph.specs.Plain.{plain_arg, plain_pair, plain_node}
 use Rattle.oe_graph.specs.Tree.{values_from_list, named_from_list, nodes_from_list}
 use Rattle.oe_resolve.specs.Defaults.{with_defaults, node_with_defaults}
@@ -27,3 +29,12 @@ nodes_with_defaults-returns t c =
     let all : map plain_node c.loop-node.copy.items ≡ map (λ n. node_with_defaults (plain_node n)) c.args.nodes.now.items =
     rw (c.loop-node.invariant, full, c.deref-node-items.ensures.value) refl in
     ap nodes_from_list all ∙ nodes_with_defaults c.args.nodes.now.items
+
+pub args_with_defaults-loop-item-preserved : goal.args_with_defaults-loop-item-preserved
+args_with_defaults-loop-item-preserved t c = grind (arith, common_steps) steps 2000000
+
+pub named_with_defaults-loop-member-preserved : goal.named_with_defaults-loop-member-preserved
+named_with_defaults-loop-member-preserved t c = grind (arith, common_steps) steps 2000000
+
+pub nodes_with_defaults-loop-node-preserved : goal.nodes_with_defaults-loop-node-preserved
+nodes_with_defaults-loop-node-preserved t c = grind (ints, arith, common_steps) steps 4000000

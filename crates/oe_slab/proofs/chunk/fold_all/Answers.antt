@@ -1,6 +1,7 @@
 use Rattle.std.proofs.Common.{◌≡◌, ◌∙◌, ℕ, List, OnOk, length, take, sym, subst, arith}
 use Rattle.std.proofs.Math.ListN.{drop}
 use Rattle.std.proofs.lemmas.List.{length-take-le}
+use Rattle.std.proofs.lemmas.Grind.{common_steps}
 use Rattle.oe_fold.specs.declared.pass.Pass.{Pass}
 use Rattle.oe_sources.specs.CatalogueRows.{rows_of}
 use Rattle.oe_steps.proofs.BufferLemmas.{take_front}
@@ -26,3 +27,15 @@ returns-clause-folded g c =
     let few = length-take-le c.size-count.result c.args.folds.now (omega (arith, c.size-count.ensures.value, c.requires.folds)) in
     let long : length new ≡ position_count plane = c.fold_plane.auto.folds ∙ few ∙ c.size-count.ensures.value in
     subst (λ (folds : List Pass). OnOk c.fold_plane.result (AreFolded p rows plane folds)) (sym (take_front new rest (position_count plane) long)) c.fold_plane.ensures.folded
+
+pub returns-clause-read : goal.returns-clause-read
+returns-clause-read g c = grind (arith, common_steps) steps 2000000
+
+pub returns-clause-room : goal.returns-clause-room
+returns-clause-room g c = grind (arith, common_steps) steps 2000000
+
+pub returns-then-count-eq0-clause-read : goal.returns-then-count-eq0-clause-read
+returns-then-count-eq0-clause-read g c = grind (arith, common_steps) steps 2000000
+
+pub returns-then-count-eq0-clause-room : goal.returns-then-count-eq0-clause-room
+returns-then-count-eq0-clause-room g c = grind (arith, common_steps) steps 2000000

@@ -2,6 +2,7 @@ use Rattle.std.proofs.Common.{◌≡◌, ◌<◌, ◌≤◌, ◌∙◌, ℕ, len
 use Rattle.std.proofs.lemmas.List.{length-take-le}
 use Rattle.std.specs.Prelude.{Contains}
 use Rattle.std.specs.Vec.{with_items}
+use Rattle.std.proofs.lemmas.Grind.{common_steps}
 use Rattle.oe_plan.specs.Schedules.{ScheduleOf, node_at}
 use Rattle.oe_steps.proofs.BufferLemmas.{at_items, length-lists}
 use Rattle.oe_steps.proofs.StepLoadLemmas.{sizes_stay, slot_written}
@@ -125,3 +126,6 @@ returns-clause-value c = λ collections of all.
     subst (λ (k : ℕ). Settles (take k c.args.folds.now) (take k out)) c.size-count.ensures.value c.settle_front.ensures in
     put_cells p is c.args.windows.now c.requires.windows plane c.requires.plane new at within at_is (take n out) (length-take-le n out most) there
     (take n c.args.folds.now) (length-take-le n c.args.folds.now c.requires.folds) settles collections of all
+
+pub bounds-buffers-slot : goal.bounds-buffers-slot
+bounds-buffers-slot c = grind (arith, common_steps) steps 2000000

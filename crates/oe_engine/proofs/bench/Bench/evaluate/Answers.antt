@@ -1,5 +1,7 @@
-use Rattle.std.proofs.Common.{◌≡◌, ◌∙◌, refl, sym, ap, subst, length}
+use Rattle.std.proofs.Common.{◌≡◌, ◌∙◌, refl, sym, ap, subst, length, arith}
 use Rattle.std.specs.Vec.{with_items}
+use Rattle.std.proofs.lemmas.Grind.{moves}
+use borrow.Author.Differences.{ints}
 use Rattle.oe_engine.specs.Benches.{AreCells, AreOfKind, EachLoad, IsBenchFor, IsDone, IsLoaded, OfResult}
 use Rattle.oe_steps.specs.Buffers.{lists_of}
 use Rattle.oe_engine.specs.declared.bench.State.{State}
@@ -63,3 +65,6 @@ returns-in-Loaded-clause-value c = λ collections k has loaded.
     subst (λ w. OfResult p (AreCells collections p w new)) c.deref.ensures.value (c.evaluate_steps.ensures.value collections has given) in
     rw same (subst (IsDone p collections chunk) now_is
     (done_after p chunk windows old new before after c.evaluate_steps.ensures.plan was collections cells))
+
+pub evaluate_steps-requires-clause-kinds : goal.evaluate_steps-requires-clause-kinds
+evaluate_steps-requires-clause-kinds c = grind (ints, arith, moves) steps 2000000

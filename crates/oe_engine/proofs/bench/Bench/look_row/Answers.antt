@@ -1,4 +1,5 @@
-use Rattle.std.proofs.Common.{◌∙◌, List, OnOk, length, take, sym, ap, subst}
+use Rattle.std.proofs.Common.{◌∙◌, List, OnOk, length, take, sym, ap, subst, arith}
+use Rattle.std.proofs.lemmas.Grind.{common_steps}
 use Rattle.oe_cell.specs.declared.cell.Cell.{Cell}
 use Rattle.oe_sources.specs.CatalogueRows.{rows_of}
 use Rattle.oe_window.specs.Windows.{span_length}
@@ -19,3 +20,6 @@ returns-clause-loaded g c =
     let long = c.look_front.auto.cells ∙ ap length c.deref_mut.ensures.value in
     subst (λ (xs : List Cell). OnOk c.look_front.result (AreLoaded p.graph rows (node_at p c.args.step) c.args.row.now (take width xs)))
     (sym (with_items_is c.self.inside.scratch cells long)) c.look_front.ensures.loaded
+
+pub returns-clause-scratch : goal.returns-clause-scratch
+returns-clause-scratch g c = grind (arith, common_steps) steps 2000000

@@ -1,4 +1,6 @@
-use Rattle.std.proofs.Common.{IfErr, OnErr, OnOk, subst}
+use Rattle.std.proofs.Common.{IfErr, OnErr, OnOk, subst, arith}
+use Rattle.std.proofs.lemmas.Grind.{moves}
+use borrow.Author.Differences.{ints}
 use Rattle.oe_dims.specs.Dimensions.{Dimensions, cell_count}
 use Rattle.oe_render.specs.Rendered.{AppendsCube, AppendsCubePrefix, CountsCube, CountsCubePrefix, IsRefusalWithin}
 use Rattle.oe_engine.proofs.bench.Bench.render.Goals as goal
@@ -24,3 +26,6 @@ pub returns-clause-damage : goal.returns-clause-damage
 returns-clause-damage g c =
     subst (λ (shape : Dimensions). IfErr c.render.result (IsRefusalWithin (g.P.Store.bytes c.args.spool.now) 0 (cell_count shape)))
     c.shape.ensures.value c.render.ensures.damage
+
+pub returns-clause-bench : goal.returns-clause-bench
+returns-clause-bench g c = grind (ints, arith, moves) steps 2000000

@@ -1,4 +1,5 @@
-use Rattle.std.proofs.Common.{◌≡◌, ◌∙◌, sym, ap, subst}
+use Rattle.std.proofs.Common.{◌≡◌, ◌∙◌, sym, ap, subst, arith}
+use Rattle.std.proofs.lemmas.Grind.{common_steps}
 use Rattle.oe_plan.proofs.RunLemmas.{only_step}
 use Rattle.oe_engine.specs.Benches.{BenchOf, buffer_cells_at}
 use Rattle.oe_steps.specs.Buffers.{lists_of}
@@ -17,3 +18,6 @@ returns-in-Done-clause-done c = λ k done step within result.
     ∙ ap (λ w. buffer_cells_at p w (lists_of c.deref-in-Done.result.now) found) c.deref.ensures.value
     ∙ ap (λ bs. buffer_cells_at p inside.windows.items (lists_of bs) found) c.deref-in-Done.ensures.value
     ∙ ap (buffer_cells_at p inside.windows.items (lists_of inside.buffers.items)) one)
+
+pub returns-in-Done-clause-value : goal.returns-in-Done-clause-value
+returns-in-Done-clause-value c = grind (arith, common_steps) steps 2000000

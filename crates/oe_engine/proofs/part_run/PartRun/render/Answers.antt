@@ -1,6 +1,7 @@
-use Rattle.std.proofs.Common.{IfErr, OnErr, OnOk, sym, ◌∙◌, subst}
+use Rattle.std.proofs.Common.{IfErr, OnErr, OnOk, sym, ◌∙◌, subst, arith}
 use Rattle.std.proofs.lemmas.List.{length-set}
 use Rattle.std.proofs.lemmas.List.Elements.{All-set}
+use Rattle.std.proofs.lemmas.Grind.{common_steps}
 use Rattle.oe_dims.specs.Dimensions.{cell_count}
 use Rattle.oe_render.specs.Rendered.{AppendsCube, AppendsCubePrefix, CountsCube, CountsCubePrefix, IsRefusalWithin}
 use Rattle.oe_render.specs.Stored.{HasCells}
@@ -50,3 +51,6 @@ invariant_of-self g c =
       },
       c.self.invariant.4,
     )
+
+pub render-requires-clause-bench : goal.render-requires-clause-bench
+render-requires-clause-bench g c = grind (arith, common_steps) steps 2000000

@@ -1,4 +1,5 @@
 use Rattle.std.proofs.Common.{◌≡◌, ◌+◌, ◌*◌, ◌<◌, ◌≤◌, ◌++◌, ◌∷◌, [], List, ℕ, subst, sym, arith}
+use Rattle.std.proofs.lemmas.Grind.{common_steps}
 use Rattle.oe_plan.specs.Figures.{most_held_cells}
 use Rattle.oe_plan.specs.Fits.{bench_cells}
 use Rattle.oe_engine.specs.Benches.{BenchOf, held_cells}
@@ -44,3 +45,6 @@ loop-preserved c =
     (c.in_ok-bench.ensures.others p c.loop.invariant.made) in
     subst (λ (n : ℕ). AreSome p c.push.new.self.items left (c.loop.counter + 1) (c.loop.cells + n)) (sym c.cells-cells.ensures)
     (subst (λ (benches : List BenchOf). AreSome p benches left (c.loop.counter + 1) (c.loop.cells + held_cells b)) (sym items) more)
+
+pub returns-clause-cells : goal.returns-clause-cells
+returns-clause-cells c = grind (arith, common_steps) steps 2000000

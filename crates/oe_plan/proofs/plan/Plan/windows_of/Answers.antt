@@ -1,4 +1,5 @@
-use Rattle.std.proofs.Common.{ℕ, sym, ap, subst}
+use Rattle.std.proofs.Common.{ℕ, sym, ap, subst, arith}
+use Rattle.std.proofs.lemmas.Grind.{elements}
 use Rattle.oe_window.specs.Chunks.{FitsSides, tiling_of}
 use Rattle.oe_window.specs.Windows.{Holds, whole_window}
 use Rattle.oe_plan.specs.Figures.{shape_of_node}
@@ -23,3 +24,6 @@ returns-clause-windows c =
     let windows = c.windows_of.ensures size (subst (λ (n : ℕ). FitsSides (tiling_of (shape_of_node graph n) size) chunk) (sym last) sides) in
     subst (λ (p : PlanOf). AreWindows p.graph p.size chunk c.windows_of.new.windows) c.self.view_is
     (subst (λ (n : ℕ). AreWindows (record graph { result = n }) size chunk c.windows_of.new.windows) last windows)
+
+pub windows_of-requires-clause-order : goal.windows_of-requires-clause-order
+windows_of-requires-clause-order c = grind (arith, elements) steps 2000000

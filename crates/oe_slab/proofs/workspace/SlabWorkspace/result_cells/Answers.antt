@@ -1,4 +1,6 @@
-use Rattle.std.proofs.Common.{◌≡◌, ◌<◌, ◌∙◌, List, length, ap, subst}
+use Rattle.std.proofs.Common.{◌≡◌, ◌<◌, ◌∙◌, List, length, ap, subst, arith}
+use Rattle.std.proofs.lemmas.Grind.{common_steps, moves}
+use borrow.Author.Differences.{ints}
 use Rattle.oe_plan.specs.Schedules.{ScheduleOf, node_at}
 use Rattle.oe_steps.specs.Buffers.{lists_of}
 use Rattle.oe_steps.specs.Steps.{buffer_cells_at}
@@ -24,3 +26,9 @@ returns-clause-counted c = λ chunk on.
     as_many p c.behind.ensures.valid c.args.self.now c.front.result.now at within at_is
     (subst (λ (w : SlabWorkspaceOf). c.front.result.now ≡ buffer_cells_at p.behind w.windows_behind w.behind at) c.self.view_is front)
     chunk c.requires.room on
+
+pub returns-clause-are : goal.returns-clause-are
+returns-clause-are c = grind (ints, arith, moves) steps 2000000
+
+pub returns-clause-only : goal.returns-clause-only
+returns-clause-only c = grind (arith, common_steps) steps 2000000
