@@ -23,7 +23,7 @@ pub(crate) struct CheckedNode {
     pub kind: CellKind,
 }
 
-/// Written out, so that what is kept of a node that ends is one call wherever it does.
+/// Written out, so that what is kept of a node ends by one call wherever it does.
 impl Drop for CheckedNode {
     fn drop(self) {
         let CheckedNode {

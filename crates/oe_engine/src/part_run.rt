@@ -16,7 +16,6 @@ use std::thread::Threads;
 
 /// Some chunks of a plan, one behind the other in number, that are carried out in a workspace. From its start on nothing
 /// takes memory, but for what the system takes for a thread.
-#[derive(Drop)]
 pub struct PartRun {
     plan: Plan,
     benches: Vec<Bench>,
@@ -53,6 +52,23 @@ impl Model for PartRun {
     ghost invariant = { λ r. (r.base ≤ 2 ^ 62) × (r.first + r.count ≤ chunk_total r.plan)
         × (r.done ≤ r.count) × AreBenchesFor r.plan r.benches.items
         × (r.crew ≡ r.plan.workers) };
+}
+
+/// Written out, so that a run that ends is one call wherever it does.
+impl Drop for PartRun {
+    fn drop(self) {
+        let PartRun {
+            plan: _,
+            benches: _,
+            crew: _,
+            base: _,
+            first: _,
+            count: _,
+            done: _,
+            evaluations: _,
+            over: _,
+        } = self;
+    }
 }
 
 impl PartRun {

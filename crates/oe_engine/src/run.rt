@@ -22,7 +22,6 @@ pub enum Progress {
 
 /// A plan that is carried out in a workspace: the part of its run that has all chunks. From its start on nothing takes
 /// memory, but for what the system takes for a thread.
-#[derive(Drop)]
 pub struct Run {
     part: PartRun,
 }
@@ -40,6 +39,13 @@ impl Model for Run {
     ghost view = { λ r. run_of r.part };
 
     ghost invariant = { λ r. IsWhole r.part };
+}
+
+/// Written out, so that a run that ends is one call wherever it does.
+impl Drop for Run {
+    fn drop(self) {
+        let Run { part: _ } = self;
+    }
 }
 
 impl Run {

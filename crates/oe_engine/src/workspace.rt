@@ -15,7 +15,6 @@ use std::thread::Threads;
 
 /// The benches of a run, two for each worker, and the workers with the table over which they are handed benches. The
 /// benches hold all its cells.
-#[derive(Drop)]
 pub struct Workspace {
     benches: Vec<Bench>,
     cells: u64,
@@ -33,6 +32,17 @@ impl Model for Workspace {
 
     ghost invariant = { λ w. (w.cells ≡ cells_of_benches w.benches.items)
         × (length w.benches.items ≡ 2 * w.crew) };
+}
+
+/// Written out, so that a workspace that ends is one call wherever it does.
+impl Drop for Workspace {
+    fn drop(self) {
+        let Workspace {
+            benches: _,
+            cells: _,
+            crew: _,
+        } = self;
+    }
 }
 
 impl Workspace {

@@ -16,19 +16,39 @@ use std::alloc::Global;
 
 /// A parameter of a process. The default counts where the argument is not given; without one that of an optional
 /// parameter is null.
-#[derive(Drop)]
 pub struct ParameterRow {
     pub name: Text,
     pub optional: bool,
     pub default: Option<Arg>,
 }
 
+/// Written out, so that a row that ends is one call wherever it does.
+impl Drop for ParameterRow {
+    fn drop(self) {
+        let ParameterRow {
+            name: _,
+            optional: _,
+            default: _,
+        } = self;
+    }
+}
+
 /// A process of the catalogue: it stands in callbacks, or else in the main graph.
-#[derive(Drop)]
 pub struct ProcessRow {
     pub id: Text,
     pub parameters: Vec<ParameterRow>,
     pub in_callback: bool,
+}
+
+/// Written out, so that a row that ends is one call wherever it does.
+impl Drop for ProcessRow {
+    fn drop(self) {
+        let ProcessRow {
+            id: _,
+            parameters: _,
+            in_callback: _,
+        } = self;
+    }
 }
 
 /// All entries. Both that read them do so by this call, so that the table stands in one proof alone.

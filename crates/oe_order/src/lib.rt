@@ -38,7 +38,7 @@ pub struct Links {
     pub arguments: Vec<u32>,
 }
 
-/// Written out, so that such a value that ends is one call wherever it does.
+/// Written out, so that such a value ends by one call wherever it does.
 impl Drop for Links {
     fn drop(self) {
         let Links {

@@ -13,11 +13,20 @@ use serde_json::{Map, Value, put};
 use std::alloc::Global;
 
 /// A path of the service, with its methods.
-#[derive(Drop)]
 pub struct Endpoint {
     /// The path, a parameter in braces.
     pub path: Text,
     pub methods: Vec<Text>,
+}
+
+/// Written out, so that such a value ends by one call wherever it does.
+impl Drop for Endpoint {
+    fn drop(self) {
+        let Endpoint {
+            path: _,
+            methods: _,
+        } = self;
+    }
 }
 
 /// The capabilities of a service with these endpoints (openEO API, capabilities).

@@ -43,10 +43,19 @@ pub enum Action {
 }
 
 /// An asset of a job before it runs: its name, and the graph whose result it is.
-#[derive(Drop)]
 pub struct EstimateGraph {
     pub name: Text,
     pub checked: Checked,
+}
+
+/// Written out, so that such a value ends by one call wherever it does.
+impl Drop for EstimateGraph {
+    fn drop(self) {
+        let EstimateGraph {
+            name: _,
+            checked: _,
+        } = self;
+    }
 }
 
 /// What a request is about, beside itself. The moment is in seconds since 1970-01-01T00:00:00Z.

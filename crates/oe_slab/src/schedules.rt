@@ -24,7 +24,7 @@ pub(crate) struct Schedules {
     pub behind: Schedule,
 }
 
-/// Written out, so that such a value that ends is one call wherever it does.
+/// Written out, so that such a value ends by one call wherever it does.
 impl Drop for Schedules {
     fn drop(self) {
         let Schedules {

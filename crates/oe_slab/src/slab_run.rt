@@ -24,7 +24,6 @@ pub enum SlabProgress {
 }
 
 /// A plan that is carried out in a workspace. From its start on nothing takes memory.
-#[derive(Drop)]
 pub struct SlabRun {
     plan: SlabPlan,
     workspace: SlabWorkspace,
@@ -48,6 +47,19 @@ impl Model for SlabRun {
 
     ghost invariant = { λ r. (r.base ≤ 2 ^ 62) × (r.done ≤ chunk_total r.plan)
         × IsWorkspaceFor r.plan r.workspace };
+}
+
+/// Written out, so that a run that ends is one call wherever it does.
+impl Drop for SlabRun {
+    fn drop(self) {
+        let SlabRun {
+            plan: _,
+            workspace: _,
+            base: _,
+            done: _,
+            over: _,
+        } = self;
+    }
 }
 
 /// How far a run is once the next of so many chunks that were left is done.

@@ -36,7 +36,6 @@ use std::marker::Model;
 
 /// What a run is evaluated in: buffers for the slabs before its cut, the folds of a plane, buffers for the planes behind
 /// the cut, cells to work with, and windows.
-#[derive(Drop)]
 pub struct SlabWorkspace {
     before: Vec<Vec<Cell>>,
     folds: Vec<Pass>,
@@ -74,6 +73,22 @@ impl Model for SlabWorkspace {
       windows_before = w.windows_before.items;
       windows_behind = w.windows_behind.items;
     }) };
+}
+
+/// Written out, so that a workspace that ends is one call wherever it does.
+impl Drop for SlabWorkspace {
+    fn drop(self) {
+        let SlabWorkspace {
+            before: _,
+            folds: _,
+            behind: _,
+            scratch: _,
+            windows: _,
+            windows_before: _,
+            windows_behind: _,
+            cells: _,
+        } = self;
+    }
 }
 
 /// So many copies of a value.

@@ -28,7 +28,6 @@ const PIXEL: u32 = 10;
 /// B1 and B2, and as many pixels along `y` as along `x`. The cell at the indices t, b, y and x is
 /// (SEED + 7x + 13y + 17t + 19b) mod 101, and null where that is 100. Its reads and looks always succeed, so that it
 /// has no fault to count.
-#[derive(Drop)]
 pub struct GeneratedCube {
     seed: u32,
     side: u32,
@@ -54,6 +53,18 @@ impl Model for GeneratedCube {
     } };
 
     ghost invariant = { λ g. (g.shape ≡ generated_shape g.side) × (g.side ≤ 1024) };
+}
+
+/// Written out, so that a cube that ends is one call wherever it does.
+impl Drop for GeneratedCube {
+    fn drop(self) {
+        let GeneratedCube {
+            seed: _,
+            side: _,
+            shape: _,
+            asked: _,
+        } = self;
+    }
 }
 
 impl GeneratedCube {
