@@ -88,18 +88,8 @@ fn process_json(alloc: Global, text: &str) -> Result<Value, OutOfMemory>
     }
 }
 
-/// The jobs of a user, in order of creation, without their descriptions and processes (openEO API, batch jobs).
-///
-/// Refuses: out of memory.
-pub fn jobs_body(alloc: Global, book: &Book, user: &str) -> Result<Vec<u8>, OutOfMemory>
-    ensures { IfOk result
-        (λ body. body.items ≡ compact_text (spec.jobs_data (plain_book book.now) user.now)) }
-{
-    let value = jobs_list(alloc, book, user)?;
-    compact_body(alloc, &value)
-}
-
-/// The same before it is written, of which a page may be taken.
+/// The jobs of a user, in order of creation, without their descriptions and processes (openEO API, batch jobs): a value of
+/// which a page may be taken.
 ///
 /// Refuses: out of memory.
 #[tactic(auto, using(crate::proofs::Floats::jobs_whole))]

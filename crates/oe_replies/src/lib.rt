@@ -22,10 +22,10 @@ mod values;
 
 pub use code::ReplyCode;
 pub use collection::{collection_body, collections_body, collections_list};
-pub use job::{job_body, jobs_body, jobs_list};
+pub use job::{job_body, jobs_list};
 pub use laws::errors_are_plain;
 pub use logs::logs_body;
-pub use processes::{processes_body, processes_list, stored_list, stored_list_body};
+pub use processes::{processes_list, stored_list};
 pub use refused::{error_body, validation_body};
 pub use reply::{
     created_reply, empty_reply, failed_reply, json_reply, refused_reply, stored_reply,

@@ -1,13 +1,13 @@
 // Processes: those of the catalogue, and those that a user has stored.
 ghost use Rattle.std.specs.Prelude.{◌≡◌, IfOk, false, map};
 ghost use Rattle.serde_json.specs.View.{view};
-ghost use Rattle.serde_json.specs.Written.{compact_text, has_float};
+ghost use Rattle.serde_json.specs.Written.{has_float};
 ghost use Rattle.oe_graph.specs.Catalogue.{processes_data};
 ghost use Rattle.oe_jobs.specs.Plain.{plain_book};
 ghost use Rattle.oe_jobs.specs.Verdicts.{stored_of};
 ghost use Rattle.oe_replies.specs.Jobs as spec;
 
-use crate::values::{compact_body, listing_json, single};
+use crate::values::{listing_json, single};
 use oe_dims::same_text;
 use oe_graph::{processes_text, str_json};
 use oe_jobs::Book;
@@ -15,17 +15,8 @@ use oe_memory::OutOfMemory;
 use serde_json::Value;
 use std::alloc::Global;
 
-/// The processes of the catalogue, in byte order of their ids (openEO API, processes).
-///
-/// Refuses: out of memory.
-pub fn processes_body(alloc: Global) -> Result<Vec<u8>, OutOfMemory>
-    ensures { IfOk result (λ body. body.items ≡ compact_text processes_data) }
-{
-    let text = processes_text(alloc)?;
-    Ok(Vec::from_slice(alloc, text.as_str().as_bytes())?)
-}
-
-/// The same before it is written, of which a page may be taken: the text of the catalogue is read again.
+/// The processes of the catalogue, in byte order of their ids (openEO API, processes): a value of which a page may be taken.
+/// The text of the catalogue is read again.
 ///
 /// Refuses: out of memory.
 #[tactic(auto, using(crate::proofs::Catalogue::catalogue_whole, crate::proofs::Catalogue::is_catalogue, crate::proofs::Catalogue::is_read))]
@@ -41,18 +32,8 @@ pub fn processes_list(alloc: Global) -> Result<Value, OutOfMemory>
     }
 }
 
-/// The ids of the processes that a user has stored, in byte order (openEO API, user-defined processes).
-///
-/// Refuses: out of memory.
-pub fn stored_list_body(alloc: Global, book: &Book, user: &str) -> Result<Vec<u8>, OutOfMemory>
-    ensures { IfOk result (λ body. body.items
-        ≡ compact_text (spec.stored_list_data (plain_book book.now) user.now)) }
-{
-    let value = stored_list(alloc, book, user)?;
-    compact_body(alloc, &value)
-}
-
-/// The same before it is written, of which a page may be taken.
+/// The ids of the processes that a user has stored, in byte order (openEO API, user-defined processes): a value of which a
+/// page may be taken.
 ///
 /// Refuses: out of memory.
 #[tactic(auto, using(crate::proofs::Floats::stored_whole))]

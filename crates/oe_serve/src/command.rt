@@ -21,18 +21,6 @@ pub struct ServeCommand {
     pub turns: u32,
 }
 
-/// The port of these words, `None` exactly where they do not spell the command `serve`. Takes no memory.
-pub fn serve_port(words: &[Text]) -> Option<u16>
-    ensures some { IfSome result (λ port. (command : Command) × SpellsServe words.now command
-        × (port ≡ command.port)) }
-    ensures none { IfNone result ((command : Command) → ¬ SpellsServe words.now command) }
-{
-    match read_serve(words) {
-        Some(command) => Some(command.port),
-        None => None,
-    }
-}
-
 /// The command `serve` that these words spell, `None` exactly where they spell none. Takes no memory.
 pub fn read_serve(words: &[Text]) -> Option<ServeCommand>
     ensures some { IfSome result (SpellsServe words.now) }

@@ -21,7 +21,7 @@ mod served;
 mod setup;
 mod turns;
 
-pub use command::{ServeCommand, read_serve, serve_port};
+pub use command::{ServeCommand, read_serve};
 pub use connections::serve_one;
 pub use laws::serving_is_complete;
 pub use served::Served;
