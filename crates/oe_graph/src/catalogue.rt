@@ -7,7 +7,7 @@ ghost use Rattle.oe_graph.specs.Catalogue as spec;
 ghost use Rattle.oe_graph.specs.Plain.{plain_arg, plain_parameter, plain_process};
 
 use crate::table::{Literal, PROCESSES, ParameterEntry, ProcessEntry};
-use crate::texts::str_json;
+use crate::texts::put_str;
 use crate::tree::Arg;
 use oe_dims::Text;
 use oe_memory::OutOfMemory;
@@ -179,7 +179,7 @@ fn process_json(alloc: Global, entry: &ProcessEntry) -> Result<Value, OutOfMemor
     let parameters = parameter_values(alloc, entries)?;
     let mut row = Map::new(alloc);
     put(&mut row, alloc, "description", description_json(alloc, id)?)?;
-    put(&mut row, alloc, "id", str_json(alloc, id)?)?;
+    put_str(&mut row, alloc, "id", id)?;
     put(&mut row, alloc, "parameters", Value::Array(parameters))?;
     put(&mut row, alloc, "returns", returns_json(alloc)?)?;
     Ok(Value::Object(row))
@@ -197,12 +197,7 @@ fn returns_json(alloc: Global) -> Result<Value, OutOfMemory>
     ensures { IfOk result (λ v. view v ≡ spec.returns_data) }
 {
     let mut returns = Map::new(alloc);
-    put(
-        &mut returns,
-        alloc,
-        "description",
-        str_json(alloc, "result")?,
-    )?;
+    put_str(&mut returns, alloc, "description", "result")?;
     put(
         &mut returns,
         alloc,
@@ -228,8 +223,8 @@ fn parameter_json(alloc: Global, entry: &ParameterEntry) -> Result<Value, OutOfM
 {
     let (name, _, default) = *entry;
     let mut row = Map::new(alloc);
-    put(&mut row, alloc, "description", str_json(alloc, name)?)?;
-    put(&mut row, alloc, "name", str_json(alloc, name)?)?;
+    put_str(&mut row, alloc, "description", name)?;
+    put_str(&mut row, alloc, "name", name)?;
     put(&mut row, alloc, "schema", Value::Object(Map::new(alloc)))?;
     match default {
         Some(literal) => with_default(alloc, row, literal),

@@ -42,6 +42,6 @@ pub use references::{References, SortedNodes, read_references, sort_nodes};
 pub use search::{Beside, Guesses, find_index, guesses_of, index_in};
 pub use stored::StoredProcess;
 pub use table::{ArgumentKind, Literal, PROCESS_COUNT, PROCESSES, ParameterEntry, ProcessEntry};
-pub use texts::{str_json, text_json};
+pub use texts::{put_str, str_json};
 pub use tree::{Arg, Graph, Node};
 pub use walk::{callback_name, fault_at_node, node_name};

@@ -9,7 +9,7 @@ ghost use Rattle.oe_graph.specs.Printed as spec;
 ghost use Rattle.oe_graph.specs.Form.{most_input};
 ghost use Rattle.oe_graph.specs.Read.{Reads};
 
-use crate::texts::text_json;
+use crate::texts::{put_str, str_json};
 use crate::tree::{Arg, Graph, Node};
 use oe_dims::Text;
 use oe_memory::OutOfMemory;
@@ -76,7 +76,7 @@ fn arg_json(alloc: Global, arg: &Arg) -> Result<Value, OutOfMemory>
         Arg::Flag(flag) => Ok(Value::Bool(*flag)),
         Arg::Whole(whole) => Ok(Value::from(*whole)),
         Arg::Inexact => Ok(Value::from(9223372036854775808u64)),
-        Arg::Str(text) => text_json(alloc, text),
+        Arg::Str(text) => str_json(alloc, text.as_str()),
         Arg::List(items) => Ok(Value::Array(items_json(alloc, items)?)),
         Arg::Object(members) => Ok(Value::Object(named_json(alloc, members)?)),
         Arg::FromNode(name) => reference_json(alloc, "from_node", name),
@@ -122,12 +122,7 @@ fn node_object(
 {
     let mut object = Map::new(alloc);
     put(&mut object, alloc, "arguments", Value::Object(arguments))?;
-    put(
-        &mut object,
-        alloc,
-        "process_id",
-        text_json(alloc, &node.process_id)?,
-    )?;
+    put_str(&mut object, alloc, "process_id", node.process_id.as_str())?;
     put_namespace(&mut object, alloc, &node.namespace)?;
     put_result(&mut object, alloc, is_result)?;
     Ok(Value::Object(object))
@@ -142,7 +137,7 @@ fn put_namespace(
         ≡ spec.put_namespace namespace.now (members_view object.old.entries)) }
 {
     match namespace {
-        Some(namespace) => put(object, alloc, "namespace", text_json(alloc, namespace)?)?,
+        Some(namespace) => put_str(object, alloc, "namespace", namespace.as_str())?,
         None => {}
     }
     Ok(())
@@ -167,6 +162,6 @@ fn reference_json(alloc: Global, key: &str, name: &Text) -> Result<Value, OutOfM
     ensures { IfOk result (λ v. view v ≡ spec.single key.now (string name.now)) }
 {
     let mut object = Map::new(alloc);
-    put(&mut object, alloc, key, text_json(alloc, name)?)?;
+    put_str(&mut object, alloc, key, name.as_str())?;
     Ok(Value::Object(object))
 }

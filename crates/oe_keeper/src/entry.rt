@@ -1,8 +1,8 @@
 // The entry that is kept of a job, as JSON text.
 ghost use Rattle.std.specs.Prelude.{◌≡◌, ◌<◌, ◌^◌, IfOk, OnOk, decimal, map};
 ghost use Rattle.std.specs.Option.{option_map};
-ghost use Rattle.serde_json.specs.Data.{string};
-ghost use Rattle.serde_json.specs.View.{items_of, items_view, view};
+ghost use Rattle.serde_json.specs.Data.{string, put as with_member};
+ghost use Rattle.serde_json.specs.View.{items_of, items_view, members_view, view};
 ghost use Rattle.serde_json.specs.Written.{compact_text};
 ghost use Rattle.oe_graph.specs.Plain.{plain_stored};
 ghost use Rattle.oe_jobs.specs.Plain.{plain_job, plain_ran};
@@ -10,7 +10,7 @@ ghost use Rattle.oe_keeper.specs.Entry as spec;
 ghost use Rattle.oe_keeper.specs.Reading.{IsRestorable, ReadsJob, without_assets};
 
 use oe_dims::Text;
-use oe_graph::{StoredProcess, str_json, text_json};
+use oe_graph::{StoredProcess, put_str};
 use oe_jobs::{Job, LogEntry, Ran};
 use oe_memory::OutOfMemory;
 use serde_json::{Map, Value, put};
@@ -39,41 +39,21 @@ fn job_json(alloc: Global, job: &Job) -> Result<Value, OutOfMemory>
 {
     let mut entry = Map::new(alloc);
     put(&mut entry, alloc, "created", Value::from(job.created))?;
-    put(
-        &mut entry,
-        alloc,
-        "description",
-        words_json(alloc, &job.description)?,
-    )?;
-    put(
-        &mut entry,
-        alloc,
-        "level",
-        str_json(alloc, job.level.as_str())?,
-    )?;
+    put_words(&mut entry, alloc, "description", &job.description)?;
+    put_str(&mut entry, alloc, "level", job.level.as_str())?;
     put(
         &mut entry,
         alloc,
         "logs",
         Value::Array(logs_json(alloc, &job.logs)?),
     )?;
-    put(
-        &mut entry,
-        alloc,
-        "process",
-        text_json(alloc, &job.process)?,
-    )?;
+    put_str(&mut entry, alloc, "process", job.process.as_str())?;
     put(&mut entry, alloc, "ran", ran_json(alloc, &job.ran)?)?;
-    put(
-        &mut entry,
-        alloc,
-        "status",
-        str_json(alloc, job.status.as_str())?,
-    )?;
-    put(&mut entry, alloc, "title", words_json(alloc, &job.title)?)?;
+    put_str(&mut entry, alloc, "status", job.status.as_str())?;
+    put_words(&mut entry, alloc, "title", &job.title)?;
     put(&mut entry, alloc, "turn", turn_json(alloc, job.turn)?)?;
     put(&mut entry, alloc, "updated", Value::from(job.updated))?;
-    put(&mut entry, alloc, "user", text_json(alloc, &job.user)?)?;
+    put_str(&mut entry, alloc, "user", job.user.as_str())?;
     Ok(Value::Object(entry))
 }
 
@@ -91,19 +71,9 @@ fn log_json(alloc: Global, log: &LogEntry) -> Result<Value, OutOfMemory>
     ensures { IfOk result (λ v. view v ≡ spec.log_data log.now) }
 {
     let mut entry = Map::new(alloc);
-    put(&mut entry, alloc, "code", words_json(alloc, &log.code)?)?;
-    put(
-        &mut entry,
-        alloc,
-        "level",
-        str_json(alloc, log.level.as_str())?,
-    )?;
-    put(
-        &mut entry,
-        alloc,
-        "message",
-        text_json(alloc, &log.message)?,
-    )?;
+    put_words(&mut entry, alloc, "code", &log.code)?;
+    put_str(&mut entry, alloc, "level", log.level.as_str())?;
+    put_str(&mut entry, alloc, "message", log.message.as_str())?;
     Ok(Value::Object(entry))
 }
 
@@ -114,12 +84,7 @@ fn ran_json(alloc: Global, ran: &Option<Ran>) -> Result<Value, OutOfMemory>
         return Ok(Value::Null);
     };
     let mut entry = Map::new(alloc);
-    put(
-        &mut entry,
-        alloc,
-        "process",
-        text_json(alloc, &ran.process)?,
-    )?;
+    put_str(&mut entry, alloc, "process", ran.process.as_str())?;
     put(
         &mut entry,
         alloc,
@@ -144,8 +109,8 @@ fn process_json(alloc: Global, process: &StoredProcess) -> Result<Value, OutOfMe
     ensures { IfOk result (λ v. view v ≡ spec.stored_data (plain_stored process.now)) }
 {
     let mut entry = Map::new(alloc);
-    put(&mut entry, alloc, "id", text_json(alloc, &process.id)?)?;
-    put(&mut entry, alloc, "text", text_json(alloc, &process.text)?)?;
+    put_str(&mut entry, alloc, "id", process.id.as_str())?;
+    put_str(&mut entry, alloc, "text", process.text.as_str())?;
     Ok(Value::Object(entry))
 }
 
@@ -156,11 +121,18 @@ fn turn_json(alloc: Global, turn: u64) -> Result<Value, OutOfMemory>
     Ok(Value::String(format!(in alloc; "{turn}")?))
 }
 
-fn words_json(alloc: Global, words: &Option<Text>) -> Result<Value, OutOfMemory>
-    ensures { IfOk result (λ v. view v ≡ spec.text_data words.now) }
+/// Puts a text, or null where there is none.
+fn put_words(
+    entry: &mut Map<String, Value>,
+    alloc: Global,
+    name: &str,
+    words: &Option<Text>,
+) -> Result<(), OutOfMemory>
+    ensures { OnOk result (members_view entry.new.entries
+        ≡ with_member name.now (spec.text_data words.now) (members_view entry.old.entries)) }
 {
     match words {
-        Some(text) => text_json(alloc, text),
-        None => Ok(Value::Null),
+        Some(text) => put_str(entry, alloc, name, text.as_str()),
+        None => Ok(put(entry, alloc, name, Value::Null)?),
     }
 }

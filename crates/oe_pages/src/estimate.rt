@@ -7,7 +7,7 @@ ghost use Rattle.oe_pages.specs.Estimates as spec;
 
 use itoa::Buffer;
 use oe_dims::Text;
-use oe_graph::str_json;
+use oe_graph::{put_str, str_json};
 use oe_memory::OutOfMemory;
 use serde_json::{Map, Value, put};
 use std::alloc::Global;
@@ -62,12 +62,7 @@ fn row_json(alloc: Global, row: &EstimateRow) -> Result<Value, OutOfMemory>
     let mut entry = Map::new(alloc);
     put(&mut entry, alloc, "bound", bound_json(alloc, row.bound)?)?;
     put(&mut entry, alloc, "chunks", Value::from(row.chunks))?;
-    put(
-        &mut entry,
-        alloc,
-        "name",
-        str_json(alloc, row.name.as_str())?,
-    )?;
+    put_str(&mut entry, alloc, "name", row.name.as_str())?;
     Ok(Value::Object(entry))
 }
 

@@ -7,7 +7,7 @@ ghost use Rattle.oe_pages.specs.Queries.{Gives};
 
 use crate::query::{PageAsked, QueryFail, page_asked};
 use itoa::Buffer;
-use oe_graph::str_json;
+use oe_graph::put_str;
 use oe_memory::OutOfMemory;
 use serde_json::{Map, Value, put};
 use std::alloc::Global;
@@ -212,7 +212,7 @@ fn link_json(
     let url = page_url(alloc, base, path, limit, offset)?;
     let mut link = Map::new(alloc);
     put(&mut link, alloc, "href", Value::String(url))?;
-    put(&mut link, alloc, "rel", str_json(alloc, "next")?)?;
+    put_str(&mut link, alloc, "rel", "next")?;
     Ok(Value::Object(link))
 }
 

@@ -1,5 +1,5 @@
 // Collections, with and without their dimensions.
-ghost use Rattle.std.specs.Prelude.{◌≡◌, [], ◌∷◌, IfOk, false, map};
+ghost use Rattle.std.specs.Prelude.{◌≡◌, [], ◌∷◌, IfOk, OnOk, false, map};
 ghost use Rattle.std.specs.Option.{option_copied, option_map};
 ghost use Rattle.serde_json.specs.Data.{object};
 ghost use Rattle.serde_json.specs.View.{members_view, view};
@@ -7,13 +7,13 @@ ghost use Rattle.serde_json.specs.Written.{compact_text, has_float};
 ghost use Rattle.oe_dims.specs.Dimensions.{number_labels};
 ghost use Rattle.oe_dims.specs.declared.kind.Kind.TheVariants as Kind;
 ghost use Rattle.oe_replies.specs.Collections as spec;
-ghost use Rattle.oe_replies.specs.Json.{list_data, moment_data, whole_data};
+ghost use Rattle.oe_replies.specs.Json.{list_data, moment_data, put_where, whole_data};
 
 use crate::moment::moment_json;
 use crate::root::text_values;
 use crate::values::{compact_body, empty_list, listing_json, put_where, single};
 use oe_dims::{Dims, DimsRow, Kind, Shape};
-use oe_graph::str_json;
+use oe_graph::put_str;
 use oe_memory::OutOfMemory;
 use serde_json::{Map, Value, put};
 use std::alloc::Global;
@@ -87,18 +87,13 @@ fn collection_map(alloc: Global, row: &DimsRow) -> Result<Map<String, Value>, Ou
 {
     let id = row.id.as_str();
     let mut entry = Map::new(alloc);
-    put(&mut entry, alloc, "description", str_json(alloc, id)?)?;
+    put_str(&mut entry, alloc, "description", id)?;
     put(&mut entry, alloc, "extent", extent_json(alloc, &row.shape)?)?;
-    put(&mut entry, alloc, "id", str_json(alloc, id)?)?;
-    put(
-        &mut entry,
-        alloc,
-        "license",
-        str_json(alloc, "proprietary")?,
-    )?;
+    put_str(&mut entry, alloc, "id", id)?;
+    put_str(&mut entry, alloc, "license", "proprietary")?;
     put(&mut entry, alloc, "links", empty_list(alloc))?;
-    put(&mut entry, alloc, "stac_version", str_json(alloc, "1.0.0")?)?;
-    put(&mut entry, alloc, "type", str_json(alloc, "Collection")?)?;
+    put_str(&mut entry, alloc, "stac_version", "1.0.0")?;
+    put_str(&mut entry, alloc, "type", "Collection")?;
     Ok(entry)
 }
 
@@ -153,16 +148,27 @@ fn pair_json(alloc: Global, first: Value, second: Value) -> Result<Value, OutOfM
 fn dimensions_json(alloc: Global, shape: &Shape) -> Result<Value, OutOfMemory>
     ensures { IfOk result (λ v. view v ≡ spec.dimensions_data shape.now) }
 {
-    let bands = dimension_json(alloc, shape, Kind::Bands)?;
-    let t = dimension_json(alloc, shape, Kind::Time)?;
-    let x = dimension_json(alloc, shape, Kind::X)?;
-    let y = dimension_json(alloc, shape, Kind::Y)?;
     let mut entry = Map::new(alloc);
-    put_where(&mut entry, alloc, "bands", bands)?;
-    put_where(&mut entry, alloc, "t", t)?;
-    put_where(&mut entry, alloc, "x", x)?;
-    put_where(&mut entry, alloc, "y", y)?;
+    put_dimension(&mut entry, alloc, "bands", shape, Kind::Bands)?;
+    put_dimension(&mut entry, alloc, "t", shape, Kind::Time)?;
+    put_dimension(&mut entry, alloc, "x", shape, Kind::X)?;
+    put_dimension(&mut entry, alloc, "y", shape, Kind::Y)?;
     Ok(Value::Object(entry))
+}
+
+/// Puts a dimension where the shape has it.
+fn put_dimension(
+    entry: &mut Map<String, Value>,
+    alloc: Global,
+    name: &str,
+    shape: &Shape,
+    kind: Kind,
+) -> Result<(), OutOfMemory>
+    ensures { OnOk result (members_view entry.new.entries
+        ≡ put_where name.now (spec.dimension_where shape.now kind) (members_view entry.old.entries)) }
+{
+    let value = dimension_json(alloc, shape, kind)?;
+    put_where(entry, alloc, name, value)
 }
 
 /// A dimension, where the shape has it.
@@ -185,7 +191,7 @@ fn time_json(alloc: Global, shape: &Shape) -> Result<Value, OutOfMemory>
 {
     let mut entry = Map::new(alloc);
     put(&mut entry, alloc, "extent", instants_extent(alloc, shape)?)?;
-    put(&mut entry, alloc, "type", str_json(alloc, "temporal")?)?;
+    put_str(&mut entry, alloc, "type", "temporal")?;
     Ok(Value::Object(entry))
 }
 
@@ -194,7 +200,7 @@ fn bands_json(alloc: Global, shape: &Shape) -> Result<Value, OutOfMemory>
 {
     let values = text_values(alloc, shape.bands())?;
     let mut entry = Map::new(alloc);
-    put(&mut entry, alloc, "type", str_json(alloc, "bands")?)?;
+    put_str(&mut entry, alloc, "type", "bands")?;
     put(&mut entry, alloc, "values", Value::Array(values))?;
     Ok(Value::Object(entry))
 }
@@ -225,7 +231,7 @@ fn spatial_json(
     ensures { IfOk result (λ v. view v ≡ spec.spatial_data shape.now axis.now (view extent)) }
 {
     let mut entry = Map::new(alloc);
-    put(&mut entry, alloc, "axis", str_json(alloc, axis)?)?;
+    put_str(&mut entry, alloc, "axis", axis)?;
     put(&mut entry, alloc, "extent", extent)?;
     put(
         &mut entry,
@@ -233,7 +239,7 @@ fn spatial_json(
         "reference_system",
         Value::from(shape.epsg()),
     )?;
-    put(&mut entry, alloc, "type", str_json(alloc, "spatial")?)?;
+    put_str(&mut entry, alloc, "type", "spatial")?;
     Ok(Value::Object(entry))
 }
 

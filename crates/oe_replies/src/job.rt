@@ -1,17 +1,15 @@
 // Batch jobs, by themselves and in a list.
 ghost use Rattle.std.specs.Prelude.{◌≡◌, IfOk, false, filter, map};
-ghost use Rattle.serde_json.specs.Data.{string};
 ghost use Rattle.serde_json.specs.View.{members_view, view};
 ghost use Rattle.serde_json.specs.Written.{compact_text, has_float};
 ghost use Rattle.oe_jobs.specs.Plain.{plain_book, plain_job};
-ghost use Rattle.oe_jobs.specs.Texts.{status_text};
 ghost use Rattle.oe_jobs.specs.Verdicts.{is_job_of};
 ghost use Rattle.oe_replies.specs.Jobs as spec;
 
-use crate::moment::moment_json;
-use crate::values::{compact_body, listing_json, put_where, words_json};
+use crate::moment::put_moment;
+use crate::values::{listing_json, put_words};
 use oe_dims::same_text;
-use oe_graph::str_json;
+use oe_graph::put_str;
 use oe_jobs::{Book, Job};
 use oe_memory::OutOfMemory;
 use serde_json::{Map, Value, put};
@@ -35,13 +33,8 @@ fn job_json(alloc: Global, job: &Job) -> Result<Value, OutOfMemory>
     ensures { IfOk result (λ v. view v ≡ spec.job_data (plain_job job.now)) }
 {
     let mut entry = job_map(alloc, job)?;
-    put_where(&mut entry, alloc, "title", words_json(alloc, &job.title)?)?;
-    put_where(
-        &mut entry,
-        alloc,
-        "description",
-        words_json(alloc, &job.description)?,
-    )?;
+    put_words(&mut entry, alloc, "title", &job.title)?;
+    put_words(&mut entry, alloc, "description", &job.description)?;
     Ok(Value::Object(entry))
 }
 
@@ -49,32 +42,15 @@ fn job_json(alloc: Global, job: &Job) -> Result<Value, OutOfMemory>
 fn job_map(alloc: Global, job: &Job) -> Result<Map<String, Value>, OutOfMemory>
     ensures { IfOk result (λ m. members_view m.entries ≡ spec.job_members (plain_job job.now)) }
 {
-    let level = str_json(alloc, job.level.as_str())?;
     let process = process_json(alloc, job.process.as_str())?;
     let mut entry = Map::new(alloc);
-    put(
-        &mut entry,
-        alloc,
-        "created",
-        moment_json(alloc, job.created)?,
-    )?;
-    put(&mut entry, alloc, "id", str_json(alloc, job.id.as_str())?)?;
-    put(&mut entry, alloc, "log_level", level)?;
+    put_moment(&mut entry, alloc, "created", job.created)?;
+    put_str(&mut entry, alloc, "id", job.id.as_str())?;
+    put_str(&mut entry, alloc, "log_level", job.level.as_str())?;
     put(&mut entry, alloc, "process", process)?;
-    put(&mut entry, alloc, "status", status_json(alloc, job)?)?;
-    put(
-        &mut entry,
-        alloc,
-        "updated",
-        moment_json(alloc, job.updated)?,
-    )?;
+    put_str(&mut entry, alloc, "status", job.status.as_str())?;
+    put_moment(&mut entry, alloc, "updated", job.updated)?;
     Ok(entry)
-}
-
-fn status_json(alloc: Global, job: &Job) -> Result<Value, OutOfMemory>
-    ensures { IfOk result (λ v. view v ≡ string (status_text job.now.status)) }
-{
-    str_json(alloc, job.status.as_str())
 }
 
 /// The JSON value of a process.
@@ -124,20 +100,10 @@ fn job_row_json(alloc: Global, job: &Job) -> Result<Value, OutOfMemory>
     ensures { IfOk result (λ v. view v ≡ spec.job_row_data (plain_job job.now)) }
 {
     let mut entry = Map::new(alloc);
-    put(
-        &mut entry,
-        alloc,
-        "created",
-        moment_json(alloc, job.created)?,
-    )?;
-    put(&mut entry, alloc, "id", str_json(alloc, job.id.as_str())?)?;
-    put(&mut entry, alloc, "status", status_json(alloc, job)?)?;
-    put(
-        &mut entry,
-        alloc,
-        "updated",
-        moment_json(alloc, job.updated)?,
-    )?;
-    put_where(&mut entry, alloc, "title", words_json(alloc, &job.title)?)?;
+    put_moment(&mut entry, alloc, "created", job.created)?;
+    put_str(&mut entry, alloc, "id", job.id.as_str())?;
+    put_str(&mut entry, alloc, "status", job.status.as_str())?;
+    put_moment(&mut entry, alloc, "updated", job.updated)?;
+    put_words(&mut entry, alloc, "title", &job.title)?;
     Ok(Value::Object(entry))
 }

@@ -6,8 +6,8 @@ ghost use Rattle.serde_json.specs.View.{view};
 ghost use Rattle.serde_json.specs.Written.{compact_text};
 ghost use Rattle.oe_replies.specs.Logs as spec;
 
-use crate::values::{compact_body, listing_json, put_where, words_json};
-use oe_graph::str_json;
+use crate::values::{compact_body, listing_json, put_words};
+use oe_graph::put_str;
 use oe_jobs::{Level, LogEntry};
 use oe_memory::OutOfMemory;
 use serde_json::{Map, Value, put};
@@ -74,19 +74,9 @@ fn log_json(alloc: Global, log: &LogEntry, number: u64) -> Result<Value, OutOfMe
 {
     let mut entry = Map::new(alloc);
     put(&mut entry, alloc, "id", number_json(alloc, number)?)?;
-    put(
-        &mut entry,
-        alloc,
-        "level",
-        str_json(alloc, log.level.as_str())?,
-    )?;
-    put(
-        &mut entry,
-        alloc,
-        "message",
-        str_json(alloc, log.message.as_str())?,
-    )?;
-    put_where(&mut entry, alloc, "code", words_json(alloc, &log.code)?)?;
+    put_str(&mut entry, alloc, "level", log.level.as_str())?;
+    put_str(&mut entry, alloc, "message", log.message.as_str())?;
+    put_words(&mut entry, alloc, "code", &log.code)?;
     Ok(Value::Object(entry))
 }
 

@@ -1,7 +1,7 @@
 // Moments, as the openEO API spells them.
-ghost use Rattle.std.specs.Prelude.{◌≡◌, ◌≤ℤ◌, IfOk};
-ghost use Rattle.serde_json.specs.Data.{string};
-ghost use Rattle.serde_json.specs.View.{view};
+ghost use Rattle.std.specs.Prelude.{◌≡◌, ◌≤ℤ◌, IfOk, OnOk};
+ghost use Rattle.serde_json.specs.Data.{string, put as with_member};
+ghost use Rattle.serde_json.specs.View.{members_view, view};
 ghost use Rattle.oe_dims.specs.Dimensions.{first_instant, last_instant};
 ghost use Rattle.oe_dims.specs.Instant.{instant_text};
 ghost use Rattle.oe_replies.specs.Json as spec;
@@ -9,7 +9,7 @@ ghost use Rattle.oe_replies.specs.Json as spec;
 use oe_dims::{is_instant, print_instant};
 use oe_graph::str_json;
 use oe_memory::OutOfMemory;
-use serde_json::Value;
+use serde_json::{Map, Value, put};
 use std::alloc::Global;
 use std::str;
 
@@ -37,4 +37,18 @@ fn instant_json(alloc: Global, seconds: i64) -> Result<Value, OutOfMemory>
         Ok(text) => str_json(alloc, text),
         Err(_) => unreachable!(),
     }
+}
+
+/// Puts a moment.
+pub(crate) fn put_moment(
+    entry: &mut Map<String, Value>,
+    alloc: Global,
+    name: &str,
+    seconds: i64,
+) -> Result<(), OutOfMemory>
+    ensures { OnOk result (members_view entry.new.entries
+        ≡ with_member name.now (spec.moment_data seconds) (members_view entry.old.entries)) }
+{
+    let value = moment_json(alloc, seconds)?;
+    Ok(put(entry, alloc, name, value)?)
 }

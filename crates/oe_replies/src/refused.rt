@@ -8,7 +8,7 @@ ghost use Rattle.oe_judge.specs.Texts as texts;
 ghost use Rattle.oe_replies.specs.Bodies as spec;
 
 use crate::values::{compact_body, single};
-use oe_graph::{Fault, str_json};
+use oe_graph::{Fault, put_str};
 use oe_judge::with_detail;
 use oe_memory::OutOfMemory;
 use serde_json::{Map, Value, put};
@@ -30,7 +30,7 @@ fn error_json(alloc: Global, code: &str, detail: &str) -> Result<Value, OutOfMem
     ensures { IfOk result (λ v. view v ≡ spec.error_data code.now detail.now) }
 {
     let mut error = Map::new(alloc);
-    put(&mut error, alloc, "code", str_json(alloc, code)?)?;
+    put_str(&mut error, alloc, "code", code)?;
     put(
         &mut error,
         alloc,

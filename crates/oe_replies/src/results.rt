@@ -6,7 +6,7 @@ ghost use Rattle.serde_json.specs.Written.{compact_text};
 ghost use Rattle.oe_replies.specs.Jobs as spec;
 
 use crate::values::{compact_body, empty_list, single};
-use oe_graph::str_json;
+use oe_graph::put_str;
 use oe_jobs::Asset;
 use oe_memory::OutOfMemory;
 use serde_json::{Map, Value, put};
@@ -41,7 +41,7 @@ fn results_json(alloc: Global, base: &str, id: &str, assets: &[Asset]) -> Result
         Value::Object(asset_map(alloc, base, id, assets)?),
     )?;
     put(&mut entry, alloc, "geometry", Value::Null)?;
-    put(&mut entry, alloc, "id", str_json(alloc, id)?)?;
+    put_str(&mut entry, alloc, "id", id)?;
     put(&mut entry, alloc, "links", empty_list(alloc))?;
     put(
         &mut entry,
@@ -49,8 +49,8 @@ fn results_json(alloc: Global, base: &str, id: &str, assets: &[Asset]) -> Result
         "properties",
         single(alloc, "datetime", Value::Null)?,
     )?;
-    put(&mut entry, alloc, "stac_version", str_json(alloc, "1.0.0")?)?;
-    put(&mut entry, alloc, "type", str_json(alloc, "Feature")?)?;
+    put_str(&mut entry, alloc, "stac_version", "1.0.0")?;
+    put_str(&mut entry, alloc, "type", "Feature")?;
     Ok(Value::Object(entry))
 }
 
@@ -87,12 +87,7 @@ fn asset_json(alloc: Global, base: &str, id: &str, name: &str) -> Result<Value, 
         "href",
         Value::String(asset_url(alloc, base, id, name)?),
     )?;
-    put(
-        &mut entry,
-        alloc,
-        "type",
-        str_json(alloc, "application/json")?,
-    )?;
+    put_str(&mut entry, alloc, "type", "application/json")?;
     Ok(Value::Object(entry))
 }
 

@@ -7,7 +7,7 @@ ghost use Rattle.oe_replies.specs.Bodies as spec;
 
 use crate::values::{compact_body, empty_list, single};
 use oe_dims::Text;
-use oe_graph::str_json;
+use oe_graph::{put_str, str_json};
 use oe_memory::OutOfMemory;
 use serde_json::{Map, Value, put};
 use std::alloc::Global;
@@ -47,30 +47,15 @@ fn capabilities_json(alloc: Global, endpoints: &[Endpoint]) -> Result<Value, Out
 {
     let endpoints = endpoint_values(alloc, endpoints)?;
     let mut entry = Map::new(alloc);
-    put(&mut entry, alloc, "api_version", str_json(alloc, "1.2.0")?)?;
-    put(
-        &mut entry,
-        alloc,
-        "backend_version",
-        str_json(alloc, "1.0.0")?,
-    )?;
-    put(
-        &mut entry,
-        alloc,
-        "description",
-        str_json(alloc, "Exact fraction cubes")?,
-    )?;
+    put_str(&mut entry, alloc, "api_version", "1.2.0")?;
+    put_str(&mut entry, alloc, "backend_version", "1.0.0")?;
+    put_str(&mut entry, alloc, "description", "Exact fraction cubes")?;
     put(&mut entry, alloc, "endpoints", Value::Array(endpoints))?;
-    put(&mut entry, alloc, "id", str_json(alloc, "openeo-fraction")?)?;
+    put_str(&mut entry, alloc, "id", "openeo-fraction")?;
     put(&mut entry, alloc, "links", empty_list(alloc))?;
-    put(&mut entry, alloc, "stac_version", str_json(alloc, "1.0.0")?)?;
-    put(
-        &mut entry,
-        alloc,
-        "title",
-        str_json(alloc, "openEO fraction back end")?,
-    )?;
-    put(&mut entry, alloc, "type", str_json(alloc, "Catalog")?)?;
+    put_str(&mut entry, alloc, "stac_version", "1.0.0")?;
+    put_str(&mut entry, alloc, "title", "openEO fraction back end")?;
+    put_str(&mut entry, alloc, "type", "Catalog")?;
     Ok(Value::Object(entry))
 }
 
@@ -91,12 +76,7 @@ fn endpoint_json(alloc: Global, endpoint: &Endpoint) -> Result<Value, OutOfMemor
     let methods = text_values(alloc, &endpoint.methods)?;
     let mut entry = Map::new(alloc);
     put(&mut entry, alloc, "methods", Value::Array(methods))?;
-    put(
-        &mut entry,
-        alloc,
-        "path",
-        str_json(alloc, endpoint.path.as_str())?,
-    )?;
+    put_str(&mut entry, alloc, "path", endpoint.path.as_str())?;
     Ok(Value::Object(entry))
 }
 
@@ -133,9 +113,9 @@ fn version_json(alloc: Global, base: &str) -> Result<Value, OutOfMemory>
     ensures { IfOk result (λ v. view v ≡ spec.version_data base.now) }
 {
     let mut entry = Map::new(alloc);
-    put(&mut entry, alloc, "api_version", str_json(alloc, "1.2.0")?)?;
+    put_str(&mut entry, alloc, "api_version", "1.2.0")?;
     put(&mut entry, alloc, "production", Value::Bool(true))?;
-    put(&mut entry, alloc, "url", str_json(alloc, base)?)?;
+    put_str(&mut entry, alloc, "url", base)?;
     Ok(Value::Object(entry))
 }
 

@@ -7,7 +7,7 @@ ghost use Rattle.serde_json.specs.Written.{compact_text, has_float};
 ghost use Rattle.oe_replies.specs.Json as spec;
 
 use oe_dims::Text;
-use oe_graph::str_json;
+use oe_graph::put_str;
 use oe_memory::OutOfMemory;
 use serde_json::{Map, Value, put};
 use std::alloc::Global;
@@ -19,16 +19,6 @@ pub(crate) fn compact_body(alloc: Global, value: &Value) -> Result<Vec<u8>, OutO
 {
     let text = value.to_string(alloc)?;
     Ok(text.into_bytes())
-}
-
-/// A text, where there is one.
-pub(crate) fn words_json(alloc: Global, words: &Option<Text>) -> Result<Option<Value>, OutOfMemory>
-    ensures { IfOk result (λ v. option_map view v ≡ option_map string words.now) }
-{
-    match words {
-        Some(text) => Ok(Some(str_json(alloc, text.as_str())?)),
-        None => Ok(None),
-    }
 }
 
 /// A list without items.
@@ -75,6 +65,22 @@ pub(crate) fn put_where(
 {
     if let Some(value) = value {
         put(entry, alloc, name, value)?;
+    }
+    Ok(())
+}
+
+/// Puts a text where there is one.
+pub(crate) fn put_words(
+    entry: &mut Map<String, Value>,
+    alloc: Global,
+    name: &str,
+    words: &Option<Text>,
+) -> Result<(), OutOfMemory>
+    ensures { OnOk result (members_view entry.new.entries
+        ≡ spec.put_where name.now (option_map string words.now) (members_view entry.old.entries)) }
+{
+    if let Some(text) = words {
+        put_str(entry, alloc, name, text.as_str())?;
     }
     Ok(())
 }
