@@ -5,7 +5,7 @@ use std::alloc::{AllocError, AllocFailed};
 
 /// Why a call on the database is refused: the database refused it, or a row or a book is not valid; or an allocation
 /// was refused.
-#[derive(Clone, Copy, PartialEq, Eq)]
+#[derive(Clone, Copy)]
 pub(crate) enum Refusal {
     Failed,
     OutOfMemory,

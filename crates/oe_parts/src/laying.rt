@@ -38,7 +38,7 @@ pub enum LayFail {
 }
 
 /// The same within one part.
-#[derive(Clone, Copy, PartialEq, Eq)]
+#[derive(Clone, Copy)]
 enum PieceFail {
     Failed,
     Damaged(u64),

@@ -55,7 +55,7 @@ pub enum OpenFail<S: Store + Drop> {
 }
 
 /// The same, without the store.
-#[derive(Clone, Copy, PartialEq, Eq)]
+#[derive(Clone, Copy)]
 enum Refusal {
     Failed,
     Invalid,

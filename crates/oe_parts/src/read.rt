@@ -13,7 +13,7 @@ use oe_outside::Store;
 pub(crate) const BYTES: usize = 17 * 4096;
 
 /// Why records were not read.
-#[derive(Clone, Copy, PartialEq, Eq)]
+#[derive(Clone, Copy)]
 pub(crate) enum ReadFail {
     /// The store's fault counter rose.
     Failed,

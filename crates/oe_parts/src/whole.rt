@@ -27,7 +27,7 @@ pub enum Misfit {
 }
 
 /// How a part differs from those of a run.
-#[derive(Clone, Copy, PartialEq, Eq)]
+#[derive(Clone, Copy)]
 enum Difference {
     Graph,
     Shape,

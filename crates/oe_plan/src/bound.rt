@@ -30,7 +30,7 @@ pub struct PlanFigures {
 }
 
 /// How many cells the buffers of a run have.
-#[derive(Clone, Copy, PartialEq, Eq)]
+#[derive(Clone, Copy)]
 pub(crate) struct Sizes {
     /// The most cells of a window of a node.
     pub largest: u128,
@@ -39,7 +39,7 @@ pub(crate) struct Sizes {
 }
 
 /// How far a run reaches beyond the labels of a chunk along a dimension.
-#[derive(Clone, Copy, PartialEq, Eq)]
+#[derive(Clone, Copy)]
 struct Reach {
     /// A node needs the whole side.
     whole: bool,

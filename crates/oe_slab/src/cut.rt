@@ -20,7 +20,7 @@ use oe_plan::{argument_of, order_to};
 use std::alloc::Global;
 
 /// A time cut, and how many windows are kept at once before it and behind it.
-#[derive(Clone, Copy, PartialEq, Eq)]
+#[derive(Clone, Copy)]
 pub(crate) struct TimeCut {
     pub fold: u32,
     pub width_before: u32,

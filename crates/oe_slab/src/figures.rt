@@ -42,7 +42,7 @@ impl From<OutOfMemory> for SlabNumbersFail {
 }
 
 /// How many cells the windows of a run have that is folded slab by slab.
-#[derive(Clone, Copy, PartialEq, Eq)]
+#[derive(Clone, Copy)]
 pub(crate) struct SlabSizes {
     /// The most cells of a window without t.
     pub plane: u128,

@@ -41,7 +41,7 @@ pub enum OpenFail<S: Store + Drop> {
 }
 
 /// The same, without the store.
-#[derive(Clone, Copy, PartialEq, Eq)]
+#[derive(Clone, Copy)]
 enum Refusal {
     Failed,
     Invalid,

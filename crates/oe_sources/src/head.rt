@@ -36,7 +36,7 @@ pub(crate) const MOST_HEADER: usize = 8388608;
 pub(crate) const START: usize = 12;
 
 /// The versions of a cube file.
-#[derive(Clone, Copy, PartialEq, Eq)]
+#[derive(Clone, Copy)]
 pub(crate) enum Version {
     /// Records of 17 bytes.
     First,

@@ -21,7 +21,7 @@ use oe_window::{Window, size};
 
 /// The steps of one evaluation: the step whose cells are evaluated, and those whose cubes it takes. One that takes one
 /// cube has that one twice.
-#[derive(Clone, Copy, PartialEq, Eq)]
+#[derive(Clone, Copy)]
 struct Operands {
     step: u32,
     first: u32,
