@@ -20,11 +20,20 @@ use std::alloc::Global;
 
 /// The stored processes of a graph where they stand in the main graph and where they stand in a callback: the index of
 /// each is twice that of the process, and one more in a callback.
-#[derive(Drop)]
 pub struct CallGraph {
     pub links: Vec<Links>,
     /// Whether all nodes that stand in the process itself may stand there.
     pub supported: Vec<bool>,
+}
+
+/// Written out, so that such a value that ends is one call wherever it does.
+impl Drop for CallGraph {
+    fn drop(self) {
+        let CallGraph {
+            links: _,
+            supported: _,
+        } = self;
+    }
 }
 
 /// Which stored processes each stored process calls, where it stands in the main graph and where in a callback.

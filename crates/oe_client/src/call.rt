@@ -104,7 +104,7 @@ fn deliver<O: Sink>(response: Response, out: &mut O) -> Result<(), ClientFail>
     if !is_success(response.status) {
         return Err(ClientFail::Refused {
             status: response.status,
-            body: response.body,
+            body: response.into_body(),
         });
     }
     match out.write(&response.body) {

@@ -19,10 +19,19 @@ use std::alloc::Global;
 pub(crate) const PAGE_LIMIT: u64 = 100;
 
 /// A request, and the host that it is written to: its name and its port, with a colon between them.
-#[derive(Drop)]
 pub struct ClientCommand {
     pub request: Request,
     pub host: Text,
+}
+
+/// Written out, so that a call that ends is one call wherever it does.
+impl Drop for ClientCommand {
+    fn drop(self) {
+        let ClientCommand {
+            request: _,
+            host: _,
+        } = self;
+    }
 }
 
 /// The request of a verb with its argument, for a token where there is one. The input becomes the body where the verb

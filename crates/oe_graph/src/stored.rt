@@ -16,12 +16,23 @@ use std::alloc::Global;
 use std::collections::BTreeSet;
 
 /// A process that a user has stored (openEO API, user-defined processes), with the text that it was read from.
-#[derive(Drop)]
 pub struct StoredProcess {
     pub id: Text,
     pub parameters: Vec<ParameterRow>,
     pub graph: Graph,
     pub text: Text,
+}
+
+/// Written out, so that a stored process that ends is one call wherever it does.
+impl Drop for StoredProcess {
+    fn drop(self) {
+        let StoredProcess {
+            id: _,
+            parameters: _,
+            graph: _,
+            text: _,
+        } = self;
+    }
 }
 
 /// Whether the member `parameters` of a process is absent, null or a list of parameters with distinct names.

@@ -120,11 +120,21 @@ pub fn read_response<L: Link>(alloc: Global, link: &mut L) -> Result<Response, R
 }
 
 /// A head that was read: the bytes that were read for it, where it ends in them, and its parts.
-#[derive(Drop)]
 struct ReplyHead {
     bytes: Vec<u8>,
     end: usize,
     parts: ReplyParts,
+}
+
+/// Written out, so that such a value that ends is one call wherever it does.
+impl Drop for ReplyHead {
+    fn drop(self) {
+        let ReplyHead {
+            bytes: _,
+            end: _,
+            parts: _,
+        } = self;
+    }
 }
 
 /// Reads a head.

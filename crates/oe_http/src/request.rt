@@ -24,13 +24,25 @@ use std::error::Error;
 use std::{fmt, str};
 
 /// A request. The query is what follows the first `?` of the target, and empty where there is none.
-#[derive(Drop)]
 pub struct Request {
     pub method: Method,
     pub path: Text,
     pub query: Text,
     pub authorization: Option<Text>,
     pub body: Vec<u8>,
+}
+
+/// Written out, so that a request that ends is one call wherever it does.
+impl Drop for Request {
+    fn drop(self) {
+        let Request {
+            method: _,
+            path: _,
+            query: _,
+            authorization: _,
+            body: _,
+        } = self;
+    }
 }
 
 /// Why no request was read.
@@ -127,11 +139,21 @@ pub fn read_request<L: Link>(alloc: Global, link: &mut L) -> Result<Request, Req
 }
 
 /// A head that was read: the bytes that were read for it, where it ends in them, and its parts.
-#[derive(Drop)]
 struct HeadRead {
     bytes: Vec<u8>,
     end: usize,
     parts: HeadParts,
+}
+
+/// Written out, so that such a value that ends is one call wherever it does.
+impl Drop for HeadRead {
+    fn drop(self) {
+        let HeadRead {
+            bytes: _,
+            end: _,
+            parts: _,
+        } = self;
+    }
 }
 
 /// Reads a head.

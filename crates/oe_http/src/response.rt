@@ -15,13 +15,41 @@ use oe_dims::Text;
 use oe_outside::{Failed, Link};
 
 /// A reply. Where `json` holds its body is a JSON text. Statuses 201, 202 and 204 send no body.
-#[derive(Drop)]
 pub struct Response {
     pub status: u16,
     pub location: Option<Text>,
     pub identifier: Option<Text>,
     pub json: bool,
     pub body: Vec<u8>,
+}
+
+/// Written out, so that a reply that ends is one call wherever it does.
+impl Drop for Response {
+    fn drop(self) {
+        let Response {
+            status: _,
+            location: _,
+            identifier: _,
+            json: _,
+            body: _,
+        } = self;
+    }
+}
+
+impl Response {
+    /// The body of a reply, which is given up for it.
+    pub fn into_body(self) -> Vec<u8>
+        ensures { result ≡ self.body }
+    {
+        let Response {
+            status: _,
+            location: _,
+            identifier: _,
+            json: _,
+            body,
+        } = self;
+        body
+    }
 }
 
 /// Writes a reply: its head and its body (RFC 9112). It takes no memory.

@@ -14,7 +14,6 @@ use oe_jobs::{Book, Change, Keeper, KeeperFail};
 use std::marker::Model;
 
 /// A keeper in memory: the book is visible. Its calls fail by a script, and it can stop in any call.
-#[derive(Drop)]
 pub struct MemoryKeeper {
     book: Book,
     made: Option<Book>,
@@ -41,6 +40,19 @@ impl Model for MemoryKeeper {
     ghost invariant = { λ k. IsMemory k.book k.stopped k.script };
 }
 
+/// Written out, so that a keeper that ends is one call wherever it does.
+impl Drop for MemoryKeeper {
+    fn drop(self) {
+        let MemoryKeeper {
+            book: _,
+            made: _,
+            stopped: _,
+            begun: _,
+            script: _,
+        } = self;
+    }
+}
+
 impl MemoryKeeper {
     /// A keeper of this book. `failing` has the numbers of the calls that fail, counted from 0 over `load` and `commit`
     /// together, in any order. From the call on whose number `stop` has, every call fails; its flag says whether what
@@ -64,7 +76,13 @@ impl MemoryKeeper {
         ensures left { plain_book result ≡ left_in self }
         ensures valid { IsBook (plain_book result) }
     {
-        let MemoryKeeper { book, stopped, .. } = self;
+        let MemoryKeeper {
+            book,
+            made: _,
+            stopped,
+            begun: _,
+            script: _,
+        } = self;
         match stopped {
             Some(left) => left,
             None => book,

@@ -14,7 +14,6 @@ use std::marker::Model;
 
 /// A connection in memory: what is left to be read and what was written are visible. Its calls fail by a script, and
 /// where a write would pass the capacity.
-#[derive(Drop)]
 pub struct MemoryLink {
     incoming: Vec<u8>,
     at: usize,
@@ -44,6 +43,21 @@ impl Model for MemoryLink {
 
     ghost invariant = { λ s. (s.at ≤ length s.incoming.items) × (1 ≤ s.piece)
         × (length s.outgoing.items ≤ s.capacity) × (s.capacity ≤ vec_capacity s.outgoing) };
+}
+
+/// Written out, so that a connection that ends is one call wherever it does.
+impl Drop for MemoryLink {
+    fn drop(self) {
+        let MemoryLink {
+            incoming: _,
+            at: _,
+            piece: _,
+            outgoing: _,
+            capacity: _,
+            script: _,
+            faults: _,
+        } = self;
+    }
 }
 
 impl MemoryLink {

@@ -13,7 +13,6 @@ use std::alloc::Global;
 use std::marker::Model;
 
 /// A sink into memory: all that was written is visible. Its calls fail by a script, and where the capacity is passed.
-#[derive(Drop)]
 pub struct MemorySink {
     bytes: Vec<u8>,
     capacity: usize,
@@ -38,6 +37,18 @@ impl Model for MemorySink {
 
     ghost invariant = { λ s. (length s.bytes.items ≤ s.capacity)
         × (s.capacity ≤ vec_capacity s.bytes) };
+}
+
+/// Written out, so that a sink that ends is one call wherever it does.
+impl Drop for MemorySink {
+    fn drop(self) {
+        let MemorySink {
+            bytes: _,
+            capacity: _,
+            script: _,
+            faults: _,
+        } = self;
+    }
 }
 
 impl MemorySink {

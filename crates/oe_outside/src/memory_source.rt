@@ -11,7 +11,6 @@ use oe_memory::OutOfMemory;
 use std::marker::Model;
 
 /// A source over bytes in memory: all that is left is visible. Its calls fail by a script.
-#[derive(Drop)]
 pub struct MemorySource {
     bytes: Vec<u8>,
     at: usize,
@@ -34,6 +33,18 @@ impl Model for MemorySource {
     } };
 
     ghost invariant = { λ s. s.at ≤ length s.bytes.items };
+}
+
+/// Written out, so that a source that ends is one call wherever it does.
+impl Drop for MemorySource {
+    fn drop(self) {
+        let MemorySource {
+            bytes: _,
+            at: _,
+            script: _,
+            faults: _,
+        } = self;
+    }
 }
 
 impl MemorySource {

@@ -12,7 +12,6 @@ use oe_memory::OutOfMemory;
 use std::marker::Model;
 
 /// A store in memory: all its bytes are visible. Its calls fail by a script, and where a write would pass the capacity.
-#[derive(Drop)]
 pub struct MemoryStore {
     bytes: Vec<u8>,
     capacity: usize,
@@ -36,6 +35,18 @@ impl Model for MemoryStore {
     } };
 
     ghost invariant = { λ s. s.capacity ≤ vec_capacity s.bytes };
+}
+
+/// Written out, so that a store that ends is one call wherever it does.
+impl Drop for MemoryStore {
+    fn drop(self) {
+        let MemoryStore {
+            bytes: _,
+            capacity: _,
+            script: _,
+            faults: _,
+        } = self;
+    }
 }
 
 impl MemoryStore {

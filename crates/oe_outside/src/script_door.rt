@@ -12,7 +12,6 @@ use std::alloc::Global;
 use std::marker::Model;
 
 /// A door over connections in memory, all of which are visible. Its calls fail by a script.
-#[derive(Drop)]
 pub struct ScriptDoor {
     // The first of these two stands last.
     coming: Vec<MemoryLink>,
@@ -58,6 +57,26 @@ impl Model for ScriptDoor {
         × (length d.coming.items + length d.to_dial.items + d.out + length d.given_back.items
         ≡ d.room)
         × (d.room ≤ vec_capacity d.given_back) };
+}
+
+/// Written out, so that a door that ends is one call wherever it does.
+impl Drop for ScriptDoor {
+    fn drop(self) {
+        let ScriptDoor {
+            coming: _,
+            to_dial: _,
+            out: _,
+            given_back: _,
+            room: _,
+            nexts: _,
+            dials: _,
+            last_dial: _,
+            script: _,
+            faults: _,
+            dial_faults: _,
+            link_faults: _,
+        } = self;
+    }
 }
 
 impl ScriptDoor {

@@ -39,7 +39,6 @@ const LIKELY: usize = 65536;
 
 /// The text of a process graph as it was read, the sides of the chunks of its run, the chunks from `first` on and
 /// before `end`, and the kind and the shape of the whole result.
-#[derive(Drop)]
 pub struct PartHead {
     pub graph: Text,
     pub sides: ChunkSize,
@@ -62,6 +61,20 @@ impl Model for PartHead {
       kind = h.kind;
       shape = h.shape;
     } };
+}
+
+/// Written out, so that a header that ends is one call wherever it does.
+impl Drop for PartHead {
+    fn drop(self) {
+        let PartHead {
+            graph: _,
+            sides: _,
+            first: _,
+            end: _,
+            kind: _,
+            shape: _,
+        } = self;
+    }
 }
 
 impl PartHead {

@@ -30,11 +30,21 @@ pub struct Called<'a> {
 }
 
 /// The values of a kernel row by row, all rows of one length, at least one in each. Their numbers are not limited here.
-#[derive(Drop)]
 pub struct KernelRows {
     pub width: usize,
     pub height: usize,
     pub values: Vec<Frac>,
+}
+
+/// Written out, so that such a value that ends is one call wherever it does.
+impl Drop for KernelRows {
+    fn drop(self) {
+        let KernelRows {
+            width: _,
+            height: _,
+            values: _,
+        } = self;
+    }
 }
 
 /// What a node asks for (openEO Processes). Cubes are named by the nodes that they are results of.

@@ -61,15 +61,11 @@ fn process_of(
 {
     id_leaves_faults();
     let sent = object_in(json.as_ref())?;
-    let process = read_stored(alloc, id, body)?;
+    let mut process = read_stored(alloc, id, body)?;
     whole(alloc, sent)?;
     let text = text_under(alloc, id, json)?;
-    Ok(StoredProcess {
-        id: process.id,
-        parameters: process.parameters,
-        graph: process.graph,
-        text,
-    })
+    process.text = text;
+    Ok(process)
 }
 
 /// Refuses: `NumberUnsupported` where a number of a value is not whole; out of memory.

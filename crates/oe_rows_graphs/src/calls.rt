@@ -24,7 +24,6 @@ const ERR_ROOM: usize = 4096;
 const SPOOL_ROOM: usize = 2097152;
 
 /// What a call reads and writes.
-#[derive(Drop)]
 struct Objects {
     words: Vec<Text>,
     input: MemorySource,
@@ -34,10 +33,31 @@ struct Objects {
     gate: CountGate,
 }
 
+/// Written out, so that such a value that ends is one call wherever it does.
+impl Drop for Objects {
+    fn drop(self) {
+        let Objects {
+            words: _,
+            input: _,
+            out: _,
+            err: _,
+            spool: _,
+            gate: _,
+        } = self;
+    }
+}
+
 impl Objects {
     /// The answer to a call that ended with a status.
     fn into_answer(self, status: u8) -> Answer {
-        let Objects { out, err, gate, .. } = self;
+        let Objects {
+            words: _,
+            input: _,
+            out,
+            err,
+            spool: _,
+            gate,
+        } = self;
         Answer::Call(Called {
             status,
             out,

@@ -25,10 +25,16 @@ pub(crate) fn answer_door(
 }
 
 /// A door, and the connection in hand.
-#[derive(Drop)]
 struct Entry {
     door: ScriptDoor,
     held: Option<MemoryLink>,
+}
+
+/// Written out, so that such a value that ends is one call wherever it does.
+impl Drop for Entry {
+    fn drop(self) {
+        let Entry { door: _, held: _ } = self;
+    }
 }
 
 impl Object for Entry {

@@ -2,11 +2,12 @@
 use crate::jobs::asset_of;
 use oe_book::is_book;
 use oe_dims::Text;
-use oe_graph::{Graph, ParameterRow, Refusal, StoredProcess, read_stored};
+use oe_graph::{Refusal, StoredProcess, read_stored};
 use oe_jobs::{Asset, Book, Job, Owned};
 use oe_keeper::read_job;
 use oe_lines::{Answers, Fault, Line, push};
 use std::alloc::Global;
+use std::mem;
 
 /// What a text argument that makes a process long stands between.
 const BEFORE_LONG: &str = r#"{"process_graph":{"a":{"arguments":{"x":""#;
@@ -85,22 +86,24 @@ fn set_process(line: &mut Line, process: &mut StoredProcess) -> Result<(), Fault
     match line.word() {
         "id" => process.id = Text::of(alloc, line.rest())?,
         "text" => process.text = Text::of(alloc, line.rest())?,
-        "graph" => process.graph = graph_in(alloc, line.rest())?,
-        "parameters" => process.parameters = parameters_in(alloc, line.rest())?,
+        "graph" => set_graph(alloc, line.rest(), process)?,
+        "parameters" => set_parameters(alloc, line.rest(), process)?,
         "long" => *process = long_stored(alloc, line.number())?,
         _ => return Err(Fault::Line),
     }
     Ok(())
 }
 
-fn graph_in(alloc: Global, text: &str) -> Result<Graph, Fault> {
-    let StoredProcess { graph, .. } = stored_in(alloc, "x", text)?;
-    Ok(graph)
+fn set_graph(alloc: Global, text: &str, process: &mut StoredProcess) -> Result<(), Fault> {
+    let mut read = stored_in(alloc, "x", text)?;
+    mem::swap(&mut process.graph, &mut read.graph);
+    Ok(())
 }
 
-fn parameters_in(alloc: Global, text: &str) -> Result<Vec<ParameterRow>, Fault> {
-    let StoredProcess { parameters, .. } = stored_in(alloc, "x", text)?;
-    Ok(parameters)
+fn set_parameters(alloc: Global, text: &str, process: &mut StoredProcess) -> Result<(), Fault> {
+    let mut read = stored_in(alloc, "x", text)?;
+    mem::swap(&mut process.parameters, &mut read.parameters);
+    Ok(())
 }
 
 fn long_stored(alloc: Global, length: usize) -> Result<StoredProcess, Fault> {

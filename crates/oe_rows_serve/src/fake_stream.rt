@@ -5,11 +5,21 @@ use std::cell::RefCell;
 use std::io::{Error, ErrorKind, Read, Result as IoResult, Write};
 
 /// A stream that gives the letter `a`, and takes as many bytes as it has room for.
-#[derive(Drop)]
 pub(crate) struct FakeStream {
     script: Script,
     room: usize,
     taken: RefCell<Vec<u8>>,
+}
+
+/// Written out, so that such a stream that ends is one call wherever it does.
+impl Drop for FakeStream {
+    fn drop(self) {
+        let FakeStream {
+            script: _,
+            room: _,
+            taken: _,
+        } = self;
+    }
 }
 
 impl FakeStream {

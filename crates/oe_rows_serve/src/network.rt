@@ -10,12 +10,23 @@ use std::io::{Error, ErrorKind, Result as IoResult};
 use std::time::Duration;
 
 /// A network whose calls are answered by the words of a script.
-#[derive(Drop)]
 pub(crate) struct Network {
     script: String,
     calls: Cell<usize>,
     milliseconds: Cell<u64>,
     asked: RefCell<Vec<u8>>,
+}
+
+/// Written out, so that a network that ends is one call wherever it does.
+impl Drop for Network {
+    fn drop(self) {
+        let Network {
+            script: _,
+            calls: _,
+            milliseconds: _,
+            asked: _,
+        } = self;
+    }
 }
 
 impl Network {

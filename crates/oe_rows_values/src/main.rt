@@ -83,10 +83,16 @@ use std::process::ExitCode;
 use std::thread::Threads;
 
 /// What lines refer to: the shapes so far and what renderings are lent.
-#[derive(Drop)]
 struct Kept {
     shapes: Vec<Shape>,
     lent: Lent,
+}
+
+/// Written out, so that such a value that ends is one call wherever it does.
+impl Drop for Kept {
+    fn drop(self) {
+        let Kept { shapes: _, lent: _ } = self;
+    }
 }
 
 impl Kept {

@@ -12,12 +12,23 @@ use std::alloc::Global;
 const LONGEST_SIDE: u32 = 65536;
 
 /// What a plane is weighed with. A null counts as `replace`.
-#[derive(Drop)]
 struct Weights {
     kernel: Kernel,
     border: Border,
     factor: Frac,
     replace: Frac,
+}
+
+/// Written out, so that such a value that ends is one call wherever it does.
+impl Drop for Weights {
+    fn drop(self) {
+        let Weights {
+            kernel: _,
+            border: _,
+            factor: _,
+            replace: _,
+        } = self;
+    }
 }
 
 /// The part that a word as `2..6,1..4` names, or the whole plane for `-`: its columns, from a first one to before an

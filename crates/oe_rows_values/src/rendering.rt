@@ -17,10 +17,19 @@ const CELL_ROOM: usize = 30000;
 const READ_ROOM: usize = 16;
 
 /// What is lent to each rendering.
-#[derive(Drop)]
 pub(crate) struct Lent {
     cells: Vec<Cell>,
     pending: Pending,
+}
+
+/// Written out, so that such a value that ends is one call wherever it does.
+impl Drop for Lent {
+    fn drop(self) {
+        let Lent {
+            cells: _,
+            pending: _,
+        } = self;
+    }
 }
 
 impl Lent {

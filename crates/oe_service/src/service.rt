@@ -14,7 +14,6 @@ use oe_jobs::{Book, Change, Keeper, KeeperFail};
 use oe_window::ChunkSize;
 
 /// A job book, and the run of the job that runs.
-#[derive(Drop)]
 pub struct Service {
     pub(crate) book: Book,
     /// The sides of the chunks in which assets are made.
@@ -25,6 +24,19 @@ pub struct Service {
     pub(crate) ids: Vec<Text>,
     /// The run of its next asset, from its plan on until its text is stored.
     pub(crate) run: Option<Run>,
+}
+
+/// Written out, so that a service that ends is one call wherever it does.
+impl Drop for Service {
+    fn drop(self) {
+        let Service {
+            book: _,
+            size: _,
+            workers: _,
+            ids: _,
+            run: _,
+        } = self;
+    }
 }
 
 impl Service {

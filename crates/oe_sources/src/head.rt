@@ -45,7 +45,6 @@ pub(crate) enum Version {
 }
 
 /// The id, the kind of the cells, the widths of the sections in version 2, and the shape.
-#[derive(Drop)]
 pub(crate) struct Head {
     pub(crate) id: Text,
     pub(crate) kind: CellKind,
@@ -67,6 +66,18 @@ impl Model for Head {
       widths = option_map items_of h.widths;
       shape = h.shape;
     } };
+}
+
+/// Written out, so that a header that ends is one call wherever it does.
+impl Drop for Head {
+    fn drop(self) {
+        let Head {
+            id: _,
+            kind: _,
+            widths: _,
+            shape: _,
+        } = self;
+    }
 }
 
 impl Head {
