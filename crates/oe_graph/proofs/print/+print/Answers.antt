@@ -1,6 +1,6 @@
 use Rattle.std.proofs.Common.{◌≡◌, ◌+◌, ◌==◌, ℕ, List, [], ◌∷◌, ◌++◌, map, take, length, sym, ap, ◌∙◌, refl, arith}
 use Rattle.std.proofs.lemmas.List.{take_all, length-take}
-use Rattle.std.proofs.lemmas.Grind.{take_at_read}
+use Rattle.std.proofs.lemmas.Grind.{take_at_read, common_steps}
 use Rattle.serde_json.specs.Data.{no_members, put}
 use Rattle.serde_json.specs.View.{view, items_of}
 use Rattle.oe_graph.specs.Plain.{plain_arg, plain_named, plain_node, plain_nodes}
@@ -42,3 +42,12 @@ nodes_json-loop-index-preserved t c =
     ∙ (ap (λ k. put k (one_node (i == r) (plain_node x)) (nodes_data 0 r (plain_nodes (take i xs)) no_members)) same_id
     ∙ (ap (λ j. put (plain_node x).id (one_node (j == r) (plain_node x)) (nodes_data 0 r (plain_nodes (take i xs)) no_members)) (sym at)
     ∙ (sym (nodes_last (take i xs) x 0 r no_members) ∙ sym (ap (λ ys. nodes_data 0 r (plain_nodes ys) no_members) more)))))
+
+pub items_json-loop-item-preserved : goal.items_json-loop-item-preserved
+items_json-loop-item-preserved t c = grind (arith, common_steps) steps 2000000
+
+pub named_json-returns : goal.named_json-returns
+named_json-returns t c = grind (arith, common_steps) steps 2000000
+
+pub nodes_json-returns : goal.nodes_json-returns
+nodes_json-returns t c = grind (arith, common_steps) steps 2000000

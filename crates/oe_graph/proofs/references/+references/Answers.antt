@@ -1,4 +1,5 @@
-use Rattle.std.proofs.Common.{◌≡◌, ◌++◌, take, sym, ap, ◌∙◌, subst}
+use Rattle.std.proofs.Common.{◌≡◌, ◌++◌, take, sym, ap, ◌∙◌, subst, arith}
+use Rattle.std.proofs.lemmas.Grind.{common_steps}
 use Rattle.oe_graph.specs.Indices.{are_known, indices_named}
 use Rattle.oe_graph.specs.Plain.{plain_arg, plain_args, plain_named, plain_nodes}
 use Rattle.oe_graph.specs.References.{references_in, references_each, references_named}
@@ -44,3 +45,15 @@ add_named-loop-member-preserved t c =
             ∙ unknown_more nodes r s (sym c.in_ok-known.ensures.known ∙ w.if-branch.false) ∙ ap (are_known nodes) (sym next)
       ],
     )
+
+pub add_args-returns-clause-found : goal.add_args-returns-clause-found
+add_args-returns-clause-found t c = grind (arith, common_steps) steps 2000000
+
+pub add_args-returns-clause-known : goal.add_args-returns-clause-known
+add_args-returns-clause-known t c = grind (arith, common_steps) steps 2000000
+
+pub add_named-returns-clause-found : goal.add_named-returns-clause-found
+add_named-returns-clause-found t c = grind (arith, common_steps) steps 2000000
+
+pub add_named-returns-clause-known : goal.add_named-returns-clause-known
+add_named-returns-clause-known t c = grind (arith, common_steps) steps 2000000

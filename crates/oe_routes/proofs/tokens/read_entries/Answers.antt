@@ -1,4 +1,5 @@
 use Rattle.std.proofs.Common.{ℕ, ◌+◌, ◌<◌, length, take, drop, ap, ◌∙◌, subst, arith}
+use Rattle.std.proofs.lemmas.Grind.{common_steps}
 use Rattle.oe_routes.specs.Tokens.{entries_in}
 use Rattle.oe_routes.proofs.TokenLemmas.{goes_on}
 use Rattle.oe_routes.proofs.tokens.read_entries.Goals as goal
@@ -19,3 +20,9 @@ loop-rest-preserved c =
       counted = omega (arith, c.loop-rest.invariant.counted, on.1);
       few = on.2;
     }
+
+pub loop-rest-smaller : goal.loop-rest-smaller
+loop-rest-smaller c = grind (arith, common_steps) steps 2000000
+
+pub returns : goal.returns
+returns c = grind (arith, common_steps) steps 2000000

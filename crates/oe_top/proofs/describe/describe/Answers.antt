@@ -1,4 +1,5 @@
-use Rattle.std.proofs.Common.{refl, rules, subst, ◌∙◌}
+use Rattle.std.proofs.Common.{refl, rules, subst, ◌∙◌, arith}
+use Rattle.std.proofs.lemmas.Grind.{elements}
 use Rattle.oe_outside.specs.Visible.{AppendsPrefix}
 use Rattle.oe_sources.specs.CatalogueRows.{rows_of}
 use Rattle.oe_top.specs.Objects.{objects}
@@ -30,3 +31,9 @@ returns g c = λ input input_faults spool spool_faults.
     (has_place rows c.args.id.now c.place.result (rw c.as_str.ensures at c.place.ensures.none) (rw c.as_str.ensures at c.place.ensures.found) c.place.ensures.within c.if-is_none.ensures)
     (λ row is. record { out = refl; faults = refl })
     (record { input = (refl, refl); spool = (refl, refl); collections = refl }) (search rules)
+
+pub returns-in-Ok-write : goal.returns-in-Ok-write
+returns-in-Ok-write g c = grind (arith, elements) steps 2000000
+
+pub text_of_mounted-requires : goal.text_of_mounted-requires
+text_of_mounted-requires g c = grind (arith, elements) steps 2000000

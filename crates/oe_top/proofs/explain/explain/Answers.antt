@@ -1,4 +1,5 @@
-use Rattle.std.proofs.Common.{refl}
+use Rattle.std.proofs.Common.{refl, arith}
+use Rattle.std.proofs.lemmas.Grind.{common_steps}
 use Rattle.oe_sources.specs.CatalogueRows.{rows_of}
 use Rattle.oe_top.proofs.Explanations.{fault_stopped}
 use Rattle.oe_top.specs.Objects.{objects}
@@ -19,3 +20,15 @@ returns-in-Err-write g c = λ spool spool_faults.
       input_count = c.in-Ok-Some.ensures.count;
       out_count = c.in-Err-write.ensures.cause.count;
     }
+
+pub returns-in-Err : goal.returns-in-Err
+returns-in-Err g c = grind (arith, common_steps) steps 2000000
+
+pub returns-in-Err-write-2 : goal.returns-in-Err-write-2
+returns-in-Err-write-2 g c = grind (arith, common_steps) steps 2000000
+
+pub returns-in-Ok : goal.returns-in-Ok
+returns-in-Ok g c = grind (arith, common_steps) steps 2000000
+
+pub returns-in-Ok-write : goal.returns-in-Ok-write
+returns-in-Ok-write g c = grind (arith, common_steps) steps 2000000

@@ -1,3 +1,5 @@
+use Rattle.std.proofs.Common.{arith}
+use Rattle.std.proofs.lemmas.Grind.{common_steps}
 use Rattle.oe_graph.specs.Plain.{plain_graph}
 use Rattle.oe_sources.specs.CatalogueDims.{dims_of}
 use Rattle.oe_sources.specs.CatalogueRows.{rows_of}
@@ -21,3 +23,30 @@ returns-clause-refused g c =
     let rows = rows_of (λ z. (goal.SharedSource-dyn g z).CubeSource.seen z.1) c.args.catalogue.now in
     checked_refused (dims_of rows) c.args.bytes.now (plain_graph c.in-Ok.graph) c.in-Ok.ensures.graph
     c.judge.result (rw (c.in-Ok-dims.ensures.rows) at c.judge.ensures.refused)
+
+pub returns-clause-collections : goal.returns-clause-collections
+returns-clause-collections g c = grind (arith, common_steps) steps 2000000
+
+pub returns-clause-found : goal.returns-clause-found
+returns-clause-found g c = grind (arith, common_steps) steps 2000000
+
+pub returns-in-Err-clause-checked : goal.returns-in-Err-clause-checked
+returns-in-Err-clause-checked g c = grind (arith, common_steps) steps 2000000
+
+pub returns-in-Err-clause-collections : goal.returns-in-Err-clause-collections
+returns-in-Err-clause-collections g c = grind (arith, common_steps) steps 2000000
+
+pub returns-in-Err-clause-found : goal.returns-in-Err-clause-found
+returns-in-Err-clause-found g c = grind (arith, common_steps) steps 2000000
+
+pub returns-in-Err-dims-clause-checked : goal.returns-in-Err-dims-clause-checked
+returns-in-Err-dims-clause-checked g c = grind (arith, common_steps) steps 2000000
+
+pub returns-in-Err-dims-clause-collections : goal.returns-in-Err-dims-clause-collections
+returns-in-Err-dims-clause-collections g c = grind (arith, common_steps) steps 2000000
+
+pub returns-in-Err-dims-clause-found : goal.returns-in-Err-dims-clause-found
+returns-in-Err-dims-clause-found g c = grind (arith, common_steps) steps 2000000
+
+pub returns-in-Err-dims-clause-refused : goal.returns-in-Err-dims-clause-refused
+returns-in-Err-dims-clause-refused g c = grind (arith, common_steps) steps 2000000

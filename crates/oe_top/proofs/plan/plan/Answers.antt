@@ -1,4 +1,5 @@
-use Rattle.std.proofs.Common.{◌∙◌, refl}
+use Rattle.std.proofs.Common.{◌∙◌, refl, arith}
+use Rattle.std.proofs.lemmas.Grind.{common_steps}
 use Rattle.oe_sources.specs.CatalogueRows.{rows_of}
 use Rattle.oe_top.proofs.Plans.{plan_stopped, plan_written}
 use Rattle.oe_top.specs.Objects.{objects}
@@ -33,3 +34,9 @@ returns-in-Ok-line_of g c = λ spool spool_faults.
       input_count = c.in-Ok.ensures.judged.count;
       out_count = c.in-Err-write.ensures.cause.count;
     }
+
+pub returns : goal.returns
+returns g c = grind (arith, common_steps) steps 2000000
+
+pub returns-in-Err : goal.returns-in-Err
+returns-in-Err g c = grind (arith, common_steps) steps 2000000
