@@ -1,11 +1,12 @@
 // Nodes that are written by other processes.
-ghost use Rattle.std.specs.Prelude.{◌≡◌, true, Some, IfOk, OnOk, All, codes, option_map, slice_get};
+ghost use Rattle.std.specs.Prelude.{◌≡◌, ◌++◌, ◌∷◌, [], true, Some, IfOk, OnOk, All, codes, map, option_map, slice_get};
 ghost use Rattle.oe_dims.specs.Dimensions.{number_labels};
 ghost use Rattle.oe_dims.specs.Instant.{IsInstant};
 ghost use Rattle.oe_dims.specs.Names.{same_name};
 ghost use Rattle.oe_dims.specs.declared.kind.Kind.TheVariants.{Time};
-ghost use Rattle.oe_graph.specs.Plain.{plain_arg, plain_named, plain_node, plain_nodes};
+ghost use Rattle.oe_graph.specs.Plain.{plain_named, plain_node, plain_nodes, plain_pair};
 ghost use Rattle.oe_graph.specs.References.{each_node};
+ghost use Rattle.oe_graph.specs.Tree as tree;
 ghost use Rattle.oe_expr.specs.Requests.{read};
 ghost use Rattle.oe_check.specs.Checked.{AreFaultless};
 ghost use Rattle.oe_requests.specs.Parameters.{cube_in};
@@ -15,7 +16,7 @@ ghost use Rattle.oe_translate.specs.Written.{IsWritable};
 
 use crate::order::put_node;
 use crate::written::{
-    extents_arg, given, growing_intervals, labels_arg, push_argument, sum_callback,
+    extents_arg, growing_intervals, labels_arg, push_argument, push_given, sum_callback,
     sum_where_number,
 };
 use oe_check::Checked;
@@ -120,39 +121,26 @@ fn ignores_at(checked: &Checked, index: u32, node: &Node) -> bool
 
 // ---- the nodes
 
-/// The arguments of `aggregate_temporal`: `context`, `data`, `dimension`, the intervals with their labels, and the
-/// reducer.
-fn aggregate_arguments(
+/// Puts the intervals of `aggregate_temporal` and their labels behind its other arguments.
+fn push_intervals(
+    arguments: &mut Vec<(Text, Arg)>,
     alloc: Global,
-    context: Arg,
-    cube: Arg,
-    dimension: Arg,
     intervals: &[Interval],
-    reducer: Arg,
-) -> Result<Vec<(Text, Arg)>, OutOfMemory>
+) -> Result<(), OutOfMemory>
     requires { All IsWritable intervals.now }
-    ensures { IfOk result (λ v. plain_named v.items ≡ written.aggregate_arguments
-        (plain_arg context) (plain_arg cube) (plain_arg dimension) intervals.now
-        (plain_arg reducer)) }
+    ensures { OnOk result (map plain_pair arguments.new.items
+        ≡ (map plain_pair arguments.old.items
+        ++ (codes "intervals", written.list_of written.extent_argument intervals.now) ∷ [])
+        ++ (codes "labels", written.list_of written.label_argument intervals.now) ∷ []) }
 {
-    let mut arguments = Vec::with_capacity(alloc, 6)?;
-    push_argument(&mut arguments, alloc, "context", context)?;
-    push_argument(&mut arguments, alloc, "data", cube)?;
-    push_argument(&mut arguments, alloc, "dimension", dimension)?;
     push_argument(
-        &mut arguments,
+        arguments,
         alloc,
         "intervals",
         extents_arg(alloc, intervals)?,
     )?;
-    push_argument(
-        &mut arguments,
-        alloc,
-        "labels",
-        labels_arg(alloc, intervals)?,
-    )?;
-    push_argument(&mut arguments, alloc, "reducer", reducer)?;
-    Ok(arguments)
+    push_argument(arguments, alloc, "labels", labels_arg(alloc, intervals)?)?;
+    Ok(())
 }
 
 /// A node in the namespace of another.
@@ -188,11 +176,13 @@ fn period_arguments(
     ensures { IfOk result (λ v. plain_named v.items
         ≡ written.period_arguments intervals.now (plain_named arguments.now.items)) }
 {
-    let context = given(alloc, arguments, "context")?;
-    let cube = given(alloc, arguments, "data")?;
-    let dimension = given(alloc, arguments, "dimension")?;
-    let reducer = given(alloc, arguments, "reducer")?;
-    aggregate_arguments(alloc, context, cube, dimension, intervals, reducer)
+    let mut found = Vec::with_capacity(alloc, 6)?;
+    push_given(&mut found, alloc, "context", arguments, "context")?;
+    push_given(&mut found, alloc, "data", arguments, "data")?;
+    push_given(&mut found, alloc, "dimension", arguments, "dimension")?;
+    push_intervals(&mut found, alloc, intervals)?;
+    push_given(&mut found, alloc, "reducer", arguments, "reducer")?;
+    Ok(found)
 }
 
 /// A node of calendar periods as the aggregation over these intervals.
@@ -242,15 +232,7 @@ fn sums_node(alloc: Global, ignore: bool, labels: &[i64], node: &Node) -> Result
     ensures { IfOk result
         (λ n. plain_node n ≡ written.sums_node ignore labels.now (plain_node node.now)) }
 {
-    let intervals = growing_intervals(alloc, labels)?;
-    let arguments = aggregate_arguments(
-        alloc,
-        Arg::Null,
-        given(alloc, &node.arguments, "data")?,
-        Arg::Null,
-        &intervals,
-        sum_callback(alloc, ignore)?,
-    )?;
+    let arguments = sums_arguments(alloc, ignore, labels, &node.arguments)?;
     node_beside(
         alloc,
         sum_name(alloc, &node.id)?,
@@ -260,20 +242,41 @@ fn sums_node(alloc: Global, ignore: bool, labels: &[i64], node: &Node) -> Result
     )
 }
 
+/// The arguments of the aggregation that running sums are, of the arguments of their node.
+fn sums_arguments(
+    alloc: Global,
+    ignore: bool,
+    labels: &[i64],
+    arguments: &Vec<(Text, Arg)>,
+) -> Result<Vec<(Text, Arg)>, OutOfMemory>
+    requires { All IsInstant labels.now }
+    ensures { IfOk result (λ v. plain_named v.items ≡ written.aggregate_arguments tree.null
+        (written.given (codes "data") (plain_named arguments.now.items)) tree.null
+        (written.growing_intervals labels.now) (written.sum_callback ignore)) }
+{
+    let intervals = growing_intervals(alloc, labels)?;
+    let mut found = Vec::with_capacity(alloc, 6)?;
+    push_argument(&mut found, alloc, "context", Arg::Null)?;
+    push_given(&mut found, alloc, "data", arguments, "data")?;
+    push_argument(&mut found, alloc, "dimension", Arg::Null)?;
+    push_intervals(&mut found, alloc, &intervals)?;
+    push_argument(&mut found, alloc, "reducer", sum_callback(alloc, ignore)?)?;
+    Ok(found)
+}
+
 /// A node of running sums as the merge of its aggregation with its data.
 fn merged_node(alloc: Global, node: &Node) -> Result<Node, OutOfMemory>
     ensures { IfOk result (λ n. plain_node n ≡ written.merged_node (plain_node node.now)) }
 {
-    let sums = sum_name(alloc, &node.id)?;
     let mut arguments = Vec::with_capacity(alloc, 4)?;
     push_argument(&mut arguments, alloc, "context", Arg::Null)?;
-    push_argument(&mut arguments, alloc, "cube1", Arg::FromNode(sums))?;
     push_argument(
         &mut arguments,
         alloc,
-        "cube2",
-        given(alloc, &node.arguments, "data")?,
+        "cube1",
+        Arg::FromNode(sum_name(alloc, &node.id)?),
     )?;
+    push_given(&mut arguments, alloc, "cube2", &node.arguments, "data")?;
     push_argument(
         &mut arguments,
         alloc,

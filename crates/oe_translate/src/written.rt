@@ -43,6 +43,21 @@ pub(crate) fn push_argument(
     Ok(())
 }
 
+/// Puts a copy of the argument of a name among these behind the others, null where there is none.
+pub(crate) fn push_given(
+    found: &mut Vec<(Text, Arg)>,
+    alloc: Global,
+    name: &str,
+    arguments: &Vec<(Text, Arg)>,
+    given_as: &str,
+) -> Result<(), OutOfMemory>
+    ensures { OnOk result (map plain_pair found.new.items ≡ map plain_pair found.old.items
+        ++ (name.now, spec.given given_as.now (plain_named arguments.now.items)) ∷ []) }
+{
+    let arg = given(alloc, arguments, given_as)?;
+    push_argument(found, alloc, name, arg)
+}
+
 // ---- values of several parts
 
 fn list_arg(items: Vec<Arg>) -> Arg
@@ -85,11 +100,9 @@ fn extent_arg(alloc: Global, interval: Interval) -> Result<Arg, OutOfMemory>
     requires { IsWritable interval }
     ensures { IfOk result (λ a. plain_arg a ≡ spec.extent_argument interval) }
 {
-    let start = end_arg(alloc, interval.extent.start)?;
-    let end = end_arg(alloc, interval.extent.end)?;
     let mut pair = Vec::with_capacity(alloc, 2)?;
-    pair.push(start)?;
-    pair.push(end)?;
+    pair.push(end_arg(alloc, interval.extent.start)?)?;
+    pair.push(end_arg(alloc, interval.extent.end)?)?;
     Ok(list_arg(pair))
 }
 
@@ -239,10 +252,8 @@ fn multiply_node(alloc: Global) -> Result<Node, OutOfMemory>
 pub(crate) fn sum_where_number(alloc: Global) -> Result<Arg, OutOfMemory>
     ensures { IfOk result (λ a. plain_arg a ≡ spec.sum_where_number) }
 {
-    let add = add_node(alloc)?;
-    let multiply = multiply_node(alloc)?;
     let mut nodes = Vec::with_capacity(alloc, 2)?;
-    nodes.push(add)?;
-    nodes.push(multiply)?;
+    nodes.push(add_node(alloc)?)?;
+    nodes.push(multiply_node(alloc)?)?;
     Ok(callback_arg(nodes))
 }
