@@ -100,17 +100,28 @@ fn collection_map(alloc: Global, row: &DimsRow) -> Result<Map<String, Value>, Ou
 fn extent_json(alloc: Global, shape: &Shape) -> Result<Value, OutOfMemory>
     ensures { IfOk result (λ v. view v ≡ spec.extent_data shape.now) }
 {
-    let bbox = whole_earth(alloc)?;
-    let interval = list_of(alloc, instants_extent(alloc, shape)?)?;
     let mut entry = Map::new(alloc);
-    put(&mut entry, alloc, "spatial", single(alloc, "bbox", bbox)?)?;
+    put(
+        &mut entry,
+        alloc,
+        "spatial",
+        single(alloc, "bbox", whole_earth(alloc)?)?,
+    )?;
     put(
         &mut entry,
         alloc,
         "temporal",
-        single(alloc, "interval", interval)?,
+        single(alloc, "interval", intervals_of(alloc, shape)?)?,
     )?;
     Ok(Value::Object(entry))
+}
+
+/// The one interval of a shape, from its first to its last instant.
+fn intervals_of(alloc: Global, shape: &Shape) -> Result<Value, OutOfMemory>
+    ensures { IfOk result (λ v. view v
+        ≡ list_data (spec.instants_extent (number_labels shape.now Kind.Time) ∷ [])) }
+{
+    list_of(alloc, instants_extent(alloc, shape)?)
 }
 
 /// The whole earth, in degrees.
@@ -198,10 +209,14 @@ fn time_json(alloc: Global, shape: &Shape) -> Result<Value, OutOfMemory>
 fn bands_json(alloc: Global, shape: &Shape) -> Result<Value, OutOfMemory>
     ensures { IfOk result (λ v. view v ≡ spec.dimension_data shape.now Kind.Bands) }
 {
-    let values = text_values(alloc, shape.bands())?;
     let mut entry = Map::new(alloc);
     put_str(&mut entry, alloc, "type", "bands")?;
-    put(&mut entry, alloc, "values", Value::Array(values))?;
+    put(
+        &mut entry,
+        alloc,
+        "values",
+        Value::Array(text_values(alloc, shape.bands())?),
+    )?;
     Ok(Value::Object(entry))
 }
 

@@ -45,12 +45,16 @@ fn capabilities_json(alloc: Global, endpoints: &[Endpoint]) -> Result<Value, Out
     ensures { IfOk result (λ v. view v
         ≡ spec.capabilities_data (map spec.plain_endpoint endpoints.now)) }
 {
-    let endpoints = endpoint_values(alloc, endpoints)?;
     let mut entry = Map::new(alloc);
     put_str(&mut entry, alloc, "api_version", "1.2.0")?;
     put_str(&mut entry, alloc, "backend_version", "1.0.0")?;
     put_str(&mut entry, alloc, "description", "Exact fraction cubes")?;
-    put(&mut entry, alloc, "endpoints", Value::Array(endpoints))?;
+    put(
+        &mut entry,
+        alloc,
+        "endpoints",
+        Value::Array(endpoint_values(alloc, endpoints)?),
+    )?;
     put_str(&mut entry, alloc, "id", "openeo-fraction")?;
     put(&mut entry, alloc, "links", empty_list(alloc))?;
     put_str(&mut entry, alloc, "stac_version", "1.0.0")?;
@@ -73,9 +77,13 @@ fn endpoint_values(alloc: Global, endpoints: &[Endpoint]) -> Result<Vec<Value>, 
 fn endpoint_json(alloc: Global, endpoint: &Endpoint) -> Result<Value, OutOfMemory>
     ensures { IfOk result (λ v. view v ≡ spec.endpoint_data (spec.plain_endpoint endpoint.now)) }
 {
-    let methods = text_values(alloc, &endpoint.methods)?;
     let mut entry = Map::new(alloc);
-    put(&mut entry, alloc, "methods", Value::Array(methods))?;
+    put(
+        &mut entry,
+        alloc,
+        "methods",
+        Value::Array(text_values(alloc, &endpoint.methods)?),
+    )?;
     put_str(&mut entry, alloc, "path", endpoint.path.as_str())?;
     Ok(Value::Object(entry))
 }
