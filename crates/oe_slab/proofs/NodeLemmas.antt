@@ -43,6 +43,23 @@ use Rattle.oe_slab.proofs.ApartLemmas.{ComesFrom, onwards_from}
 not_reduced : (intervals : List Interval) (c callback : Callback) → Some (aggregate intervals c) ≡ Some (reduce Time callback) → ⊥
 not_reduced intervals c callback e = absurd cc
 
+-- what reduces t was asked to reduce a dimension
+reducing : (r : CubeRequest) (cubes : List Outline) (callback : Callback) → operation_of r cubes ≡ Some (reduce Time callback)
+    → (data_id : List ℕ) × (name : List ℕ) × (call : Called) × (r ≡ reduce_dimension data_id name call)
+reducing (load_collection id box time bands) cubes callback is = absurd cc
+reducing (filter_bbox data_id box) cubes callback is = absurd cc
+reducing (filter_temporal data_id time name) cubes callback is = absurd cc
+reducing (filter_bands data_id bands) cubes callback is = absurd cc
+reducing (apply data_id call) cubes callback is = absurd cc
+reducing (apply_kernel data_id kernel factor border replace) cubes callback is = absurd cc
+reducing (reduce_dimension data_id name call) cubes callback is = (data_id, name, call, refl)
+reducing (aggregate_temporal data_id intervals name call) cubes callback is = absurd cc
+reducing (aggregate_temporal_period data_id period name call) cubes callback is = absurd (not_reduced _ _ callback is)
+reducing (apply_dimension data_id sums) cubes callback is = absurd cc
+reducing (merge_cubes one two resolver) cubes callback is = absurd cc
+reducing (mask data_id mask_id replacement) cubes callback is = absurd cc
+reducing (save_result data_id format) cubes callback is = absurd cc
+
 -- what loads nothing takes a cube
 cube_taken : (r : CubeRequest) → loaded_by r ≡ None → (id : List ℕ) × Contains (cube_ids r) id
 cube_taken (load_collection id box time bands) e = absurd cc
@@ -143,27 +160,26 @@ module _ (c : CheckedGraph) (f : AreFaultless c) where
   no_fault_at name n (sound {n = m} is below none) named =
       subst (HasNoFault c.rows (outline_at c.rows c.nodes)) (same_Some m n (sym is ∙ named)) none
 
-  resolved_by : (n : PlainNode) (index : ℕ) → slice_get (each_node c.nodes) index ≡ Some n → (callback : Callback) (r : CubeRequest)
-      → cube_request_at n ≡ Some r → operation_of r (input_outlines c.rows c.nodes r) ≡ Some (reduce Time callback)
+  resolved_at : (n : PlainNode) (index : ℕ) → slice_get (each_node c.nodes) index ≡ Some n → (callback : Callback)
+      → (data_id name : List ℕ) (call : Called) → let r = reduce_dimension data_id name call in
+      cube_request_at n ≡ Some r → operation_of r (input_outlines c.rows c.nodes r) ≡ Some (reduce Time callback)
       → first_row (early_rows c.rows r (input_outlines c.rows c.nodes r)) ≡ None
       → IsResolvedUnder true (scope_parameters callback.scope) callback.graph
-  resolved_by n index at callback (load_collection id box time bands) asks is clean = absurd cc
-  resolved_by n index at callback (filter_bbox data_id box) asks is clean = absurd cc
-  resolved_by n index at callback (filter_temporal data_id time name) asks is clean = absurd cc
-  resolved_by n index at callback (filter_bands data_id bands) asks is clean = absurd cc
-  resolved_by n index at callback (apply data_id call) asks is clean = absurd cc
-  resolved_by n index at callback (apply_kernel data_id kernel factor border replace) asks is clean = absurd cc
-  resolved_by n index at callback (reduce_dimension data_id name call) asks is clean =
+  resolved_at n index at callback data_id name call asks is clean =
       let r : CubeRequest = reduce_dimension data_id name call in
       let built : IsResolvedCallback (codes "data" ∷ codes "context" ∷ []) call = buildable c.nodes f.resolved n (contains_node c.nodes index n at) r (input_outlines c.rows c.nodes r) asks
       (none_holds c.rows r (input_outlines c.rows c.nodes r) clean) tt in
       by_kind (first_or no_outline (input_outlines c.rows c.nodes r)) callback call (dimension_named name) is built.resolved
-  resolved_by n index at callback (aggregate_temporal data_id intervals name call) asks is clean = absurd cc
-  resolved_by n index at callback (aggregate_temporal_period data_id period name call) asks is clean = absurd (not_reduced _ _ callback is)
-  resolved_by n index at callback (apply_dimension data_id sums) asks is clean = absurd cc
-  resolved_by n index at callback (merge_cubes one two resolver) asks is clean = absurd cc
-  resolved_by n index at callback (mask data_id mask_id replacement) asks is clean = absurd cc
-  resolved_by n index at callback (save_result data_id format) asks is clean = absurd cc
+
+  resolved_by : (n : PlainNode) (index : ℕ) → slice_get (each_node c.nodes) index ≡ Some n → (callback : Callback) (r : CubeRequest)
+      → cube_request_at n ≡ Some r → operation_of r (input_outlines c.rows c.nodes r) ≡ Some (reduce Time callback)
+      → first_row (early_rows c.rows r (input_outlines c.rows c.nodes r)) ≡ None
+      → IsResolvedUnder true (scope_parameters callback.scope) callback.graph
+  resolved_by n index at callback r asks is clean =
+      let d = reducing r (input_outlines c.rows c.nodes r) callback is in
+      resolved_at n index at callback d.0 d.1 d.2 (asks ∙ ap Some d.3)
+      (subst (λ q. operation_of q (input_outlines c.rows c.nodes q) ≡ Some (reduce Time callback)) d.3 is)
+      (subst (λ q. first_row (early_rows c.rows q (input_outlines c.rows c.nodes q)) ≡ None) d.3 clean)
 
   pub resolved_there : (index : ℕ) → index < node_count c.nodes → (callback : Callback)
       → operation_of_node c index ≡ Some (reduce Time callback) → IsResolvedUnder true (scope_parameters callback.scope) callback.graph

@@ -28,6 +28,23 @@ use Rattle.oe_requests.specs.Requests.{CubeRequest, cube_ids, cube_request_at}
 use Rattle.oe_steps.proofs.ScheduleLemmas.{node_within}
 use Rattle.oe_steps.specs.Steps.{loads_at, EachLive, EachLoad}
 
+-- a request that loads a collection asks for its labels
+pub loading : (r : CubeRequest) (id : List ℕ) → loaded_by r ≡ Some id
+    → (n : Restriction) × (r ≡ request.load_collection id n.box n.time n.bands)
+loading (request.load_collection name box time bands) id e = (record { box = box; time = time; bands = bands }, cc)
+loading (request.filter_bbox data_id box) id e = absurd cc
+loading (request.filter_temporal data_id time name) id e = absurd cc
+loading (request.filter_bands data_id bands) id e = absurd cc
+loading (request.apply data_id callback) id e = absurd cc
+loading (request.apply_kernel data_id kernel factor border replace) id e = absurd cc
+loading (request.reduce_dimension data_id name callback) id e = absurd cc
+loading (request.aggregate_temporal data_id intervals name callback) id e = absurd cc
+loading (request.aggregate_temporal_period data_id period name callback) id e = absurd cc
+loading (request.apply_dimension data_id callback) id e = absurd cc
+loading (request.merge_cubes one two resolver) id e = absurd cc
+loading (request.mask data_id mask_id replacement) id e = absurd cc
+loading (request.save_result data_id format) id e = absurd cc
+
 -- the node keeps labels of the collection of an id
 pub record LoadsBy (c : CheckedGraph) (node : ℕ) (id : List ℕ) : Type 0 where
   pub r : Restriction
@@ -61,27 +78,17 @@ module _ (c : CheckedGraph) (f : AreFaultless c) (index : ℕ) (below : index < 
       ∙ ap (map (index_referred c.nodes)) (refer c.nodes f.resolved there.node (contains_node c.nodes index there.node there.is_there) r asks)
 
   by : (r : CubeRequest) → cube_request_at there.node ≡ Some r → loaded_by r ≡ Some id → LoadsBy c index id
-  by (request.load_collection name box time bands) asks loads =
-      let same : name ≡ id = cc in
+  by r asks loads =
+      let n = loading r id loads in
+      let kept : Restriction = record { box = n.0.box; time = n.0.time; bands = n.0.bands } in
+      let q : CubeRequest = request.load_collection id n.0.box n.0.time n.0.bands in
+      let here : cube_request_at there.node ≡ Some q = asks ∙ ap Some n.1 in
       record {
-        r = record { box = box; time = time; bands = bands };
-        operates = operation_by (request.load_collection name box time bands) asks;
-        outline_is = outline_by (request.load_collection name box time bands) asks
-            ∙ ap (λ n. outline_of (keep (record { box = box; time = time; bands = bands })) (outline_named c.rows n ∷ [])) same;
-        takes_none = arguments_by (request.load_collection name box time bands) asks;
+        r = kept;
+        operates = operation_by q here;
+        outline_is = outline_by q here;
+        takes_none = arguments_by q here;
       }
-  by (request.filter_bbox data_id box) asks loads = absurd cc
-  by (request.filter_temporal data_id time name) asks loads = absurd cc
-  by (request.filter_bands data_id bands) asks loads = absurd cc
-  by (request.apply data_id callback) asks loads = absurd cc
-  by (request.apply_kernel data_id kernel factor border replace) asks loads = absurd cc
-  by (request.reduce_dimension data_id name callback) asks loads = absurd cc
-  by (request.aggregate_temporal data_id intervals name callback) asks loads = absurd cc
-  by (request.aggregate_temporal_period data_id period name callback) asks loads = absurd cc
-  by (request.apply_dimension data_id callback) asks loads = absurd cc
-  by (request.merge_cubes one two resolver) asks loads = absurd cc
-  by (request.mask data_id mask_id replacement) asks loads = absurd cc
-  by (request.save_result data_id format) asks loads = absurd cc
 
   pub loads_by : LoadsBy c index id
   loads_by =

@@ -26,6 +26,7 @@ use Rattle.oe_meanings.proofs.RequestLemmas.{found}
 use Rattle.oe_sources.specs.Catalogue.{Row, row_index, row_of, source_at}
 use Rattle.oe_sources.specs.CatalogueDims.{AreDimsOf, dims_row}
 use Rattle.oe_plan.specs.Figures.{steps_of}
+use Rattle.oe_steps.proofs.LoadLemmas.{loading}
 use Rattle.oe_steps.specs.Collections.{HasCollections, IsMountedAt}
 use Rattle.oe_steps.specs.Laws.{AreMounted}
 
@@ -90,28 +91,15 @@ module _ (c : CheckedGraph) (f : AreFaultless c) (index : ℕ) (below : index < 
 
   missing : (r : CubeRequest) → cube_request_at there.node ≡ Some r → loaded_by r ≡ Some id
       → find (λ (row : DimsRow). same_name row.id id) c.rows ≡ None → IsSound c.rows c.nodes there.node.id → ⊥
-  missing (request.load_collection name box time bands) asks loads none (sound {n = m} named refs clean) =
+  missing r asks loads none (sound {n = m} named refs clean) =
+      let n = loading r id loads in
+      let q : CubeRequest = request.load_collection id n.0.box n.0.time n.0.bands in
       let at = outline_at c.rows c.nodes in
-      let r = request.load_collection name box time bands in
       let same : there.node ≡ m = one_node c.nodes f.resolved there.node index m there.is_there named in
-      let is_id : name ≡ id = cc in
-      let lacks : is_none (find (λ (row : DimsRow). same_name row.id name) c.rows) ≡ true =
-      ap (λ n. is_none (find (λ (row : DimsRow). same_name row.id n) c.rows)) is_id ∙ ap is_none none in
-      let first : first_row (early_rows c.rows r (cubes_of c.rows at r)) ≡ Some CollectionNotFound =
-      ap (λ b. if b then Some CollectionNotFound else first_row (drop 1 (early_rows c.rows r (cubes_of c.rows at r)))) lacks in
-      clean CollectionNotFound m.id (early (ap cube_request_at (sym same) ∙ asks) first)
-  missing (request.filter_bbox data_id box) asks loads none s = absurd cc
-  missing (request.filter_temporal data_id time name) asks loads none s = absurd cc
-  missing (request.filter_bands data_id bands) asks loads none s = absurd cc
-  missing (request.apply data_id callback) asks loads none s = absurd cc
-  missing (request.apply_kernel data_id kernel factor border replace) asks loads none s = absurd cc
-  missing (request.reduce_dimension data_id name callback) asks loads none s = absurd cc
-  missing (request.aggregate_temporal data_id intervals name callback) asks loads none s = absurd cc
-  missing (request.aggregate_temporal_period data_id period name callback) asks loads none s = absurd cc
-  missing (request.apply_dimension data_id callback) asks loads none s = absurd cc
-  missing (request.merge_cubes one two resolver) asks loads none s = absurd cc
-  missing (request.mask data_id mask_id replacement) asks loads none s = absurd cc
-  missing (request.save_result data_id format) asks loads none s = absurd cc
+      let lacks : is_none (find (λ (row : DimsRow). same_name row.id id) c.rows) ≡ true = ap is_none none in
+      let first : first_row (early_rows c.rows q (cubes_of c.rows at q)) ≡ Some CollectionNotFound =
+      ap (λ b. if b then Some CollectionNotFound else first_row (drop 1 (early_rows c.rows q (cubes_of c.rows at q)))) lacks in
+      clean CollectionNotFound m.id (early (ap cube_request_at (sym same) ∙ (asks ∙ ap Some n.1)) first)
 
   pub seen_row : (seen : DimsRow) × (find (λ (row : DimsRow). same_name row.id id) c.rows ≡ Some seen)
   seen_row = by (find (λ (row : DimsRow). same_name row.id id) c.rows) refl
