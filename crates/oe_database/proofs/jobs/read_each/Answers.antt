@@ -1,5 +1,6 @@
 use Rattle.std.proofs.Common.{◌≡◌, ◌∙◌, ◌+◌, List, ◌∷◌, [], ◌++◌, ap, sym, subst, arith, map, take}
 use Rattle.std.proofs.lemmas.List.{map-append, take_more}
+use Rattle.std.proofs.lemmas.Grind.{common_steps}
 use Rattle.sqlite_value.specs.Order.{Row}
 use Rattle.oe_jobs.specs.Plain.{PlainJob, plain_job}
 use Rattle.oe_database.specs.Loads.{HasEachJob, HasJob}
@@ -34,3 +35,6 @@ loop-row-preserved g c =
             both.1,
           );
     }
+
+pub returns-clause-each : goal.returns-clause-each
+returns-clause-each g c = grind (arith, common_steps) steps 2000000

@@ -1,4 +1,5 @@
-use Rattle.std.proofs.Common.{inl, inr, refl}
+use Rattle.std.proofs.Common.{inl, inr, refl, arith}
+use Rattle.std.proofs.lemmas.Grind.{common_steps}
 use Rattle.oe_client.specs.Commands.{plain_command}
 use Rattle.oe_dial.proofs.Endings.{answered, stays, taken_same}
 use Rattle.oe_dial.specs.Ends.{input_from, lent, views_of}
@@ -42,3 +43,9 @@ returns-in-Err-command_of g c =
       input_count = c.in-Ok.ensures.count;
       counts = record { next = refl; out = stays _; dials = stays _; links = stays _ };
     }
+
+pub dial_and_call-requires-clause-named : goal.dial_and_call-requires-clause-named
+dial_and_call-requires-clause-named g c = grind (arith, common_steps) steps 2000000
+
+pub dial_and_call-requires-clause-short : goal.dial_and_call-requires-clause-short
+dial_and_call-requires-clause-short g c = grind (arith, common_steps) steps 2000000

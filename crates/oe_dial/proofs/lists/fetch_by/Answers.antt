@@ -1,4 +1,5 @@
-use Rattle.std.proofs.Common.{Err, Ok}
+use Rattle.std.proofs.Common.{Err, Ok, arith}
+use Rattle.std.proofs.lemmas.Grind.{common_steps}
 use Rattle.oe_client.specs.Commands.{plain_command}
 use Rattle.oe_dial.proofs.ListLemmas.{asked_by, fetched_none}
 use Rattle.oe_dial.specs.Ends.{lent, views_of}
@@ -47,3 +48,9 @@ returns-in-Err g c =
       dials = counts.dials;
       links = counts.links;
     }
+
+pub dial_and_call-requires-clause-named : goal.dial_and_call-requires-clause-named
+dial_and_call-requires-clause-named g c = grind (arith, common_steps) steps 2000000
+
+pub dial_and_call-requires-clause-short : goal.dial_and_call-requires-clause-short
+dial_and_call-requires-clause-short g c = grind (arith, common_steps) steps 2000000

@@ -1,4 +1,5 @@
 use Rattle.std.proofs.Common.{ℕ, List, IfNone, IfSome, subst, sym, arith}
+use Rattle.std.proofs.lemmas.Grind.{common_steps}
 use Rattle.oe_dial.proofs.Spellings.{five_words, six_words}
 use Rattle.oe_dial.specs.Words.{PlainCall, SpellsCall, plain_call}
 use Rattle.oe_dial.proofs.words.read_call.Goals as goal
@@ -33,3 +34,6 @@ returns-in-len6-clause-none c =
     let P : List (List ℕ) → Type 0 = λ words.
     IfNone c.call_of-in-len6.result ((call : PlainCall) → SpellsCall words call → ⊥) in
     subst P (sym words_are) c.call_of-in-len6.ensures.none
+
+pub returns-in-len5-clause-some : goal.returns-in-len5-clause-some
+returns-in-len5-clause-some c = grind (arith, common_steps) steps 2000000
