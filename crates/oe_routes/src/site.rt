@@ -9,7 +9,7 @@ pub struct Site {
     pub tokens: Tokens,
 }
 
-/// Written out, so that such a value that ends is one call wherever it does.
+/// Written out, so that such a value ends by one call wherever it does.
 impl Drop for Site {
     fn drop(self) {
         let Site { base: _, tokens: _ } = self;

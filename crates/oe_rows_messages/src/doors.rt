@@ -30,7 +30,7 @@ struct Entry {
     held: Option<MemoryLink>,
 }
 
-/// Written out, so that such a value that ends is one call wherever it does.
+/// Written out, so that such a value ends by one call wherever it does.
 impl Drop for Entry {
     fn drop(self) {
         let Entry { door: _, held: _ } = self;

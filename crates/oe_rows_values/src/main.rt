@@ -88,7 +88,7 @@ struct Kept {
     lent: Lent,
 }
 
-/// Written out, so that such a value that ends is one call wherever it does.
+/// Written out, so that such a value ends by one call wherever it does.
 impl Drop for Kept {
     fn drop(self) {
         let Kept { shapes: _, lent: _ } = self;

@@ -19,7 +19,7 @@ struct Weights {
     replace: Frac,
 }
 
-/// Written out, so that such a value that ends is one call wherever it does.
+/// Written out, so that such a value ends by one call wherever it does.
 impl Drop for Weights {
     fn drop(self) {
         let Weights {

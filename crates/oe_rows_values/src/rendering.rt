@@ -22,7 +22,7 @@ pub(crate) struct Lent {
     pending: Pending,
 }
 
-/// Written out, so that such a value that ends is one call wherever it does.
+/// Written out, so that such a value ends by one call wherever it does.
 impl Drop for Lent {
     fn drop(self) {
         let Lent {
