@@ -1,5 +1,6 @@
 use Rattle.std.proofs.Common.{◌≡◌, ◌≢◌, ◌<◌, ◌++◌, ◌∙◌, sym, ap, subst, arith, length, take, get_or}
 use Rattle.std.specs.List.{All}
+use Rattle.std.proofs.lemmas.Grind.{common_steps}
 use Rattle.oe_cube.specs.Kinds.{IsOfKind}
 use Rattle.oe_plan.specs.Windows.{window_at}
 use Rattle.oe_window.specs.Windows.{position_count}
@@ -338,3 +339,15 @@ returns-clause-value c =
     let long : length out ≡ length w.items = omega (arith, ap length c.as_mut_slice-buffer.ensures.value) in
     ap (take (position_count (window_at c.args.windows.now step))) (ap (buffer_at _) (sym c.slot.ensures.value) ∙ own_after buffers before own after slot parts w out long)
     ∙ c.evaluate_into.ensures.value collections has (is_one ∙ given 0 a takes) (is_two ∙ given second.0 b second.1)
+
+pub front_beside-one-requires-clause-slots : goal.front_beside-one-requires-clause-slots
+front_beside-one-requires-clause-slots c = grind (arith, common_steps) steps 2000000
+
+pub front_beside-two-requires-clause-slots : goal.front_beside-two-requires-clause-slots
+front_beside-two-requires-clause-slots c = grind (arith, common_steps) steps 2000000
+
+pub split_at_mut-before-requires : goal.split_at_mut-before-requires
+split_at_mut-before-requires c = grind (arith, common_steps) steps 2000000
+
+pub split_at_mut-own-requires : goal.split_at_mut-own-requires
+split_at_mut-own-requires c = grind (arith, common_steps) steps 2000000
