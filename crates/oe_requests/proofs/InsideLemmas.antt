@@ -1,5 +1,5 @@
 -- A fault inside of a callback comes behind one of the same phase at the node that has the callback: its name is longer.
-use Rattle.std.proofs.Common.{◌≡◌, ℕ, Bool, true, false, List, [], ◌∷◌, ◌++◌, Option, Some, None, Ordering, Less, Equal, Greater, nat_cmp, refl, sym, ap, ◌∙◌, subst, append_assoc, if◌then◌else◌}
+use Rattle.std.proofs.Common.{◌≡◌, ℕ, Bool, true, false, List, [], ◌∷◌, ◌++◌, Option, Some, None, Equal, Greater, nat_cmp, refl, sym, ap, ◌∙◌, subst, append_assoc, if◌then◌else◌}
 use Rattle.std.specs.Cmp.Lexicographic.{slice_cmp}
 use Rattle.std.specs.Option.{option_map_or}
 use Rattle.std.specs.Ordering.{is_lt, ordering_then}
@@ -12,7 +12,6 @@ use Rattle.oe_graph.specs.Form.{callback_name, node_name}
 use Rattle.oe_graph.specs.Tree.{PlainNode}
 use Rattle.oe_graph.specs.declared.code.Code.{Code}
 use Rattle.oe_graph.specs.declared.code.Code.TheVariants.{ProcessParameterInvalid, ArrayElementParameterMissing, ArrayElementParameterConflict, ArrayElementNotAvailable, CellKindInvalid, CubeTooLarge}
-use Rattle.oe_graph.specs.declared.fault.Fault.{Fault}
 use Rattle.oe_expr.specs.Callback.{Callback, StandsInCallbackAt}
 use Rattle.oe_expr.specs.Requests.{CellRequest, cell_request_at}
 use Rattle.oe_expr.specs.Rows.{parameter_missing, parameter_conflict, element_not_available, callback_cell_kind_invalid, request_fault, node_fault}

@@ -1,7 +1,7 @@
 -- What the parameters of the processes on cubes may hold, one reader for each kind of parameter: none where the
 -- argument is something else. Null, a flag or a number that is written as such is a literal; a whole number is one that
 -- a cell may hold.
-use Rattle.std.specs.Prelude.{ℕ, ◌+◌, ◌-◌, ◌*◌, ◌==◌, ◌&&◌, ◌||◌, Bool, true, false, nat_le, ℤ, pos, int_le, List, [], ◌∷◌, length, map, take, drop, Option, Some, None, is_some, codes, option_map, option_and_then, if◌then◌else◌}
+use Rattle.std.specs.Prelude.{ℕ, ◌+◌, ◌-◌, ◌*◌, ◌==◌, ◌&&◌, ◌||◌, Bool, true, false, nat_le, ℤ, pos, int_le, List, [], ◌∷◌, length, take, drop, Option, Some, None, is_some, codes, option_map, option_and_then, if◌then◌else◌}
 use Rattle.std.specs.List.{list_all, list_any, flat_map, fold}
 use Rattle.std.specs.Option.{option_map_or}
 use Rattle.oe_cell.specs.Fraction.{Fraction}

@@ -217,7 +217,7 @@ module _ (c : CheckedGraph) (f : AreFaultless c) (room : HasRoomForSums c.nodes)
         none_in_sums : AreSums p.graph
         none_in_sums id code name s =
             no_fault c f n n_in ProcessParameterInvalid (node_name (callback_name n.id (codes "process")) s.node.id)
-            (in_sums passes_sums refl (record { node = s.node; is_node = s.is_node; refused = s.refused; code_is = refl; name_is = refl }))
+            (in_sums passes_sums refl (record { node = s.node; is_node = s.is_node; stands = s.stands; code_is = refl; name_is = refl }))
 
     -- and they are numbers
     is_of_numbers : (k : CellKind) → data_at.kind ≡ k → k ≡ Numbers

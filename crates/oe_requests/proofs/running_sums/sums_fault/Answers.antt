@@ -1,40 +1,46 @@
-use Rattle.std.proofs.Common.{◌≡◌, ◌≤◌, ◌∙◌, List, Some, None, length, map, sym, ap, subst, arith}
+use Rattle.std.proofs.Common.{◌≡◌, ◌≤◌, ◌<◌, ◌∙◌, Some, None, length, slice_get, sym, ap, arith}
+use Rattle.std.proofs.lemmas.Option.{slice_get-get_or}
 use Rattle.oe_graph.specs.Form.{node_name}
-use Rattle.oe_graph.specs.Plain.{plain_node}
+use Rattle.oe_graph.specs.Plain.{plain_nodes}
 use Rattle.oe_graph.specs.declared.code.Code.TheVariants.{ProcessParameterInvalid}
 use Rattle.oe_graph.specs.declared.tree.Node.{Node}
-use Rattle.oe_requests.proofs.RunningSumLemmas.{sum_fault, First, first_sum, skip_node, stop_node, end_nodes}
+use Rattle.oe_requests.proofs.RunningSumLemmas.{sum_fault, first_sum, skip_index, stop_node, end_nodes}
 use Rattle.oe_requests.proofs.running_sums.sums_fault.Goals as goal
 
-pub returns-then-is_other : goal.returns-then-is_other
-returns-then-is_other c = λ index.
+pub returns-then-fault_stands_at : goal.returns-then-fault_stands_at
+returns-then-fault_stands_at c = λ index.
     let id = c.args.id.now in
-    let ns = c.deref-node-items.result.now in
-    let n = c.node-item.result in
+    let ns = c.args.nodes.now.items in
+    let i = c.loop-index.index in
+    let n : Node = c.index.result.now in
     let fault = c.in_ok-fault.fault in
+    let below : i < length ns = omega (arith, c.loop-index-test.true, c.len-index-end.ensures, c.args.nodes.now.ok.0) in
+    let at : slice_get ns i ≡ Some n = slice_get-get_or ns i n below ∙ ap Some (sym c.index.ensures) in
     let named : fault ≡ sum_fault id n.id =
     c.in_ok-fault.ensures
-    ∙ (ap (λ callback. record { code = ProcessParameterInvalid; node = node_name callback c.as_str-then-is_other.result.now })
+    ∙ (ap (λ callback. record { code = ProcessParameterInvalid; node = node_name callback c.as_str-then-fault_stands_at.result.now })
     (c.as_str.ensures.value ∙ c.in_ok-callback.ensures)
-    ∙ ap (sum_fault id) c.as_str-then-is_other.ensures) in
-    let refused = sym c.is_other.ensures ∙ c.if-is_other.true in
-    first_sum id c.args.nodes.now.items index (Some fault) c.requires
-    (subst (λ (ms : List Node). First id (map plain_node ms) (Some fault)) c.deref-node-items.ensures.value
-    (c.loop-node.invariant (Some fault) (stop_node id ns c.loop-node.node-index n fault c.loop-node-test.true c.node-item.is refused named)))
+    ∙ ap (sum_fault id) c.as_str-then-fault_stands_at.ensures) in
+    first_sum id ns index (Some fault) c.requires
+    (c.loop-index.invariant (Some fault)
+    (stop_node id (plain_nodes ns) ns i n fault below c.index.ensures
+    (sym (c.fault_stands_at.ensures n at) ∙ c.if-fault_stands_at.true) named))
 
-pub loop-node-preserved : goal.loop-node-preserved
-loop-node-preserved c = λ o rest.
+pub loop-index-preserved : goal.loop-index-preserved
+loop-index-preserved c = λ o rest.
     let id = c.args.id.now in
-    let ns = c.deref-node-items.result.now in
-    let fine = sym c.is_other.ensures ∙ c.if-is_other.false in
-    c.loop-node.invariant o
-    (skip_node id ns c.loop-node.node-index c.node-item.result o c.loop-node-test.true c.node-item.is fine rest)
+    let ns = c.args.nodes.now.items in
+    let i = c.loop-index.index in
+    let below : i < length ns = omega (arith, c.loop-index-test.true, c.len-index-end.ensures, c.args.nodes.now.ok.0) in
+    c.loop-index.invariant o
+    (skip_index id (plain_nodes ns) ns i o below
+    (λ n at. sym (c.fault_stands_at.ensures n at) ∙ c.if-fault_stands_at.false) rest)
 
 pub returns : goal.returns
 returns c = λ index.
     let id = c.args.id.now in
-    let ns = c.deref-node-items.result.now in
-    let all : length ns ≤ c.loop-node.node-index = omega (arith, c.loop-node-test.false) in
-    first_sum id c.args.nodes.now.items index None c.requires
-    (subst (λ (ms : List Node). First id (map plain_node ms) None) c.deref-node-items.ensures.value
-    (c.loop-node.invariant None (end_nodes id ns c.loop-node.node-index all)))
+    let ns = c.args.nodes.now.items in
+    let i = c.loop-index.index in
+    let past : length ns ≤ i = omega (arith, c.loop-index-test.false, c.len-index-end.ensures, c.args.nodes.now.ok.0) in
+    first_sum id ns index None c.requires
+    (c.loop-index.invariant None (end_nodes id (plain_nodes ns) ns i past))
