@@ -21,7 +21,7 @@ use Rattle.oe_outside.specs.Visible.{Appends, AppendsPrefix}
 use Rattle.oe_outside.proofs.Causes.{NeverFalls-refl, NeverFalls-trans}
 use Rattle.oe_sources.specs.Catalogue.{OnlyReads, Row, rows_at, source_at}
 use Rattle.oe_sources.specs.Packed.{AreLeastWidths, plane_size, section_records}
-use Rattle.oe_sources.specs.Repacked.{AreSidesOf, AreUndamaged, AreWidthsOf, IsNextPart, IsReadRefusal, IsWidthFrom, TellsRepackDamage}
+use Rattle.oe_sources.specs.Repacked.{AreSidesOf, AreUndamaged, AreWidthsOf, IsDamagedPosition, IsNextPart, IsReadRefusal, IsWidthFrom, TellsRepackDamage}
 use Rattle.oe_sources.specs.Source.{AreCellsOf, Contents, IsDamagedIn, Source, collection_with}
 use Rattle.oe_sources.specs.declared.repacking.Part.{Part}
 use Rattle.oe_sources.specs.declared.repacking.RepackFail.{RepackFail}
@@ -84,17 +84,41 @@ still_mounted before after index reads below = omega (arith, ap length reads.oth
 
 pub damage_before : (before after : Source) (fail : RepackFail) → after.shape ≡ before.shape → after.contents ≡ before.contents → TellsRepackDamage after fail → TellsRepackDamage before fail
 damage_before before after SourceFailed shape same told = tt
-damage_before before after (SourceDamaged number) shape same told =
-    subst (λ (o : Option Contents). IfSome o (λ c. (number < cell_count before.shape) × Contains c.damaged number)) same
-    (subst (λ (d : Dimensions). IfSome after.contents (λ c. (number < cell_count d) × Contains c.damaged number)) shape told)
+damage_before before after (SourceDamaged number) shape same told = record {
+  inside = subst (λ (d : Dimensions). number < cell_count d) shape told.inside;
+  damaged = subst (λ (o : Option Contents). IfSome o (λ c. Contains c.damaged number)) same told.damaged;
+}
 damage_before before after SinkFailed shape same told = tt
 damage_before before after OutOfMemory shape same told = tt
 
 -- the damaged position of a window is one of the cube
-pub damage_told : (d : Dimensions) (o : Option Contents) (w : Window) (number : ℕ) → Holds (whole_window d) w → IsDamagedIn d o w number → IfSome o (λ c. (number < cell_count d) × Contains c.damaged number)
-damage_told d None w number holds h = tt
-damage_told d (Some c) w number holds h =
-    (subst (λ (k : ℕ). k < cell_count d) h.numbered (number_below d h.position (position_in d h.position (holds h.position h.inside))), h.damaged)
+pub damage_told : (source : Source) (w : Window) (number : ℕ) → Holds (whole_window source.shape) w → IsDamagedIn source.shape source.contents w number → IsDamagedPosition source number
+damage_told source w number holds h =
+    let d = source.shape in
+    record {
+      inside = subst (λ (k : ℕ). k < cell_count d) h.numbered (number_below d h.position (position_in d h.position (holds h.position h.inside)));
+      damaged = h.damaged;
+    }
+
+-- the first cell of a row of a section is one of the cube
+below_count : (t b y x u v w section row number : ℕ) → u ≡ b → v ≡ y → w ≡ x → section < t → row < u * v → 0 < w → number ≤ (section * (u * v) + row) * w → number < t * b * y * x
+below_count t b y x u v w section row number eb ey ex below inside some most =
+    rw (← eb, ← ey, ← ex) (sums t u v w below inside some most)
+  where
+    sums : (t u v w : ℕ) → section < t → row < u * v → 0 < w → number ≤ (section * (u * v) + row) * w → number < t * u * v * w
+    sums t u v w below inside some most =
+        let rows : section * (u * v) + row + 1 ≤ t * (u * v) = omega (arith, inside, mul-le (section + 1) (u * v) t (u * v) (omega (arith, below)) (omega arith)) in
+        omega (arith, most, some, mul-le (section * (u * v) + row + 1) w (t * (u * v)) w rows (omega arith))
+
+pub row_inside : (d : Dimensions) (s : Sides) (section row number : ℕ) → AreSidesOf d s → section < extent d.t → row < s.bands * s.y → 0 < s.x → number ≤ (section * (s.bands * s.y) + row) * s.x → number < cell_count d
+row_inside d s section row number sides below inside some most =
+    below_count (extent d.t) (extent d.bands) (extent d.y) (extent d.x) s.bands s.y s.x section row number sides.bands sides.y sides.x below inside some most
+
+-- a product or a sum that stays at the greatest number is no greater than its own
+pub row_number_most : (section rows row wide product sum all bands high : ℕ) → rows ≤ bands * high → product ≤ section * rows → sum ≤ product + row → all ≤ sum * wide → all ≤ (section * (bands * high) + row) * wide
+row_number_most section rows row wide product sum all bands high few first next last =
+    let products : product ≤ section * (bands * high) = omega (arith, first, mul-le section rows section (bands * high) (omega arith) few) in
+    omega (arith, last, mul-le sum wide (section * (bands * high) + row) wide (omega (arith, next, products)) (omega arith))
 
 -- what holds of the shape and the contents after reads held before, and the other way round
 pub before_source : (P : Dimensions → Option Contents → Type 0) (a b : List Row) (index : ℕ) → OnlyReads a index b → P (source_at b index).shape (source_at b index).contents → P (source_at a index).shape (source_at a index).contents
@@ -447,7 +471,7 @@ part_ends d s section done part sides next =
     omega (arith, all, mul-le (done + part.rows) s.x (s.bands * s.y) s.x next.within (omega arith))
 
 -- the cells of a part fit the width of its section
-pub part_fits_width : (o : Option Contents) (d : Dimensions) (s : Sides) (section done : ℕ) (part : Part) (cells : List Cell) (width : Width) → IfSome o (λ c. length c.cells ≡ cell_count d) → AreSidesOf d s → IsNextPart s section done part → section < extent d.t → IfSome o (λ c. AreCellsOf d c part.window cells) → IfSome o (λ c. AllFitIn width (take (plane_size d) (drop (section * plane_size d) c.cells))) → ¬ AllFitIn width cells → (number : ℕ) → IfSome o (λ c. (number < cell_count d) × Contains c.damaged number)
+pub part_fits_width : (o : Option Contents) (d : Dimensions) (s : Sides) (section done : ℕ) (part : Part) (cells : List Cell) (width : Width) → IfSome o (λ c. length c.cells ≡ cell_count d) → AreSidesOf d s → IsNextPart s section done part → section < extent d.t → IfSome o (λ c. AreCellsOf d c part.window cells) → IfSome o (λ c. AllFitIn width (take (plane_size d) (drop (section * plane_size d) c.cells))) → ¬ AllFitIn width cells → (number : ℕ) → IfSome o (λ c. Contains c.damaged number)
 part_fits_width None d s section done part cells width counted sides next below given fit not number = tt
 part_fits_width (Some c) d s section done part cells width counted sides next below given fit not number =
     let rest = drop (section * plane_size d) c.cells in

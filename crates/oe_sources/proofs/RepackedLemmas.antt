@@ -106,10 +106,10 @@ left_unwritten a b index reads id written OutOfMemory other = refl
 -- and after one in writing the records
 pub left_written : (a b : List Row) (index : ℕ) → OnlyReads a index b → (id : List ℕ) (widths : List Width) (before after : Option (List ℕ)) (fail : RepackFail) → fail ≢ OutOfMemory → IfSome (source_at a index).contents (λ c. AreWidthsOf (source_at a index).shape c widths) → TellsRepackDamage (source_at a index) fail → AppendsPartOfRepacked id (source_at a index) before after → LeavesWritten id (source_at a index) before after fail
 left_written a b index reads id widths before after SourceFailed other known told part = inr part
-left_written a b index reads id widths before after (SourceDamaged number) other known told part = visible (source_at a index).contents known told
+left_written a b index reads id widths before after (SourceDamaged number) other known told part = visible (source_at a index).contents known told.damaged
   where
-    visible : (o : Option Contents) → IfSome o (λ c. AreWidthsOf (source_at a index).shape c widths) → IfSome o (λ c. (number < cell_count (source_at a index).shape) × Contains c.damaged number) → IfSome o (λ c. after ≡ before)
+    visible : (o : Option Contents) → IfSome o (λ c. AreWidthsOf (source_at a index).shape c widths) → IfSome o (λ c. Contains c.damaged number) → IfSome o (λ c. after ≡ before)
     visible None k t = tt
-    visible (Some c) k t = absurd (k.undamaged number (omega arith) (omega (arith, t.0)) t.1)
+    visible (Some c) k t = absurd (k.undamaged number (omega arith) (omega (arith, told.inside)) t)
 left_written a b index reads id widths before after SinkFailed other known told part = part
 left_written a b index reads id widths before after OutOfMemory other known told part = absurd (other refl)

@@ -100,11 +100,15 @@ AreUndamaged contents first count =
 abbrev pub IsUndamaged : Source → Type 0
 IsUndamaged source = IfSome source.contents (λ c. AreUndamaged c 0 (cell_count source.shape))
 
+-- a position of a source has this number, and where the contents are visible it is damaged
+pub record IsDamagedPosition (source : Source) (number : ℕ) : Type 0 where
+  pub inside : number < cell_count source.shape
+  pub damaged : IfSome source.contents (λ c. Contains c.damaged number)
+
 -- what a refusal says of the contents: only a position that is damaged is named as such
 abbrev pub TellsRepackDamage : Source → RepackFail → Type 0
 TellsRepackDamage source SourceFailed = Unit {0}
-TellsRepackDamage source (SourceDamaged number) =
-    IfSome source.contents (λ c. (number < cell_count source.shape) × Contains c.damaged number)
+TellsRepackDamage source (SourceDamaged number) = IsDamagedPosition source number
 TellsRepackDamage source SinkFailed = Unit {0}
 TellsRepackDamage source OutOfMemory = Unit {0}
 

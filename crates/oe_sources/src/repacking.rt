@@ -52,7 +52,8 @@ impl From<OutOfMemory> for RepackFail {
 ///
 /// Refuses: `SourceFailed` only where the collection's fault counter rose; then nothing or a prefix of the file was
 /// written. `SinkFailed` only where the output's fault counter rose; then a prefix was written. `SourceDamaged` only
-/// with a damaged position, and `OutOfMemory` where an allocation was refused; then nothing was written.
+/// with the number of a position; where the contents are visible it is damaged, and nothing was written. `OutOfMemory`
+/// where an allocation was refused; then nothing was written.
 pub fn repack<O: Sink, G: Gate>(
     alloc: Global,
     catalogue: &mut Catalogue,
@@ -344,7 +345,9 @@ fn rows_of(sides: Sides) -> u64
 }
 
 /// The number of the first cell of a row.
-fn number_of_row(sides: Sides, section: u32, row: u64) -> u64 {
+fn number_of_row(sides: Sides, section: u32, row: u64) -> u64
+    ensures { result ≤ (section * (sides.bands * sides.y) + row) * sides.x }
+{
     let rows = sides.bands.saturating_mul(sides.y);
     u64::from(section)
         .saturating_mul(rows)

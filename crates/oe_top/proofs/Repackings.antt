@@ -1,11 +1,8 @@
 -- Mounted collections that are repacked.
-use Rattle.std.proofs.Common.{◌≡◌, ◌≢◌, ℕ, zero, suc, ◌<◌, List, [], ◌∷◌, length, Option, Some, None, IfSome, Result, Ok, Err, sym, ◌∙◌, slice_get, arith}
-use Rattle.std.specs.List.{Contains}
+use Rattle.std.proofs.Common.{◌≡◌, ◌≢◌, ℕ, zero, suc, ◌<◌, List, [], ◌∷◌, length, Option, Some, None, Result, Ok, Err, sym, ◌∙◌, slice_get, arith}
 use Rattle.oe_outside.specs.Faults.{NeverFalls, Rose}
-use Rattle.oe_dims.specs.Dimensions.{cell_count}
 use Rattle.oe_sources.specs.Catalogue.{OnlyReads, Row, row_index, row_of, source_at}
 use Rattle.oe_sources.specs.Repacked.{AppendsRepacked, IsUndamaged, LeavesWritten, TellsRepackDamage}
-use Rattle.oe_sources.specs.Source.{Contents, Source}
 use Rattle.oe_sources.specs.declared.repacking.RepackFail.TheVariants as fail
 use Rattle.oe_top.specs.Objects.{Objects}
 use Rattle.oe_top.specs.RepackAnswer.{IsOfMounted, RepackAnswers, RepackEnds}
@@ -19,16 +16,6 @@ there : (rows : List Row) (index : ℕ) → index < length rows → ¬ (slice_ge
 there [] index below is = absurd (omega arith)
 there (row ∷ rows) zero below is = cc
 there (row ∷ rows) (suc index) below is = there rows index (omega arith) is
-
--- the position that a refusal names is damaged
-position_damaged : (source : Source) (number : ℕ) → TellsRepackDamage source (fail.SourceDamaged number)
-    → IfSome source.contents (λ c. Contains c.damaged number)
-position_damaged source number tells = by source.contents tells
-  where
-    by : (contents : Option Contents) → IfSome contents (λ c. (number < cell_count source.shape) × Contains c.damaged number)
-        → IfSome contents (λ c. Contains c.damaged number)
-    by None tells = tt
-    by (Some contents) tells = tells.1
 
 module _ (id text : List ℕ) (before after : Objects) (place : ℕ) (same : text ≡ id) (index : Some place ≡ row_index before.collections text)
     (within : place < length before.collections) (found : slice_get before.collections place ≡ row_of before.collections text)
@@ -72,7 +59,7 @@ module _ (id text : List ℕ) (before after : Objects) (place : ℕ) (same : tex
     index = place;
     mounted = mounted;
     named_is = is;
-    damaged = position_damaged (source_at before.collections place) number tells;
+    damaged = tells;
     unwritten = unwritten;
   })
 

@@ -1,9 +1,8 @@
 -- How the command `repack` ends.
 use Rattle.std.specs.Prelude.{◌≡◌, ◌<◌, ◌⊎◌, ◌↔◌, ℕ, List, length, None, Some, Result, Ok, Err, IfSome}
-use Rattle.std.specs.List.{Contains}
 use Rattle.oe_outside.specs.Faults.{NeverFalls, Rose}
 use Rattle.oe_sources.specs.Catalogue.{OnlyReads, row_index, row_of, source_at}
-use Rattle.oe_sources.specs.Repacked.{AppendsPartOfRepacked, AppendsRepacked, IsUndamaged}
+use Rattle.oe_sources.specs.Repacked.{AppendsPartOfRepacked, AppendsRepacked, IsDamagedPosition, IsUndamaged}
 use Rattle.oe_top.specs.Objects.{Objects, IsUntouched}
 use Rattle.oe_top.specs.declared.repack.RepackRefusal.{RepackRefusal}
 use Rattle.oe_top.specs.declared.repack.RepackRefusal.TheVariants.{NotMounted, ReadFault, Damaged, WriteFault, OutOfMemory}
@@ -30,12 +29,12 @@ module _ (id : List ℕ) where
     pub written : (after.out ≡ before.out)
         ⊎ AppendsPartOfRepacked id (source_at before.collections index) before.out after.out
 
-  -- 6: this position of it is damaged, where its contents are visible; then nothing was written
+  -- 6: a position of it has this number, and where its contents are visible it is damaged, and nothing was written
   pub record MeetsDamage (before after : Objects) (named : List ℕ) (number : ℕ) : Type 0 where
     pub index : ℕ
     pub mounted : IsOfMounted before after index
     pub named_is : named ≡ id
-    pub damaged : IfSome (source_at before.collections index).contents (λ c. Contains c.damaged number)
+    pub damaged : IsDamagedPosition (source_at before.collections index) number
     pub unwritten : IfSome (source_at before.collections index).contents (λ c. after.out ≡ before.out)
 
   -- 8: the fault counter of the output rose; a prefix of the file stands there

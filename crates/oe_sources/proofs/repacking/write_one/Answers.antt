@@ -4,7 +4,7 @@ use Rattle.oe_dims.specs.Dimensions.{Dimensions}
 use Rattle.oe_outside.proofs.Causes.{NeverFalls-refl, NeverFalls-trans}
 use Rattle.oe_sources.specs.Repacked.{AreSidesOf}
 use Rattle.oe_wide.specs.Wide.{AllFitIn}
-use Rattle.oe_sources.proofs.RepackLemmas.{cells_counted, fits_rows, given_before, no_sink_fault, part_fits_width, reads_nothing, reads_on, records_begin, records_end, records_go, records_left, records_stop, still_mounted}
+use Rattle.oe_sources.proofs.RepackLemmas.{cells_counted, fits_rows, given_before, no_sink_fault, part_fits_width, reads_nothing, reads_on, records_begin, records_end, records_go, records_left, records_stop, row_inside, still_mounted}
 use Rattle.oe_sources.proofs.repacking.write_one.Goals as goal
 
 pub loop-done-init : goal.loop-done-init
@@ -56,12 +56,19 @@ returns-then-not-all_fit-clause-damage g c =
     let part = c.part_from-part.result in
     let reads = c.loop-done.invariant.reads in
     let cells = take c.in-Ok.count c.read_part.new.cells in
-    part_fits_width _ _ s c.args.section c.loop-done.done part cells c.args.width
-    (cells_counted _ _ _ c.shape.ensures.sound)
-    (subst (λ (d : Dimensions). AreSidesOf d s) c.shape.ensures.value c.sides_of-sides.ensures)
-    c.part_from-part.ensures c.requires.section.below
-    (given_before _ _ c.args.place reads part.window cells c.in-Ok.ensures.given)
-    c.requires.fit (λ (fit : AllFitIn c.args.width cells). cc (c.all_fit.ensures.1 fit, c.if-not-all_fit.true)) _
+    let sides = subst (λ (d : Dimensions). AreSidesOf d s) c.shape.ensures.value c.sides_of-sides.ensures in
+    let next = c.part_from-part.ensures in
+    record {
+      inside = row_inside _ s c.args.section c.loop-done.done _ sides c.requires.section.below
+          (omega (arith, next.within, next.some.0))
+          (c.rows_of-rows.ensures.some (omega (arith, c.loop-done-test.true)))
+          c.number_of_row-number.ensures;
+      damaged = part_fits_width _ _ s c.args.section c.loop-done.done part cells c.args.width
+          (cells_counted _ _ _ c.shape.ensures.sound)
+          sides next c.requires.section.below
+          (given_before _ _ c.args.place reads part.window cells c.in-Ok.ensures.given)
+          c.requires.fit (λ (fit : AllFitIn c.args.width cells). cc (c.all_fit.ensures.1 fit, c.if-not-all_fit.true)) _;
+    }
 
 pub returns-then-not-all_fit-clause-only : goal.returns-then-not-all_fit-clause-only
 returns-then-not-all_fit-clause-only g c = reads_on _ _ _ c.args.place c.loop-done.invariant.reads c.read_part.ensures.only
