@@ -53,7 +53,7 @@ Exit status, and the line on standard error:
       InputTooLong: what client sends is over 1048576 bytes
   3   PlanTooLarge CELLS: a run would hold more than 67108864 cells; try smaller chunks or extents
   4   NumberOverflow NUMBER: this cell of the result, counted row by row from 0, is out of range
-  5   ReadFault: the input or a collection could not be read
+  5   ReadFault: the input, a collection or a part could not be read
   6   SourceDamaged ID NUMBER: this cell of the collection, counted so too, is damaged;
       PartDamaged NAME NUMBER: this part has no record for this cell of the result
   7   SpoolFault: the file of the run's cells could not be read or written
@@ -221,8 +221,8 @@ which all asks for by pages of 100, one call a page, and of which it writes each
   all LIST           all pages of a list               openeo client localhost 8080 abc all jobs
   collections        all collections                   openeo client localhost 8080 - collections
   processes          all processes                     openeo client localhost 8080 - processes
-  validate           faults of a graph, from stdin     openeo client localhost 8080 - validate < GRAPH
-  result             the result of a graph, at once    openeo client localhost 8080 abc result < PROCESS > RESULT
+  validate           faults of a graph, from stdin     openeo client localhost 8080 abc validate < GRAPH
+  result             the result of a job, at once      openeo client localhost 8080 abc result < JOB > RESULT
   jobs               the user's jobs                   openeo client localhost 8080 abc jobs
   create             a new job, from stdin             openeo client localhost 8080 abc create < JOB
   status ID          what is known of a job            openeo client localhost 8080 abc status j-1
@@ -234,9 +234,10 @@ which all asks for by pages of 100, one call a page, and of which it writes each
   results ID         a job's assets                    openeo client localhost 8080 abc results j-1
   asset ID/NAME      one asset of a job                openeo client localhost 8080 abc asset j-1/save.json > RESULT
   processgraphs      the user's stored processes       openeo client localhost 8080 abc processgraphs
-  store ID           store a process, from stdin       openeo client localhost 8080 abc store ndvi < PROCESS
+  store ID           store a process, from stdin       openeo client localhost 8080 abc store ndvi < GRAPH
   forget ID          delete a stored process           openeo client localhost 8080 abc forget ndvi
 
+GRAPH is an object with the member process_graph, as 'openeo run' takes it, and JOB one whose member process is a GRAPH.
 What is sent has at most 1048576 bytes, and what comes back 16777216. A connection may take 10 seconds, and an answer an
 hour. No redirection is followed, no proxy is asked, and nothing is encrypted.
 Exit status: 0, 1 Usage, 2 InputTooLong, 5 ReadFault, 8 WriteFault, 9 OutOfMemory, 11 LinkFault, 12 PeerInvalid,
