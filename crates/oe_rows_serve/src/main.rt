@@ -97,9 +97,9 @@
 //! The network prints `bind PORT`, `wait` and `look` (a connection is taken, by a caller that waits and by one that
 //! does not), `lookup HOST PORT`, `connect PORT SECONDS`, `by-read MS` and `by-write MS` (the time limit of the next
 //! read or write), `peek N` (bytes are read and stay to be read), `read N`, `write N`, `shutdown` of what is written,
-//! `drains` (reads do not wait any more), `close` and `line TEXT`, which a door wrote. An answer of a call is `ok` with
-//! the number of bytes of a read, `Conn`, `Nobody`, `Failed`, or of the clock its seconds; behind a colon stands what
-//! the network was asked for in it.
+//! `drains` and `waits` (reads do not wait any more, and wait again), `close` and `line TEXT`, which a door wrote. An
+//! answer of a call is `ok` with the number of bytes of a read, `Conn`, `Nobody`, `Failed`, or of the clock its seconds;
+//! behind a colon stands what the network was asked for in it.
 #![tactic(auto)]
 
 mod adapters;

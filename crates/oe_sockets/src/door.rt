@@ -11,7 +11,7 @@ use crate::patience::Patience;
 use oe_memory::OutOfMemory;
 use oe_outside::{Door, Failed, Next};
 use std::alloc::Global;
-use std::io::ErrorKind;
+use std::io::{Error, ErrorKind, Result as IoResult};
 use std::net::SocketAddr;
 
 /// How many addresses of a host are tried.
@@ -70,16 +70,17 @@ impl<N: Network> TcpDoor<N> {
 
     /// The next connection, once its first byte has come: what is answered at the moment of the answer should not be
     /// older than that. `Nobody` where the caller is busy and none waits, and `Failed` where the port fails. A peer that
-    /// is gone before its first byte is passed over.
-    fn take(&self, busy: bool) -> Next<TcpLink<N>>
+    /// is gone before its first byte is passed over. While connections linger they are looked at in between.
+    fn take(&mut self, busy: bool) -> Next<TcpLink<N>>
         ensures nobody { IsNobody result → IsTrue busy }
         ensures fresh { IfConn result (λ link. link.faults ≡ 0) }
+        ensures faults { self.new.faults ≡ self.old.faults }
+        ensures dial_faults { self.new.dial_faults ≡ self.old.dial_faults }
+        ensures link_faults { self.new.link_faults ≡ self.old.link_faults }
     {
-        let Some(listener) = &self.listener else {
-            return Next::Failed;
-        };
         for _ in 0..u64::MAX {
-            match self.system.accept(listener, !busy) {
+            let waits = !busy && self.lingering.is_empty();
+            match self.accept(waits) {
                 Ok(stream) => {
                     let link = TcpLink::new(self.system, stream, self.patience);
                     if link.is_there() {
@@ -88,6 +89,7 @@ impl<N: Network> TcpDoor<N> {
                 }
                 Err(error) => match error.kind() {
                     ErrorKind::WouldBlock if busy => return Next::Nobody,
+                    ErrorKind::WouldBlock if !waits => self.linger(),
                     ErrorKind::Interrupted
                     | ErrorKind::ConnectionAborted
                     | ErrorKind::ConnectionReset => {}
@@ -96,6 +98,14 @@ impl<N: Network> TcpDoor<N> {
             }
         }
         Next::Failed
+    }
+
+    /// The next connection to the port, if it is bound.
+    fn accept(&self, waits: bool) -> IoResult<N::Stream> {
+        match &self.listener {
+            Some(listener) => self.system.accept(listener, waits),
+            None => Err(Error::from(ErrorKind::NotConnected)),
+        }
     }
 
     /// A stream to the first address of the host that takes one in time.
@@ -110,6 +120,18 @@ impl<N: Network> TcpDoor<N> {
             }
         }
         None
+    }
+
+    /// Waits a moment at the connection that lingers last, and lets those go that are over.
+    fn linger(&mut self)
+        ensures faults { self.new.faults ≡ self.old.faults }
+        ensures dial_faults { self.new.dial_faults ≡ self.old.dial_faults }
+        ensures link_faults { self.new.link_faults ≡ self.old.link_faults }
+    {
+        if let Some(lingering) = self.lingering.last() {
+            lingering.pause();
+        }
+        self.sweep();
     }
 
     /// Lets those go whose peers have closed, or whose time is over.

@@ -8,6 +8,9 @@ use std::time::{Clock, Duration};
 /// How long a connection lingers at most, in seconds.
 const LONGEST: u64 = 2;
 
+/// How long one that lingers is waited for at once, in milliseconds, before the next connection is asked for again.
+const PAUSE: u64 = 5;
+
 /// How many pieces of what still comes are read away.
 const MOST_PIECES: u64 = 256;
 
@@ -29,6 +32,18 @@ impl<S: Read + OpenStream> Lingering<S> {
         stream.set_nonblocking(true).ok()?;
         let until = Deadline::after(system, Duration::from_secs(LONGEST));
         Some(Lingering { stream, until })
+    }
+
+    /// Waits for a moment until a read would not, and takes no byte. Where waiting fails there is none.
+    pub(crate) fn pause(&self) {
+        let mut first = [0; 1];
+        let limit = Some(Duration::from_millis(PAUSE));
+        if self.stream.set_nonblocking(false).is_ok()
+            && self.stream.set_read_timeout(limit).is_ok()
+        {
+            let _ = self.stream.peek(&mut first);
+        }
+        let _ = self.stream.set_nonblocking(true);
     }
 
     /// Reads away what has come, without waiting, and answers whether more may come: `false` where the peer has closed,
