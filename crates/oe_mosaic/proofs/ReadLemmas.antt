@@ -2,7 +2,7 @@
 use Rattle.std.proofs.Common.{◌≡◌, ℕ, zero, suc, ◌+◌, ◌<◌, ◌≤◌, ◌-◌, Bool, true, List, [], ◌∷◌, ◌++◌, ◌^◌, length, length-append, map, get_or, set, is_some, Option, Some, None, IfSome, Result, Ok, Err, refl, sym, ap, ◌∙◌, subst, arith, inl, inr}
 use Rattle.std.specs.List.{Contains, list_all, slice_get}
 use Rattle.std.proofs.lemmas.Bool.{and_parts}
-use Rattle.std.proofs.lemmas.List.{length-map, map-append}
+use Rattle.std.proofs.lemmas.List.{length-map, map-append, set_split}
 use Rattle.std.proofs.lemmas.Option.{same_Some}
 use Rattle.oe_cell.specs.declared.cell.Cell.{Cell}
 use Rattle.oe_cell.specs.declared.cell.Cell.TheVariants.{Empty}
@@ -14,7 +14,7 @@ use Rattle.oe_dims.specs.Positions.{Position, number_of, tuple_of}
 use Rattle.oe_dims.specs.declared.kind.CellKind.{CellKind}
 use Rattle.oe_dims.proofs.ShapeLemmas.{cell_count_within}
 use Rattle.oe_mosaic.specs.Mosaics.{Part, deciding_part, fault_counts, first_kind, is_damaged_at, mosaic_cell, part_of, parts_of}
-use Rattle.oe_mosaic.specs.PartFaults.{NoneFalls, SomeRose}
+use Rattle.oe_mosaic.specs.PartFaults.{NoneFalls, OnePartCounts, SomeRose}
 use Rattle.oe_mosaic.specs.Parts.{ArePartsOfOne}
 use Rattle.oe_mosaic.specs.Places.{AreHalves, HasBox, IsSingle, first_of, moved}
 use Rattle.oe_mosaic.specs.Readings.{AreApart, IsAnswer, IsDamagedThere, IsFoundIn, IsRead, OnlyReads}
@@ -234,6 +234,18 @@ pub count_rose_in : {S : Type 0} (seen : S → Source) (items after : List S) (k
     → SomeRose (fault_counts seen items) (fault_counts seen after)
 count_rose_in seen items after k old new cells failed below is set_is counts met =
     one_rose seen items after k old new (get_there items k old below ∙ ap Some (sym is)) set_is (counts.rose met)
+
+pub one_counts : {S : Type 0} (seen : S → Source) (items after : List S) (k : ℕ) (old new : S) (failed : Bool)
+    → k < length items → old ≡ get_or items k old → after ≡ set items k new → CountsRead (seen old) 0 failed (seen new) → failed ≡ true
+    → OnePartCounts seen items after
+one_counts seen items after k old new failed below is set_is counts met = record {
+  place = k;
+  part = old;
+  counted = new;
+  there = get_there items k old below ∙ ap Some (sym is);
+  counts = subst (λ (f : Bool). CountsRead (seen old) 0 f (seen new)) met counts;
+  others = set_is ∙ set_split items k new below;
+}
 
 pub part_ok : {S : Type 0} (seen : S → Source) (items : List S) (d : Dimensions) (window box : Window) (k : ℕ) (item : S) (cells : List Cell) (done : Unit {0})
     → ArePartsOfOne (parts_of seen items) → k < length items → item ≡ get_or items k item → AreApart (parts_of seen items) d window k → IsFoundIn (parts_of seen items) d window k box

@@ -93,10 +93,10 @@ impl<S: CubeSource> Mosaic<S> {
 }
 
 impl<S: CubeSource> CubeSource for Mosaic<S> {
-    ghost use Rattle.std.specs.Prelude.{◌≡◌, is_some, true};
+    ghost use Rattle.std.specs.Prelude.{◌≡◌, false, is_some, true};
     ghost use Rattle.oe_mosaic.specs.Mosaics.{fault_counts};
     ghost use Rattle.oe_mosaic.specs.MosaicStates.{source_of};
-    ghost use Rattle.oe_mosaic.specs.PartFaults.{SomeRose};
+    ghost use Rattle.oe_mosaic.specs.PartFaults.{OnePartCounts, SomeRose};
     ghost use Rattle.oe_sources.specs.Source.{CountsRead};
 
     ghost seen = { λ m. source_of S.seen m };
@@ -127,12 +127,16 @@ impl<S: CubeSource> CubeSource for Mosaic<S> {
         )
     }
 
-    /// The fault counter that rises is that of a part.
+    /// The fault counter that rises is that of a part, of which no cells are counted. All else in the parts stays as it
+    /// is, and so does their order.
     fn count(&mut self, cells: u64, fault: Option<ReadFault>)
         ensures counted { CountsRead (source_of S.seen self.old) cells (is_some fault)
             (source_of S.seen self.new) }
         ensures rose { is_some fault ≡ true → SomeRose
             (fault_counts S.seen self.old.parts) (fault_counts S.seen self.new.parts) }
+        ensures one { is_some fault ≡ true
+            → OnePartCounts S.seen self.old.parts self.new.parts }
+        ensures still { is_some fault ≡ false → self.new.parts ≡ self.old.parts }
     {
         count_looks(self.items.as_mut_slice(), &mut self.asked, cells, fault);
     }

@@ -4,7 +4,7 @@ ghost use Rattle.oe_dims.specs.Dimensions.{IsShape, extent};
 ghost use Rattle.oe_dims.specs.Positions.{number_of};
 ghost use Rattle.oe_mosaic.specs.MosaicLaws.{HasAllLabels};
 ghost use Rattle.oe_mosaic.specs.Mosaics.{fault_counts, parts_of};
-ghost use Rattle.oe_mosaic.specs.PartFaults.{SomeRose};
+ghost use Rattle.oe_mosaic.specs.PartFaults.{OnePartCounts, SomeRose};
 ghost use Rattle.oe_mosaic.specs.Parts.{ArePartsOfOne};
 ghost use Rattle.oe_mosaic.specs.Places.{first_of, side_sum};
 ghost use Rattle.oe_mosaic.specs.Readings.{Finds, IsAnswer, IsTried, OnlyReads};
@@ -208,6 +208,7 @@ pub fn count_looks<S: CubeSource>(
     ensures only { OnlyReads S.seen items.old items.new }
     ensures rose { is_some fault ≡ true
         → SomeRose (fault_counts S.seen items.old) (fault_counts S.seen items.new) }
+    ensures one { is_some fault ≡ true → OnePartCounts S.seen items.old items.new }
     ensures still { is_some fault ≡ false → items.new ≡ items.old }
 {
     *asked = asked.saturating_add(cells);

@@ -3,7 +3,7 @@ use Rattle.std.specs.Vec.{with_items}
 use Rattle.std.proofs.lemmas.List.{with_items_is}
 use Rattle.oe_mosaic.specs.Mosaics.{fault_counts, mosaic_source}
 use Rattle.oe_mosaic.specs.MosaicStates.{MosaicState, source_of}
-use Rattle.oe_mosaic.specs.PartFaults.{SomeRose}
+use Rattle.oe_mosaic.specs.PartFaults.{OnePartCounts, SomeRose}
 use Rattle.oe_mosaic.specs.Readings.{OnlyReads}
 use Rattle.oe_mosaic.proofs.MosaicLemmas.{counts}
 use Rattle.oe_sources.specs.Source.{CountsRead}
@@ -33,3 +33,21 @@ returns-clause-rose g c = λ met.
     subst (λ (l : List _). SomeRose (fault_counts seen c.args.self.now.parts) (fault_counts seen l)) (sym kept)
     (subst (λ (m : MosaicState _). SomeRose (fault_counts seen m.parts) (fault_counts seen after)) c.self.view_is
     (subst (λ (l : List _). SomeRose (fault_counts seen l) (fault_counts seen after)) c.as_mut_slice.ensures.value (c.count_looks.ensures.rose met)))
+
+pub returns-clause-one : goal.returns-clause-one
+returns-clause-one g c = λ met.
+    let seen = g.S.CubeSource.seen in
+    let after = c.count_looks.new.items in
+    let long : length after ≡ vec_len c.self.inside.items = omega (arith, c.count_looks.auto.items, ap length c.as_mut_slice.ensures.value, c.self.inside.items.ok.0) in
+    let kept : (with_items c.self.inside.items after).items ≡ after = with_items_is c.self.inside.items after long in
+    subst (λ (l : List _). OnePartCounts seen c.args.self.now.parts l) (sym kept)
+    (subst (λ (m : MosaicState _). OnePartCounts seen m.parts after) c.self.view_is
+    (subst (λ (l : List _). OnePartCounts seen l after) c.as_mut_slice.ensures.value (c.count_looks.ensures.one met)))
+
+pub returns-clause-still : goal.returns-clause-still
+returns-clause-still g c = λ none.
+    let after = c.count_looks.new.items in
+    let long : length after ≡ vec_len c.self.inside.items = omega (arith, c.count_looks.auto.items, ap length c.as_mut_slice.ensures.value, c.self.inside.items.ok.0) in
+    let kept : (with_items c.self.inside.items after).items ≡ after = with_items_is c.self.inside.items after long in
+    subst (λ (m : MosaicState _). (with_items c.self.inside.items after).items ≡ m.parts) c.self.view_is
+    (kept ∙ c.count_looks.ensures.still none ∙ c.as_mut_slice.ensures.value)
