@@ -74,6 +74,7 @@ module _ (size : ChunkSize) (workers : ℕ) (seen seen_after : Outside) (now : �
     };
     ends = ends_by c busy;
     changes = λ _. changes;
+    idle = λ none. absurd (none changes);
     spool_count = spool;
     keeper_count = c.count;
   }
@@ -95,12 +96,13 @@ module _ (size : ChunkSize) (workers : ℕ) (seen seen_after : Outside) (now : �
   -- nothing was due
   pub ticks_idle : s_after ≡ next over event s → has_busy_job s.book ≡ false
       → Ticks size workers seen seen_after now s s_after has_failed ticked.Idle
-  ticks_idle is idle = record {
+  ticks_idle is free = record {
     event = event;
     of_tick = of_tick;
     goes = record { state = is; commits = none_begun };
-    ends = idle;
+    ends = free;
     changes = λ e. absurd cc;
+    idle = λ none. (same, faults);
     spool_count = spool;
     keeper_count = not_counted;
   }
@@ -114,6 +116,7 @@ module _ (size : ChunkSize) (workers : ℕ) (seen seen_after : Outside) (now : �
     goes = record { state = is; commits = none_begun };
     ends = busy;
     changes = λ e. absurd cc;
+    idle = λ none. (same, faults);
     spool_count = spool;
     keeper_count = not_counted;
   }

@@ -49,6 +49,9 @@ module _ (size : ChunkSize) (workers : ℕ) (before after : Outside) where
     pub goes : GoesByEvent setting event (is_event result) s s_after before.kept after.kept
     pub ends : TickEnds s.book (next setting event s).book before after has_failed result
     pub changes : is_event result ≡ false → ChangesBook (due setting s) event
+    -- where its event changes no book, what the keeper has and its fault counter stay as they were
+    pub idle : ¬ ChangesBook (due setting s) event
+        → (after.kept ≡ before.kept) × (after.keeper_faults ≡ before.keeper_faults)
     pub spool_count : NeverFalls before.spool_faults after.spool_faults
     pub keeper_count : NeverFalls before.keeper_faults after.keeper_faults
 

@@ -18,7 +18,8 @@ use std::thread::Threads;
 /// is stored, or, where none is missing, the job is finished. A run that is refused fails the job with its code.
 ///
 /// `Idle` comes exactly where no job is queued or runs. `KeeperFailed` comes only where the keeper's fault counter rose,
-/// and then, as after `OutOfMemory`, the book and the run stand as before.
+/// and then, as after `OutOfMemory`, the book and the run stand as before. A tick that answers `Idle`, plans an asset or
+/// does a round leaves what the keeper has, and its fault counter, as they were.
 pub fn tick<R: Threads + Sync, P: Store, K: Keeper, G: Gate>(
     rt: &R,
     alloc: Global,
