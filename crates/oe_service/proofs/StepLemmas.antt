@@ -35,6 +35,7 @@ module _ (s t : Service) (made : PlainBook) (kept kept_after : Option Kept) (fau
   commits_refused fail.Failed same i = record {
     state = same;
     commits = i.commits;
+    unbegun = λ e. absurd cc;
     failed = λ _. i.failed refl;
     worked = λ e. absurd cc;
     count = i.count;
@@ -42,6 +43,7 @@ module _ (s t : Service) (made : PlainBook) (kept kept_after : Option Kept) (fau
   commits_refused fail.OutOfMemory same i = record {
     state = same;
     commits = i.commits;
+    unbegun = λ _. i.unbegun refl;
     failed = λ e. absurd cc;
     worked = λ e. absurd cc;
     count = i.count;
@@ -73,6 +75,7 @@ module _ (s t : Service) (made : PlainBook) (kept kept_after : Option Kept) (fau
     commits = record {
       state = ap (state (plain_book t.book)) run ∙ ap at_book i.book_is;
       commits = i.commits;
+      unbegun = λ e. absurd cc;
       failed = λ e. absurd cc;
       worked = λ e. absurd cc;
       count = i.count;

@@ -75,6 +75,7 @@ module _ (size : ChunkSize) (workers : ℕ) (seen seen_after : Outside) (now : �
     ends = ends_by c busy;
     changes = λ _. changes;
     idle = λ none. absurd (none changes);
+    unbegun = c.unbegun;
     spool_count = spool;
     keeper_count = c.count;
   }
@@ -103,6 +104,7 @@ module _ (size : ChunkSize) (workers : ℕ) (seen seen_after : Outside) (now : �
     ends = free;
     changes = λ e. absurd cc;
     idle = λ none. (same, faults);
+    unbegun = λ e. absurd cc;
     spool_count = spool;
     keeper_count = not_counted;
   }
@@ -117,6 +119,7 @@ module _ (size : ChunkSize) (workers : ℕ) (seen seen_after : Outside) (now : �
     ends = busy;
     changes = λ e. absurd cc;
     idle = λ none. (same, faults);
+    unbegun = λ e. absurd cc;
     spool_count = spool;
     keeper_count = not_counted;
   }

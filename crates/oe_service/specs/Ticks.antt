@@ -52,16 +52,20 @@ module _ (size : ChunkSize) (workers : ℕ) (before after : Outside) where
     -- where its event changes no book, what the keeper has and its fault counter stay as they were
     pub idle : ¬ ChangesBook (due setting s) event
         → (after.kept ≡ before.kept) × (after.keeper_faults ≡ before.keeper_faults)
+    -- out of memory begins no commit
+    pub unbegun : result ≡ ticked.OutOfMemory → after.kept ≡ before.kept
     pub spool_count : NeverFalls before.spool_faults after.spool_faults
     pub keeper_count : NeverFalls before.keeper_faults after.keeper_faults
 
 -- ---- ticks that change the book
 
--- A tick commits this book, with which no run is under way any more, or leaves the state.
+-- A tick commits this book, with which no run is under way any more, or leaves the state. Out of memory begins no
+-- commit.
 pub record Commits (made : PlainBook) (s s_after : State) (kept kept_after : Option Kept) (faults faults_after : ℕ)
     (has_failed : Bool) (result : Ticked) : Type 0 where
   pub state : s_after ≡ (if is_event result then at_book made else s)
   pub commits : CommitsOne kept made kept_after
+  pub unbegun : result ≡ ticked.OutOfMemory → kept_after ≡ kept
   pub failed : result ≡ ticked.KeeperFailed → Failed made kept kept_after faults faults_after has_failed
   pub worked : result ≢ ticked.Idle
   pub count : NeverFalls faults faults_after

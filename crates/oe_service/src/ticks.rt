@@ -19,7 +19,8 @@ use std::thread::Threads;
 ///
 /// `Idle` comes exactly where no job is queued or runs. `KeeperFailed` comes only where the keeper's fault counter rose,
 /// and then, as after `OutOfMemory`, the book and the run stand as before. A tick that answers `Idle`, plans an asset or
-/// does a round leaves what the keeper has, and its fault counter, as they were.
+/// does a round leaves what the keeper has, and its fault counter, as they were. One that is out of memory begins no
+/// commit.
 pub fn tick<R: Threads + Sync, P: Store, K: Keeper, G: Gate>(
     rt: &R,
     alloc: Global,
