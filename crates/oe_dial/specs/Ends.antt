@@ -6,8 +6,10 @@ use Rattle.oe_client.specs.declared.call.ClientFail.{ClientFail}
 use Rattle.oe_client.specs.declared.call.ClientFail.TheVariants as fail
 use Rattle.oe_client.specs.declared.command.ClientCommand.{ClientCommand}
 use Rattle.oe_http.specs.Again.{IsWritable}
+use Rattle.oe_http.specs.Front.{most_head}
 use Rattle.oe_http.specs.Plain.{PlainRequest}
 use Rattle.oe_http.specs.Requests.{most_body}
+use Rattle.oe_http.specs.Responses.{most_response_body}
 use Rattle.oe_http.specs.Written.{request_bytes}
 use Rattle.oe_outside.specs.Doors.{CountsLink, ShowsDialled, ShowsDone, VisibleDoor}
 use Rattle.oe_outside.specs.Faults.{NeverFalls, Rose}
@@ -129,6 +131,8 @@ module _ {C : Type 0} (views : Views C) (before after : Lent C) where
     pub prefix : IsErrOf result fail.LinkFailed → AppendsPrefix (views.written conn) request (views.written back)
     pub calls : Calls (ends (views.left conn) (views.faults conn) before.out before.out_faults)
         (ends (views.left back) (views.faults back) after.out after.out_faults) result
+    -- of what the peer sent at most one head and one body were read
+    pub taken : TakesAtMost (views.left conn) (most_head + most_response_body) (views.left back)
     pub counts : CountsLink (views.faults back) before.link_faults after.link_faults
 
   -- this port of the host was dialled once, and the request was sent over the connection that came and answered so
