@@ -1,5 +1,5 @@
 // The parts of a run in the folder `parts`.
-ghost use Rattle.std.specs.Prelude.{ℕ, List, IfErr, codes};
+ghost use Rattle.std.specs.Prelude.{◌≡◌, ◌↔◌, ℕ, List, [], ◌∷◌, IfErr, IsTrue, Ok, codes};
 ghost use Rattle.oe_adapters.specs.Setup.{IsSetupFault};
 
 use crate::collections::{names_ending, open_plain, read_names};
@@ -30,7 +30,8 @@ pub fn open_parts<R: Files>(
 ) -> Result<RunParts<FileStore<R::File>>, Fault>
 where
     R::File: FileExt,
-    ensures { IfErr result (λ fault. (name : List ℕ) × IsSetupFault name fault) }
+    ensures others { ¬ (words.now ≡ codes "join" ∷ []) → result ≡ Ok [] }
+    ensures refused { IfErr result (λ fault. (name : List ℕ) × IsSetupFault name fault) }
 {
     let mut parts = RunParts::new(alloc);
     if !is_join(words) {
@@ -46,11 +47,19 @@ where
 }
 
 /// Whether the words are `join` alone.
-fn is_join(words: &[Text]) -> bool {
+fn is_join(words: &[Text]) -> bool
+    ensures { IsTrue result ↔ words.now ≡ codes "join" ∷ [] }
+{
     match words {
-        [verb] => verb.as_str() == "join",
+        [verb] => is_join_verb(verb),
         _ => false,
     }
+}
+
+fn is_join_verb(verb: &Text) -> bool
+    ensures { IsTrue result ↔ verb.now ≡ codes "join" }
+{
+    verb.as_str() == "join"
 }
 
 /// The names in the folder that end in `.part`, in byte order; none where there is no such folder.
