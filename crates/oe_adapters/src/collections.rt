@@ -1,5 +1,6 @@
 // The cube files and the mosaics of the folder `collections`.
-ghost use Rattle.std.specs.Prelude.{◌≡◌, ◌↔◌, ◌⊎◌, IfErr, IsOk, codes};
+ghost use Rattle.std.specs.Prelude.{◌≡◌, ◌↔◌, ◌⊎◌, IfErr, IfOk, IsOk, codes};
+ghost use Rattle.oe_adapters.specs.Opened.{GoesBy};
 ghost use Rattle.oe_adapters.specs.Setup.{HasMountFault, HasOpenFault, IsSetupFault};
 ghost use Rattle.oe_adapters.specs.declared.fault.Fault.TheVariants as variant;
 
@@ -121,7 +122,8 @@ pub fn open_collection<R: Files>(
 ) -> Result<(Text, CubeOrMosaic<FileSource<FileStore<R::File>>>), Fault>
 where
     R::File: FileExt,
-    ensures { IfErr result (λ fault. IsSetupFault name.now fault
+    ensures id { IfOk result (λ opened. GoesBy opened.0 opened.1) }
+    ensures refused { IfErr result (λ fault. IsSetupFault name.now fault
         ⊎ IsSetupFault (codes "collections") fault) }
 {
     let Ok(text) = std::str::from_utf8(name) else {

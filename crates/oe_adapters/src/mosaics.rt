@@ -1,5 +1,7 @@
 // The mosaics of the folder `collections`.
 ghost use Rattle.std.specs.Prelude.{◌≡◌, ◌↔◌, length, IfErr, IfOk, IsOk};
+ghost use Rattle.oe_mosaic.specs.MosaicText.{names_of};
+ghost use Rattle.oe_adapters.specs.Opened.{AreNamesOfText, IsMosaicBy};
 ghost use Rattle.oe_adapters.specs.Setup.{HasMosaicFault, HasPartFault, HasTextFault, IsSetupFault};
 
 use crate::collections::{CubeFile, open_cube, open_in_folder};
@@ -30,7 +32,8 @@ pub(crate) fn open_mosaic<R: Files>(
 ) -> Result<(Text, Mosaic<CubeFile<R::File>>), Fault>
 where
     R::File: FileExt,
-    ensures { IfErr result (IsSetupFault name.now) }
+    ensures made { IfOk result (λ made. IsMosaicBy made.0 made.1) }
+    ensures refused { IfErr result (IsSetupFault name.now) }
 {
     let text = read_text(alloc, file, name)?;
     mosaic_of(alloc, files, text, name, mounted)
@@ -66,7 +69,8 @@ fn read_text<F: FileExt + Seek + Drop>(
     file: F,
     name: &[u8],
 ) -> Result<MosaicText, Fault>
-    ensures { IfErr result (IsSetupFault name.now) }
+    ensures names { IfOk result (λ text. AreNamesOfText (names_of text)) }
+    ensures refused { IfErr result (IsSetupFault name.now) }
 {
     // One byte more than the longest has: what is read of a longer one is not valid either.
     let mut bytes = [0u8; MOST_BYTES + 1];
