@@ -13,7 +13,7 @@ use Rattle.oe_plan.specs.Plans.{IsPlan, PlanOf}
 use Rattle.oe_plan.proofs.FitLemmas.{fit_memory}
 use Rattle.oe_steps.proofs.BufferLemmas.{sum_of_size}
 use Rattle.oe_engine.specs.Benches.{BenchOf, IsBenchFor, held_cells}
-use Rattle.oe_engine.specs.Workspaces.{IsPlaceFor, cells_of_benches}
+use Rattle.oe_engine.specs.Workspaces.{AreIdle, IsIdle, IsPlaceFor, cells_of_benches}
 
 -- ---- one bench
 
@@ -28,6 +28,11 @@ pub bench_of_last : (p : PlanOf) (last : Option (Option BenchOf)) → IfSome las
     → IfSome (option_flatten last) (IsBenchFor p)
 bench_of_last p None has = tt
 bench_of_last p (Some place) has = has.bench
+
+-- it has no chunk
+pub idle_of_last : (p : PlanOf) (last : Option (Option BenchOf)) → IfSome last (IsPlaceFor p) → IfSome (option_flatten last) IsIdle
+idle_of_last p None has = tt
+idle_of_last p (Some place) has = has.idle
 
 pub if_ok : {E : Type 0} (P : BenchOf → Type 0) (out : Result BenchOf E) → IfSome (result_ok out) P → IfOk out P
 if_ok P (Ok b) h = h
@@ -48,6 +53,7 @@ a_place_fewer (Ok b) (Some place) before after items is =
 pub record AreSome (p : PlanOf) (benches : List BenchOf) (places : List (Option BenchOf)) (count cells : ℕ) : Type 0 where
   pub many : length benches ≡ count
   pub each : All (IsBenchFor p) benches
+  pub idle : AreIdle benches
   pub sum : cells ≡ cells_of_benches benches
   pub total : cells ≡ count * bench_cells p
   pub left : length places + count ≡ 2 * p.workers
@@ -58,6 +64,7 @@ pub none_yet : (p : PlanOf) (places : List (Option BenchOf)) → length places �
 none_yet p places all has = record {
   many = refl;
   each = λ k h d. absurd (omega arith);
+  idle = λ k h d. absurd (omega arith);
   sum = refl;
   total = omega arith;
   left = omega arith;
@@ -65,9 +72,9 @@ none_yet p places all has = record {
 }
 
 pub one_more : (p : PlanOf) (benches : List BenchOf) (places after : List (Option BenchOf)) (b : BenchOf) (count cells : ℕ)
-    → AreSome p benches places count cells → IsBenchFor p b → length after + 1 ≡ length places → All (IsPlaceFor p) after
+    → AreSome p benches places count cells → IsBenchFor p b → IsIdle b → length after + 1 ≡ length places → All (IsPlaceFor p) after
     → AreSome p (benches ++ b ∷ []) after (count + 1) (cells + held_cells b)
-one_more p benches places after b count cells s is fewer has =
+one_more p benches places after b count cells s is idle fewer has =
     let many = s.many in
     let left = s.left in
     let longer = length-append benches (b ∷ []) in
@@ -78,6 +85,7 @@ one_more p benches places after b count cells s is fewer has =
     record {
       many = omega arith;
       each = All-append (IsBenchFor p) benches (b ∷ []) s.each (All-cons (IsBenchFor p) b [] is (λ k h d. absurd (omega arith)));
+      idle = All-append IsIdle benches (b ∷ []) s.idle (All-cons IsIdle b [] idle (λ k h d. absurd (omega arith)));
       sum = omega arith;
       total = ap (λ n. n + held_cells b) s.total ∙ (ap (λ n. count * bench_cells p + n) held ∙ sym (by count (bench_cells p)));
       left = omega arith;

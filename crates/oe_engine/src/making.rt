@@ -2,7 +2,7 @@
 ghost use Rattle.std.specs.Prelude.{◌≡◌, ◌+◌, ◌<◌, ℕ, IfOk, OnOk, Option, length, slice_index_or};
 ghost use Rattle.std.specs.List.{All};
 ghost use Rattle.oe_engine.specs.Benches.{BenchOf, IsBenchFor};
-ghost use Rattle.oe_engine.specs.Workspaces.{IsPlaceFor};
+ghost use Rattle.oe_engine.specs.Workspaces.{IsIdle, IsPlaceFor};
 ghost use Rattle.oe_plan.specs.Plans.{PlanOf};
 
 use crate::bench::Bench;
@@ -71,6 +71,7 @@ pub(crate) fn take_bench(places: &mut Vec<Option<Bench>>) -> Result<Bench, OutOf
     requires { 0 < length places.old.items }
     ensures bench { (p : PlanOf) → All (IsPlaceFor p) places.old.items
         → IfOk result (IsBenchFor p) }
+    ensures idle { (p : PlanOf) → All (IsPlaceFor p) places.old.items → IfOk result IsIdle }
     ensures others { (p : PlanOf) → All (IsPlaceFor p) places.old.items
         → All (IsPlaceFor p) places.new.items }
     ensures fewer { OnOk result (length places.new.items + 1 ≡ length places.old.items) }

@@ -2,7 +2,7 @@
 ghost use Rattle.std.specs.Prelude.{◌≡◌, ◌*◌, IfOk, length};
 ghost use Rattle.std.specs.List.{All};
 ghost use Rattle.oe_plan.specs.Figures.{bound_of};
-ghost use Rattle.oe_engine.specs.Workspaces.{AreBenchesFor, IsPlaceFor, cells_of_benches};
+ghost use Rattle.oe_engine.specs.Workspaces.{AreBenchesFor, AreIdle, IsPlaceFor, cells_of_benches};
 
 use crate::bench::Bench;
 use crate::making::{make_benches, take_bench};
@@ -54,6 +54,7 @@ impl Workspace {
         plan: &Plan,
     ) -> Result<Workspace, OutOfMemory>
         ensures benches { IfOk result (AreBenchesFor plan.now) }
+        ensures idle { IfOk result AreIdle }
         // They hold as many cells as the bound of the plan.
         ensures cells { IfOk result (λ benches. cells_of_benches benches
             ≡ bound_of plan.now.graph plan.now.size plan.now.workers) }
@@ -74,6 +75,7 @@ impl Workspace {
         requires many { length places.old.items ≡ 2 * plan.now.workers }
         requires made { All (IsPlaceFor plan.now) places.old.items }
         ensures benches { IfOk result (AreBenchesFor plan.now) }
+        ensures idle { IfOk result AreIdle }
         ensures cells { IfOk result (λ benches. cells_of_benches benches
             ≡ bound_of plan.now.graph plan.now.size plan.now.workers) }
     {

@@ -41,7 +41,8 @@ loop-preserved c =
     let left = c.take_bench.new.places.items in
     let items : c.push.new.self.items ≡ c.loop.benches.items ++ b ∷ [] = c.in_ok-push.ensures.items in
     let more = one_more p c.loop.benches.items c.loop.places.items left b c.loop.counter c.loop.cells c.loop.invariant
-    (c.in_ok-bench.ensures.bench p c.loop.invariant.made) c.in_ok-bench.ensures.fewer
+    (c.in_ok-bench.ensures.bench p c.loop.invariant.made) (c.in_ok-bench.ensures.idle p c.loop.invariant.made)
+    c.in_ok-bench.ensures.fewer
     (c.in_ok-bench.ensures.others p c.loop.invariant.made) in
     subst (λ (n : ℕ). AreSome p c.push.new.self.items left (c.loop.counter + 1) (c.loop.cells + n)) (sym c.cells-cells.ensures)
     (subst (λ (benches : List BenchOf). AreSome p benches left (c.loop.counter + 1) (c.loop.cells + held_cells b)) (sym items) more)
