@@ -1,5 +1,5 @@
 // The members of a body beside its process.
-ghost use Rattle.std.specs.Prelude.{IfOk, IfSome};
+ghost use Rattle.std.specs.Prelude.{IfOk, IfSome, IsErrOf};
 ghost use Rattle.std.specs.Option.{option_map};
 ghost use Rattle.serde_json.specs.View.{view};
 ghost use Rattle.oe_jobs.specs.Valid.{AreWords};
@@ -66,7 +66,9 @@ pub fn words_in(alloc: Global, member: Option<&Value>) -> Result<Option<Option<T
 ///
 /// Refuses: `JobFieldInvalid` where it is anything else.
 pub fn level_in(member: Option<&Value>) -> Result<Option<Level>, Refusal>
-    ensures { Gives (λ l. l) result (spec.level_in (option_map (λ v. view v.now) member.entry)) }
+    ensures level { Gives (λ l. l) result
+        (spec.level_in (option_map (λ v. view v.now) member.entry)) }
+    ensures memory { ¬ IsErrOf result Refusal.OutOfMemory }
 {
     match member {
         None => Ok(None),
@@ -77,7 +79,8 @@ pub fn level_in(member: Option<&Value>) -> Result<Option<Level>, Refusal>
 }
 
 fn level_of(text: &str) -> Result<Option<Level>, Refusal>
-    ensures { Gives (λ l. l) result (spec.level_of text.now) }
+    ensures level { Gives (λ l. l) result (spec.level_of text.now) }
+    ensures memory { ¬ IsErrOf result Refusal.OutOfMemory }
 {
     match text {
         "error" => Ok(Some(Level::Error)),

@@ -1,5 +1,5 @@
 // What the bodies of requests ask for.
-ghost use Rattle.std.specs.Prelude.{IfOk, IfSome};
+ghost use Rattle.std.specs.Prelude.{IfOk, IfSome, IsErrOf};
 ghost use Rattle.std.specs.Option.{option_map};
 ghost use Rattle.serde_json.specs.View.{view};
 ghost use Rattle.oe_jobs.specs.Valid.{IsProcessText};
@@ -102,10 +102,13 @@ pub fn job_changes(
     Ok(Changes { fields, process })
 }
 
-/// A value that is there and is an object.
+/// A value that is there and is an object. Takes no memory.
+///
+/// Refuses: `BodyInvalid` where it is none.
 pub fn object_in(value: Option<&Value>) -> Result<&Value, Rejection>
-    ensures { Settles (λ v. view v.now) result
+    ensures object { Settles (λ v. view v.now) result
         (spec.object_in (option_map (λ v. view v.now) value.entry)) }
+    ensures memory { ¬ IsErrOf result Rejection.OutOfMemory }
 {
     match value {
         Some(value) if value.is_object() => Ok(value),
@@ -113,10 +116,13 @@ pub fn object_in(value: Option<&Value>) -> Result<&Value, Rejection>
     }
 }
 
-/// A value that is an object where it is there.
+/// A value that is an object where it is there. Takes no memory.
+///
+/// Refuses: `BodyInvalid` where it is there and is none.
 pub fn object_where(value: Option<&Value>) -> Result<Option<&Value>, Rejection>
-    ensures { Settles (λ v. option_map (λ w. view w.now) v) result
+    ensures object { Settles (λ v. option_map (λ w. view w.now) v) result
         (spec.object_where (option_map (λ v. view v.now) value.entry)) }
+    ensures memory { ¬ IsErrOf result Rejection.OutOfMemory }
 {
     match value {
         None => Ok(None),

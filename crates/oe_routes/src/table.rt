@@ -1,5 +1,5 @@
 // The one table of routes, and the route of a path.
-ghost use Rattle.std.specs.Prelude.{◌≡◌, [], IfOk, OnOk, map, slice_get, true};
+ghost use Rattle.std.specs.Prelude.{◌≡◌, [], IfOk, IsErrOf, OnOk, map, slice_get, true};
 ghost use Rattle.std.specs.Option.{option_map};
 ghost use Rattle.matchit.specs.Route.{parse_route};
 ghost use Rattle.matchit.specs.Seek.{first};
@@ -199,8 +199,9 @@ fn add_route(router: &mut Router<usize>, text: &str, number: usize) -> Result<()
 ///
 /// Refuses: `MethodUnsupported` where the route has no such method.
 pub fn find_method<'a>(methods: &'a [MethodEntry], method: &str) -> Result<&'a MethodEntry, Refusal>
-    ensures { Gives (λ r. spec.method_of r.now) result
+    ensures row { Gives (λ r. spec.method_of r.now) result
         (spec.find_method (map spec.method_of methods.now) method.now) }
+    ensures memory { ¬ IsErrOf result Refusal.OutOfMemory }
 {
     for entry in methods {
         if has_name(entry, method) {

@@ -10,6 +10,6 @@ returns-clause-valid c = λ sent. (
   subst AreWords (sym c.unwrap_or.ensures) (words_of c.in_ok-fields.fields.title c.in_ok-fields.ensures.short.0),
   subst AreWords (sym c.unwrap_or-2.ensures) (words_of c.in_ok-fields.fields.description c.in_ok-fields.ensures.short.1),
   c.in_ok-process-2.ensures.valid
-      (process_is _ c.args.fault (view c.in_ok-body.body.now) (view c.in_ok-process.process.now) sent c.in_ok-body.ensures
-      (ap object_in (sym c.get.ensures) ∙ c.in_ok-process.ensures) c.in_ok-faultless.ensures),
+      (process_is _ c.args.fault (view c.in_ok-body.body.now) (view c.in_ok-process.process.now) sent c.in_ok-body.ensures.object
+      (ap object_in (sym c.get.ensures) ∙ c.in_ok-process.ensures.object) c.in_ok-faultless.ensures),
 )

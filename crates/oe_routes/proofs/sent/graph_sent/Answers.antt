@@ -22,7 +22,7 @@ returns-in_err-sent-clause-answer c = λ f is.
     handed_on plain_graph c.from_residual-in_err-sent.result c.in_err-sent.field-0.0 (graph_sent f body)
     c.from_residual-in_err-sent.ensures.1
     (no_object_sent f is body (option_map (λ (v : Bor Value). view v.now) c.as_ref.result) c.in_err-sent.field-0.0
-    (subst (IsJson body) same c.in_ok-json.ensures) c.in_err-sent.ensures)
+    (subst (IsJson body) same c.in_ok-json.ensures) c.in_err-sent.ensures.object)
 
 pub returns-in_err-process-clause-answer : goal.returns-in_err-process-clause-answer
 returns-in_err-process-clause-answer c = λ f is.
@@ -31,8 +31,8 @@ returns-in_err-process-clause-answer c = λ f is.
     handed_on plain_graph c.from_residual-in_err-process.result c.in_err-process.field-0.0 (graph_sent f body)
     c.from_residual-in_err-process.ensures.1
     (no_process_sent f is body (option_map (λ (v : Bor Value). view v.now) c.as_ref.result) (view c.in_ok-sent.sent.now)
-    c.in_err-process.field-0.0 (subst (IsJson body) same c.in_ok-json.ensures) c.in_ok-sent.ensures
-    (subst (λ o. Rejects c.in_err-process.field-0.0 (object_in o)) c.get.ensures c.in_err-process.ensures))
+    c.in_err-process.field-0.0 (subst (IsJson body) same c.in_ok-json.ensures) c.in_ok-sent.ensures.object
+    (subst (λ o. Rejects c.in_err-process.field-0.0 (object_in o)) c.get.ensures c.in_err-process.ensures.object))
 
 pub returns-clause-valid : goal.returns-clause-valid
 returns-clause-valid c =
@@ -41,6 +41,6 @@ returns-clause-valid c =
     once_met (is_as_read (view c.in_ok-process.process.now) ≡ true) (λ (graph : Graph). IsValidGraph (plain_graph graph))
     c.graph_of.result
     (process_as_read body (option_map (λ (v : Bor Value). view v.now) c.as_ref.result) (view c.in_ok-sent.sent.now)
-    (view c.in_ok-process.process.now) (subst (IsJson body) same c.in_ok-json.ensures) c.in_ok-sent.ensures
-    (ap object_in (sym c.get.ensures) ∙ c.in_ok-process.ensures))
+    (view c.in_ok-process.process.now) (subst (IsJson body) same c.in_ok-json.ensures) c.in_ok-sent.ensures.object
+    (ap object_in (sym c.get.ensures) ∙ c.in_ok-process.ensures.object))
     c.graph_of.ensures.valid

@@ -18,7 +18,7 @@ returns-in_err-sent-clause-answer c = λ fault least.
     let same = same_view c.as_ref.result c.args.json c.as_ref.ensures.value in
     let e = c.in_err-sent.field-0.0 in
     handed_on plain_stored c.from_residual.result e (process_from id json fault) c.from_residual.ensures.1
-    (no_object id json fault e (subst (λ (o : Option Data). Rejects e (object_in o)) (sym same) c.in_err-sent.ensures))
+    (no_object id json fault e (subst (λ (o : Option Data). Rejects e (object_in o)) (sym same) c.in_err-sent.ensures.object))
 
 pub returns-in_err-process-clause-answer : goal.returns-in_err-process-clause-answer
 returns-in_err-process-clause-answer c = λ fault least.
@@ -29,7 +29,7 @@ returns-in_err-process-clause-answer c = λ fault least.
     handed_on plain_stored c.from_residual-in_err-process.result (rejection_of_graph c.in_err-process.field-0.0)
     (process_from id json fault) c.from_residual-in_err-process.ensures.1
     (process_refused id body json (view c.in_ok-sent.sent.now) fault c.in_err-process.field-0.0
-    (ap object_in same ∙ c.in_ok-sent.ensures) least c.in_err-process.ensures.refused)
+    (ap object_in same ∙ c.in_ok-sent.ensures.object) least c.in_err-process.ensures.refused)
 
 pub returns-in_err-whole-clause-answer : goal.returns-in_err-whole-clause-answer
 returns-in_err-whole-clause-answer c = λ fault least.
@@ -40,12 +40,12 @@ returns-in_err-whole-clause-answer c = λ fault least.
     let e = c.in_err-whole.field-0.0 in
     handed_on plain_stored c.from_residual-in_err-whole.result e (process_from id json fault) c.from_residual-in_err-whole.ensures.1
     (not_whole id body json (view c.in_ok-sent.sent.now) (plain_stored c.in_ok-process.process) fault e
-    (ap object_in same ∙ c.in_ok-sent.ensures) least c.in_ok-process.ensures.process c.in_err-whole.ensures)
+    (ap object_in same ∙ c.in_ok-sent.ensures.object) least c.in_ok-process.ensures.process c.in_err-whole.ensures)
 
 pub returns-clause-valid : goal.returns-clause-valid
 returns-clause-valid c =
     let json = option_map view c.args.json in
     let same = same_view c.as_ref.result c.args.json c.as_ref.ensures.value in
     stored_sent c.id_leaves_faults.ensures c.args.id.now c.args.body.now c.in_ok-text.text (plain_stored c.in_ok-process.process)
-    json (view c.in_ok-sent.sent.now) c.requires (ap object_in same ∙ c.in_ok-sent.ensures) c.in_ok-process.ensures.process
+    json (view c.in_ok-sent.sent.now) c.requires (ap object_in same ∙ c.in_ok-sent.ensures.object) c.in_ok-process.ensures.process
     c.in_ok-text.ensures.reads c.in_ok-text.ensures.short
