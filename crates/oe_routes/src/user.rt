@@ -1,5 +1,5 @@
 // The user of a request.
-ghost use Rattle.std.specs.Prelude.{◌≡◌};
+ghost use Rattle.std.specs.Prelude.{◌≡◌, IsErrOf};
 ghost use Rattle.std.specs.Option.{option_map};
 ghost use Rattle.oe_routes.specs.Steps.{Gives};
 ghost use Rattle.oe_routes.specs.Tokens as tokens;
@@ -19,8 +19,9 @@ pub fn user_of<'a>(
     needs_user: bool,
     authorization: Option<&str>,
 ) -> Result<Option<&'a Text>, Refusal>
-    ensures { Gives (λ u. option_map (λ t. t.now) u) result
+    ensures user { Gives (λ u. option_map (λ t. t.now) u) result
         (spec.user_of entries.now needs_user (option_map (λ v. v.now) authorization.entry)) }
+    ensures memory { ¬ IsErrOf result Refusal.OutOfMemory }
 {
     if !needs_user {
         return Ok(None);
@@ -36,8 +37,9 @@ pub fn user_of<'a>(
 
 /// The user of a token.
 fn user_with<'a>(entries: &'a [(Text, Text)], token: &[u8]) -> Result<Option<&'a Text>, Refusal>
-    ensures { Gives (λ u. option_map (λ t. t.now) u) result
+    ensures user { Gives (λ u. option_map (λ t. t.now) u) result
         (spec.user_with entries.now token.now) }
+    ensures memory { ¬ IsErrOf result Refusal.OutOfMemory }
 {
     for entry in entries {
         if has_token(entry, token) {

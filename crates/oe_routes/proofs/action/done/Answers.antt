@@ -17,7 +17,7 @@ returns-clause-answer c = λ f is.
     let method = method_of c.in_ok-method.method.now in
     done_by (plain_scene c.args.scene) f r method c.entries.result.now (option_map (λ (v : Bor (List ℕ)). v.now) c.value_of.result)
     (option_map (λ (t : Bor Text). t.now) c.in_ok-user.user) c.in_ok-user-2.user c.perform.result c.in_ok-method.ensures
-    c.entries.ensures c.value_of.ensures c.in_ok-user.ensures c.in_ok-user-2.ensures
+    c.entries.ensures c.value_of.ensures c.in_ok-user.ensures.user c.in_ok-user-2.ensures
     (c.perform.ensures.answer f
     (subst (λ (b : Bool). IsFoundFor (plain_rows c.args.scene.dims.now) b f) (sym (asks_is r method c.in_ok-method.ensures)) is))
 
