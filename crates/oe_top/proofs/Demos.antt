@@ -16,7 +16,7 @@ use Rattle.oe_dims.proofs.CubeLemmas.{position_there}
 use Rattle.oe_steps.specs.Collections.{AreRead, LoadRose, without_counts}
 use Rattle.oe_engine.specs.Laws.{GivesCollections, LoadsVisible}
 use Rattle.oe_steps.specs.Refusals.{KeepsDamage}
-use Rattle.oe_engine.specs.Runs.{HasDone, HasRunRecords, IsHiddenDamage, RunOf, ShowsDone, chunk_total, chunks_from, result_cube, result_shape}
+use Rattle.oe_engine.specs.Runs.{HasDone, HasRunRecords, RunOf, ShowsDone, chunk_total, chunks_from, result_cube, result_shape}
 use Rattle.oe_engine.specs.Results.{IsVisible, result_of}
 use Rattle.oe_engine.specs.Evaluations.{Evaluates, IsPlanOf}
 use Rattle.oe_steps.specs.declared.fail.RunFail.{RunFail}
@@ -30,6 +30,7 @@ use Rattle.oe_outside.proofs.Stores.{HoldsAt-inside}
 use Rattle.oe_plan.specs.Figures.{bound_of, most_held_cells}
 use Rattle.oe_plan.specs.Plans.{IsPlan, PlanOf}
 use Rattle.oe_window.specs.declared.grid.ChunkSize.{ChunkSize}
+use Rattle.oe_render.specs.Rendered.{IsRefusalWithin}
 use Rattle.oe_render.specs.declared.rendering.RenderFail.{RenderFail}
 use Rattle.oe_render.specs.declared.rendering.RenderFail.TheVariants as text
 use Rattle.oe_check.specs.Checked.{CheckedGraph}
@@ -53,7 +54,7 @@ use Rattle.oe_top.specs.declared.judge.InputRefusal.TheVariants.{Graph}
 use Rattle.oe_top.specs.Objects.{Objects, objects}
 use Rattle.oe_top.specs.declared.demo.DemoRefusal.TheVariants.{TooLarge, Stopped}
 use Rattle.oe_top.specs.declared.evaluation.EvaluationFail.{EvaluationFail}
-use Rattle.oe_top.specs.declared.evaluation.EvaluationFail.TheVariants.{Overflow, WriteFault, SpoolDamaged}
+use Rattle.oe_top.specs.declared.evaluation.EvaluationFail.TheVariants.{WriteFault}
 use Rattle.oe_top.proofs.DemoCubes.{demo_valid}
 use Rattle.oe_engine.proofs.RunResults.{hidden, of_meaning, over_is}
 use Rattle.oe_engine.proofs.GridLemmas.{has_sides}
@@ -306,18 +307,19 @@ module _ (r after : RunOf) (rows rows_after : List Row) (store store_after : Opt
             })
 
     module _ (c : Evaluates r after rows rows_after store store_after faults faults_after (Ok tt)) where
-      pub unspooled : (store_last : Option (List ℕ)) (faults_last : ℕ) (fail : RenderFail) (stop : EvaluationFail) → stop ≡ fail_of_text fail
-          → HasCauseOf {T = Cell × Cell} text.SpoolFailed faults_after faults_last (Err fail) → IsHiddenDamage store_after fail
+      pub unspooled : (count : ℕ) → count ≡ cell_count (result_shape after.plan)
+          → (store_last : Option (List ℕ)) (faults_last : ℕ) (fail : RenderFail) (stop : EvaluationFail) → stop ≡ fail_of_text fail
+          → HasCauseOf {T = Cell × Cell} text.SpoolFailed faults_after faults_last (Err fail) → IsRefusalWithin store_after 0 count fail
           → fail ≢ text.SinkFailed
           → Demonstrates rows p.graph start (stopped_at store_last faults_last) (Err stop)
-      unspooled store_last faults_last fail stop same cause damage other = record {
+      unspooled count count_is store_last faults_last fail stop same cause damage other = record {
         ends = by fail same cause damage other;
         out_count = NeverFalls-refl out_faults;
         spool_count = NeverFalls-trans c.through.spool_cause.count cause.count;
       }
         where
           by : (fail : RenderFail) → stop ≡ fail_of_text fail
-              → HasCauseOf {T = Cell × Cell} text.SpoolFailed faults_after faults_last (Err fail) → IsHiddenDamage store_after fail
+              → HasCauseOf {T = Cell × Cell} text.SpoolFailed faults_after faults_last (Err fail) → IsRefusalWithin store_after 0 count fail
               → fail ≢ text.SinkFailed → FiguresEnd rows p.graph start (stopped_at store_last faults_last) (Err stop)
           by text.SpoolFailed same cause damage other =
               subst (λ (e : EvaluationFail). FiguresEnd rows p.graph start (stopped_at store_last faults_last) (Err e)) (sym same)
@@ -328,7 +330,9 @@ module _ (r after : RunOf) (rows rows_after : List Row) (store store_after : Opt
           by (text.SpoolDamaged number) same cause damage other =
               subst (λ (e : EvaluationFail). FiguresEnd rows p.graph start (stopped_at store_last faults_last) (Err e)) (sym same)
               (record {
-                hidden = hidden r after rows rows_after store store_after given rows_are is c.through.goes damage;
+                within = subst (λ (q : PlanOf). number < cell_count (result_shape q)) c.through.goes.plan
+                    (subst (λ n. number < n) count_is damage.2);
+                hidden = hidden r after rows rows_after store store_after given rows_are is c.through.goes damage.0;
                 unwritten = record { out = refl; faults = refl };
               })
           by text.SinkFailed same cause damage other = absurd (other refl)

@@ -1,5 +1,5 @@
 -- An input that was read up to the limit.
-use Rattle.std.proofs.Common.{◌≡◌, ℕ, zero, suc, ◌<◌, ◌≤◌, ◌⊎◌, inl, inr, List, [], length, Option, Some, None, IfSome, sym, arith}
+use Rattle.std.proofs.Common.{◌≡◌, ℕ, zero, suc, ◌<◌, ◌≤◌, ◌⊎◌, inl, inr, List, length, Option, Some, None, IfSome, sym, arith}
 use Rattle.oe_graph.specs.Form.{most_input}
 use Rattle.oe_outside.specs.Input.{ReadsUpTo}
 use Rattle.oe_outside.proofs.Runs.{same_whole}

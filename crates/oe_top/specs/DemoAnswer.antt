@@ -1,9 +1,10 @@
 -- How the command `demo` ends: the table of its statuses, one case a row.
 use Rattle.std.specs.Prelude.{◌≡◌, ◌<◌, ◌≤◌, ℕ, List, None, Result, Ok, Err}
 use Rattle.oe_engine.specs.Results.{IsOverFirst, IsVisible, IsWithoutOver, result_of}
+use Rattle.oe_dims.specs.Dimensions.{cell_count}
 use Rattle.oe_outside.specs.Faults.{NeverFalls, Rose}
 use Rattle.oe_outside.specs.Visible.{Appends, AppendsPrefix}
-use Rattle.oe_plan.specs.Figures.{bound_of, most_held_cells}
+use Rattle.oe_plan.specs.Figures.{bound_of, most_held_cells, shape_of_node}
 use Rattle.oe_check.specs.Checked.{CheckedGraph}
 use Rattle.oe_sources.specs.Catalogue.{Row, demonstration}
 use Rattle.oe_sources.specs.CatalogueDims.{dims_of}
@@ -47,8 +48,10 @@ module _ (rows : List Row) (c : CheckedGraph) (before after : Objects) where
     pub rose : Rose before.out_faults after.out_faults
     pub prefix : IsVisible before.spool → AppendsPrefix before.out (demo_text (result_of rows c)) after.out
 
-  -- 15: what was read back from the spool is no record of a number, which never comes of one whose bytes are visible
-  pub record MeetsNoRecord : Type 0 where
+  -- 15: what was read back from the spool for this cell of the result is no record of a number, which never comes of a
+  -- spool whose bytes are visible
+  pub record MeetsNoRecord (number : ℕ) : Type 0 where
+    pub within : number < cell_count (shape_of_node c c.result)
     pub hidden : before.spool ≡ None
     pub unwritten : IsUnwritten before after
 
@@ -60,7 +63,7 @@ module _ (rows : List Row) (c : CheckedGraph) (before after : Objects) where
   FiguresEnd (Err (Damaged id number)) = ⊥
   FiguresEnd (Err SpoolFault) = StopsSpooling
   FiguresEnd (Err WriteFault) = StopsFigures
-  FiguresEnd (Err (SpoolDamaged number)) = MeetsNoRecord
+  FiguresEnd (Err (SpoolDamaged number)) = MeetsNoRecord number
 
   -- and no fault counter falls
   pub record Demonstrates (ending : Result (Unit {0}) EvaluationFail) : Type 0 where

@@ -7,9 +7,9 @@ ghost use Rattle.oe_cell.specs.declared.cell.Cell.{Cell};
 ghost use Rattle.oe_cell.specs.declared.cell.Cell.TheVariants.{Over};
 ghost use Rattle.oe_dims.specs.Dimensions.{most_cells};
 ghost use Rattle.oe_engine.specs.Laws.{GivesCollections, IsCheckedOver};
-ghost use Rattle.oe_engine.specs.Runs.{IsHiddenDamage, chunk_total};
+ghost use Rattle.oe_engine.specs.Runs.{chunk_total};
 ghost use Rattle.oe_plan.specs.Ranges.{IsWithinRanges};
-ghost use Rattle.oe_render.specs.Rendered.{HasSpoolCause};
+ghost use Rattle.oe_render.specs.Rendered.{HasSpoolCause, IsRefusalWithin};
 ghost use Rattle.oe_sources.specs.CatalogueDims.{AreDimsOf, dims_of};
 ghost use Rattle.oe_sources.specs.CatalogueRows.{rows_of};
 ghost use Rattle.oe_top.specs.DemoAnswer.{DemoAnswers, Demonstrates, IsDemonstration};
@@ -202,7 +202,7 @@ fn read_ends<P: Store>(spool: &mut P, count: u64) -> Result<(Cell, Cell), Render
     ensures first { IfOk result (λ ends. IsSpooled (P.bytes spool.old) count 0 ends.0) }
     ensures last { IfOk result (λ ends. IsSpooled (P.bytes spool.old) count (count - 1) ends.1) }
     ensures cause { HasSpoolCause P.faults spool.old spool.new result }
-    ensures damage { IfErr result (IsHiddenDamage (P.bytes spool.old)) }
+    ensures damage { IfErr result (IsRefusalWithin (P.bytes spool.old) 0 count) }
     ensures only { IfErr result (λ e. e ≢ RenderFail.SinkFailed) }
     ensures same { P.bytes spool.new ≡ P.bytes spool.old }
 {
@@ -214,13 +214,13 @@ fn read_ends<P: Store>(spool: &mut P, count: u64) -> Result<(Cell, Cell), Render
 /// The cell of a number among so many whose records stand in the spool, null where there are not so many.
 ///
 /// Refuses: `SpoolFailed` only where the fault counter of the spool rose; `SpoolDamaged` only where what was read is no
-/// record, or that of `Over`, and so never of a spool whose bytes are visible.
+/// record, or that of `Over`, and so never of a spool whose bytes are visible, nor at a number that no cell has.
 fn cell_at<P: Store>(spool: &mut P, count: u64, number: u64) -> Result<Cell, RenderFail>
     requires few { count ≤ most_cells }
     requires stored { HasSpooled (P.bytes spool.old) count number }
     ensures cell { IfOk result (IsSpooled (P.bytes spool.old) count number) }
     ensures cause { HasSpoolCause P.faults spool.old spool.new result }
-    ensures damage { IfErr result (IsHiddenDamage (P.bytes spool.old)) }
+    ensures damage { IfErr result (IsRefusalWithin (P.bytes spool.old) number count) }
     ensures only { IfErr result (λ e. e ≢ RenderFail.SinkFailed) }
     ensures same { P.bytes spool.new ≡ P.bytes spool.old }
 {

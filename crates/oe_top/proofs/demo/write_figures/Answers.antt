@@ -92,6 +92,7 @@ returns g c = λ input input_faults lent.
     (g.P.Store.faults c.args.spool.now) (g.P.Store.faults c.complete.new.spool)
     c.requires.demonstration c.requires.collections.given c.requires.collections.rows_are c.requires.begun.planned
     input input_faults (g.O.Sink.written c.args.out.now) (g.O.Sink.faults c.args.out.now) lent
-    c.in_default.ensures (g.P.Store.bytes c.read_ends.new.spool) (g.P.Store.faults c.read_ends.new.spool)
+    c.in_default.ensures c.cells-count.result (c.cells-count.ensures.value ∙ ap cell_count c.shape.ensures)
+    (g.P.Store.bytes c.read_ends.new.spool) (g.P.Store.faults c.read_ends.new.spool)
     c.in-Err-read_ends.fail c.fail_of_text.result c.fail_of_text.ensures c.in-Err-read_ends.ensures.cause
     c.in-Err-read_ends.ensures.damage c.in-Err-read_ends.ensures.only
