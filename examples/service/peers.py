@@ -102,6 +102,15 @@ def long_body(s):
     return code_in(reply)
 
 
+def long_body_first(s):
+    """Twelve megabytes, which are sent piece by piece before a byte is read."""
+    send_all(s, b"POST /result HTTP/1.1\r\n" + HEAD + b"Content-Length: 12000000\r\n\r\n")
+    for _ in range(120):
+        send_all(s, b"x" * 100000)
+        time.sleep(0.01)
+    return code_in(received(s))
+
+
 def send_all(s, data):
     try:
         s.sendall(data)
@@ -176,6 +185,7 @@ PEERS = [
     (other_protocol, ("431", "HeadTooLong"), SLACK, None),
     (long_head, ("431", "HeadTooLong"), SLACK, None),
     (long_body, ("413", "BodyTooLong"), SLACK, None),
+    (long_body_first, ("413", "BodyTooLong"), SLACK, None),
     (pipelined, (1, "200"), SLACK, None),
     (reset_in_the_reply, b"200", SLACK, 4096),
     (half_a_head, b"", PATIENCE + SLACK, None),
@@ -258,7 +268,7 @@ def main():
             playing.join(0 if peer is dripping else 10)
             print(f"{peer.__name__}: the next is answered after {took:.1f} s", flush=True)
             s.close()
-            if reply == whole and took <= longest and (not seen or seen[0] == wanted):
+            if reply == whole and took <= longest and (seen == [wanted] or wanted == "" and not seen):
                 good += 1
             else:
                 bad += 1
