@@ -68,9 +68,10 @@ impl<N: Network> TcpDoor<N> {
         self.listener.is_some()
     }
 
-    /// The next connection, once its first byte has come: what is answered at the moment of the answer should not be
-    /// older than that. `Nobody` where the caller is busy and none waits, and `Failed` where the port fails. A peer that
-    /// is gone before its first byte is passed over. While connections linger they are looked at in between.
+    /// The next connection, once its first byte has come, its peer has ended what it sends, or its time is over: what is
+    /// answered at the moment of the answer should not be older than that. `Nobody` where the caller is busy and none
+    /// waits, and `Failed` where the port fails. A peer that has reset its connection before that is passed over. While
+    /// connections linger, a caller that is not busy looks at them between one attempt and the next.
     fn take(&mut self, busy: bool) -> Next<TcpLink<N>>
         ensures nobody { IsNobody result → IsTrue busy }
         ensures fresh { IfConn result (λ link. link.faults ≡ 0) }
@@ -122,16 +123,25 @@ impl<N: Network> TcpDoor<N> {
         None
     }
 
-    /// Waits a moment at the connection that lingers last, and lets those go that are over.
+    /// Waits a moment at the connection that lingers last, which goes where it can't be waited at, and lets those go that
+    /// are over.
     fn linger(&mut self)
         ensures faults { self.new.faults ≡ self.old.faults }
         ensures dial_faults { self.new.dial_faults ≡ self.old.dial_faults }
         ensures link_faults { self.new.link_faults ≡ self.old.link_faults }
     {
-        if let Some(lingering) = self.lingering.last() {
-            lingering.pause();
+        if !self.pause() {
+            let _ = self.lingering.pop();
         }
         self.sweep();
+    }
+
+    /// Waits a moment at the connection that lingers last. `false` where that can't be.
+    fn pause(&self) -> bool {
+        match self.lingering.last() {
+            Some(lingering) => lingering.pause(),
+            None => true,
+        }
     }
 
     /// Lets those go whose peers have closed, or whose time is over.

@@ -5,7 +5,7 @@ use std::io::{ErrorKind, Read};
 use std::net::{OpenStream, Shutdown};
 use std::time::{Clock, Duration};
 
-/// How long a connection lingers at most, in seconds.
+/// After how many seconds a connection that lingers goes when it is next looked at.
 const LONGEST: u64 = 2;
 
 /// How long one that lingers is waited for at once, in milliseconds, before the next connection is asked for again.
@@ -34,16 +34,17 @@ impl<S: Read + OpenStream> Lingering<S> {
         Some(Lingering { stream, until })
     }
 
-    /// Waits for a moment until a read would not, and takes no byte. Where waiting fails there is none.
-    pub(crate) fn pause(&self) {
+    /// Waits until a read would not, but only for a moment, and takes no byte. `false` where the system refuses that, or
+    /// where no read can be had afterwards that does not wait.
+    pub(crate) fn pause(&self) -> bool {
         let mut first = [0; 1];
         let limit = Some(Duration::from_millis(PAUSE));
-        if self.stream.set_nonblocking(false).is_ok()
-            && self.stream.set_read_timeout(limit).is_ok()
-        {
+        let waits = self.stream.set_nonblocking(false).is_ok()
+            && self.stream.set_read_timeout(limit).is_ok();
+        if waits {
             let _ = self.stream.peek(&mut first);
         }
-        let _ = self.stream.set_nonblocking(true);
+        self.stream.set_nonblocking(true).is_ok() && waits
     }
 
     /// Reads away what has come, without waiting, and answers whether more may come: `false` where the peer has closed,
