@@ -13,7 +13,7 @@ pub record IsMosaicBy {S : Type 0} (id : List ℕ) (mosaic : MosaicState S) : Ty
   pub names_are : names_in text ≡ Ok (id ∷ files)
   pub each_part : length mosaic.parts ≡ length files
 
--- a cube goes by the id of its own file, and a mosaic by that of its text
+-- a cube goes by the id of its own file, and a mosaic by that of a text of a mosaic: which one it was read from is hidden
 abbrev pub GoesBy : List ℕ → CubeOrMosaic FileState → Type 0
 GoesBy id (Cube cube) = id ≡ cube.id
 GoesBy id (Mosaic mosaic) = IsMosaicBy id mosaic

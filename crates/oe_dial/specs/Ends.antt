@@ -131,7 +131,7 @@ module _ {C : Type 0} (views : Views C) (before after : Lent C) where
     pub prefix : IsErrOf result fail.LinkFailed → AppendsPrefix (views.written conn) request (views.written back)
     pub calls : Calls (ends (views.left conn) (views.faults conn) before.out before.out_faults)
         (ends (views.left back) (views.faults back) after.out after.out_faults) result
-    -- of what the peer sent at most one head and one body were read
+    -- of what the peer sent no more bytes were read than the longest head and the longest body have together
     pub taken : TakesAtMost (views.left conn) (most_head + most_response_body) (views.left back)
     pub counts : CountsLink (views.faults back) before.link_faults after.link_faults
 
