@@ -2,6 +2,7 @@
 ghost use Rattle.std.specs.Prelude.{◌≤◌, IfOk};
 ghost use Rattle.oe_plan.specs.Ranges.{IsWithinRanges};
 
+use crate::clock::StepClock;
 use crate::gate::CountGate;
 use crate::links::door_of;
 use crate::scripts::Script;
@@ -9,7 +10,7 @@ use crate::spell::{ending_word, spell_count, spell_jobs, spell_links};
 use oe_jobs::Book;
 use oe_keeper::MemoryKeeper;
 use oe_lines::{Answers, Fault, end_line, number_of, push, words_of};
-use oe_outside::{FixedClock, MemoryStore, ScriptDoor};
+use oe_outside::{MemoryStore, ScriptDoor};
 use oe_routes::Site;
 use oe_serve::{ServeCommand, ServeFail, Setup, serve};
 use oe_sources::Catalogue;
@@ -18,17 +19,12 @@ use std::alloc::Global;
 use std::mem;
 use std::thread::Threads;
 
-/// The first and the last moment that a clock gives.
-const FIRST: i64 = -62135596800;
-
-const LAST: i64 = 253402300799;
-
 /// What is outside of a life.
 struct Objects {
     keeper: MemoryKeeper,
     spool: MemoryStore,
     door: ScriptDoor,
-    clock: FixedClock,
+    clock: StepClock,
 }
 
 /// Written out, so that objects that end are one call wherever they do.
@@ -90,7 +86,7 @@ fn objects_of(alloc: Global, script: &mut Script) -> Result<Objects, Fault> {
         keeper: next_keeper(alloc, script)?,
         spool: spool_of(alloc, script)?,
         door,
-        clock: clock_at(script.now)?,
+        clock: StepClock::new(script.now, script.step),
     })
 }
 
@@ -104,13 +100,6 @@ fn next_keeper(alloc: Global, script: &mut Script) -> Result<MemoryKeeper, Fault
 fn spool_of(alloc: Global, script: &Script) -> Result<MemoryStore, Fault> {
     let calls = script.spool_calls.to_vec(alloc)?;
     Ok(MemoryStore::new(Vec::new(alloc), script.room, calls)?)
-}
-
-fn clock_at(now: i64) -> Result<FixedClock, Fault> {
-    if now < FIRST || now > LAST {
-        return Err(Fault::Line);
-    }
-    Ok(FixedClock::new(now))
 }
 
 /// Serves, and answers how that ended.

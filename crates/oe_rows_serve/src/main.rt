@@ -13,7 +13,7 @@
 //! | `cube ID CALLS TEXT` | mounts the collection of this cube text, whose reads of these numbers fail |
 //! | `file ID DIGITS` | mounts the collection of a cube file of these bytes |
 //! | `gone ID` | takes out the collection of this id, which no later life has |
-//! | `now SECONDS` | sets the clock, which stands at 0 without this line |
+//! | `now SECONDS`, `now SECONDS STEP` | sets the clock, which stands at 0 without this line; each time that it is asked it goes on by the step |
 //! | `spool ROOM CALLS`, `door CALLS` | of each later life the spool has this room, 65536 without this line, and these calls fail |
 //! | `gate` | tells of each later life how many chunks of runs were evaluated, where some were |
 //! | `keeper CALLS`, `keeper CALLS N kept`, `keeper CALLS N lost` | of each later life these calls of the keeper fail, and it stops in the call N, where it keeps or loses what is committed |
@@ -105,6 +105,7 @@
 mod adapters;
 mod asked;
 mod called;
+mod clock;
 mod codes;
 mod connections;
 mod cubes;

@@ -10,12 +10,13 @@ use oe_sources::{Catalogue, MountFail, SharedSource};
 use std::alloc::Global;
 use std::thread::Threads;
 
-/// What the lines so far have set: the moment, which calls of the next life fail, the call in which its keeper stops and
-/// whether it keeps what that call commits, whether the chunks of its runs are told, and the lines of its connections; and
-/// a keeper of the book that the last life left.
+/// What the lines so far have set: the moment and the seconds to the next, which calls of the next life fail, the call in
+/// which its keeper stops and whether it keeps what that call commits, whether the chunks of its runs are told, and the
+/// lines of its connections; and a keeper of the book that the last life left.
 pub(crate) struct Script {
     pub(crate) site: Site,
     pub(crate) now: i64,
+    pub(crate) step: i64,
     pub(crate) room: usize,
     pub(crate) spool_calls: Vec<u64>,
     pub(crate) keeper_calls: Vec<u64>,
@@ -32,6 +33,7 @@ impl Drop for Script {
         let Script {
             site: _,
             now: _,
+            step: _,
             room: _,
             spool_calls: _,
             keeper_calls: _,
@@ -120,6 +122,7 @@ fn empty_script(alloc: Global) -> Result<Script, Fault> {
     Ok(Script {
         site: site(alloc)?,
         now: 0,
+        step: 0,
         room: 65536,
         spool_calls: Vec::new(alloc),
         keeper_calls: Vec::new(alloc),
@@ -146,7 +149,10 @@ fn set(alloc: Global, line: &str, script: &mut Script) -> Result<(), Fault> {
     let (verb, rest) = first_word(line);
     let (first, behind) = first_word(rest);
     match verb {
-        "now" => script.now = number_of(first)?,
+        "now" => {
+            script.now = number_of(first)?;
+            script.step = step_of(behind)?;
+        }
         "spool" => {
             script.room = number_of(first)?;
             script.spool_calls = numbers_of(alloc, behind)?;
@@ -166,6 +172,14 @@ fn push_line(line: &str, lines: &mut String) -> Result<(), Fault> {
     lines.push_str(line)?;
     lines.push('\n')?;
     Ok(())
+}
+
+/// The seconds from one moment of the clock to the next.
+fn step_of(word: &str) -> Result<i64, Fault> {
+    if word.is_empty() {
+        return Ok(0);
+    }
+    number_of(word)
 }
 
 /// The call of a keeper in which it stops, and whether it keeps what that call commits.
