@@ -93,23 +93,23 @@ no_damage a b index reads widths known = visible (source_at a index).contents kn
     visible (Some c) k = k.undamaged
 
 -- what is left after a refusal before anything was written
-pub left_unwritten : (a b : List Row) (index : ℕ) → OnlyReads a index b → (id : List ℕ) (written : Option (List ℕ)) (fail : RepackFail) → fail ≢ SinkFailed → LeavesWritten id (source_at a index) written written fail
-left_unwritten a b index reads id written SourceFailed other = inl refl
-left_unwritten a b index reads id written (SourceDamaged number) other = same (source_at a index).contents
+pub left_unwritten : {O : Type 0} → (a b : List Row) (index : ℕ) → OnlyReads a index b → (written : O → Option (List ℕ)) (id : List ℕ) (out : O) (fail : RepackFail) → fail ≢ SinkFailed → LeavesWritten written id (source_at a index) out out fail
+left_unwritten a b index reads written id out SourceFailed other = inl refl
+left_unwritten a b index reads written id out (SourceDamaged number) other = same (source_at a index).contents
   where
-    same : (o : Option Contents) → IfSome o (λ c. written ≡ written)
+    same : (o : Option Contents) → IfSome o (λ c. out ≡ out)
     same None = tt
     same (Some c) = refl
-left_unwritten a b index reads id written SinkFailed other = absurd (other refl)
-left_unwritten a b index reads id written OutOfMemory other = refl
+left_unwritten a b index reads written id out SinkFailed other = absurd (other refl)
+left_unwritten a b index reads written id out OutOfMemory other = refl
 
 -- and after one in writing the records
-pub left_written : (a b : List Row) (index : ℕ) → OnlyReads a index b → (id : List ℕ) (widths : List Width) (before after : Option (List ℕ)) (fail : RepackFail) → fail ≢ OutOfMemory → IfSome (source_at a index).contents (λ c. AreWidthsOf (source_at a index).shape c widths) → TellsRepackDamage (source_at a index) fail → AppendsPartOfRepacked id (source_at a index) before after → LeavesWritten id (source_at a index) before after fail
-left_written a b index reads id widths before after SourceFailed other known told part = inr part
-left_written a b index reads id widths before after (SourceDamaged number) other known told part = visible (source_at a index).contents known told.damaged
+pub left_written : {O : Type 0} → (a b : List Row) (index : ℕ) → OnlyReads a index b → (written : O → Option (List ℕ)) (id : List ℕ) (widths : List Width) (before after : O) (fail : RepackFail) → fail ≢ OutOfMemory → IfSome (source_at a index).contents (λ c. AreWidthsOf (source_at a index).shape c widths) → TellsRepackDamage (source_at a index) fail → AppendsPartOfRepacked id (source_at a index) (written before) (written after) → LeavesWritten written id (source_at a index) before after fail
+left_written a b index reads written id widths before after SourceFailed other known told part = inr part
+left_written a b index reads written id widths before after (SourceDamaged number) other known told part = visible (source_at a index).contents known told.damaged
   where
     visible : (o : Option Contents) → IfSome o (λ c. AreWidthsOf (source_at a index).shape c widths) → IfSome o (λ c. Contains c.damaged number) → IfSome o (λ c. after ≡ before)
     visible None k t = tt
     visible (Some c) k t = absurd (k.undamaged number (omega arith) (omega (arith, told.inside)) t)
-left_written a b index reads id widths before after SinkFailed other known told part = part
-left_written a b index reads id widths before after OutOfMemory other known told part = absurd (other refl)
+left_written a b index reads written id widths before after SinkFailed other known told part = (no_damage a b index reads widths known, part)
+left_written a b index reads written id widths before after OutOfMemory other known told part = absurd (other refl)

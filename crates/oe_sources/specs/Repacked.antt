@@ -35,14 +35,6 @@ AppendsPartOfRepacked id source before after =
     IfSome source.contents (λ c. (bytes : List ℕ)
     × IsPacked id source.shape source.kind c.cells bytes × AppendsPrefix before bytes after)
 
--- what a refusal leaves: after a failed read nothing or a prefix of the file was written, after a failed write a
--- prefix; else nothing, where the cells are visible or memory was wanting
-abbrev pub LeavesWritten : List ℕ → Source → Option (List ℕ) → Option (List ℕ) → RepackFail → Type 0
-LeavesWritten id source before after SourceFailed = (after ≡ before) ⊎ AppendsPartOfRepacked id source before after
-LeavesWritten id source before after (SourceDamaged number) = IfSome source.contents (λ c. after ≡ before)
-LeavesWritten id source before after SinkFailed = AppendsPartOfRepacked id source before after
-LeavesWritten id source before after OutOfMemory = after ≡ before
-
 -- ---- sections
 
 -- the cells of a section of a source
@@ -100,12 +92,23 @@ AreUndamaged contents first count =
 abbrev pub IsUndamaged : Source → Type 0
 IsUndamaged source = IfSome source.contents (λ c. AreUndamaged c 0 (cell_count source.shape))
 
+-- What a refusal leaves of an output of type O: after a failed read nothing or a prefix of the file was written; after a
+-- failed write a prefix, of contents without damage. Of damage that is visible, and for want of memory, the output is as
+-- it was, its fault counter too.
+abbrev pub LeavesWritten : {O : Type 0} → (O → Option (List ℕ)) → List ℕ → Source → O → O → RepackFail → Type 0
+LeavesWritten written id source out out_after SourceFailed =
+    (written out_after ≡ written out) ⊎ AppendsPartOfRepacked id source (written out) (written out_after)
+LeavesWritten written id source out out_after (SourceDamaged number) = IfSome source.contents (λ c. out_after ≡ out)
+LeavesWritten written id source out out_after SinkFailed =
+    IsUndamaged source × AppendsPartOfRepacked id source (written out) (written out_after)
+LeavesWritten written id source out out_after OutOfMemory = out_after ≡ out
+
 -- a position of a source has this number, and where the contents are visible it is damaged
 pub record IsDamagedPosition (source : Source) (number : ℕ) : Type 0 where
   pub inside : number < cell_count source.shape
   pub damaged : IfSome source.contents (λ c. Contains c.damaged number)
 
--- what a refusal says of the contents: only a position that is damaged is named as such
+-- what a refusal says of the contents: it names a position, and where they are visible one that is damaged
 abbrev pub TellsRepackDamage : Source → RepackFail → Type 0
 TellsRepackDamage source SourceFailed = Unit {0}
 TellsRepackDamage source (SourceDamaged number) = IsDamagedPosition source number

@@ -51,9 +51,10 @@ impl From<OutOfMemory> for RepackFail {
 /// before each section that it reads, with the number of sections before that: twice as often as there are sections.
 ///
 /// Refuses: `SourceFailed` only where the collection's fault counter rose; then nothing or a prefix of the file was
-/// written. `SinkFailed` only where the output's fault counter rose; then a prefix was written. `SourceDamaged` only
-/// with the number of a position; where the contents are visible it is damaged, and nothing was written. `OutOfMemory`
-/// where an allocation was refused; then nothing was written.
+/// written. `SinkFailed` only where the output's fault counter rose; then a prefix was written, and where the contents
+/// are visible none of them is damaged. `SourceDamaged` only with the number of a position; where the contents are
+/// visible it is damaged, and the output is as it was. `OutOfMemory` where an allocation was refused; then the output
+/// is as it was.
 pub fn repack<O: Sink, G: Gate>(
     alloc: Global,
     catalogue: &mut Catalogue,
@@ -67,8 +68,8 @@ pub fn repack<O: Sink, G: Gate>(
     ensures written { OnOk result (AppendsRepacked id.now
         (source_at (rows_in seen catalogue.old) place) (O.written out.old) (O.written out.new)) }
     ensures undamaged { OnOk result (IsUndamaged (source_at (rows_in seen catalogue.old) place)) }
-    ensures left { IfErr result (LeavesWritten id.now (source_at (rows_in seen catalogue.old) place)
-        (O.written out.old) (O.written out.new)) }
+    ensures left { IfErr result (LeavesWritten O.written id.now
+        (source_at (rows_in seen catalogue.old) place) out.old out.new) }
     ensures damage { IfErr result (TellsDamageAt (rows_in seen catalogue.old) place) }
     ensures source { HasReadCauseIn seen catalogue.old place catalogue.new result }
     ensures sink { HasCauseOf RepackFail.SinkFailed (O.faults out.old) (O.faults out.new) result }

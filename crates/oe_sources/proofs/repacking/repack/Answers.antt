@@ -17,7 +17,7 @@ returns-in_err-buffer-clause-only g c = reads_nothing _ c.args.place
 
 pub returns-in-Err-clause-left : goal.returns-in-Err-clause-left
 returns-in-Err-clause-left g c =
-    left_unwritten _ _ c.args.place c.find_widths.ensures.only c.args.id.now (g.O.Sink.written c.args.out.now) c.in-Err.fail c.in-Err.ensures.refusal
+    left_unwritten _ _ c.args.place c.find_widths.ensures.only (λ o. g.O.Sink.written o) c.args.id.now c.args.out.now c.in-Err.fail c.in-Err.ensures.refusal
 
 pub kind-kind-requires : goal.kind-kind-requires
 kind-kind-requires g c = record { mounted = still_mounted _ _ c.args.place c.find_widths.ensures.only c.requires.mounted }
@@ -31,7 +31,7 @@ returns-in-Err-write-clause-left g c =
     let front = packed_front c.args.id.now _ c.shape.result.now _ c.kind-kind.result c.in-Ok.widths.items c.deref.result.now c.deref-2.result.now
     (c.shape.ensures.value ∙ only.shape) (c.kind-kind.ensures ∙ only.kind) (c.deref.ensures.value) c.requires.id c.in_ok-front.ensures.valid
     (c.in-Ok.ensures.counted) c.in_ok-front.ensures.short (c.deref-2.ensures.value ∙ c.in_ok-front.ensures.front) in
-    front_written _ _ c.args.place only c.args.id.now c.in-Ok.widths.items c.deref-2.result.now (g.O.Sink.written c.args.out.now) (g.O.Sink.written c.write.new.self) front c.in-Ok.ensures.widths c.in-Err-write.ensures.prefix
+    (no_damage _ _ c.args.place only c.in-Ok.widths.items c.in-Ok.ensures.widths, front_written _ _ c.args.place only c.args.id.now c.in-Ok.widths.items c.deref-2.result.now (g.O.Sink.written c.args.out.now) (g.O.Sink.written c.write.new.self) front c.in-Ok.ensures.widths c.in-Err-write.ensures.prefix)
 
 pub write_all-requires-clause-mounted : goal.write_all-requires-clause-mounted
 write_all-requires-clause-mounted g c = λ κs within. still_mounted _ _ c.args.place c.find_widths.ensures.only c.requires.mounted
@@ -77,7 +77,7 @@ returns-clause-left g c =
     let front = packed_front c.args.id.now _ c.shape.result.now _ c.kind-kind.result widths c.deref.result.now c.deref-2.result.now
     (c.shape.ensures.value ∙ only.shape) (c.kind-kind.ensures ∙ only.kind) (c.deref.ensures.value ∙ sym c.deref-3.ensures.value) c.requires.id c.in_ok-front.ensures.valid
     (ap length c.deref-3.ensures.value ∙ c.in-Ok.ensures.counted) c.in_ok-front.ensures.short (c.deref-2.ensures.value ∙ c.in_ok-front.ensures.front) in
-    left_written _ _ c.args.place only c.args.id.now widths before to c.in-Err-write_all.fail c.in-Err-write_all.ensures.refusal known
+    left_written _ _ c.args.place only (λ o. g.O.Sink.written o) c.args.id.now widths c.args.out.now c.write_all.new.out c.in-Err-write_all.fail c.in-Err-write_all.ensures.refusal known
     (damage_on _ _ c.args.place only c.in-Err-write_all.fail c.in-Err-write_all.ensures.damage)
     (part_written _ _ c.args.place only c.args.id.now widths c.deref-2.result.now before from to front known c.in-Ok-write.ensures.appended
     (before_source (λ (d : Dimensions) (o : Option Contents). IfSome o (λ v. AppendsPrefix from (section_records (plane_size d) widths v.cells) to)) _ _ c.args.place only c.in-Err-write_all.ensures.writes.part))
