@@ -1,5 +1,5 @@
 // Connections over TCP: those that come to a port, and those that are dialled.
-ghost use Rattle.std.specs.Prelude.{◌≡◌, None, IsTrue};
+ghost use Rattle.std.specs.Prelude.{◌≡◌, ◌≢◌, None, IfOk, IsTrue};
 ghost use Rattle.std.specs.Vec.{vec_capacity};
 ghost use Rattle.oe_outside.specs.Doors.{IsNobody, IfConn};
 
@@ -35,15 +35,14 @@ pub struct TcpDoor<N: Network> {
 }
 
 impl<N: Network> TcpDoor<N> {
-    /// A door to this port, which is not bound yet.
+    /// A door to this port, which is not bound yet and has not failed.
     ///
     /// Refuses: out of memory.
-    pub fn new(
-        alloc: Global,
-        system: N,
-        port: u16,
-        patience: Patience,
-    ) -> Result<Self, OutOfMemory> {
+    pub fn new(alloc: Global, system: N, port: u16, patience: Patience) -> Result<Self, OutOfMemory>
+        ensures faults { IfOk result (λ door. door.faults ≡ 0) }
+        ensures dial_faults { IfOk result (λ door. door.dial_faults ≡ 0) }
+        ensures link_faults { IfOk result (λ door. door.link_faults ≡ 0) }
+    {
         Ok(TcpDoor {
             system,
             port,
@@ -73,6 +72,7 @@ impl<N: Network> TcpDoor<N> {
     /// waits, and `Failed` where the port fails. A peer that has reset its connection before that is passed over. While
     /// connections linger, a caller that is not busy looks at them between one attempt and the next.
     fn take(&mut self, busy: bool) -> Next<TcpLink<N>>
+        ensures open { result ≢ Next.Closed }
         ensures nobody { IsNobody result → IsTrue busy }
         ensures fresh { IfConn result (λ link. link.faults ≡ 0) }
         ensures faults { self.new.faults ≡ self.old.faults }
@@ -183,7 +183,9 @@ impl<N: Network> Door for TcpDoor<N> {
 
     /// The next connection to the port, for which a caller that is not busy waits. One that was taken is waited for until
     /// its first byte has come or its time is over.
-    fn next(&mut self, busy: bool) -> Next<TcpLink<N>> {
+    fn next(&mut self, busy: bool) -> Next<TcpLink<N>>
+        ensures open { result ≢ Next.Closed }
+    {
         self.sweep();
         let next = if self.bind() {
             self.take(busy)

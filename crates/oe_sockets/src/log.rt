@@ -26,7 +26,10 @@ pub struct LogDoor<D: Door, R: Clock, E: Sink> {
 
 impl<D: Door, R: Clock, E: Sink> LogDoor<D, R, E> {
     /// A door that writes its lines to `log`, or writes none.
-    pub fn new(door: D, system: R, log: Option<E>) -> Self {
+    pub fn new(door: D, system: R, log: Option<E>) -> Self
+        ensures door { result.door ≡ door }
+        ensures log { result.log ≡ log }
+    {
         LogDoor { door, system, log }
     }
 }
