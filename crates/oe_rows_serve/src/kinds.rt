@@ -2,7 +2,7 @@
 use std::io::{Error, ErrorKind};
 
 /// The words of kinds.
-static KINDS: [(&str, ErrorKind); 11] = [
+static KINDS: [(&str, ErrorKind); 12] = [
     ("interrupted", ErrorKind::Interrupted),
     ("missing", ErrorKind::NotFound),
     ("denied", ErrorKind::PermissionDenied),
@@ -14,6 +14,7 @@ static KINDS: [(&str, ErrorKind); 11] = [
     ("aborted", ErrorKind::ConnectionAborted),
     ("waits", ErrorKind::WouldBlock),
     ("refused", ErrorKind::ConnectionRefused),
+    ("down", ErrorKind::NetworkDown),
 ];
 
 /// The kind that a word spells.

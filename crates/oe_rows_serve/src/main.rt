@@ -72,7 +72,7 @@
 //!
 //! CALLS has the calls that fail, as `NUMBER:KIND` from 0 on with commas between them, and `-` stands for none, and
 //! for no byte. Every other call passes two bytes at most. A KIND is `interrupted`, `missing`, `denied`, `exists`,
-//! `memory`, `invalid`, `broken`, `reset`, `aborted`, `waits` or `refused`.
+//! `memory`, `invalid`, `broken`, `reset`, `aborted`, `waits`, `refused` or `down`.
 //!
 //! SYSTEM has the calls that are expected, in their order and from the first again behind the last, each as
 //! `CALL:PATH=ANSWER`; a call that is not the next one expected is refused. CALL is `about` (what the path has), `open`

@@ -26,7 +26,8 @@ impl<C: time::Clock> SystemClock<C> {
 impl<C: time::Clock> Clock for SystemClock<C> {
     ghost moment = { λ _. None };
 
-    /// Whole seconds; before 1970 it is 1970, and after the year 9999 its last second.
+    /// Whole seconds; after the year 9999 its last second. Where the system's clock cannot be read or stands before 1970,
+    /// what was answered last, and at first 1970.
     fn now_seconds(&mut self) -> i64
         ensures in_range { IsMoment result }
     {

@@ -69,8 +69,9 @@ impl<N: Network> TcpDoor<N> {
 
     /// The next connection, once its first byte has come, its peer has ended what it sends, or its time is over: what is
     /// answered at the moment of the answer should not be older than that. `Nobody` where the caller is busy and none
-    /// waits, and `Failed` where the port fails. A peer that has reset its connection before that is passed over. While
-    /// connections linger, a caller that is not busy looks at them between one attempt and the next.
+    /// waits, and `Failed` where the port fails and no connection lingers. A peer that has reset its connection before that
+    /// is passed over, and so is one whose connection brings an error of the network along. While connections linger, a
+    /// caller that is not busy looks at them between one attempt and the next.
     fn take(&mut self, busy: bool) -> Next<TcpLink<N>>
         ensures open { result ≢ Next.Closed }
         ensures nobody { IsNobody result → IsTrue busy }
@@ -93,7 +94,12 @@ impl<N: Network> TcpDoor<N> {
                     ErrorKind::WouldBlock if !waits => self.linger(),
                     ErrorKind::Interrupted
                     | ErrorKind::ConnectionAborted
-                    | ErrorKind::ConnectionReset => {}
+                    | ErrorKind::ConnectionReset
+                    | ErrorKind::HostUnreachable
+                    | ErrorKind::NetworkDown
+                    | ErrorKind::NetworkUnreachable => {}
+                    // One that lingers may hold what the next one wants, as a file descriptor.
+                    _ if !self.lingering.is_empty() => self.forget(),
                     _ => return Next::Failed,
                 },
             }
@@ -136,6 +142,17 @@ impl<N: Network> TcpDoor<N> {
         self.sweep();
     }
 
+    /// Lets the connection go that lingers longest.
+    fn forget(&mut self)
+        ensures faults { self.new.faults ≡ self.old.faults }
+        ensures dial_faults { self.new.dial_faults ≡ self.old.dial_faults }
+        ensures link_faults { self.new.link_faults ≡ self.old.link_faults }
+    {
+        if !self.lingering.is_empty() {
+            self.lingering.remove(0);
+        }
+    }
+
     /// Waits a moment at the connection that lingers last. `false` where that can't be.
     fn pause(&self) -> bool {
         match self.lingering.last() {
@@ -162,7 +179,7 @@ impl<N: Network> TcpDoor<N> {
         ensures link_faults { self.new.link_faults ≡ self.old.link_faults }
     {
         if self.lingering.len() >= MOST_LINGERING {
-            self.lingering.remove(0);
+            self.forget();
         }
         if self.lingering.len() < self.lingering.capacity() {
             self.lingering.push_reserved(lingering);
