@@ -157,18 +157,18 @@ Exit status: 0, 1 Usage, 3 PlanTooLarge, 4 NumberOverflow, 7 SpoolFault, 8 Write
 ";
 
 const PACK: &str = "\
-openeo pack ID < TEXT > ID.cube && mv ID.cube collections/
+openeo pack ID < TEXT > ID.cube && sync ID.cube && mv ID.cube collections/
 
 Reads a result text of at most 1048576 bytes from standard input and writes it as a cube file of the collection ID: 1 to
 64 letters, digits, '_', '-' and '.'. The file may have any name that ends in .cube. It is written beside the folder and
-moved in once it is whole: each command opens all files of the folder before it begins.
+moved in once it is whole and on the disk: each command opens all files of the folder before it begins.
 A cube whose text is longer is written as a cube file by a program of one's own; docs/formats.md has the form, and
 bench/year.py writes such files. repack then brings its cells to the least widths.
 Exit status: 0, 1 Usage, 2 CubeTextInvalid, 5 ReadFault, 8 WriteFault, 9 OutOfMemory, 14 Setup.
 ";
 
 const REPACK: &str = "\
-openeo repack ID > ID.cube && mv ID.cube collections/
+openeo repack ID > ID.cube && sync ID.cube && mv ID.cube collections/
 
 Writes the cube file of the mounted collection ID in the least widths that hold its cells. It is written beside the
 folder and moved in: written onto the file that is mounted it would empty it first. It reads each date twice; while it
@@ -205,7 +205,8 @@ What it works on lies in the working directory:
 
 Each change is in the database before it is answered. So a server may be ended at any moment, by a signal too: started
 again, it has all jobs that were answered, and begins the one that ran once more. Nothing is encrypted: docs/operate.md
-puts a web server in front. Where standard error is a terminal, or OPENEO_LOG=1 is set, each request is told there.
+puts a web server in front. Each request is told on standard error where that is a terminal, always with OPENEO_LOG=1,
+and never where OPENEO_LOG is set to anything else.
 Exit status: 0, 1 Usage, 9 OutOfMemory, 10 KeeperFault, 11 LinkFault, 14 Setup.
 ";
 
@@ -244,7 +245,7 @@ Exit status: 0, 1 Usage, 2 InputTooLong, 5 ReadFault, 8 WriteFault, 9 OutOfMemor
 13 Refused STATUS, 14 Setup.
 ";
 
-const VERSION: &str = "openeo 0.1.0 (openEO API 1.2)\n";
+const VERSION: &str = "openeo 1.0.0 (openEO API 1.2)\n";
 
 /// The text that the words ask for, if they ask for one: `--help` or `--version`, alone or after the word of a command.
 pub fn text_of(words: &[Text]) -> Option<&'static str>
