@@ -56,7 +56,7 @@ impl Run {
     ghost use Rattle.oe_steps.specs.Collections.{HasCollections};
     ghost use Rattle.oe_steps.specs.Refusals.{overflow_of};
     ghost use Rattle.oe_engine.specs.Going as spec;
-    ghost use Rattle.oe_engine.specs.Rendered.{BeginsRun, CountsRun, CountsRunPrefix, IsRefusalOf, WritesRun, WritesStored};
+    ghost use Rattle.oe_engine.specs.Rendered.{BeginsRun, BeginsStored, CountsRun, CountsRunPrefix, IsRefusalOf, WritesRun, WritesStored};
     ghost use Rattle.oe_engine.specs.Rounds.{Advances, HasCauses, ReadsChunks, WritesChunks};
     ghost use Rattle.oe_engine.specs.Runs.{HasRunRecords, chunk_total};
     ghost use Rattle.oe_engine.specs.Workspaces.{AreBenchesFor};
@@ -129,6 +129,8 @@ impl Run {
         ensures text { WritesRun O.written out.old out.new self.old P.bytes spool.old result }
         ensures prefix { BeginsRun O.written out.old out.new self.old P.bytes spool.old result }
         ensures cells { WritesStored O.written out.old out.new self.old P.bytes spool.old result }
+        ensures cells_prefix { BeginsStored O.written out.old out.new self.old
+            P.bytes spool.old result }
         ensures counted { CountsRun O.size out.old out.new self.old P.bytes spool.old result }
         ensures counted_prefix { CountsRunPrefix O.size out.old out.new self.old
             P.bytes spool.old result }

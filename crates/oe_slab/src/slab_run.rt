@@ -80,7 +80,7 @@ impl SlabRun {
     ghost use Rattle.oe_steps.specs.Collections.{HasCollections};
     ghost use Rattle.oe_steps.specs.Refusals.{overflow_of};
     ghost use Rattle.oe_slab.specs.Figures.{slab_bound};
-    ghost use Rattle.oe_slab.specs.Rendered.{BeginsRun, CountsRun, CountsRunPrefix, IsRefusalOf, WritesRun, WritesStored};
+    ghost use Rattle.oe_slab.specs.Rendered.{BeginsRun, BeginsStored, CountsRun, CountsRunPrefix, IsRefusalOf, WritesRun, WritesStored};
     ghost use Rattle.oe_slab.specs.Rounds.{Advances, HasCauses, ReadsChunk, WritesChunk};
     ghost use Rattle.oe_slab.specs.Runs.{HasRunRecords, chunk_total, result_shape};
     ghost use Rattle.oe_slab.specs.Workspaces.{IsWorkspaceFor};
@@ -162,6 +162,8 @@ impl SlabRun {
         ensures text { WritesRun O.written out.old out.new self.old P.bytes spool.old result }
         ensures prefix { BeginsRun O.written out.old out.new self.old P.bytes spool.old result }
         ensures cells { WritesStored O.written out.old out.new self.old P.bytes spool.old result }
+        ensures cells_prefix { BeginsStored O.written out.old out.new self.old
+            P.bytes spool.old result }
         ensures counted { CountsRun O.size out.old out.new self.old P.bytes spool.old result }
         ensures counted_prefix { CountsRunPrefix O.size out.old out.new self.old
             P.bytes spool.old result }

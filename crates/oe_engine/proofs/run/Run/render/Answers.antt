@@ -1,4 +1,4 @@
-use Rattle.std.proofs.Common.{◌≡◌, ℕ, IfErr, OnOk, length, refl, sym, ap, ◌∙◌, subst}
+use Rattle.std.proofs.Common.{◌≡◌, ℕ, IfErr, OnErr, OnOk, length, refl, sym, ap, ◌∙◌, subst}
 use Rattle.oe_steps.proofs.Outcomes.{on_err, on_ok}
 use Rattle.oe_dims.specs.Dimensions.{cell_count}
 use Rattle.oe_outside.specs.Visible.{AddsBytes, AddsSome, Appends, AppendsPrefix}
@@ -68,6 +68,17 @@ returns-clause-cells g c =
     subst (λ (n : ℕ). OnOk c.render.result (AppendsCube store n (result_shape c.args.self.now.plan) before after)) base
     (subst (λ (p : PlanOf). OnOk c.render.result (AppendsCube store c.self.inside.part.base (result_shape p) before after)) same
     c.render.ensures.rendered.text)
+
+pub returns-clause-cells_prefix : goal.returns-clause-cells_prefix
+returns-clause-cells_prefix g c =
+    let same : c.self.inside.part.plan ≡ c.args.self.now.plan = ap (λ (r : RunOf). r.plan) c.self.view_is in
+    let base : c.self.inside.part.base ≡ c.args.self.now.base = ap (λ (r : RunOf). r.base) c.self.view_is in
+    let store = g.P.Store.bytes c.args.spool.now in
+    let before = g.O.Sink.written c.args.out.now in
+    let after = g.O.Sink.written c.render.new.out in
+    subst (λ (n : ℕ). OnErr c.render.result (AppendsCubePrefix store n (result_shape c.args.self.now.plan) before after)) base
+    (subst (λ (p : PlanOf). OnErr c.render.result (AppendsCubePrefix store c.self.inside.part.base (result_shape p) before after)) same
+    c.render.ensures.rendered.prefix)
 
 pub returns-clause-counted : goal.returns-clause-counted
 returns-clause-counted g c =

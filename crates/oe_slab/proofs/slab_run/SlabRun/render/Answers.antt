@@ -1,4 +1,4 @@
-use Rattle.std.proofs.Common.{◌≡◌, ℕ, IfErr, OnOk, refl, sym, ap, subst}
+use Rattle.std.proofs.Common.{◌≡◌, ℕ, IfErr, OnErr, OnOk, refl, sym, ap, subst}
 use Rattle.oe_steps.proofs.Outcomes.{on_err, on_ok}
 use Rattle.oe_dims.specs.Dimensions.{cell_count}
 use Rattle.oe_slab.specs.Plans.{IsSlabPlan, SlabPlanOf}
@@ -61,6 +61,17 @@ returns-clause-cells g c =
     subst (λ (n : ℕ). OnOk c.render.result (AppendsCube store n (result_shape c.args.self.now.plan) before after)) base
     (subst (λ (p : SlabPlanOf). OnOk c.render.result (AppendsCube store c.self.inside.base (result_shape p) before after)) same
     c.render.ensures.rendered.text)
+
+pub returns-clause-cells_prefix : goal.returns-clause-cells_prefix
+returns-clause-cells_prefix g c =
+    let same : c.self.inside.plan ≡ c.args.self.now.plan = ap (λ (r : SlabRunOf). r.plan) c.self.view_is in
+    let base : c.self.inside.base ≡ c.args.self.now.base = ap (λ (r : SlabRunOf). r.base) c.self.view_is in
+    let store = g.P.Store.bytes c.args.spool.now in
+    let before = g.O.Sink.written c.args.out.now in
+    let after = g.O.Sink.written c.render.new.out in
+    subst (λ (n : ℕ). OnErr c.render.result (AppendsCubePrefix store n (result_shape c.args.self.now.plan) before after)) base
+    (subst (λ (p : SlabPlanOf). OnErr c.render.result (AppendsCubePrefix store c.self.inside.base (result_shape p) before after)) same
+    c.render.ensures.rendered.prefix)
 
 pub returns-clause-counted : goal.returns-clause-counted
 returns-clause-counted g c =
