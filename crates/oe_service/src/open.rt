@@ -39,7 +39,7 @@ impl From<KeeperFail> for OpenBookFail {
 /// The service over the book that a keeper has, which makes assets in chunks of a size with so many workers, 1 to 64. A
 /// job that ran when the program ended is queued again with its old turn and without assets, and that is committed.
 ///
-/// Refuses: `KeeperFailed` only where the keeper's fault counter rose; out of memory.
+/// Refuses: `KeeperFailed` only where the keeper's fault counter rose; out of memory, which begins no commit.
 pub fn open_book<K: Keeper>(
     alloc: Global,
     keeper: &mut K,
@@ -60,6 +60,8 @@ pub fn open_book<K: Keeper>(
     ensures cause { HasCauseOf OpenBookFail.KeeperFailed (K.faults keeper.old)
         (K.faults keeper.new) result }
     ensures last { IsErrOf result OpenBookFail.KeeperFailed → K.has_failed keeper.new ≡ true }
+    ensures unbegun { IsErrOf result OpenBookFail.OutOfMemory
+        → K.kept keeper.new ≡ K.kept keeper.old }
 {
     let mut book = keeper.load()?;
     reopen_book(alloc, &mut book, keeper)?;
