@@ -168,8 +168,7 @@ impl Bench {
         ensures loaded { (k : ℕ)
             → HasLoadedSteps plan.now (rows_of seen catalogue.now) step k self.old → OnOk result
             (HasLoadedSteps plan.now (rows_of seen catalogue.now) (step + 1) k self.new) }
-        ensures spent { OnOk result (SpendsAtMost
-            (cells_of_largest_window plan.now) looker.old looker.new) }
+        ensures spent { SpendsAtMost (cells_of_largest_window plan.now) looker.old looker.new }
         ensures refused { TellsWhyAt plan.now (rows_of seen catalogue.now) step result }
     {
         look_slot(

@@ -101,8 +101,7 @@ pub(crate) fn look_slot(
     ensures room { HaveRoomFor plan.now (lists_of buffers.new) }
     ensures loaded { LoadsOver plan.now (rows_of seen catalogue.now) step windows.now
         (lists_of buffers.old) (lists_of buffers.new) result }
-    ensures spent { OnOk result (SpendsAtMost
-        (cells_of_largest_window plan.now) looker.old looker.new) }
+    ensures spent { SpendsAtMost (cells_of_largest_window plan.now) looker.old looker.new }
     ensures refused { TellsWhyAt plan.now (rows_of seen catalogue.now) step result }
 {
     oe_steps::look_slot(

@@ -1,5 +1,5 @@
 -- What reading the cells of a load gives.
-use Rattle.std.specs.Prelude.{◌≡◌, ◌≤◌, ⊤, ℕ, ◌+◌, List, take, Some, IsErrOf, IfErr, Result, Ok, Err}
+use Rattle.std.specs.Prelude.{◌≡◌, ◌≤◌, ⊤, ℕ, ◌+◌, false, List, take, Some, IsErrOf, IfErr, Result, Ok, Err}
 use Rattle.std.specs.List.{All}
 use Rattle.oe_cell.specs.declared.cell.Cell.{Cell}
 use Rattle.oe_cube.specs.Kinds.{IsOfKind}
@@ -7,7 +7,7 @@ use Rattle.oe_plan.specs.Windows.{window_at}
 use Rattle.oe_check.specs.Checked.{CheckedGraph, collection_of_node, outline_of_node}
 use Rattle.oe_meanings.specs.Graphs.{Collections}
 use Rattle.oe_check.specs.Laws.{AreCollectionsOf}
-use Rattle.oe_sources.specs.Catalogue.{IsFaultAt, Row, cells_asked}
+use Rattle.oe_sources.specs.Catalogue.{CountsRow, IsFaultAt, Row, cells_asked}
 use Rattle.oe_sources.specs.declared.source.LookFail.{LookFail}
 use Rattle.oe_sources.specs.declared.source.LookFail.TheVariants as look
 use Rattle.oe_sources.specs.declared.source.ReadFault.{ReadFault}
@@ -46,6 +46,15 @@ pub record HasRead (c : CheckedGraph) (most : ℕ) (before after : List Row)
   pub asked : cells_asked after ≤ cells_asked before + most
   pub cause : IsErrOf result SourceFailed → LoadRose c before after
   pub says : IfErr result (λ refusal. IsOfSource refusal × RefusalSays c before refusal)
+
+-- of the collection that a node loads so many cells more are asked for, and no fault is counted; all else in the
+-- catalogue stays
+pub record CountsLoad (c : CheckedGraph) (node cells : ℕ) (before after : List Row) : Type 0 where
+  pub id : List ℕ
+  pub index : ℕ
+  pub loads : collection_of_node c node ≡ Some id
+  pub mounted : IsMountedAt c before id index
+  pub counts : CountsRow before index cells false after
 
 -- these are the cells of a node on a window, over the collections that are visible, and each is null or of its kind
 pub record AreLoaded (c : CheckedGraph) (rows : List Row) (node : ℕ) (window : Window)

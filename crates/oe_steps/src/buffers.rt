@@ -1,6 +1,7 @@
 // Buffers and windows before any chunk.
 ghost use Rattle.std.specs.Prelude.{IfOk};
 ghost use Rattle.oe_steps.specs.Buffers.{AreOfSize, lists_of};
+ghost use Rattle.oe_window.specs.Windows.{IsEmpty};
 
 use oe_cell::Cell;
 use oe_memory::OutOfMemory;
@@ -8,7 +9,9 @@ use oe_window::{Span, Window};
 use std::alloc::Global;
 
 /// The window without a position.
-pub fn empty_window() -> Window {
+pub fn empty_window() -> Window
+    ensures { IsEmpty result }
+{
     let span = Span { from: 0, to: 0 };
     Window {
         t: span,

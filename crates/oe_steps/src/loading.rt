@@ -6,7 +6,7 @@ ghost use Rattle.oe_dims.specs.Dimensions.{IsShape};
 ghost use Rattle.oe_steps.specs.Steps.{HaveRoomFor, IsReadySchedule, KeepsOthers, loads_at};
 ghost use Rattle.oe_steps.specs.Buffers.{lists_of};
 ghost use Rattle.oe_steps.specs.Collections.{HasCollections, IsMountedAt};
-ghost use Rattle.oe_steps.specs.Loads.{AreLoaded, HasRead, TellsWhy, refusal_for};
+ghost use Rattle.oe_steps.specs.Loads.{AreLoaded, CountsLoad, HasRead, TellsWhy, refusal_for};
 ghost use Rattle.oe_steps.specs.Looks.{IsLoadStep, IsPlaneToLoad, IsRowToLoad, IsWindowToLoad, LoadsNext, size_at};
 ghost use Rattle.oe_plan.specs.Schedules.{AreWindowsFor, IsSchedule, node_at};
 ghost use Rattle.oe_check.specs.Checked.{collection_of_node};
@@ -87,7 +87,7 @@ pub fn look_slot(
     ensures others { KeepsOthers schedule.now step (lists_of buffers.old) (lists_of buffers.new) }
     ensures loaded { LoadsNext checked.now schedule.now (rows_of seen catalogue.now) step
         windows.now (lists_of buffers.old) (lists_of buffers.new) result }
-    ensures spent { OnOk result (SpendsAtMost (size_at windows.now step) looker.old looker.new) }
+    ensures spent { SpendsAtMost (size_at windows.now step) looker.old looker.new }
     ensures refused { TellsWhy checked.now (rows_of seen catalogue.now)
         (node_at schedule.now step) result }
 {
@@ -115,6 +115,8 @@ pub fn ask(
     requires few { permit.old.left + cells < 2 ^ 64 }
     ensures asked { HasRead checked.now cells (rows_of seen catalogue.old)
         (rows_of seen catalogue.new) (Ok tt) }
+    ensures counted { CountsLoad checked.now (node_at schedule.now step) cells
+        (rows_of seen catalogue.old) (rows_of seen catalogue.new) }
     ensures permit { permit.new ≡ permit_raised cells permit.old }
     ensures seal { seal_of catalogue.new ≡ seal_of catalogue.old }
 {
@@ -176,7 +178,7 @@ fn look_step(
     requires asked { MayLook (seal_of catalogue.now) (position_count window.now) looker.old }
     ensures loaded { OnOk result (AreLoaded checked.now (rows_of seen catalogue.now)
         (node_at schedule.now step) window.now (take (position_count window.now) buffer.new)) }
-    ensures spent { OnOk result (SpendsAtMost (position_count window.now) looker.old looker.new) }
+    ensures spent { SpendsAtMost (position_count window.now) looker.old looker.new }
     ensures refused { TellsWhy checked.now (rows_of seen catalogue.now)
         (node_at schedule.now step) result }
 {

@@ -1,6 +1,6 @@
 // The rows of a hull, of which each window that is a strip of it takes its part.
 ghost use Rattle.std.specs.Prelude.{◌≡◌, ◌<◌, ◌≤◌, ◌+◌, ◌++◌, IsTrue, drop, length, take};
-ghost use Rattle.oe_steps.specs.Steps.{HaveRoomFor};
+ghost use Rattle.oe_steps.specs.Steps.{HaveRoomFor, KeepsOthers};
 ghost use Rattle.oe_steps.specs.Buffers.{lists_of};
 ghost use Rattle.oe_steps.specs.Strips.{IsStripOf, TakesRow};
 ghost use Rattle.oe_plan.specs.Schedules.{AreWindowsFor, IsSchedule};
@@ -34,7 +34,7 @@ fn write_at(buffer: &mut [Cell], at: usize, cells: &[Cell])
 }
 
 /// Writes what the window of a step takes of a hull's row behind the rows before it, into the buffer of the step's
-/// slot.
+/// slot. The buffers of the other slots stay as they are.
 pub fn take_part(
     checked: &Checked,
     schedule: &Schedule,
@@ -53,6 +53,7 @@ pub fn take_part(
     requires number { number < row_count hull.now }
     requires row { length row.now ≡ span_length hull.now.x }
     ensures room { HaveRoomFor schedule.now (lists_of buffers.new) }
+    ensures others { KeepsOthers schedule.now step (lists_of buffers.old) (lists_of buffers.new) }
     ensures loaded { TakesRow checked.now schedule.now step hull.now number row.now windows.now
         (lists_of buffers.old) (lists_of buffers.new) }
 {

@@ -2,13 +2,8 @@ use Rattle.std.proofs.Common.{arith}
 use Rattle.oe_plan.specs.Plans.{schedule_of}
 use Rattle.oe_plan.specs.Schedules.{node_at}
 use Rattle.oe_plan.proofs.ScheduleLemmas.{plan_schedule, plan_windows}
-use Rattle.oe_plan.specs.Figures.{largest_window}
-use Rattle.oe_plan.specs.Windows.{window_at}
 use Rattle.oe_sources.specs.CatalogueRows.{rows_of}
-use Rattle.oe_sources.specs.Permits.{SpendsAtMost}
-use Rattle.oe_window.specs.Windows.{position_count}
 use Rattle.oe_steps.specs.Buffers.{lists_of}
-use Rattle.oe_steps.proofs.Outcomes.{on_ok}
 use Rattle.oe_steps.proofs.ReadLemmas.{AreRead-refl}
 use Rattle.oe_steps.proofs.ScheduleLemmas.{few}
 use Rattle.oe_steps.specs.Collections.{HasCollections}
@@ -99,6 +94,5 @@ returns-clause-spent g c =
     let are = c.requires.windows in
     let windows = c.args.windows.now in
     let some = few p.graph (schedule_of p) (plan_schedule p c.schedule.ensures.valid) windows (plan_windows p c.schedule.ensures.valid are.0 windows are.1) c.args.step c.requires.step in
-    on_ok (SpendsAtMost (position_count (window_at windows c.args.step)) c.args.looker.now c.look_slot.new.looker)
-    (SpendsAtMost (largest_window p.graph p.size) c.args.looker.now c.look_slot.new.looker) c.look_slot.result
-    (λ spent. record { left = omega (arith, some, spent.left); seal = spent.seal }) c.look_slot.ensures.spent
+    let spent = c.look_slot.ensures.spent in
+    record { left = omega (arith, some, spent.left); seal = spent.seal }

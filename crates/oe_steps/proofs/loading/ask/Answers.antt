@@ -8,6 +8,11 @@ use Rattle.oe_steps.proofs.loading.ask.Goals as goal
 pub ask-requires-clause-mounted : goal.ask-requires-clause-mounted
 ask-requires-clause-mounted g c = c.place_of-place.ensures.2.within
 
+pub returns-clause-counted : goal.returns-clause-counted
+returns-clause-counted g c =
+    let at = c.place_of-place.ensures in
+    record { id = at.0; index = c.place_of-place.result; loads = at.1; mounted = at.2; counts = c.ask.ensures.asked }
+
 pub returns-clause-asked : goal.returns-clause-asked
 returns-clause-asked g c =
     let graph = c.args.checked.now in

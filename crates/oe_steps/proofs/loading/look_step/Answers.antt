@@ -92,6 +92,16 @@ returns-in_err-look_plane-clause-refused g c =
     tells_handed c.args.checked.now (rows_of (λ z. (goal.SharedSource-dyn g z).CubeSource.seen z.1) c.args.catalogue.now) (node_at c.args.schedule.now c.args.step) c.in_err-look_plane.field-0.0 c.from_residual.result c.from_residual.ensures.1
     c.in_err-look_plane.ensures.refused
 
+pub returns-in_err-look_plane-clause-spent : goal.returns-in_err-look_plane-clause-spent
+returns-in_err-look_plane-clause-spent g c =
+    let w = c.args.window.now in
+    let n = c.loop-number.number in
+    let fits = ends_within w c.plane-plane.result n c.planes-number-end.result c.plane-plane.ensures.value c.planes-number-end.ensures.value c.loop-number-test.true in
+    let done = c.loop-number.invariant.done_is in
+    let before = c.loop-number.invariant.spent in
+    let spent = c.in_err-look_plane.ensures.spent in
+    record { left = omega (arith, done, fits.counted, fits.within, before.left, spent.left); seal = spent.seal ∙ before.seal }
+
 pub loop-number-preserved : goal.loop-number-preserved
 loop-number-preserved g c =
     let w = c.args.window.now in

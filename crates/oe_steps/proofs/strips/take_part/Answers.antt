@@ -55,6 +55,12 @@ returns-clause-room c =
     let long : length out ≡ length v.items = omega (arith, c.write_at.auto.buffer, ap length c.as_mut_slice-buffer.ensures.value) in
     sizes_stay buffers slot schedule.order.width (schedule.largest) c.requires.room c.slot-slot.ensures.below v out at long
 
+pub returns-clause-others : goal.returns-clause-others
+returns-clause-others c = λ slot other.
+    let buffers = c.args.buffers.now in
+    let v = get_or buffers c.slot-slot.result c.index-buffers-slot.result in
+    set_other buffers c.slot-slot.result (with_items v c.write_at.new.buffer) slot (λ e. other (e ∙ c.slot-slot.ensures.value))
+
 pub returns-clause-loaded : goal.returns-clause-loaded
 returns-clause-loaded c = λ rows loaded have.
     let graph = c.args.checked.now in
