@@ -1,5 +1,5 @@
 -- What reads of collections leave: all but two counters as it was.
-use Rattle.std.proofs.Common.{◌≡◌, ℕ, zero, suc, ◌+◌, ◌<◌, ◌≤◌, Bool, cond, List, [], ◌∷◌, length, map, Option, Some, IfSome, Contains, refl, sym, ap, ◌∙◌, subst, arith, Result, Ok, Err}
+use Rattle.std.proofs.Common.{◌≡◌, ℕ, zero, suc, ◌+◌, ◌<◌, ◌≤◌, Bool, cond, List, [], ◌∷◌, length, map, min, Option, Some, IfSome, Contains, refl, sym, ap, ◌∙◌, subst, arith, Result, Ok, Err}
 use Rattle.std.specs.Option.{option_map}
 use Rattle.std.specs.Result.{IsErrAnd, IfErr}
 use Rattle.std.proofs.lemmas.List.{length-map}
@@ -7,12 +7,12 @@ use Rattle.oe_dims.specs.Names.{same_name}
 use Rattle.oe_dims.specs.Positions.{IsPosition, number_of}
 use Rattle.oe_ops.specs.Needs.{HasLabelsOf}
 use Rattle.oe_outside.proofs.Causes.{NeverFalls-refl, NeverFalls-trans, Rose-then, then-Rose}
-use Rattle.oe_outside.specs.Faults.{NeverFalls}
+use Rattle.oe_outside.specs.Faults.{NeverFalls, last_count}
 use Rattle.oe_plan.specs.Figures.{shape_of_node}
 use Rattle.oe_check.specs.Checked.{CheckedGraph}
 use Rattle.oe_meanings.specs.Graphs.{Collections}
 use Rattle.oe_sources.specs.Catalogue.{CountsRow, Row, row_index, rows_at, source_at}
-use Rattle.oe_sources.specs.Source.{Source, collection_of}
+use Rattle.oe_sources.specs.Source.{Source, asked_after, collection_of}
 use Rattle.oe_steps.specs.Collections.{AreRead, HasCollections, IsMountedAt, LoadRose, Shows, without_counts}
 use Rattle.oe_steps.specs.Loads.{HasRead}
 use Rattle.oe_steps.specs.Refusals.{IsOfSource, KeepsDamage, RefusalSays}
@@ -36,23 +36,46 @@ counts_at (row ∷ rows) zero s (suc j) h = NeverFalls-refl _
 counts_at (row ∷ rows) (suc index) s zero h = NeverFalls-refl _
 counts_at (row ∷ rows) (suc index) s (suc j) h = counts_at rows index s j h
 
+-- what was asked of a row does not fall, up to its last value
+none_asked : (n : ℕ) → min n last_count ≤ n
+none_asked n = omega arith
+
+more_asked : (n cells : ℕ) → min n last_count ≤ asked_after n cells
+more_asked n cells = omega arith
+
+both_asked : (a b d : ℕ) → min a last_count ≤ b → min b last_count ≤ d → min a last_count ≤ d
+both_asked a b d first second = omega (arith, first, second)
+
+asked_at : (rows : List Row) (index : ℕ) (s : Source) (j : ℕ) → min (source_at rows index).asked last_count ≤ s.asked
+    → min (source_at rows j).asked last_count ≤ (source_at (rows_at rows index s) j).asked
+asked_at [] index s j h = none_asked 0
+asked_at (row ∷ rows) zero s zero h = h
+asked_at (row ∷ rows) zero s (suc j) h = none_asked _
+asked_at (row ∷ rows) (suc index) s zero h = none_asked _
+asked_at (row ∷ rows) (suc index) s (suc j) h = asked_at rows index s j h
+
 pub count_read : (before : List Row) (index cells : ℕ) (failed : Bool) (after : List Row) → CountsRow before index cells failed after → AreRead before after
 count_read before index cells failed after counts = record {
   same = ap (map without_counts) counts.others
       ∙ without_at before index (source_at after index) counts.count.shape counts.count.kind counts.count.contents;
   counts = λ j. subst (λ rows. NeverFalls (source_at before j).faults (source_at rows j).faults) (sym counts.others)
       (counts_at before index (source_at after index) j counts.count.falls);
+  asked = λ j. subst (λ rows. min (source_at before j).asked last_count ≤ (source_at rows j).asked) (sym counts.others)
+      (asked_at before index (source_at after index) j
+      (subst (λ n. min (source_at before index).asked last_count ≤ n) (sym counts.count.asked)
+      (more_asked (source_at before index).asked cells)));
 }
 
 -- ---- several reads
 
 pub AreRead-refl : (rows : List Row) → AreRead rows rows
-AreRead-refl rows = record { same = refl; counts = λ j. NeverFalls-refl _ }
+AreRead-refl rows = record { same = refl; counts = λ j. NeverFalls-refl _; asked = λ j. none_asked _ }
 
 pub AreRead-trans : (a b c : List Row) → AreRead a b → AreRead b c → AreRead a c
 AreRead-trans a b c first second = record {
   same = second.same ∙ first.same;
   counts = λ j. NeverFalls-trans (first.counts j) (second.counts j);
+  asked = λ j. both_asked _ _ _ (first.asked j) (second.asked j);
 }
 
 source_without : (rows : List Row) (index : ℕ) → source_at (map without_counts rows) index ≡ record (source_at rows index) { faults = 0; asked = 0 }

@@ -1,7 +1,7 @@
 -- What a run asks of the catalogue whose collections it reads.
-use Rattle.std.specs.Prelude.{◌≡◌, ◌<◌, ℕ, List, length, map, slice_index, Some}
+use Rattle.std.specs.Prelude.{◌≡◌, ◌<◌, ◌≤◌, ℕ, List, length, map, min, slice_index, Some}
 use Rattle.oe_cube.specs.Collections.{Collection}
-use Rattle.oe_outside.specs.Faults.{NeverFalls, Rose}
+use Rattle.oe_outside.specs.Faults.{NeverFalls, Rose, last_count}
 use Rattle.oe_check.specs.Checked.{CheckedGraph, collection_of_node}
 use Rattle.oe_meanings.specs.Graphs.{Collections, collection_named, datacube_of, outline_named}
 use Rattle.oe_sources.specs.Catalogue.{Row, row_index, source_at}
@@ -42,10 +42,11 @@ Shows c rows collections =
 abbrev pub without_counts : Row → Row
 without_counts row = record row { source = record row.source { faults = 0; asked = 0 } }
 
--- of each row all is as it was but its two counters, of which that of faults does not fall
+-- of each row all is as it was but its two counters, neither of which falls; that of cells asked stays at 2^64 − 1
 pub record AreRead (before after : List Row) : Type 0 where
   pub same : map without_counts after ≡ map without_counts before
   pub counts : (index : ℕ) → NeverFalls (source_at before index).faults (source_at after index).faults
+  pub asked : (index : ℕ) → min (source_at before index).asked last_count ≤ (source_at after index).asked
 
 -- the fault counter of a collection that a step loads rose
 pub record LoadRose (c : CheckedGraph) (before after : List Row) : Type 0 where
