@@ -38,7 +38,7 @@ use Rattle.oe_window.specs.Windows.{Holds, IsEmpty, position_count, whole_window
 use Rattle.oe_window.specs.declared.window.Window.{Window}
 use Rattle.oe_steps.proofs.LoadLemmas.{LoadsBy, id_of_load, loads_by}
 use Rattle.oe_steps.proofs.ScheduleLemmas.{node_within}
-use Rattle.oe_steps.proofs.ReadLemmas.{count_read}
+use Rattle.oe_steps.proofs.ReadLemmas.{count_read, others_counted}
 use Rattle.oe_steps.specs.Collections.{HasCollections, IsLoadedBy, IsMountedAt, LoadRose, Shows}
 use Rattle.oe_steps.specs.Loads.{AreLoaded, HasRead, TellsWhy, refusal_for}
 use Rattle.oe_steps.specs.Refusals.{IsOfSource, RefusalSays}
@@ -264,6 +264,7 @@ module _ (graph : CheckedGraph) (schedule : ScheduleOf) (is : IsSchedule graph s
       → HasRead graph n rows after (refusal_for (node_at schedule step) (answer_of looked))
   settled n after failed looked same why counts = record {
     read = count_read rows place n failed after counts;
+    others = others_counted graph rows place n failed after counts run.run_step id.0 step_loads at;
     asked = count_no_more rows place n failed after at.within counts;
     cause = rose_by after n failed (answer_of looked) same counts;
     says = says_by looked why;

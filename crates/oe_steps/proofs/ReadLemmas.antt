@@ -1,5 +1,5 @@
 -- What reads of collections leave: all but two counters as it was.
-use Rattle.std.proofs.Common.{◌≡◌, ℕ, zero, suc, ◌+◌, ◌<◌, ◌≤◌, Bool, cond, List, [], ◌∷◌, length, map, min, Option, Some, IfSome, Contains, refl, sym, ap, ◌∙◌, subst, arith, Result, Ok, Err}
+use Rattle.std.proofs.Common.{◌≡◌, ℕ, zero, suc, ◌+◌, ◌<◌, ◌≤◌, ◌≢◌, Bool, cond, List, [], ◌∷◌, length, map, min, Option, Some, IfSome, Contains, refl, sym, ap, ◌∙◌, subst, arith, Result, Ok, Err}
 use Rattle.std.specs.Option.{option_map}
 use Rattle.std.specs.Result.{IsErrAnd, IfErr}
 use Rattle.std.proofs.lemmas.List.{length-map}
@@ -13,7 +13,7 @@ use Rattle.oe_check.specs.Checked.{CheckedGraph}
 use Rattle.oe_meanings.specs.Graphs.{Collections}
 use Rattle.oe_sources.specs.Catalogue.{CountsRow, Row, row_index, rows_at, source_at}
 use Rattle.oe_sources.specs.Source.{Source, asked_after, collection_of}
-use Rattle.oe_steps.specs.Collections.{AreRead, HasCollections, IsMountedAt, LoadRose, Shows, without_counts}
+use Rattle.oe_steps.specs.Collections.{AreRead, HasCollections, IsLoadedBy, IsMountedAt, KeepsOtherRows, LoadRose, Shows, without_counts}
 use Rattle.oe_steps.specs.Loads.{HasRead}
 use Rattle.oe_steps.specs.Refusals.{IsOfSource, KeepsDamage, RefusalSays}
 use Rattle.oe_steps.specs.declared.fail.RunFail.TheVariants.{SourceFailed, SourceDamaged, SpoolFailed, Overflow}
@@ -65,6 +65,20 @@ count_read before index cells failed after counts = record {
       (subst (λ n. min (source_at before index).asked last_count ≤ n) (sym counts.count.asked)
       (more_asked (source_at before index).asked cells)));
 }
+
+-- all rows but that of an index stay
+other_at : (rows : List Row) (index : ℕ) (s : Source) (j : ℕ) → j ≢ index → source_at (rows_at rows index s) j ≡ source_at rows j
+other_at [] index s j other = refl
+other_at (row ∷ rows) zero s zero other = absurd (other refl)
+other_at (row ∷ rows) zero s (suc j) other = refl
+other_at (row ∷ rows) (suc index) s zero other = refl
+other_at (row ∷ rows) (suc index) s (suc j) other = other_at rows index s j (λ e. other (ap suc e))
+
+pub others_counted : (c : CheckedGraph) (before : List Row) (index cells : ℕ) (failed : Bool) (after : List Row) → CountsRow before index cells failed after
+    → (step : ℕ) (id : List ℕ) → IsLoadedBy c step id → IsMountedAt c before id index → KeepsOtherRows c before after
+others_counted c before index cells failed after counts step id loaded mounted j other =
+    ap (λ rows. source_at rows j) counts.others
+    ∙ other_at before index (source_at after index) j (λ e. other step id loaded (subst (IsMountedAt c before id) (sym e) mounted))
 
 -- ---- several reads
 
@@ -168,13 +182,17 @@ rose_later c a b d earlier rose = record {
   rose = then-Rose (earlier.counts rose.index) rose.rose;
 }
 
+pub others_later : (c : CheckedGraph) (a b d : List Row) → AreRead a b → KeepsOtherRows c a b → KeepsOtherRows c b d → KeepsOtherRows c a d
+others_later c a b d read first second j other =
+    second j (λ step id loaded mounted. other step id loaded (mounted_same b a (sym read.same) c id j mounted)) ∙ first j other
+
 pub has_none : (c : CheckedGraph) (rows : List Row) → HasRead c 0 rows rows (Ok tt)
-has_none c rows = record { read = AreRead-refl rows; asked = omega arith; cause = λ err. absurd cc; says = tt }
+has_none c rows = record { read = AreRead-refl rows; others = λ index other. refl; asked = omega arith; cause = λ err. absurd cc; says = tt }
 
 pub has_most : (c : CheckedGraph) (m n : ℕ) (a b : List Row) (result : Result (Unit {0}) RunFail) → m ≤ n → HasRead c m a b result → HasRead c n a b result
 has_most c m n a b result le h =
     let asked = h.asked in
-    record { read = h.read; asked = omega arith; cause = h.cause; says = h.says }
+    record { read = h.read; others = h.others; asked = omega arith; cause = h.cause; says = h.says }
 
 pub has_more : (c : CheckedGraph) (m n : ℕ) (a b d : List Row) (result : Result (Unit {0}) RunFail)
     → HasRead c m a b (Ok tt) → HasRead c n b d result → HasRead c (m + n) a d result
@@ -183,6 +201,7 @@ has_more c m n a b d result first second =
     let two = second.asked in
     record {
       read = AreRead-trans a b d first.read second.read;
+      others = others_later c a b d first.read first.others second.others;
       asked = omega arith;
       cause = λ err. rose_later c a b d first.read (second.cause err);
       says = by result second.says;

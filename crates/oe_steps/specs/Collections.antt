@@ -48,6 +48,12 @@ pub record AreRead (before after : List Row) : Type 0 where
   pub counts : (index : ℕ) → NeverFalls (source_at before index).faults (source_at after index).faults
   pub asked : (index : ℕ) → min (source_at before index).asked last_count ≤ (source_at after index).asked
 
+-- each row at which no step of the run has its collection is as it was
+abbrev pub KeepsOtherRows : CheckedGraph → List Row → List Row → Type 0
+KeepsOtherRows c before after =
+    (index : ℕ) → ((step : ℕ) (id : List ℕ) → IsLoadedBy c step id → ¬ IsMountedAt c before id index)
+    → source_at after index ≡ source_at before index
+
 -- the fault counter of a collection that a step loads rose
 pub record LoadRose (c : CheckedGraph) (before after : List Row) : Type 0 where
   pub step : ℕ

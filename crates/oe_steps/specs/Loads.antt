@@ -15,7 +15,7 @@ use Rattle.oe_sources.specs.declared.source.SourceFail.{SourceFail}
 use Rattle.oe_sources.specs.declared.source.SourceFail.TheVariants.{Failed, Damaged}
 use Rattle.oe_window.specs.declared.window.Window.{Window}
 use Rattle.oe_plan.specs.Schedules.{ScheduleOf, node_at}
-use Rattle.oe_steps.specs.Collections.{AreRead, IsMountedAt, LoadRose, Shows}
+use Rattle.oe_steps.specs.Collections.{AreRead, IsMountedAt, KeepsOtherRows, LoadRose, Shows}
 use Rattle.oe_steps.specs.Refusals.{IsOfSource, KeepsDamage, RefusalSays}
 use Rattle.oe_steps.specs.Steps.{buffer_cells_at, node_cells}
 use Rattle.oe_steps.specs.declared.fail.RunFail.{RunFail}
@@ -39,10 +39,12 @@ refusal_for node (Ok u) = Ok u
 refusal_for node (Err Failed) = Err SourceFailed
 refusal_for node (Err (Damaged number)) = Err (SourceDamaged node number)
 
--- reading asked for so many cells at most, changed nothing but counters, and was refused for a cause
+-- reading asked for so many cells at most, changed nothing but counters of the collections that the run loads, and was
+-- refused for a cause
 pub record HasRead (c : CheckedGraph) (most : ℕ) (before after : List Row)
     (result : Result (Unit {0}) RunFail) : Type 0 where
   pub read : AreRead before after
+  pub others : KeepsOtherRows c before after
   pub asked : cells_asked after ≤ cells_asked before + most
   pub cause : IsErrOf result SourceFailed → LoadRose c before after
   pub says : IfErr result (λ refusal. IsOfSource refusal × RefusalSays c before refusal)
