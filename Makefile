@@ -12,7 +12,7 @@ NEWER = $(shell find crates.txt crates/*/src crates/*/specs crates/*/proofs \
 # The proved program, if it stands: else `make run` and `make examples` build its commands over files without their proofs.
 STANDING = $(if $(NEWER),,$(PROGRAM))
 
-.PHONY: help run examples bench test tools-test edits check program
+.PHONY: help run examples bench test tools-test edits edits-read check program
 
 help:
 	@echo 'make run       runs the program on examples/graphs/greenest.json and prints the text of the result, and a table'
@@ -21,7 +21,7 @@ help:
 	@echo 'make bench     runs the proved program on a year of 12 dates, 4 bands and 1000 x 1000 pixels (needs python3), and'
 	@echo '               where there is xarray the same work by that'
 	@echo 'make test      the gate: every proof, edits that must be refused, every test, the program by two compilers'
-	@echo 'make tools-test  tests tools/cubes (needs python3); a part of `make test`'
+	@echo 'make tools-test  tests tools/cubes, and reads all edits that must be refused (needs python3); a part of `make test`'
 	@echo 'make edits     tries all edits that must be refused; with CRATE=oe_cell those of a crate'
 	@echo 'make check     proves every crate, lowest first, over what earlier checks kept'
 	@echo 'make help      prints this'
@@ -55,18 +55,23 @@ bench: program
 	@! $(PYTHON) -c 'import dask.array, scipy.ndimage, xarray' 2> /dev/null || $(PYTHON) -B bench/year_xarray.py 4
 
 # The gate: every proof, the edits *.edit that must be refused, every test, and the program twice. Beside it the tool that
-# takes cubes in and out, of which nothing is proved.
-test:
+# takes cubes in and out, of which nothing is proved. Before it, since it takes a second, whether all edits can be applied.
+test: edits-read
 	@.ci/run
 	@$(MAKE) --no-print-directory tools-test
 
-tools-test:
+tools-test: edits-read
 	@if command -v $(PYTHON) > /dev/null; then $(PYTHON) tools/tests/run; \
 	else echo 'tools/cubes is not tested: $(PYTHON) is missing' >&2; fi
 
-# The edits that must be refused, those that the gate only reads too: `make edits CRATE=oe_cell`, or all.
+# The edits that must be refused, those that the gate does not try too: `make edits CRATE=oe_cell`, or all.
 edits:
 	@tools/edits $(CRATE)
+
+# Whether each of them can still be applied.
+edits-read:
+	@if command -v $(PYTHON) > /dev/null; then $(PYTHON) tools/edits --read; \
+	else echo 'the edits that must be refused are not read: $(PYTHON) is missing' >&2; fi
 
 # Every crate, lowest first.
 check:

@@ -14,6 +14,10 @@ import tempfile
 import time
 
 
+# How long a server may take until it listens, and for a reply, in seconds.
+FIRST, LONGEST = 20, 60
+
+
 def free_port():
     with socket.socket() as probe:
         probe.bind(("127.0.0.1", 0))
@@ -69,7 +73,10 @@ def answered(port, requests, connections, path):
         while begun < requests and begun - done < connections:
             begin(choice, address, request)
             begun += 1
-        for key, events in choice.select():
+        ready = choice.select(LONGEST)
+        if not ready:
+            sys.exit(f"for {LONGEST} s there was no reply")
+        for key, events in ready:
             reply = go_on(choice, key, events)
             if reply is not None:
                 first = first or reply
@@ -77,6 +84,19 @@ def answered(port, requests, connections, path):
                     sys.exit(f"another reply: {reply}")
                 done += 1
     return time.perf_counter() - start
+
+
+def wait_until_it_listens(server, port):
+    end = time.monotonic() + FIRST
+    while time.monotonic() < end:
+        try:
+            socket.create_connection(("127.0.0.1", port)).close()
+            return
+        except ConnectionRefusedError:
+            if server.poll() is not None:
+                sys.exit(f"the server ended with {server.returncode}")
+            time.sleep(0.02)
+    sys.exit(f"the server does not listen after {FIRST} s")
 
 
 def main():
@@ -88,12 +108,7 @@ def main():
     with tempfile.TemporaryDirectory() as folder:
         server = subprocess.Popen([program, "serve", str(port), "64", "64", "12", "1", "4294967295"], cwd=folder)
         try:
-            while True:
-                try:
-                    socket.create_connection(("127.0.0.1", port)).close()
-                    break
-                except ConnectionRefusedError:
-                    time.sleep(0.02)
+            wait_until_it_listens(server, port)
             answered(port, 100, connections, path)
             before, memory = seconds_of(server.pid), memory_of(server.pid)
             took = answered(port, requests, connections, path)

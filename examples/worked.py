@@ -185,12 +185,20 @@ def graph(**nodes):
 
 # ---- calls
 
+# How long a call may take, in seconds.
+LONGEST = 600
+
+
 class Calls:
     def __init__(self, program):
         self.program, self.good, self.bad = program, 0, 0
 
     def call(self, folder, words, given):
-        ended = subprocess.run([self.program, *words], input=given, cwd=folder, capture_output=True, timeout=600)
+        """The status, the output and the error output of a call; in place of the status words, where it was stopped."""
+        try:
+            ended = subprocess.run([self.program, *words], input=given, cwd=folder, capture_output=True, timeout=LONGEST)
+        except subprocess.TimeoutExpired:
+            return f"no end after {LONGEST} s", b"", b""
         return ended.returncode, ended.stdout, ended.stderr
 
     def ends(self, name, seen, right):

@@ -4,8 +4,9 @@
 Two users have two clients each, which make jobs, start them, download what they give and delete them. At a random moment
 the server is killed and started again over the same database. Then each job whose change was answered must be there as
 it was answered, a deleted one must be gone, no text of a finished job may differ from that of `run`, and at most one job
-may run. The last lines say how many changes were answered and how many kills showed nothing wrong; the exit status is 1
-where one did.
+may run, whoever's it is. Until it is killed a server must not end, and each request must have a reply that can be read. The
+last lines say how many changes were answered and how many kills showed nothing wrong; the exit status is 1 where one did,
+and where no change was answered at all.
 """
 import http.client
 import json
@@ -25,6 +26,10 @@ CREATED, QUEUED, FINISHED, DELETED = "created", "queued", "finished", "deleted"
 MAY_BE = {CREATED: ["created"], QUEUED: ["queued", "running", "finished"], FINISHED: ["finished"]}
 # What was asked and not answered may have come about.
 MAY_FOLLOW = {CREATED: QUEUED, FINISHED: DELETED}
+# What a client may meet once the server is gone.
+BROKEN = (OSError, ValueError, TypeError, http.client.HTTPException)
+# How long a client may take to see that the server is gone, and a server to run what is queued, in seconds.
+LONGEST = 60
 
 
 class Wrong(Exception):
@@ -32,12 +37,12 @@ class Wrong(Exception):
 
 
 class Client(threading.Thread):
-    """Makes jobs, one behind the other, until the server is gone."""
+    """Makes jobs, one behind the other, until the server is gone: it may be from the event `killing` on."""
 
-    def __init__(self, url, token, graph, text, pause):
+    def __init__(self, url, token, graph, text, pause, killing):
         super().__init__(daemon=True)
         self.back_end = Connection(url, token)
-        self.graph, self.text, self.pause = graph, text, pause
+        self.graph, self.text, self.pause, self.killing = graph, text, pause, killing
         self.known, self.answered, self.wrong = {}, 0, None
 
     def run(self):
@@ -48,13 +53,14 @@ class Client(threading.Thread):
             self.wrong = wrong
         except Refused as refused:
             self.wrong = f"refused: {refused}"
-        except (OSError, ValueError, TypeError, http.client.HTTPException):
-            pass  # The server is gone.
+        except Exception as fault:
+            if not isinstance(fault, BROKEN) or not self.killing.is_set():
+                self.wrong = f"no reply that can be read: {fault!r}"
 
     def one_job(self):
         job = self.back_end.create_job(self.graph, "A job")
         if job is None:
-            raise OSError
+            raise ValueError("a job without an id")
         self.known[job] = CREATED
         self.answered += 1
         self.back_end.ask("POST", f"/jobs/{job}/results")
@@ -95,45 +101,77 @@ def compare(back_end, job, known, text):
         raise Wrong(f"{job} has another text")
 
 
-def settle(back_end, text):
-    """Waits until no job is to be run, looks at all, and deletes them."""
-    while True:
-        jobs = back_end.get("/jobs")["jobs"]
-        if sum(it["status"] == "running" for it in jobs) > 1:
-            raise Wrong("two jobs run")
-        if not any(it["status"] in ("queued", "running") for it in jobs):
-            break
+def jobs_of(back_end, status):
+    return {it["id"] for it in back_end.get("/jobs")["jobs"] if it["status"] in status}
+
+
+def running(one, other):
+    """Jobs of two users that run at once: a job of the one ran while the other was asked, if it runs before and after."""
+    before = jobs_of(one, ["running"])
+    between = jobs_of(other, ["running"])
+    return max([before, between, before & jobs_of(one, ["running"]) | between], key=len)
+
+
+def settle(back_ends, text):
+    """Waits until no job of two users is to be run, looks at all, and deletes them."""
+    end = time.monotonic() + LONGEST
+    while any(jobs_of(back_end, ["queued", "running"]) for back_end in back_ends):
+        if len(at_once := running(*back_ends)) > 1:
+            raise Wrong(f"{' and '.join(sorted(at_once))} run at once")
+        if time.monotonic() > end:
+            raise Wrong(f"after {LONGEST} s jobs are still to be run")
         time.sleep(0.01)
-    for it in jobs:
-        if it["status"] == "finished" and list(back_end.download(it["id"]).values()) != [text]:
-            raise Wrong(f"{it['id']} has another text")
-        back_end.ask("DELETE", f"/jobs/{it['id']}")
+    for back_end in back_ends:
+        for it in back_end.get("/jobs")["jobs"]:
+            if it["status"] == "finished" and list(back_end.download(it["id"]).values()) != [text]:
+                raise Wrong(f"{it['id']} has another text")
+            back_end.ask("DELETE", f"/jobs/{it['id']}")
+
+
+def until_killed(program, folder, graph, text, chance):
+    """Kills a server at a random moment. Answers its clients, of which none saw anything wrong."""
+    server, url = start(program, folder)
+    killing = threading.Event()
+    clients = [Client(url, token, graph, text, 0.002, killing) for token in ("abc", "abc", "xyz", "xyz")]
+    try:
+        for client in clients:
+            client.start()
+        time.sleep(chance.uniform(0.005, 0.4))
+    finally:
+        killing.set()
+        ended = server.poll()
+        server.kill()
+        server.wait()
+    for client in clients:
+        client.join(LONGEST)
+    if ended is not None:
+        raise Wrong(f"the server ended by itself with {ended}")
+    if any(client.is_alive() for client in clients):
+        raise Wrong(f"{LONGEST} s after the kill a client still waits")
+    for client in clients:
+        if client.wrong:
+            raise Wrong(client.wrong)
+    return clients
 
 
 def one_kill(program, folder, graph, text, chance):
-    """Kills a server at a random moment, and looks at what the next one has. Answers how many changes were answered."""
-    server, url = start(program, folder)
-    clients = [Client(url, token, graph, text, 0.002) for token in ("abc", "abc", "xyz", "xyz")]
-    for client in clients:
-        client.start()
-    time.sleep(chance.uniform(0.005, 0.4))
-    server.kill()
-    server.wait()
-    for client in clients:
-        client.join(60)
+    """Kills a server, and looks at what the next one has. Answers how many changes were answered."""
+    clients = until_killed(program, folder, graph, text, chance)
     server, url = start(program, folder)
     try:
         for client in clients:
-            if client.wrong:
-                raise Wrong(client.wrong)
             back_end = Connection(url, client.back_end.token)
             for job, known in client.known.items():
                 compare(back_end, job, known, text)
-        for token in ("abc", "xyz"):
-            settle(Connection(url, token), text)
+        settle([Connection(url, token) for token in ("abc", "xyz")], text)
+    except (*BROKEN, KeyError, Refused) as fault:
+        raise Wrong(f"the server after the kill: {fault!r}") from None
     finally:
+        ended = server.poll()
         server.kill()
         server.wait()
+    if ended is not None:
+        raise Wrong(f"the server after the kill ended by itself with {ended}")
     return sum(client.answered for client in clients)
 
 
@@ -161,7 +199,7 @@ def main():
         shutil.rmtree(folder)
     print(f"{answered} changes were answered, of jobs that were then there or deleted as they were answered")
     print(f"{good} of {kills} kills showed nothing wrong")
-    sys.exit(good < kills)
+    sys.exit(good < kills or answered == 0)
 
 
 if __name__ == "__main__":

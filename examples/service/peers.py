@@ -3,9 +3,9 @@
 
 A server answers one connection at a time, so a peer may hold it up, but only for so long: 30 seconds for what is read,
 and 30 for what is written and besides 16 microseconds for each byte that was taken. Behind each peer an ordinary request
-is made, which should be answered within that time. At the end a thousand peers ask at once while one keeps the server
-waiting, and none of them should go without an answer. The last line says how much was as it should be; the exit status
-is 1 where something was not.
+is made, which should be answered within that time, by status 200 and as it is without a peer. At the end a thousand peers
+ask at once while one keeps the server waiting, and none of them should go without this answer. The last line says how much
+was as it should be; the exit status is 1 where something was not.
 """
 import asyncio
 import json
@@ -256,8 +256,11 @@ def main():
     server, url = start(program, folder)
     port = int(url.rpartition(":")[2])
     good = bad = 0
-    whole = ordinary(port)[1]
     try:
+        whole = ordinary(port)[1]
+        if not whole.startswith(b"HTTP/1.1 200 "):
+            bad += 1
+            print(f"examples/service/peers.py: without a peer the reply is {whole}", file=sys.stderr)
         for peer, wanted, longest, room in PEERS:
             s = connection(port, room)
             seen = []

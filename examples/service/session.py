@@ -15,6 +15,8 @@ import time
 import urllib.error
 import urllib.request
 
+# How long a server may take until it listens, and a job until it is at its end, in seconds.
+FIRST, LONGEST = 20, 60
 HERE = os.path.dirname(os.path.dirname(os.path.realpath(__file__)))
 
 
@@ -57,8 +59,10 @@ class Connection:
         return self.ask("POST", "/jobs", {"process": graph, "title": title})[0]["OpenEO-Identifier"]
 
     def start_and_wait(self, job):
+        """Runs a job. Answers the status that it has at its end, or when it is not waited for any longer."""
         self.ask("POST", f"/jobs/{job}/results")
-        while (status := self.get(f"/jobs/{job}")["status"]) in ("queued", "running"):
+        end = time.monotonic() + LONGEST
+        while (status := self.get(f"/jobs/{job}")["status"]) in ("queued", "running") and time.monotonic() < end:
             time.sleep(0.05)
         return status
 
@@ -78,7 +82,8 @@ def start(program, folder):
     """A server in the folder, and the URL at which it answers."""
     port = free_port()
     server = subprocess.Popen([program, "serve", str(port), "64", "64", "12", "1", "4294967295"], cwd=folder)
-    for _ in range(100):
+    end = time.monotonic() + FIRST
+    while time.monotonic() < end:
         try:
             socket.create_connection(("127.0.0.1", port)).close()
             return server, f"http://127.0.0.1:{port}"
@@ -86,7 +91,9 @@ def start(program, folder):
             if server.poll() is not None:
                 sys.exit(f"the server ended with {server.returncode}")
             time.sleep(0.05)
-    sys.exit("the server does not listen")
+    server.kill()
+    server.wait()
+    sys.exit(f"the server does not listen after {FIRST} s")
 
 
 def refused(call, *arguments):
