@@ -1,5 +1,5 @@
 -- How the evaluation of a graph ends, by what its rounds left and by what was written of its text.
-use Rattle.std.proofs.Common.{◌≡◌, ◌<◌, ℕ, List, Option, Some, None, Result, Ok, Err, refl, sym, ap, ◌∙◌, subst}
+use Rattle.std.proofs.Common.{◌≡◌, ◌<◌, ℕ, List, Option, Some, None, Result, Ok, Err, inl, inr, refl, sym, ap, ◌∙◌, subst}
 use Rattle.std.proofs.lemmas.List.{append-nil}
 use Rattle.oe_dims.specs.Dimensions.{cell_count}
 use Rattle.oe_engine.specs.Laws.{GivesCollections}
@@ -65,7 +65,7 @@ module _ (r after : RunOf) (rows rows_after : List Row) (store store_after : Opt
         }))
     refused run.SpoolFailed stop c same = subst (λ (e : EvaluationFail). Evaluates p.graph p.size start end (Err e)) (sym same)
         (evaluated (Err SpoolFault) c.through.reads c.through.spool_cause.count
-        (c.through.spool_cause.failed refl, λ visible loads. nothing_more out _))
+        (c.through.spool_cause.failed refl, inl (record { out = refl; faults = refl })))
     refused (run.Overflow number) stop c same =
         let over = c.overflow number refl in
         subst (λ (e : EvaluationFail). Evaluates p.graph p.size start end (Err e)) (sym same)
@@ -113,7 +113,10 @@ module _ (r after : RunOf) (rows rows_after : List Row) (store store_after : Opt
     stopped text.SpoolFailed stop same prefix spool sink damage = subst (λ (e : EvaluationFail). Evaluates p.graph p.size begun ended (Err e)) (sym same)
         (last (Err SpoolFault) spool.count sink.count (
           then-Rose c.through.spool_cause.count (spool.failed refl),
-          of_meaning r after rows rows_after store store_after given rows_are is c.through.goes (λ cube. AppendsPrefix out (cube_text cube) out_after) prefix,
+          inr (record {
+            numbers = no_over;
+            prefix = of_meaning r after rows rows_after store store_after given rows_are is c.through.goes (λ cube. AppendsPrefix out (cube_text cube) out_after) prefix;
+          }),
         ))
     stopped (text.SpoolDamaged number) stop same prefix spool sink damage =
         subst (λ (e : EvaluationFail). Evaluates p.graph p.size begun ended (Err e)) (sym same)
@@ -124,5 +127,10 @@ module _ (r after : RunOf) (rows rows_after : List Row) (store store_after : Opt
           hidden = hidden r after rows rows_after store store_after given rows_are is c.through.goes damage.0;
         }))
     stopped text.SinkFailed stop same prefix spool sink damage = subst (λ (e : EvaluationFail). Evaluates p.graph p.size begun ended (Err e)) (sym same)
-        (last (Err WriteFault) spool.count sink.count
-        (record { rose = sink.failed refl; numbers = no_over; prefix = of_meaning r after rows rows_after store store_after given rows_are is c.through.goes (λ cube. AppendsPrefix out (cube_text cube) out_after) prefix }))
+        (last (Err WriteFault) spool.count sink.count (
+          sink.failed refl,
+          record {
+            numbers = no_over;
+            prefix = of_meaning r after rows rows_after store store_after given rows_are is c.through.goes (λ cube. AppendsPrefix out (cube_text cube) out_after) prefix;
+          },
+        ))

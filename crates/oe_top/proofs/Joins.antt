@@ -1,5 +1,5 @@
 -- How joining ends, by what laying out the parts left and by what was written of the text.
-use Rattle.std.proofs.Common.{◌≡◌, ◌<◌, ◌+◌, ℕ, zero, suc, List, [], ◌∷◌, length, slice_get, Option, Some, None, IfSome, Result, Ok, Err, refl, sym, ap, ◌∙◌, subst, arith}
+use Rattle.std.proofs.Common.{◌≡◌, ◌<◌, ◌+◌, ℕ, zero, suc, List, [], ◌∷◌, length, slice_get, Option, Some, None, IfSome, Result, Ok, Err, inl, inr, refl, sym, ap, ◌∙◌, subst, arith}
 use Rattle.std.specs.Prelude.{⊤}
 use Rattle.std.proofs.lemmas.List.{length-map}
 use Rattle.std.proofs.lemmas.Option.{slice_get_within}
@@ -32,7 +32,6 @@ use Rattle.oe_render.specs.declared.rendering.RenderFail.{RenderFail}
 use Rattle.oe_render.specs.declared.rendering.RenderFail.TheVariants as text
 use Rattle.oe_sources.specs.Catalogue.{Row}
 use Rattle.oe_spool.specs.Spooled.{ChangesOnly, HoldsCube, IsRecordByte}
-use Rattle.oe_top.proofs.Evaluations.{nothing_more}
 use Rattle.oe_top.specs.Evaluated.{fail_of_text}
 use Rattle.oe_top.specs.JoinAnswer.{IsBeforeParts, IsJoined, IsMisfit, IsMisfitNamed, JoinAnswers, JoinEnds, JoiningEnds, OfNameAt, OfParts, outline_of_run}
 use Rattle.oe_top.specs.Judged.{IsInputText, IsRefused}
@@ -114,19 +113,26 @@ module _ (shape : Dimensions) (parts parts_after : List PartState) (store laid :
         → IsRefusalWithin laid 0 (cell_count shape) fail
         → JoiningEnds shape parts parts_after begun ended (Err (join.Stopped why))
     join_stopped faults_laid text.SpoolFailed why same lays h count spool sink damage =
-        subst (λ (e : EvaluationFail). JoiningEnds shape parts parts_after begun ended (Err (join.Stopped e))) (sym same)
-        (then-Rose count (spool.failed refl), joined_prefix None lays out out_after h)
+        subst (λ (e : EvaluationFail). JoiningEnds shape parts parts_after begun ended (Err (join.Stopped e))) (sym same) (
+          then-Rose count (spool.failed refl),
+          inr (record {
+            undamaged = lays.undamaged;
+            numbers = no_over None lays refl;
+            prefix = joined_prefix None lays out out_after h;
+          }),
+        )
     join_stopped faults_laid (text.SpoolDamaged number) why same lays h count spool sink damage =
         subst (λ (e : EvaluationFail). JoiningEnds shape parts parts_after begun ended (Err (join.Stopped e))) (sym same)
         (record { undamaged = lays.undamaged; within = damage.2; numbers = no_over None lays refl; hidden = hidden damage.0 })
     join_stopped faults_laid text.SinkFailed why same lays h count spool sink damage =
-        subst (λ (e : EvaluationFail). JoiningEnds shape parts parts_after begun ended (Err (join.Stopped e))) (sym same)
-        (record {
-          undamaged = lays.undamaged;
-          rose = sink.failed refl;
-          numbers = no_over None lays refl;
-          prefix = joined_prefix None lays out out_after h;
-        })
+        subst (λ (e : EvaluationFail). JoiningEnds shape parts parts_after begun ended (Err (join.Stopped e))) (sym same) (
+          sink.failed refl,
+          record {
+            undamaged = lays.undamaged;
+            numbers = no_over None lays refl;
+            prefix = joined_prefix None lays out out_after h;
+          },
+        )
 
   -- before the text
   module _ (input input_after : Option (List ℕ)) (input_faults input_faults_after : ℕ) (rows : List Row)
@@ -171,7 +177,7 @@ module _ (shape : Dimensions) (parts parts_after : List PartState) (store laid :
 
     pub join_spools_none : LayStops parts parts_after faults faults_laid SpoolFailed
         → JoiningEnds shape parts parts_after first last (Err (join.Stopped SpoolFault))
-    join_spools_none rose = (rose, λ visible cube is of_shape shown. nothing_more out _)
+    join_spools_none rose = (rose, inl (record { out = refl; faults = refl }))
 
 -- ---- the part to blame
 

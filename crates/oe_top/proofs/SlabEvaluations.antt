@@ -1,6 +1,6 @@
 -- How the evaluation of a graph ends that is folded slab by slab, by what its rounds left and by what was written of its
 -- text.
-use Rattle.std.proofs.Common.{◌≡◌, ◌<◌, ℕ, List, Option, Some, None, Result, Ok, Err, refl, sym, ap, ◌∙◌, subst}
+use Rattle.std.proofs.Common.{◌≡◌, ◌<◌, ℕ, List, Option, Some, None, Result, Ok, Err, inl, inr, refl, sym, ap, ◌∙◌, subst}
 use Rattle.oe_cell.specs.declared.cell.Cell.{Cell}
 use Rattle.oe_dims.specs.Cube.{Cube}
 use Rattle.oe_dims.specs.Dimensions.{cell_count}
@@ -23,7 +23,6 @@ use Rattle.oe_check.specs.Laws.{AreCollectionsOf}
 use Rattle.oe_sources.specs.Catalogue.{Row}
 use Rattle.oe_sources.specs.CatalogueDims.{dims_of}
 use Rattle.oe_spool.specs.Least.{least_over_of}
-use Rattle.oe_top.proofs.Evaluations.{nothing_more}
 use Rattle.oe_top.proofs.SlabLoads.{reads_for_slabs}
 use Rattle.oe_top.specs.Evaluated.{IsFailOfRun, fail_of_text}
 use Rattle.oe_top.specs.Objects.{Objects, objects}
@@ -90,7 +89,7 @@ module _ (r after : SlabRunOf) (rows rows_after : List Row) (store store_after :
         }))
     refused_slabs run.SpoolFailed stop c same = subst (λ (e : EvaluationFail). FoldsSlabs p.graph p.size p.fold start end (Err e)) (sym same)
         (evaluated (Err SpoolFault) c.through.reads c.through.spool_cause.count
-        (c.through.spool_cause.failed refl, λ visible loads. nothing_more out _))
+        (c.through.spool_cause.failed refl, inl (record { out = refl; faults = refl })))
     refused_slabs (run.Overflow number) stop c same =
         let over = c.overflow number refl in
         subst (λ (e : EvaluationFail). FoldsSlabs p.graph p.size p.fold start end (Err e)) (sym same)
@@ -160,7 +159,10 @@ module _ (r after : SlabRunOf) (rows rows_after : List Row) (store store_after :
     stopped_slabs text.SpoolFailed stop same prefix spool sink damage = subst (λ (e : EvaluationFail). FoldsSlabs p.graph p.size p.fold begun ended (Err e)) (sym same)
         (last (Err SpoolFault) spool.count sink.count (
           then-Rose c.through.spool_cause.count (spool.failed refl),
-          of_meaning (λ cube. AppendsPrefix out (cube_text cube) out_after) prefix,
+          inr (record {
+            numbers = no_over;
+            prefix = of_meaning (λ cube. AppendsPrefix out (cube_text cube) out_after) prefix;
+          }),
         ))
     stopped_slabs (text.SpoolDamaged number) stop same prefix spool sink damage =
         subst (λ (e : EvaluationFail). FoldsSlabs p.graph p.size p.fold begun ended (Err e)) (sym same)
@@ -171,5 +173,10 @@ module _ (r after : SlabRunOf) (rows rows_after : List Row) (store store_after :
           hidden = hidden damage.0;
         }))
     stopped_slabs text.SinkFailed stop same prefix spool sink damage = subst (λ (e : EvaluationFail). FoldsSlabs p.graph p.size p.fold begun ended (Err e)) (sym same)
-        (last (Err WriteFault) spool.count sink.count
-        (record { rose = sink.failed refl; numbers = no_over; prefix = of_meaning (λ cube. AppendsPrefix out (cube_text cube) out_after) prefix }))
+        (last (Err WriteFault) spool.count sink.count (
+          sink.failed refl,
+          record {
+            numbers = no_over;
+            prefix = of_meaning (λ cube. AppendsPrefix out (cube_text cube) out_after) prefix;
+          },
+        ))

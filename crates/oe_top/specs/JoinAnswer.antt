@@ -1,5 +1,5 @@
 -- How the command `join` ends: the table of its statuses, one case a row.
-use Rattle.std.specs.Prelude.{◌≡◌, ◌<◌, ℕ, ◌+◌, List, slice_get, None, Some, IfSome, Result, Ok, Err}
+use Rattle.std.specs.Prelude.{◌≡◌, ◌<◌, ◌⊎◌, ℕ, ◌+◌, List, slice_get, None, Some, IfSome, Result, Ok, Err}
 use Rattle.oe_engine.specs.Results.{IsOverFirst, IsVisible, IsWithoutOver}
 use Rattle.oe_dims.specs.Cube.{Cube, IsCube}
 use Rattle.oe_dims.specs.Dimensions.{Dimensions, cell_count}
@@ -44,10 +44,12 @@ module _ (shape : Dimensions) (parts : List PartState) (before after : Objects) 
     pub numbers : OfParts shape parts IsWithoutOver
     pub text : IsVisible before.spool → OfParts shape parts (λ cube. Appends before.out (cube_text cube) after.out)
 
-  -- a prefix of that text does
-  abbrev pub WritesJoinedPrefix : Type 0
-  WritesJoinedPrefix =
-      IsVisible before.spool → OfParts shape parts (λ cube. AppendsPrefix before.out (cube_text cube) after.out)
+  -- no record is damaged, no cell is Over, and a prefix of that text follows what the output held
+  pub record BeginsJoined : Type 0 where
+    pub undamaged : AreUndamaged parts
+    pub numbers : OfParts shape parts IsWithoutOver
+    pub prefix : IsVisible before.spool
+        → OfParts shape parts (λ cube. AppendsPrefix before.out (cube_text cube) after.out)
 
   -- 4: no record is damaged, and this is the least number of a cell that is Over
   pub record JoinOverflows (number : ℕ) : Type 0 where
@@ -55,12 +57,13 @@ module _ (shape : Dimensions) (parts : List PartState) (before after : Objects) 
     pub least : OfParts shape parts (IsOverFirst number)
     pub unwritten : IsUnwritten before after
 
-  -- 8: the output failed at the text of parts no record of which is damaged, and of a result no cell of which is Over
-  pub record StopsAtJoinedText : Type 0 where
-    pub undamaged : AreUndamaged parts
-    pub rose : Rose before.out_faults after.out_faults
-    pub numbers : OfParts shape parts IsWithoutOver
-    pub prefix : WritesJoinedPrefix
+  -- 7: the spool failed, before the text, and nothing was written, or in it
+  abbrev pub StopsAtJoinedSpool : Type 0
+  StopsAtJoinedSpool = Rose before.spool_faults after.spool_faults × (IsUnwritten before after ⊎ BeginsJoined)
+
+  -- 8: the output failed in the text
+  abbrev pub StopsAtJoinedText : Type 0
+  StopsAtJoinedText = Rose before.out_faults after.out_faults × BeginsJoined
 
   -- 15: no record is damaged and no cell is Over, but what was read back from the spool for this one is no record, or
   -- that of Over, which never comes of a spool whose bytes are visible
@@ -94,7 +97,7 @@ module _ (shape : Dimensions) (parts parts_after : List PartState) (before after
   JoiningStops (Overflow number) = JoinOverflows shape parts before after number
   JoiningStops ReadFault = PartRose
   JoiningStops (Damaged id number) = ⊥
-  JoiningStops SpoolFault = Rose before.spool_faults after.spool_faults × WritesJoinedPrefix shape parts before after
+  JoiningStops SpoolFault = StopsAtJoinedSpool shape parts before after
   JoiningStops WriteFault = StopsAtJoinedText shape parts before after
   JoiningStops (SpoolDamaged number) = MeetsJoinedSpoolDamage shape parts before after number
 

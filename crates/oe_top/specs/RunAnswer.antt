@@ -1,5 +1,5 @@
 -- How the command `run` ends: the table of its statuses, one case a row.
-use Rattle.std.specs.Prelude.{◌≡◌, ◌<◌, ◌≤◌, ℕ, ◌+◌, List, None, Some, Result, Ok, Err}
+use Rattle.std.specs.Prelude.{◌≡◌, ◌<◌, ◌≤◌, ◌⊎◌, ℕ, ◌+◌, List, None, Some, Result, Ok, Err}
 use Rattle.oe_engine.specs.Results.{IsOverFirst, IsVisible, IsWithoutOver, OfMeaning}
 use Rattle.oe_engine.specs.Evaluations.{ReadsForRun}
 use Rattle.oe_dims.specs.Dimensions.{cell_count}
@@ -30,16 +30,19 @@ module _ (c : CheckedGraph) (before after : Objects) where
     pub text : IsVisible before.spool → OfMeaning before.collections c
         (λ cube. Appends before.out (cube_text cube) after.out)
 
-  -- a prefix of that text follows what the output held
-  abbrev pub WritesPrefix : Type 0
-  WritesPrefix = IsVisible before.spool → OfMeaning before.collections c
-      (λ cube. AppendsPrefix before.out (cube_text cube) after.out)
-
-  -- 8: the output failed at the text of a result no cell of which is Over
-  pub record StopsAtText : Type 0 where
-    pub rose : Rose before.out_faults after.out_faults
+  -- no cell of the result is Over, and a prefix of that text follows what the output held
+  pub record BeginsText : Type 0 where
     pub numbers : OfMeaning before.collections c IsWithoutOver
-    pub prefix : WritesPrefix
+    pub prefix : IsVisible before.spool → OfMeaning before.collections c
+        (λ cube. AppendsPrefix before.out (cube_text cube) after.out)
+
+  -- 7: the spool failed, before the text, and nothing was written, or in it
+  abbrev pub StopsAtSpool : Type 0
+  StopsAtSpool = Rose before.spool_faults after.spool_faults × (IsUnwritten before after ⊎ BeginsText)
+
+  -- 8: the output failed in the text
+  abbrev pub StopsAtText : Type 0
+  StopsAtText = Rose before.out_faults after.out_faults × BeginsText
 
   -- 4: this is the least number of a cell of the result that is Over
   pub record Overflows (number : ℕ) : Type 0 where
@@ -65,7 +68,7 @@ module _ (c : CheckedGraph) (before after : Objects) where
   EvaluationEnds (Err (Overflow number)) = Overflows number
   EvaluationEnds (Err ReadFault) = LoadRose c before.collections after.collections × IsUnwritten before after
   EvaluationEnds (Err (Damaged id number)) = MeetsDamage id number
-  EvaluationEnds (Err SpoolFault) = Rose before.spool_faults after.spool_faults × WritesPrefix
+  EvaluationEnds (Err SpoolFault) = StopsAtSpool
   EvaluationEnds (Err WriteFault) = StopsAtText
   EvaluationEnds (Err (SpoolDamaged number)) = MeetsSpoolDamage number
 
