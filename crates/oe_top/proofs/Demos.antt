@@ -431,7 +431,13 @@ module _ (seed side : ℕ) (size : ChunkSize) (workers : ℕ) (graph : CheckedGr
   pub too_large : (cells : ℕ) → (cells ≡ bound_of graph size workers) × (most_held_cells < cells)
       → DemoAnswers seed side size workers first first (Err (TooLarge cells))
   too_large cells (is, over) = record {
-    ends = record { graph = graph; text = checked; cells_are = is; over = over; unwritten = record { out = refl; faults = refl } };
+    ends = record {
+      graph = graph;
+      text = checked;
+      cells_are = is;
+      over = over;
+      untouched = record { out = refl; out_faults = refl; spool = refl; spool_faults = refl; collections = refl };
+    };
     input_kept = (refl, refl);
     collections_kept = refl;
     out_count = NeverFalls-refl out_faults;

@@ -11,7 +11,7 @@ use Rattle.oe_sources.specs.CatalogueDims.{dims_of}
 use Rattle.oe_window.specs.declared.grid.ChunkSize.{ChunkSize}
 use Rattle.oe_top.specs.Demonstration.{demo_graph, demo_text}
 use Rattle.oe_top.specs.Judged.{IsCheckedText}
-use Rattle.oe_top.specs.Objects.{Objects}
+use Rattle.oe_top.specs.Objects.{IsUntouched, Objects}
 use Rattle.oe_top.specs.Written.{IsUnwritten}
 use Rattle.oe_top.specs.declared.demo.DemoRefusal.{DemoRefusal}
 use Rattle.oe_top.specs.declared.demo.DemoRefusal.TheVariants.{TooLarge, OutOfMemory, Stopped}
@@ -48,8 +48,8 @@ module _ (rows : List Row) (c : CheckedGraph) (before after : Objects) where
     pub rose : Rose before.out_faults after.out_faults
     pub prefix : IsVisible before.spool → AppendsPrefix before.out (demo_text (result_of rows c)) after.out
 
-  -- 15: what was read back from the spool for this cell of the result is no record of a number, which never comes of a
-  -- spool whose bytes are visible
+  -- 15: what was read back from the spool for this cell of the result is no record, or that of Over, which never comes
+  -- of a spool whose bytes are visible
   pub record MeetsNoRecord (number : ℕ) : Type 0 where
     pub within : number < cell_count (shape_of_node c c.result)
     pub hidden : before.spool ≡ None
@@ -92,13 +92,13 @@ module _ (seed side : ℕ) (size : ChunkSize) (workers : ℕ) where
       pub text : IsDemoGraph graph
       pub cells_are : cells ≡ bound_of graph size workers
       pub over : most_held_cells < cells
-      pub unwritten : IsUnwritten before after
+      pub untouched : IsUntouched before after
 
-    -- what each ending says; out of memory has no cause
+    -- what each ending says; out of memory has no cause, and comes only before the spool is touched
     abbrev pub DemoEnds : Result (Unit {0}) DemoRefusal → Type 0
     DemoEnds (Ok x) = IsDemonstrated (Ok x)
     DemoEnds (Err (TooLarge cells)) = IsTooLarge cells
-    DemoEnds (Err OutOfMemory) = IsUnwritten before after
+    DemoEnds (Err OutOfMemory) = IsUntouched before after
     DemoEnds (Err (Stopped fail)) = IsDemonstrated (Err fail)
 
     -- Neither the input nor a mounted collection is touched.
