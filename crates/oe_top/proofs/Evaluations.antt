@@ -1,7 +1,9 @@
 -- How the evaluation of a graph ends, by what its rounds left and by what was written of its text.
 use Rattle.std.proofs.Common.{◌≡◌, ◌<◌, ℕ, List, Option, Some, None, Result, Ok, Err, inl, inr, refl, sym, ap, ◌∙◌, subst}
 use Rattle.std.proofs.lemmas.List.{append-nil}
-use Rattle.oe_dims.specs.Dimensions.{cell_count}
+use Rattle.oe_cell.specs.declared.cell.Cell.{Cell}
+use Rattle.oe_dims.specs.Cube.{Cube}
+use Rattle.oe_dims.specs.Dimensions.{Dimensions, cell_count}
 use Rattle.oe_engine.specs.Laws.{GivesCollections}
 use Rattle.oe_engine.specs.Runs.{OfRun, RunOf, result_shape}
 use Rattle.oe_engine.specs.Results.{IsWithoutOver, OfMeaning}
@@ -14,7 +16,8 @@ use Rattle.oe_outside.proofs.Causes.{NeverFalls-refl, NeverFalls-trans, then-Ros
 use Rattle.oe_outside.specs.Faults.{HasCauseOf, NeverFalls}
 use Rattle.oe_outside.specs.Visible.{Appends, AppendsPrefix}
 use Rattle.oe_plan.specs.Plans.{IsPlan, PlanOf}
-use Rattle.oe_render.specs.Rendered.{IsRefusalWithin}
+use Rattle.oe_render.specs.Rendered.{AppendsCube, AppendsCubePrefix, IsRefusalWithin}
+use Rattle.oe_render.specs.Stored.{AreStored}
 use Rattle.oe_render.specs.Text.{cube_text}
 use Rattle.oe_render.specs.declared.rendering.RenderFail.{RenderFail}
 use Rattle.oe_render.specs.declared.rendering.RenderFail.TheVariants as text
@@ -22,7 +25,8 @@ use Rattle.oe_sources.specs.Catalogue.{Row}
 use Rattle.oe_sources.specs.CatalogueDims.{dims_of}
 use Rattle.oe_top.specs.Evaluated.{IsFailOfRun, fail_of_text}
 use Rattle.oe_top.specs.Objects.{Objects, objects}
-use Rattle.oe_top.specs.RunAnswer.{EvaluationEnds, Evaluates}
+use Rattle.oe_top.specs.RunAnswer.{BeginsText, EvaluationEnds, Evaluates}
+use Rattle.oe_top.specs.Written.{OfSomeCube}
 use Rattle.oe_top.specs.declared.evaluation.EvaluationFail.{EvaluationFail}
 use Rattle.oe_top.specs.declared.evaluation.EvaluationFail.TheVariants.{Damaged, Overflow, ReadFault, SpoolDamaged, SpoolFault, WriteFault}
 
@@ -30,6 +34,18 @@ use Rattle.oe_top.specs.declared.evaluation.EvaluationFail.TheVariants.{Damaged,
 pub nothing_more : (held : Option (List ℕ)) (piece : List ℕ) → AppendsPrefix held piece held
 nothing_more None piece = (0, refl)
 nothing_more (Some bytes) piece = (0, ap Some (sym (append-nil bytes)))
+
+-- cells that stand in a store are those of some cube
+pub some_cube : (store : Option (List ℕ)) (at : ℕ) (shape : Dimensions) (Holds : Cube Cell → Type 0)
+    → (cells : List Cell) × AreStored store at (cell_count shape) cells × Holds (record { shape = shape; cells = cells })
+    → OfSomeCube shape Holds
+some_cube store at shape Holds (cells, are, holds) = record {
+  cells = cells;
+  counted = are.counted;
+  valid = are.read.fit;
+  numbered = are.numbered;
+  holds = holds;
+}
 
 module _ (r after : RunOf) (rows rows_after : List Row) (store store_after : Option (List ℕ)) (faults faults_after : ℕ)
     (given : GivesCollections rows) (rows_are : r.plan.graph.rows ≡ dims_of rows) (is : IsPlan r.plan) where
@@ -96,41 +112,53 @@ module _ (r after : RunOf) (rows rows_after : List Row) (store store_after : Opt
     no_over : OfMeaning rows p.graph IsWithoutOver
     no_over = without_over r after rows rows_after store store_after given rows_are is c.through.goes c.through.done c.numbers
 
-    pub written : OfRun after store_after (λ cube. Appends out (cube_text cube) out_after) → NeverFalls faults_after faults_last
+    -- cells that stand in the spool, whatever is visible
+    stored : (Holds : Cube Cell → Type 0)
+        → (cells : List Cell) × AreStored store_after after.base (cell_count (result_shape after.plan)) cells
+        × Holds (record { shape = result_shape after.plan; cells = cells })
+        → OfSomeCube (result_shape p) Holds
+    stored Holds cells =
+        subst (λ (q : PlanOf). OfSomeCube (result_shape q) Holds) c.through.goes.plan
+        (some_cube store_after after.base (result_shape after.plan) Holds cells)
+
+    begins : OfRun after store_after (λ cube. AppendsPrefix out (cube_text cube) out_after)
+        → AppendsCubePrefix store_after after.base (result_shape after.plan) out out_after → BeginsText p.graph begun ended
+    begins prefix cells = record {
+      numbers = no_over;
+      prefix = of_meaning r after rows rows_after store store_after given rows_are is c.through.goes (λ cube. AppendsPrefix out (cube_text cube) out_after) prefix;
+      stored = stored (λ cube. AppendsPrefix out (cube_text cube) out_after) cells;
+    }
+
+    pub written : OfRun after store_after (λ cube. Appends out (cube_text cube) out_after)
+        → AppendsCube store_after after.base (result_shape after.plan) out out_after → NeverFalls faults_after faults_last
         → NeverFalls out_faults out_faults_after
         → Evaluates p.graph p.size begun ended (Ok tt)
-    written appends count out_count = last (Ok tt) count out_count (record {
+    written appends cells count out_count = last (Ok tt) count out_count (record {
       numbers = no_over;
       text = λ visible. of_meaning r after rows rows_after store store_after given rows_are is c.through.goes (λ cube. Appends out (cube_text cube) out_after) appends visible;
+      stored = stored (λ cube. Appends out (cube_text cube) out_after) cells;
     })
 
     pub stopped : (fail : RenderFail) (stop : EvaluationFail) → stop ≡ fail_of_text fail
         → OfRun after store_after (λ cube. AppendsPrefix out (cube_text cube) out_after)
+        → AppendsCubePrefix store_after after.base (result_shape after.plan) out out_after
         → HasCauseOf {T = Unit {0}} text.SpoolFailed faults_after faults_last (Err fail)
         → HasCauseOf {T = Unit {0}} text.SinkFailed out_faults out_faults_after (Err fail)
         → IsRefusalWithin store_after 0 (cell_count (result_shape after.plan)) fail
         → Evaluates p.graph p.size begun ended (Err stop)
-    stopped text.SpoolFailed stop same prefix spool sink damage = subst (λ (e : EvaluationFail). Evaluates p.graph p.size begun ended (Err e)) (sym same)
+    stopped text.SpoolFailed stop same prefix cells spool sink damage = subst (λ (e : EvaluationFail). Evaluates p.graph p.size begun ended (Err e)) (sym same)
         (last (Err SpoolFault) spool.count sink.count (
           then-Rose c.through.spool_cause.count (spool.failed refl),
-          inr (record {
-            numbers = no_over;
-            prefix = of_meaning r after rows rows_after store store_after given rows_are is c.through.goes (λ cube. AppendsPrefix out (cube_text cube) out_after) prefix;
-          }),
+          inr (begins prefix cells),
         ))
-    stopped (text.SpoolDamaged number) stop same prefix spool sink damage =
+    stopped (text.SpoolDamaged number) stop same prefix cells spool sink damage =
         subst (λ (e : EvaluationFail). Evaluates p.graph p.size begun ended (Err e)) (sym same)
         (last (Err (SpoolDamaged number)) spool.count sink.count
         (record {
           within = subst (λ (q : PlanOf). number < cell_count (result_shape q)) c.through.goes.plan damage.2;
-          numbers = no_over;
+          begins = begins prefix cells;
           hidden = hidden r after rows rows_after store store_after given rows_are is c.through.goes damage.0;
         }))
-    stopped text.SinkFailed stop same prefix spool sink damage = subst (λ (e : EvaluationFail). Evaluates p.graph p.size begun ended (Err e)) (sym same)
-        (last (Err WriteFault) spool.count sink.count (
-          sink.failed refl,
-          record {
-            numbers = no_over;
-            prefix = of_meaning r after rows rows_after store store_after given rows_are is c.through.goes (λ cube. AppendsPrefix out (cube_text cube) out_after) prefix;
-          },
-        ))
+    stopped text.SinkFailed stop same prefix cells spool sink damage = subst (λ (e : EvaluationFail). Evaluates p.graph p.size begun ended (Err e)) (sym same)
+        (last (Err WriteFault) spool.count sink.count
+        (sink.failed refl, begins prefix cells))

@@ -32,8 +32,9 @@ use Rattle.oe_render.specs.declared.rendering.RenderFail.{RenderFail}
 use Rattle.oe_render.specs.declared.rendering.RenderFail.TheVariants as text
 use Rattle.oe_sources.specs.Catalogue.{Row}
 use Rattle.oe_spool.specs.Spooled.{ChangesOnly, HoldsCube, IsRecordByte}
+use Rattle.oe_top.proofs.Evaluations.{some_cube}
 use Rattle.oe_top.specs.Evaluated.{fail_of_text}
-use Rattle.oe_top.specs.JoinAnswer.{IsBeforeParts, IsJoined, IsMisfit, IsMisfitNamed, JoinAnswers, JoinEnds, JoiningEnds, OfNameAt, OfParts, outline_of_run}
+use Rattle.oe_top.specs.JoinAnswer.{BeginsJoined, IsBeforeParts, IsJoined, IsMisfit, IsMisfitNamed, JoinAnswers, JoinEnds, JoiningEnds, OfNameAt, OfParts, outline_of_run}
 use Rattle.oe_top.specs.Judged.{IsInputText, IsRefused}
 use Rattle.oe_top.specs.Objects.{IsUntouched, Objects, objects}
 use Rattle.oe_top.specs.PartAnswer.{kind_of_result}
@@ -104,7 +105,20 @@ module _ (shape : Dimensions) (parts parts_after : List PartState) (store laid :
 
     pub joined : Lays 0 shape parts laid None → AppendsCube laid 0 shape out out_after
         → JoiningEnds shape parts parts_after begun ended (Ok tt)
-    joined lays h = record { undamaged = lays.undamaged; numbers = no_over None lays refl; text = joined_text None lays out out_after h }
+    joined lays h = record {
+      undamaged = lays.undamaged;
+      numbers = no_over None lays refl;
+      text = joined_text None lays out out_after h;
+      stored = some_cube laid 0 shape (λ cube. Appends out (cube_text cube) out_after) h;
+    }
+
+    begins : Lays 0 shape parts laid None → AppendsCubePrefix laid 0 shape out out_after → BeginsJoined shape parts begun ended
+    begins lays h = record {
+      undamaged = lays.undamaged;
+      numbers = no_over None lays refl;
+      prefix = joined_prefix None lays out out_after h;
+      stored = some_cube laid 0 shape (λ cube. AppendsPrefix out (cube_text cube) out_after) h;
+    }
 
     pub join_stopped : (faults_laid : ℕ) (fail : RenderFail) (why : EvaluationFail) → why ≡ fail_of_text fail → Lays 0 shape parts laid None
         → AppendsCubePrefix laid 0 shape out out_after → NeverFalls faults faults_laid
@@ -113,26 +127,14 @@ module _ (shape : Dimensions) (parts parts_after : List PartState) (store laid :
         → IsRefusalWithin laid 0 (cell_count shape) fail
         → JoiningEnds shape parts parts_after begun ended (Err (join.Stopped why))
     join_stopped faults_laid text.SpoolFailed why same lays h count spool sink damage =
-        subst (λ (e : EvaluationFail). JoiningEnds shape parts parts_after begun ended (Err (join.Stopped e))) (sym same) (
-          then-Rose count (spool.failed refl),
-          inr (record {
-            undamaged = lays.undamaged;
-            numbers = no_over None lays refl;
-            prefix = joined_prefix None lays out out_after h;
-          }),
-        )
+        subst (λ (e : EvaluationFail). JoiningEnds shape parts parts_after begun ended (Err (join.Stopped e))) (sym same)
+        (then-Rose count (spool.failed refl), inr (begins lays h))
     join_stopped faults_laid (text.SpoolDamaged number) why same lays h count spool sink damage =
         subst (λ (e : EvaluationFail). JoiningEnds shape parts parts_after begun ended (Err (join.Stopped e))) (sym same)
-        (record { undamaged = lays.undamaged; within = damage.2; numbers = no_over None lays refl; hidden = hidden damage.0 })
+        (record { within = damage.2; begins = begins lays h; hidden = hidden damage.0 })
     join_stopped faults_laid text.SinkFailed why same lays h count spool sink damage =
-        subst (λ (e : EvaluationFail). JoiningEnds shape parts parts_after begun ended (Err (join.Stopped e))) (sym same) (
-          sink.failed refl,
-          record {
-            undamaged = lays.undamaged;
-            numbers = no_over None lays refl;
-            prefix = joined_prefix None lays out out_after h;
-          },
-        )
+        subst (λ (e : EvaluationFail). JoiningEnds shape parts parts_after begun ended (Err (join.Stopped e))) (sym same)
+        (sink.failed refl, begins lays h)
 
   -- before the text
   module _ (input input_after : Option (List ℕ)) (input_faults input_faults_after : ℕ) (rows : List Row)

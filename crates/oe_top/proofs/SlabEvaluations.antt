@@ -14,7 +14,8 @@ use Rattle.oe_steps.specs.declared.fail.RunFail.TheVariants as run
 use Rattle.oe_outside.proofs.Causes.{NeverFalls-refl, NeverFalls-trans, then-Rose}
 use Rattle.oe_outside.specs.Faults.{HasCauseOf, NeverFalls}
 use Rattle.oe_outside.specs.Visible.{Appends, AppendsPrefix}
-use Rattle.oe_render.specs.Rendered.{IsRefusalWithin}
+use Rattle.oe_render.specs.Rendered.{AppendsCube, AppendsCubePrefix, IsRefusalWithin}
+use Rattle.oe_render.specs.Stored.{AreStored}
 use Rattle.oe_render.specs.Text.{cube_text}
 use Rattle.oe_render.specs.declared.rendering.RenderFail.{RenderFail}
 use Rattle.oe_render.specs.declared.rendering.RenderFail.TheVariants as text
@@ -23,12 +24,14 @@ use Rattle.oe_check.specs.Laws.{AreCollectionsOf}
 use Rattle.oe_sources.specs.Catalogue.{Row}
 use Rattle.oe_sources.specs.CatalogueDims.{dims_of}
 use Rattle.oe_spool.specs.Least.{least_over_of}
+use Rattle.oe_top.proofs.Evaluations.{some_cube}
 use Rattle.oe_top.proofs.SlabLoads.{reads_for_slabs}
 use Rattle.oe_top.specs.Evaluated.{IsFailOfRun, fail_of_text}
 use Rattle.oe_top.specs.Objects.{Objects, objects}
-use Rattle.oe_top.specs.RunAnswer.{EvaluationEnds}
+use Rattle.oe_top.specs.RunAnswer.{BeginsText, EvaluationEnds}
 use Rattle.oe_top.specs.SlabAnswer.{FoldsSlabs}
 use Rattle.oe_top.specs.SlabEvaluated.{CompletesSlabs, GoesBySlabs, ReadsForSlabPlan}
+use Rattle.oe_top.specs.Written.{OfSomeCube}
 use Rattle.oe_top.specs.declared.evaluation.EvaluationFail.{EvaluationFail}
 use Rattle.oe_top.specs.declared.evaluation.EvaluationFail.TheVariants.{Damaged, Overflow, ReadFault, SpoolDamaged, SpoolFault, WriteFault}
 
@@ -132,12 +135,31 @@ module _ (r after : SlabRunOf) (rows rows_after : List Row) (store store_after :
     no_over : OfMeaning rows p.graph IsWithoutOver
     no_over loads = sym (over_is c.through.goes c.through.done loads) ∙ c.numbers
 
-    pub written_slabs : Holds (λ cube. Appends out (cube_text cube) out_after) → NeverFalls faults_after faults_last
+    -- cells that stand in the spool, whatever is visible
+    stored : (P : Cube Cell → Type 0)
+        → (cells : List Cell) × AreStored store_after after.base (cell_count (result_shape after.plan)) cells
+        × P (record { shape = result_shape after.plan; cells = cells })
+        → OfSomeCube (result_shape p) P
+    stored P cells =
+        subst (λ (q : SlabPlanOf). OfSomeCube (result_shape q) P) c.through.goes.plan
+        (some_cube store_after after.base (result_shape after.plan) P cells)
+
+    begins : Holds (λ cube. AppendsPrefix out (cube_text cube) out_after)
+        → AppendsCubePrefix store_after after.base (result_shape after.plan) out out_after → BeginsText p.graph begun ended
+    begins prefix cells = record {
+      numbers = no_over;
+      prefix = of_meaning (λ cube. AppendsPrefix out (cube_text cube) out_after) prefix;
+      stored = stored (λ cube. AppendsPrefix out (cube_text cube) out_after) cells;
+    }
+
+    pub written_slabs : Holds (λ cube. Appends out (cube_text cube) out_after)
+        → AppendsCube store_after after.base (result_shape after.plan) out out_after → NeverFalls faults_after faults_last
         → NeverFalls out_faults out_faults_after
         → FoldsSlabs p.graph p.size p.fold begun ended (Ok tt)
-    written_slabs appends count out_count = last (Ok tt) count out_count (record {
+    written_slabs appends cells count out_count = last (Ok tt) count out_count (record {
       numbers = no_over;
       text = λ visible. of_meaning (λ cube. Appends out (cube_text cube) out_after) appends visible;
+      stored = stored (λ cube. Appends out (cube_text cube) out_after) cells;
     })
 
     hidden : store_after ≡ None → store ≡ None
@@ -152,31 +174,24 @@ module _ (r after : SlabRunOf) (rows rows_after : List Row) (store store_after :
 
     pub stopped_slabs : (fail : RenderFail) (stop : EvaluationFail) → stop ≡ fail_of_text fail
         → Holds (λ cube. AppendsPrefix out (cube_text cube) out_after)
+        → AppendsCubePrefix store_after after.base (result_shape after.plan) out out_after
         → HasCauseOf {T = Unit {0}} text.SpoolFailed faults_after faults_last (Err fail)
         → HasCauseOf {T = Unit {0}} text.SinkFailed out_faults out_faults_after (Err fail)
         → IsRefusalWithin store_after 0 (cell_count (result_shape after.plan)) fail
         → FoldsSlabs p.graph p.size p.fold begun ended (Err stop)
-    stopped_slabs text.SpoolFailed stop same prefix spool sink damage = subst (λ (e : EvaluationFail). FoldsSlabs p.graph p.size p.fold begun ended (Err e)) (sym same)
+    stopped_slabs text.SpoolFailed stop same prefix cells spool sink damage = subst (λ (e : EvaluationFail). FoldsSlabs p.graph p.size p.fold begun ended (Err e)) (sym same)
         (last (Err SpoolFault) spool.count sink.count (
           then-Rose c.through.spool_cause.count (spool.failed refl),
-          inr (record {
-            numbers = no_over;
-            prefix = of_meaning (λ cube. AppendsPrefix out (cube_text cube) out_after) prefix;
-          }),
+          inr (begins prefix cells),
         ))
-    stopped_slabs (text.SpoolDamaged number) stop same prefix spool sink damage =
+    stopped_slabs (text.SpoolDamaged number) stop same prefix cells spool sink damage =
         subst (λ (e : EvaluationFail). FoldsSlabs p.graph p.size p.fold begun ended (Err e)) (sym same)
         (last (Err (SpoolDamaged number)) spool.count sink.count
         (record {
           within = subst (λ (q : SlabPlanOf). number < cell_count (result_shape q)) c.through.goes.plan damage.2;
-          numbers = no_over;
+          begins = begins prefix cells;
           hidden = hidden damage.0;
         }))
-    stopped_slabs text.SinkFailed stop same prefix spool sink damage = subst (λ (e : EvaluationFail). FoldsSlabs p.graph p.size p.fold begun ended (Err e)) (sym same)
-        (last (Err WriteFault) spool.count sink.count (
-          sink.failed refl,
-          record {
-            numbers = no_over;
-            prefix = of_meaning (λ cube. AppendsPrefix out (cube_text cube) out_after) prefix;
-          },
-        ))
+    stopped_slabs text.SinkFailed stop same prefix cells spool sink damage = subst (λ (e : EvaluationFail). FoldsSlabs p.graph p.size p.fold begun ended (Err e)) (sym same)
+        (last (Err WriteFault) spool.count sink.count
+        (sink.failed refl, begins prefix cells))

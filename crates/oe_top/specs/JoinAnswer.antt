@@ -20,7 +20,7 @@ use Rattle.oe_check.specs.Checked.{CheckedGraph}
 use Rattle.oe_top.specs.PartAnswer.{kind_of_result}
 use Rattle.oe_top.specs.Judged.{IsInputText, IsRefused}
 use Rattle.oe_top.specs.Objects.{Objects, IsUntouched}
-use Rattle.oe_top.specs.Written.{IsUnwritten}
+use Rattle.oe_top.specs.Written.{IsUnwritten, OfSomeCube}
 use Rattle.oe_top.specs.declared.evaluation.EvaluationFail.{EvaluationFail}
 use Rattle.oe_top.specs.declared.evaluation.EvaluationFail.TheVariants.{Overflow, ReadFault, Damaged, SpoolFault, WriteFault, SpoolDamaged}
 use Rattle.oe_top.specs.declared.join.JoinRefusal.{JoinRefusal}
@@ -38,18 +38,22 @@ OfParts shape parts Holds = (cube : Cube Cell) → IsCube cube → cube.shape �
 -- ---- how parts that are a whole are joined
 
 module _ (shape : Dimensions) (parts : List PartState) (before after : Objects) where
-  -- 0: no record is damaged, no cell is Over, and the text of the cube follows what the output held
+  -- 0: no record is damaged, no cell is Over, and the text of the cube follows what the output held. Whatever is visible,
+  -- it is the text of some cube of this shape, no cell of which is Over.
   pub record WritesJoined : Type 0 where
     pub undamaged : AreUndamaged parts
     pub numbers : OfParts shape parts IsWithoutOver
     pub text : IsVisible before.spool → OfParts shape parts (λ cube. Appends before.out (cube_text cube) after.out)
+    pub stored : OfSomeCube shape (λ cube. Appends before.out (cube_text cube) after.out)
 
-  -- no record is damaged, no cell is Over, and a prefix of that text follows what the output held
+  -- no record is damaged, no cell is Over, and a prefix of that text follows what the output held; whatever is visible,
+  -- it is one of the text of such a cube
   pub record BeginsJoined : Type 0 where
     pub undamaged : AreUndamaged parts
     pub numbers : OfParts shape parts IsWithoutOver
     pub prefix : IsVisible before.spool
         → OfParts shape parts (λ cube. AppendsPrefix before.out (cube_text cube) after.out)
+    pub stored : OfSomeCube shape (λ cube. AppendsPrefix before.out (cube_text cube) after.out)
 
   -- 4: no record is damaged, and this is the least number of a cell that is Over
   pub record JoinOverflows (number : ℕ) : Type 0 where
@@ -65,12 +69,11 @@ module _ (shape : Dimensions) (parts : List PartState) (before after : Objects) 
   abbrev pub StopsAtJoinedText : Type 0
   StopsAtJoinedText = Rose before.out_faults after.out_faults × BeginsJoined
 
-  -- 15: no record is damaged and no cell is Over, but what was read back from the spool for this one is no record, or
-  -- that of Over, which never comes of a spool whose bytes are visible
+  -- 15: in the text, what was read back from the spool for this cell is no record, or that of Over, which never comes of
+  -- a spool whose bytes are visible
   pub record MeetsJoinedSpoolDamage (number : ℕ) : Type 0 where
-    pub undamaged : AreUndamaged parts
     pub within : number < cell_count shape
-    pub numbers : OfParts shape parts IsWithoutOver
+    pub begins : BeginsJoined
     pub hidden : before.spool ≡ None
 
   -- 6: the part of this name has no record for a position

@@ -15,7 +15,7 @@ use Rattle.oe_check.specs.Checked.{CheckedGraph, collection_of_node}
 use Rattle.oe_window.specs.declared.grid.ChunkSize.{ChunkSize}
 use Rattle.oe_top.specs.Judged.{IsInput, IsRefused}
 use Rattle.oe_top.specs.Objects.{Objects, IsUntouched}
-use Rattle.oe_top.specs.Written.{IsUnwritten}
+use Rattle.oe_top.specs.Written.{IsUnwritten, OfSomeCube}
 use Rattle.oe_top.specs.declared.evaluation.EvaluationFail.{EvaluationFail}
 use Rattle.oe_top.specs.declared.evaluation.EvaluationFail.TheVariants.{Overflow, ReadFault, Damaged, SpoolFault, WriteFault, SpoolDamaged}
 use Rattle.oe_top.specs.declared.run.RunRefusal.{RunRefusal}
@@ -24,17 +24,21 @@ use Rattle.oe_top.specs.declared.run.RunRefusal.TheVariants.{Input, TooLarge, Ou
 -- ---- how the evaluation of a graph ends
 
 module _ (c : CheckedGraph) (before after : Objects) where
-  -- 0: no cell of the result is Over, and the text of what the graph means follows what the output held
+  -- 0: no cell of the result is Over, and the text of what the graph means follows what the output held. Whatever is
+  -- visible, it is the text of some cube of the shape of the result, no cell of which is Over.
   pub record WritesText : Type 0 where
     pub numbers : OfMeaning before.collections c IsWithoutOver
     pub text : IsVisible before.spool → OfMeaning before.collections c
         (λ cube. Appends before.out (cube_text cube) after.out)
+    pub stored : OfSomeCube (shape_of_node c c.result) (λ cube. Appends before.out (cube_text cube) after.out)
 
-  -- no cell of the result is Over, and a prefix of that text follows what the output held
+  -- no cell of the result is Over, and a prefix of that text follows what the output held; whatever is visible, it is one
+  -- of the text of such a cube
   pub record BeginsText : Type 0 where
     pub numbers : OfMeaning before.collections c IsWithoutOver
     pub prefix : IsVisible before.spool → OfMeaning before.collections c
         (λ cube. AppendsPrefix before.out (cube_text cube) after.out)
+    pub stored : OfSomeCube (shape_of_node c c.result) (λ cube. AppendsPrefix before.out (cube_text cube) after.out)
 
   -- 7: the spool failed, before the text, and nothing was written, or in it
   abbrev pub StopsAtSpool : Type 0
@@ -56,11 +60,11 @@ module _ (c : CheckedGraph) (before after : Objects) where
     pub keeps : KeepsDamage c before.collections node number
     pub unwritten : IsUnwritten before after
 
-  -- 15: no cell of the result is Over, but what was read back from the spool for this one is no record, or that of
-  -- Over, which never comes of a spool whose bytes are visible
+  -- 15: in the text, what was read back from the spool for this cell of the result is no record, or that of Over, which
+  -- never comes of a spool whose bytes are visible
   pub record MeetsSpoolDamage (number : ℕ) : Type 0 where
     pub within : number < cell_count (shape_of_node c c.result)
-    pub numbers : OfMeaning before.collections c IsWithoutOver
+    pub begins : BeginsText
     pub hidden : before.spool ≡ None
 
   abbrev pub EvaluationEnds : Result (Unit {0}) EvaluationFail → Type 0

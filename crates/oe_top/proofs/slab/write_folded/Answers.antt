@@ -30,12 +30,12 @@ pub returns-in-Ok-render : goal.returns-in-Ok-render
 returns-in-Ok-render g c = λ input input_after input_faults input_faults_after.
     rw c.render.ensures.same
     (written_slabs _ _ _ _ _ _ _ _ c.requires.collections.given c.requires.collections.rows_are c.slab_over_is_of_the_result.ensures c.requires.begun.planned
-    c.in-Ok.ensures input input_after input_faults input_faults_after _ _ _ _ _ c.in-Ok-render.ensures.text c.in-Ok-render.ensures.spool_cause.count
-    c.in-Ok-render.ensures.sink_cause.count)
+    c.in-Ok.ensures input input_after input_faults input_faults_after _ _ _ _ _ c.in-Ok-render.ensures.text c.in-Ok-render.ensures.cells
+    c.in-Ok-render.ensures.spool_cause.count c.in-Ok-render.ensures.sink_cause.count)
 
 pub returns-in-Ok : goal.returns-in-Ok
 returns-in-Ok g c = λ input input_after input_faults input_faults_after.
     rw c.render.ensures.same
     (stopped_slabs _ _ _ _ _ _ _ _ c.requires.collections.given c.requires.collections.rows_are c.slab_over_is_of_the_result.ensures c.requires.begun.planned
     c.in-Ok.ensures input input_after input_faults input_faults_after _ _ _ _ _ c.in-Err-render.fail _ c.fail_of_text.ensures c.in-Err-render.ensures.prefix
-    c.in-Err-render.ensures.spool_cause c.in-Err-render.ensures.sink_cause c.in-Err-render.ensures.damage)
+    c.in-Err-render.ensures.cells_prefix c.in-Err-render.ensures.spool_cause c.in-Err-render.ensures.sink_cause c.in-Err-render.ensures.damage)
