@@ -1,5 +1,5 @@
 // Connections over TCP: those that come to a port, and those that are dialled.
-ghost use Rattle.std.specs.Prelude.{◌≡◌, ◌≢◌, None, IfOk, IsTrue};
+ghost use Rattle.std.specs.Prelude.{◌≡◌, None, IfOk, IsTrue};
 ghost use Rattle.std.specs.Vec.{vec_capacity};
 ghost use Rattle.oe_outside.specs.Doors.{IsNobody, IfConn};
 
@@ -73,7 +73,6 @@ impl<N: Network> TcpDoor<N> {
     /// is passed over, and so is one whose connection brings an error of the network along. While connections linger, a
     /// caller that is not busy looks at them between one attempt and the next.
     fn take(&mut self, busy: bool) -> Next<TcpLink<N>>
-        ensures open { result ≢ Next.Closed }
         ensures nobody { IsNobody result → IsTrue busy }
         ensures fresh { IfConn result (λ link. link.faults ≡ 0) }
         ensures faults { self.new.faults ≡ self.old.faults }
@@ -200,9 +199,7 @@ impl<N: Network> Door for TcpDoor<N> {
 
     /// The next connection to the port, for which a caller that is not busy waits. One that was taken is waited for until
     /// its first byte has come or its time is over.
-    fn next(&mut self, busy: bool) -> Next<TcpLink<N>>
-        ensures open { result ≢ Next.Closed }
-    {
+    fn next(&mut self, busy: bool) -> Next<TcpLink<N>> {
         self.sweep();
         let next = if self.bind() {
             self.take(busy)
