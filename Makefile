@@ -31,8 +31,13 @@ help:
 run:
 	@examples/run greenest $(STANDING)
 
+# What is left out is said.
 examples:
 	@examples/check $(STANDING)
+	@[ -n '$(STANDING)' ] || echo 'only examples/check was run: $(PROGRAM) is missing, or older than what it is made from' >&2
+	@[ -z '$(STANDING)' ] || command -v $(PYTHON) > /dev/null || echo 'examples/progress, parts, workers, client-check and' \
+	  'service/session.py are not run: $(PYTHON) is missing' >&2
+	@[ -z '$(STANDING)' ] || command -v curl > /dev/null || echo 'examples/service/session and replies are not run: curl is missing' >&2
 	@[ -z '$(STANDING)' ] || examples/edges $(STANDING)
 	@[ -z '$(STANDING)' ] || ! command -v $(PYTHON) > /dev/null || $(PYTHON) examples/progress $(STANDING)
 	@[ -z '$(STANDING)' ] || ! command -v $(PYTHON) > /dev/null || $(PYTHON) -B examples/parts $(STANDING)

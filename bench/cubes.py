@@ -5,7 +5,8 @@
 dates, 4 bands and SIDE x SIDE pixels (250 where no side is given; 1444 make 10^8 cells), takes it in by `tools/cubes
 from-netcdf`, runs bench/year.json, and takes the result out by `tools/cubes to-netcdf`. It prints seconds and peak
 memory of each, whether the cube file is byte for byte the one that year.py writes, and at how many cells the result is
-the float that xarray gives for the same work. It needs netCDF4, numpy and xarray.
+the float that xarray gives for the same work; the exit status is 1 where the file is another one, or a cell is. It needs
+netCDF4, numpy and xarray.
 """
 import filecmp
 import os
@@ -62,6 +63,7 @@ def compare(given, result):
         ours, floats = back["cells"].values, greatest.values
         same = (ours == floats) | (numpy.isnan(ours) & numpy.isnan(floats))
         print(f"{int(same.sum())} of {same.size} cells are the floats of xarray")
+    sys.exit(int(not same.all()))
 
 
 def measure(what, words, given, result, folder):
@@ -92,11 +94,13 @@ def main():
         tool = [sys.executable, TOOL]
         measure("from-netcdf", [*tool, "from-netcdf", file, *year.BANDS, "--id", "YEAR"], os.devnull, cube, folder)
         year.write_year(f"{folder}/wanted", int(side))
-        print(f"cube file: {'that' if filecmp.cmp(cube, f'{folder}/wanted', False) else 'NOT THAT'} of year.py")
+        same = filecmp.cmp(cube, f"{folder}/wanted", False)
+        print(f"cube file: {'that' if same else 'NOT THAT'} of year.py")
         os.remove(f"{folder}/wanted")
         measure("openeo run", [program, "run", "64", "64", "12", "4"], os.path.join(HERE, "year.json"), result, folder)
         measure("to-netcdf", [*tool, "to-netcdf", result, back], os.devnull, os.devnull, folder)
-        subprocess.run([*again, "compare", file, back], check=True)
+        compared = subprocess.run([*again, "compare", file, back])
+    sys.exit(int(not same or compared.returncode != 0))
 
 
 if __name__ == "__main__":

@@ -3,6 +3,7 @@
 
 `parts.py PROGRAM [SIDE [PARTS [WORKERS]]]` does so with 1000 pixels a side, 8 parts and 1 worker where nothing else is said, and prints
 seconds by the clock: of the one run, of the parts one after the other, of as many at once as there are processors, and of the join.
+The exit status is 1 where the texts differ.
 `parts.py --instructions PROGRAM ..` counts the instructions of each instead, by valgrind's callgrind: take 250 pixels, since it is slow.
 """
 import concurrent.futures
@@ -66,6 +67,7 @@ def main():
         print("the joined text is", "that of the one run" if same else "ANOTHER")
         if COUNTS:
             print(f"parts and join: {(apart + joined) / whole:.3f} of the one run; join: {joined / SIDE**2:.0f} a cell of the result")
+    sys.exit(not same)
 
 
 if __name__ == "__main__":

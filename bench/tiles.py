@@ -4,7 +4,8 @@
 `tiles.py PROGRAM [SIDE [TILES]]` writes the cells of year.py, 12 dates, 4 bands and SIDE x SIDE pixels (1000 where no side
 is given), once into one cube file and once into TILES x TILES files of as many pixels a side (4 where no number is
 given), runs `PROGRAM run 64 64 12 4` on bench/year.json over each of the three by callgrind, and prints instructions and
-how many times those of the one file they are. The texts of all three are compared. It needs python3 and valgrind.
+how many times those of the one file they are. The texts of all three are compared, and the exit status is 1 where one
+differs. It needs python3 and valgrind.
 """
 import os
 import re
@@ -69,7 +70,7 @@ def main():
         os.rename(f"{own}/YEAR.cube", f"{own}/YEAR")
         with open(f"{own}/YEAR.mosaic", "w") as file:
             file.write("YEAR\nYEAR\n")
-        look(program, folder, "a mosaic of that file alone", first, text)
+        same = look(program, folder, "a mosaic of that file alone", first, text)
         shutil.rmtree(own)
         os.mkdir(own)
         with open(f"{own}/YEAR.mosaic", "w") as file:
@@ -77,13 +78,16 @@ def main():
             for at, (rows, columns) in enumerate((rows, columns) for rows in sides for columns in sides):
                 write_tile(f"{own}/tile-{at}", side, rows, columns)
                 file.write(f"tile-{at}\n")
-        look(program, folder, f"a mosaic of {tiles} x {tiles} files", first, text)
+        same = look(program, folder, f"a mosaic of {tiles} x {tiles} files", first, text) and same
+    sys.exit(not same)
 
 
 def look(program, folder, name, first, text):
+    """Prints what a run costs, and answers whether it has this text."""
     counted, other = count(program, folder, name)
-    same = "the same text" if other == text else "ANOTHER TEXT"
-    print(f"{name}: {counted} instructions, {counted / first:.4f} of one file, {same}", flush=True)
+    words = "the same text" if other == text else "ANOTHER TEXT"
+    print(f"{name}: {counted} instructions, {counted / first:.4f} of one file, {words}", flush=True)
+    return other == text
 
 
 if __name__ == "__main__":
