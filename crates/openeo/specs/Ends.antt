@@ -1,8 +1,9 @@
 -- What the program itself answers, before and beside its command.
-use Rattle.std.specs.Prelude.{◌≡◌, ℕ, List, [], ◌∷◌, ◌⊎◌, Result, Ok, Err, codes}
+use Rattle.std.specs.Prelude.{◌≡◌, ℕ, List, [], ◌∷◌, ◌⊎◌, Option, Result, Ok, Err, codes}
 use Rattle.oe_outside.specs.Stream.{ErrorOutput}
-use Rattle.oe_adapters.specs.Setup.{fault_status, program_fault_line}
+use Rattle.oe_adapters.specs.Setup.{IsSetupFault, fault_status, program_fault_line}
 use Rattle.oe_adapters.specs.declared.fault.Fault.{Fault}
+use Rattle.oe_adapters.specs.declared.fault.Fault.TheVariants.{Write}
 use Rattle.oe_serve.specs.Endings.{line_of, status_of}
 use Rattle.oe_serve.specs.declared.turns.ServeFail.{ServeFail}
 use Rattle.oe_top.specs.Lines.{IsSilent, Says}
@@ -24,6 +25,17 @@ AsksForText [] = ⊥
 AsksForText (word ∷ []) = IsTextWord word
 AsksForText (verb ∷ word ∷ []) = IsVerb verb × IsTextWord word
 AsksForText (verb ∷ word ∷ next ∷ rest) = ⊥
+
+-- a sink of type O is as it was before: what it holds, where that is visible, and its fault counter
+abbrev pub IsSinkSame : {O : Type 0} → (O → Option (List ℕ)) → (O → ℕ) → O → O → Type 0
+IsSinkSame written faults before after = (written after ≡ written before) × (faults after ≡ faults before)
+
+-- Why no command starts: the text that the words ask for could not be written; or else a file that stands in for a
+-- standard stream, or the folder of the collections, could not be set up, or memory was refused.
+abbrev pub IsStartFault : List (List ℕ) → Fault → Type 0
+IsStartFault words fault =
+    (AsksForText words × (fault ≡ Write))
+    ⊎ ((¬ AsksForText words) × (IsSetupFault (codes "/dev/null") fault ⊎ IsSetupFault (codes "collections") fault))
 
 -- the program ends by a fault of its own: its status, and its line on the error output
 pub record EndsByFault (fault : Fault) (status : ℕ) (err : ErrorOutput) : Type 0 where

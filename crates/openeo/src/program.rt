@@ -1,7 +1,9 @@
 // What the program does before its command, over any files and streams.
-ghost use Rattle.std.specs.Prelude.{◌≡◌, ◌↔◌, IfErr, IfOk, IsErrOf, IsNone};
+ghost use Rattle.std.specs.Prelude.{◌≡◌, ◌↔◌, ◌⊎◌, IfErr, IfOk, IfSome, IsErrOf, IsNone, IsOkAnd};
+ghost use Rattle.oe_adapters.specs.declared.fault.Fault.TheVariants as variant;
+ghost use Rattle.oe_outside.specs.Faults.{HasCause, HasCauseOf};
 ghost use Rattle.oe_outside.specs.Stream.{error_output};
-ghost use Rattle.openeo.specs.Ends.{AsksForText, EndsByFault};
+ghost use Rattle.openeo.specs.Ends.{AsksForText, EndsByFault, IsSinkSame, IsStartFault};
 
 use crate::help::text_of;
 use oe_adapters::{Fault, collection_files, hold_standard};
@@ -19,7 +21,8 @@ pub struct Start<F> {
     _standard: [F; 3],
 }
 
-/// Prints the text that the words ask for, and answers `None`; else looks for what a command works on.
+/// Prints the text that the words ask for, and answers `None`; else looks for what a command works on, and leaves the
+/// output as it was.
 ///
 /// Refuses: as the words were; as [`hold_standard`] and [`collection_files`] do; `Write` only where the output failed.
 pub fn set_up<R: Files, O: Sink>(
@@ -29,7 +32,14 @@ pub fn set_up<R: Files, O: Sink>(
     out: &mut O,
 ) -> Result<Option<Start<R::File>>, Fault>
     ensures asked { IfOk words (λ w. IfOk result (λ start. IsNone start ↔ AsksForText w.items)) }
+    ensures words { IfOk words (λ w. IfOk result (λ start. IfSome start (λ s.
+        s.words.items ≡ w.items))) }
+    ensures left { IsOkAnd words (λ w. AsksForText w.items)
+        ⊎ IsSinkSame O.written O.faults out.old out.new }
     ensures refused { IfErr words (λ fault. IsErrOf result fault) }
+    ensures cause { IfOk words (λ w. HasCauseOf variant.Write (O.faults out.old)
+        (O.faults out.new) result) }
+    ensures why { IfOk words (λ w. IfErr result (IsStartFault w.items)) }
 {
     let words = words?;
     if let Some(text) = text_of(&words) {
@@ -57,7 +67,10 @@ pub fn end<E: Sink>(fault: &Fault, err: &mut E) -> u8
 /// Prints a text about the program.
 ///
 /// Refuses: `Write` only where the output failed.
-fn print<O: Sink>(text: &str, out: &mut O) -> Result<(), Fault> {
+fn print<O: Sink>(text: &str, out: &mut O) -> Result<(), Fault>
+    ensures cause { HasCause (O.faults out.old) (O.faults out.new) result }
+    ensures write { IfErr result (λ fault. fault ≡ variant.Write) }
+{
     match out.write(text.as_bytes()) {
         Ok(()) => Ok(()),
         Err(_) => Err(Fault::Write),

@@ -1,5 +1,6 @@
 // The command `serve`: what it stands on, and how it ends.
-ghost use Rattle.std.specs.Prelude.{◌≡◌, IfNone};
+ghost use Rattle.std.specs.Prelude.{◌≡◌, IfErr, IfNone, codes};
+ghost use Rattle.oe_adapters.specs.Setup.{IsSetupFault};
 ghost use Rattle.oe_outside.specs.Stream.{error_output};
 ghost use Rattle.oe_plan.specs.Ranges.{IsWithinRanges};
 ghost use Rattle.oe_serve.specs.Endings.{line_of, status_of};
@@ -26,21 +27,41 @@ use std::io::{ErrorKind, IsTerminal, Stderr};
 use std::thread::Threads;
 use std::{env, fs};
 
+/// How many bytes `tokens.txt` has at most: 8 lines of a user, a blank, a token and a line feed.
+const MOST_TOKENS: u64 = 8 * (64 + 1 + 128 + 1);
+
 /// The users of the file `tokens.txt`, none where there is no such file.
 ///
 /// Refuses: the set-up fault of the file where it could not be read or is not valid; out of memory.
-pub fn read_tokens(alloc: Global, rt: &HostRuntime) -> Result<Tokens, Fault> {
-    let bytes = match fs::read(rt, "tokens.txt") {
-        Ok(bytes) => bytes,
-        Err(error) => match error.kind() {
-            ErrorKind::NotFound => Vec::new(alloc),
-            _ => return Err(Fault::of_error(alloc, &error, b"tokens.txt")),
-        },
-    };
+pub fn read_tokens(alloc: Global, rt: &HostRuntime) -> Result<Tokens, Fault>
+    ensures { IfErr result (IsSetupFault (codes "tokens.txt")) }
+{
+    let bytes = token_bytes(alloc, rt)?;
     match Tokens::read(alloc, &bytes) {
         Ok(tokens) => Ok(tokens),
         Err(TokensFail::Invalid(_)) => Err(Fault::setup(alloc, b"tokens.txt")),
         Err(TokensFail::OutOfMemory) => Err(Fault::OutOfMemory),
+    }
+}
+
+/// The bytes of the file `tokens.txt`, none where there is no such file. What is no plain file is not opened, since a
+/// pipe may never end, and neither is one that is too long.
+fn token_bytes(alloc: Global, rt: &HostRuntime) -> Result<Vec<u8>, Fault>
+    ensures { IfErr result (IsSetupFault (codes "tokens.txt")) }
+{
+    let about = match fs::metadata(rt, "tokens.txt") {
+        Ok(about) => about,
+        Err(error) => match error.kind() {
+            ErrorKind::NotFound => return Ok(Vec::new(alloc)),
+            _ => return Err(Fault::of_error(alloc, &error, b"tokens.txt")),
+        },
+    };
+    if !about.is_file() || about.len() > MOST_TOKENS {
+        return Err(Fault::setup(alloc, b"tokens.txt"));
+    }
+    match fs::read(rt, "tokens.txt") {
+        Ok(bytes) => Ok(bytes),
+        Err(error) => Err(Fault::of_error(alloc, &error, b"tokens.txt")),
     }
 }
 
