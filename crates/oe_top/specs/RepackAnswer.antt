@@ -4,6 +4,7 @@ use Rattle.oe_outside.specs.Faults.{NeverFalls, Rose}
 use Rattle.oe_sources.specs.Catalogue.{OnlyReads, row_index, row_of, source_at}
 use Rattle.oe_sources.specs.Repacked.{AppendsPartOfRepacked, AppendsRepacked, IsDamagedPosition, IsUndamaged}
 use Rattle.oe_top.specs.Objects.{Objects, IsUntouched}
+use Rattle.oe_top.specs.Written.{IsUnwritten}
 use Rattle.oe_top.specs.declared.repack.RepackRefusal.{RepackRefusal}
 use Rattle.oe_top.specs.declared.repack.RepackRefusal.TheVariants.{NotMounted, ReadFault, Damaged, WriteFault, OutOfMemory}
 
@@ -35,20 +36,21 @@ module _ (id : List ℕ) where
     pub mounted : IsOfMounted before after index
     pub named_is : named ≡ id
     pub damaged : IsDamagedPosition (source_at before.collections index) number
-    pub unwritten : IfSome (source_at before.collections index).contents (λ c. after.out ≡ before.out)
+    pub unwritten : IfSome (source_at before.collections index).contents (λ c. IsUnwritten before after)
 
-  -- 8: the fault counter of the output rose; a prefix of the file stands there
+  -- 8: the fault counter of the output rose; no visible position is damaged, and a prefix of the file stands there
   pub record StopsWriting (before after : Objects) : Type 0 where
     pub index : ℕ
     pub mounted : IsOfMounted before after index
     pub rose : Rose before.out_faults after.out_faults
+    pub undamaged : IsUndamaged (source_at before.collections index)
     pub prefix : AppendsPartOfRepacked id (source_at before.collections index) before.out after.out
 
   -- 9, which has no cause: nothing was written
   pub record IsOutOfMemory (before after : Objects) : Type 0 where
     pub index : ℕ
     pub mounted : IsOfMounted before after index
-    pub unwritten : after.out ≡ before.out
+    pub unwritten : IsUnwritten before after
 
   -- what each ending says
   abbrev pub RepackEnds : Objects → Objects → Result (Unit {0}) RepackRefusal → Type 0

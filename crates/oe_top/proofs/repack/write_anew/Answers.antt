@@ -1,6 +1,6 @@
-use Rattle.std.proofs.Common.{Err, ap, refl}
+use Rattle.std.proofs.Common.{◌≡◌, Err, ap, refl}
 use Rattle.oe_sources.specs.CatalogueRows.{rows_of}
-use Rattle.oe_top.proofs.Repackings.{damaged, no_memory, repacked, unread, unwritten}
+use Rattle.oe_top.proofs.Repackings.{damaged, if_visible, no_memory, repacked, unread, unwritten}
 use Rattle.oe_top.specs.Objects.{objects}
 use Rattle.oe_top.proofs.repack.write_anew.Goals as goal
 
@@ -32,7 +32,8 @@ returns-in-Err-SourceDamaged g c = λ input input_faults spool spool_faults.
     c.repack.ensures.only (refl, refl) (refl, refl) c.repack.ensures.sink.count
     c.in-Err-SourceDamaged.number c.of.result c.of.ensures
     (rw c.in-Err-SourceDamaged.field-0-is at c.in-Err-SourceDamaged.ensures.damage)
-    (rw c.in-Err-SourceDamaged.field-0-is at c.in-Err-SourceDamaged.ensures.left)
+    (if_visible (λ (is : c.repack.new.out ≡ c.args.out.now). record { out = ap g.O.Sink.written is; faults = ap g.O.Sink.faults is }) _
+    (rw c.in-Err-SourceDamaged.field-0-is at c.in-Err-SourceDamaged.ensures.left))
 
 pub returns-in-Err-SinkFailed : goal.returns-in-Err-SinkFailed
 returns-in-Err-SinkFailed g c = λ input input_faults spool spool_faults.
@@ -51,4 +52,4 @@ returns-in-Err-OutOfMemory g c = λ input input_faults spool spool_faults.
     let after = objects input input_faults (g.O.Sink.written c.repack.new.out) (g.O.Sink.faults c.repack.new.out) spool spool_faults (rows_of (λ z. (goal.SharedSource-dyn g z).CubeSource.seen z.1) c.repack.new.catalogue) in
     no_memory c.args.id.now c.args.id.now before after c.args.place refl c.requires.index c.requires.within c.requires.found
     c.repack.ensures.only (refl, refl) (refl, refl) c.repack.ensures.sink.count
-    (rw c.in-Err-OutOfMemory.field-0-is at c.in-Err-OutOfMemory.ensures.left)
+    (let is = rw c.in-Err-OutOfMemory.field-0-is at c.in-Err-OutOfMemory.ensures.left in record { out = ap g.O.Sink.written is; faults = ap g.O.Sink.faults is })
